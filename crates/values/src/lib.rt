@@ -1,0 +1,21 @@
+//! What every crate above compares and copies by.
+//!
+//! A contract says that two values are equal by `≡`, which looks at the whole value. A bare `Vec` or
+//! `Arc` is more than its items there: it has a capacity, an address and an allocator. [`Row`] and
+//! [`Shared`] are seen by contracts as the items and the value alone, so they can be compared and
+//! copied by value; [`Same`] and [`Duplicate`] are those two operations. The integers of up to 64 bits,
+//! `bool` and `()` have both, and so have `Option`, pairs, [`Row`] and [`Shared`] over such types.
+#![tactic(auto)]
+
+mod duplicate;
+mod plain;
+mod row;
+mod same;
+mod shared;
+#[cfg(test)]
+mod tests;
+
+pub use duplicate::{Duplicate, copied_slice};
+pub use row::Row;
+pub use same::{Same, same_slices};
+pub use shared::Shared;
