@@ -1,0 +1,4 @@
+pub mod Chains
+pub mod Histories
+pub mod Stations
+pub mod Timelines

@@ -1,0 +1,51 @@
+-- What each call of a journal does to its timeline, and what it answers.
+use Rattle.std.specs.Prelude.{◌≡◌, ℕ, ◌^◌, ◌-◌, ◌≤◌, ◌++◌, List, [], ◌∷◌, Option, Some, None, IsSome, Result, Ok, Err, replicate}
+use Rattle.undo_journal.specs.declared.reversible.Told.{Told}
+use Rattle.undo_journal.specs.declared.report.Report.{Report}
+use Rattle.undo_journal.specs.declared.error.JournalError.{JournalError}
+use Rattle.undo_journal.specs.declared.error.JournalError.TheVariants.{Step, DeadMark, SerialEnd, Memory}
+use Rattle.undo_journal.specs.Reversible.{Accepted, told_of}
+use Rattle.undo_journal.specs.Timeline.{Station, Timeline, here, appended, cut_to, cut_stations, report_of}
+
+-- the rule accepted the event, its station is appended, and n equal values tell of it
+abbrev pub Performs : {S A N F : Type 0} → Result (Accepted S A N) F → ℕ → Timeline S N → List (Told A N) → Timeline S N → Type 0
+Performs (Ok a) n old told new = (new ≡ appended old a.node a.note) × (told ≡ replicate n (told_of a))
+Performs (Err f) n old told new = ⊥
+
+-- want of memory that changed nothing, where the journal stands at this mark
+abbrev pub IsOutOfMemoryAt : {F N : Type 0} → ℕ → JournalError F N → Type 0
+IsOutOfMemoryAt at (Step refusal) = ⊥
+IsOutOfMemoryAt at DeadMark = ⊥
+IsOutOfMemoryAt at SerialEnd = ⊥
+IsOutOfMemoryAt at (Memory mark reports) = (mark ≡ at) × (reports.items ≡ [])
+
+-- Why an event was not performed. `without_memory` is the refusal that is told without memory.
+abbrev pub PerformFails : {S A N F : Type 0} → Result (Accepted S A N) F → Option F → Timeline S N → JournalError F N → Type 0
+PerformFails ruled without_memory old (Step refusal) = ruled ≡ Err refusal
+PerformFails ruled without_memory old DeadMark = ⊥
+PerformFails ruled without_memory old SerialEnd = old.last ≡ 2 ^ 64 - 1
+PerformFails ruled without_memory old (Memory mark reports) =
+    (without_memory ≡ None) × (mark ≡ (here old).serial) × (reports.items ≡ [])
+
+-- What an undo that stopped reports of the stations that it cut: n equal reports, but none where it cut nothing.
+abbrev pub stopped_reports : {S N : Type 0} → ℕ → List (Station S N) → List (Report N)
+stopped_reports n [] = []
+stopped_reports n (s ∷ ss) = replicate n (report_of (s ∷ ss))
+
+-- Where an undo stands that found no memory: at a station at or after the mark, which it names and
+-- whose timeline it leaves, with the reports of what it cut. The mark is alive, and the same undo
+-- called again has the same end; what the two cut is then what one undo would have cut.
+pub record Stopped {S N : Type 0} (mark n : ℕ) (old new : Timeline S N) (reached : ℕ) (reports : List (Report N)) : Type 0 where
+  pub alive : IsSome (cut_to mark old)
+  pub after_mark : mark ≤ reached
+  pub at_reached : cut_to reached old ≡ Some new
+  pub reported : reports ≡ stopped_reports n (cut_stations old new)
+  pub same_end : cut_to mark new ≡ cut_to mark old
+  pub whole : (end : Timeline S N) → cut_to mark old ≡ Some end → cut_stations old end ≡ cut_stations new end ++ cut_stations old new
+
+-- Why an undo did not reach its mark.
+abbrev pub UndoFails : {S N F : Type 0} → ℕ → ℕ → Timeline S N → Timeline S N → JournalError F N → Type 0
+UndoFails mark n old new (Step refusal) = ⊥
+UndoFails mark n old new DeadMark = (cut_to mark old ≡ None) × (new ≡ old)
+UndoFails mark n old new SerialEnd = ⊥
+UndoFails mark n old new (Memory reached reports) = Stopped mark n old new reached reports.items

@@ -1,0 +1,5 @@
+pub mod History
+pub mod Journal
+pub mod Past
+pub mod Reversible
+pub mod Timeline

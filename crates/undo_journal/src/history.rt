@@ -1,0 +1,100 @@
+// Whole lists of commands.
+ghost use Rattle.std.specs.Prelude.{◌≡◌, ◌<◌, ◌≤◌, ◌-◌, ◌^◌, List, ℕ, IfOk, IfSome, Some, None};
+ghost use Rattle.std.specs.Bool.{OnTrue, OnFalse};
+ghost use Rattle.undo_journal.specs.Timeline.{Timeline, here, cut_to, node_at, IsOrdered};
+ghost use Rattle.undo_journal.specs.History.{after_command, after_event, timeline_after, IsMissed, IsReplayOf};
+ghost use Rattle.undo_journal.specs.declared.history.Command.{Command};
+
+use crate::error::JournalError;
+use crate::journal::{Journal, Mark};
+use crate::reversible::Reversible;
+use std::alloc::{AllocError, Global};
+
+/// A command to a journal.
+#[derive(Drop)]
+pub enum Command<E> {
+    /// Perform an event.
+    Perform(E),
+    /// Undo to a mark.
+    Undo(Mark),
+}
+
+/// A journal that was given a list of commands.
+#[derive(Drop)]
+pub struct Replayed<S: Reversible> {
+    /// The journal after them.
+    pub journal: Journal<S>,
+    /// How many of them met want of memory.
+    pub missed: usize,
+}
+
+/// Gives commands to a new journal that begins at a node, in order. A command that the journal
+/// refuses changes nothing, and one that meets want of memory does what [`Journal`] says of it; the
+/// next one follows all the same.
+///
+/// So the journal's timeline is that of the commands as they were carried out, and with none missed
+/// these are all of them. Its stations behind the first are those that the live steps make, in turn:
+/// the accepted events that no undo took away. Its node is the fold of the rule over the live steps.
+///
+/// # Errors
+///
+/// `AllocError` where there is no memory for the new journal; the node is then dropped.
+pub fn replay<S: Reversible>(
+    alloc: Global,
+    node: S,
+    commands: &[Command<S::Event>],
+) -> Result<Replayed<S>, AllocError>
+    ensures { IfOk result
+        (λ replay. IsReplayOf S.rule node commands.now replay.missed replay.journal) }
+{
+    let mut journal = Journal::new(alloc, node)?;
+    let mut missed = 0;
+    for command in commands {
+        if !carry_out(&mut journal, command) {
+            missed += 1;
+        }
+    }
+    Ok(Replayed { journal, missed })
+}
+
+/// Gives one command to a journal that has a serial left, and answers whether there was memory.
+fn carry_out<S: Reversible>(journal: &mut Journal<S>, command: &Command<S::Event>) -> bool
+    requires { journal.old.last < 2 ^ 64 - 1 }
+    ensures done { OnTrue result (journal.new ≡ after_command S.rule journal.old command.now) }
+    ensures missed { OnFalse result (IsMissed S.rule journal.old command.now journal.new) }
+{
+    match command {
+        Command::Perform(event) => match journal.perform(event, 0) {
+            Ok(_) | Err(JournalError::Step(_)) => true,
+            Err(JournalError::DeadMark | JournalError::SerialEnd) => unreachable!(),
+            Err(JournalError::Memory { .. }) => false,
+        },
+        Command::Undo(mark) => match journal.undo(*mark, 0) {
+            Ok(_) | Err(JournalError::DeadMark) => true,
+            Err(JournalError::Step(_) | JournalError::SerialEnd) => unreachable!(),
+            Err(JournalError::Memory { .. }) => false,
+        },
+    }
+}
+
+/// A law, and so a function whose body is empty on purpose: a mark names its node until its station
+/// is cut, and never again after that.
+///
+/// It is proved of every machine, of every timeline whose serials rise, as those of journals do
+/// ([`Journal::mark`]), and of every mark given by then:
+///
+/// - `steps_keep`: an event, accepted or refused, leaves the node that the mark names.
+/// - `undos_cut`: an undo leaves it where the mark isn't after its own, and else kills the mark.
+/// - `never_again`: whatever commands follow, a mark that is alive after them names the node that
+///   it named before them; so a dead mark stays dead.
+pub fn marks_name_nodes<S: Reversible>()
+    ensures steps_keep { (t : Timeline S S.Note) (event : S.Event) (mark : ℕ)
+        → IsOrdered t → mark ≤ t.last
+        → node_at mark (after_event t (S.rule (here t).node event)) ≡ node_at mark t }
+    ensures undos_cut { (t : Timeline S S.Note) (end mark : ℕ)
+        → IsOrdered t → IfSome (cut_to end t) (λ u. (mark ≤ end → node_at mark u ≡ node_at mark t)
+        × (end < mark → node_at mark u ≡ None)) }
+    ensures never_again { (t : Timeline S S.Note) (commands : List (Command S.Event)) (mark : ℕ)
+        → IsOrdered t → mark ≤ t.last
+        → IfSome (node_at mark (timeline_after S.rule commands t)) (λ n. node_at mark t ≡ Some n) }
+{}

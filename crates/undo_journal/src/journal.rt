@@ -1,0 +1,203 @@
+// The journal.
+ghost use Rattle.std.specs.Prelude.{◌≡◌, ◌-◌, ◌^◌, [], length, Some, Err, IfOk, IfErr, OnOk, OnErr, replicate};
+ghost use Rattle.undo_journal.specs.Journal.{Performs, PerformFails, UndoFails, IsOutOfMemoryAt};
+ghost use Rattle.undo_journal.specs.Reversible.{AcceptsWith, Refuses};
+ghost use Rattle.undo_journal.specs.Timeline.{here, opened, cut_to, cut_stations, node_at, notes_of, report_of, IsFront, IsOrdered};
+
+use crate::error::JournalError;
+use crate::past::{Entry, keep_newest, kept_entries, newest_serial, put, reports_on, take_back_to};
+use crate::report::Report;
+use crate::reversible::{Reversible, StepError, Stepped, Told};
+use std::alloc::{AllocError, Global};
+use std::marker::Model;
+use std::snapshot::Snapshot;
+
+/// The serial of a station. The node that a journal begins with has mark 0.
+pub type Mark = u64;
+
+/// A machine with the records of its steps, seen by contracts as a timeline.
+#[derive(Drop)]
+pub struct Journal<S: Reversible> {
+    alloc: Global,
+    state: S,
+    floor: u64,
+    first_note: Option<S::Note>,
+    first: Snapshot<S>,
+    past: Vec<Entry<S, S::Record, S::Note>>,
+    last: u64,
+}
+
+impl<S: Reversible> Model for Journal<S> {
+    ghost use Rattle.undo_journal.specs.Timeline.{Timeline};
+
+    ghost Value = { Timeline S S.Note };
+
+    ghost use Rattle.undo_journal.specs.Past.{Chained, timeline_of};
+    ghost use Rattle.undo_journal.specs.Timeline.{IsOrdered};
+
+    ghost view = { λ j. timeline_of j.floor j.first.value j.first_note j.past.items j.last };
+
+    ghost invariant = { λ j. Chained S.undoes j.first.value j.past.items j.state
+        × IsOrdered (timeline_of j.floor j.first.value j.first_note j.past.items j.last) };
+}
+
+impl<S: Reversible> Journal<S> {
+    /// A journal that stands at this node, with mark 0 and no step.
+    ///
+    /// It keeps room for a station from the start.
+    ///
+    /// # Errors
+    ///
+    /// `AllocError` where memory is refused; the node is then dropped.
+    pub fn new(alloc: Global, node: S) -> Result<Journal<S>, AllocError>
+        ensures { IfOk result (λ journal. journal ≡ opened node) }
+    {
+        let past = Vec::with_capacity(alloc, 1)?;
+        let first = Snapshot::of(&node);
+        Ok(Journal {
+            alloc,
+            state: node,
+            floor: 0,
+            first_note: None,
+            first,
+            past,
+            last: 0,
+        })
+    }
+
+    /// The mark of the node where the machine stands. Takes no memory.
+    pub fn mark(&self) -> Mark
+        ensures serial { result ≡ (here self.now).serial }
+        ensures names { cut_to result self.now ≡ Some self.now }
+        ensures node { node_at result self.now ≡ Some (here self.now).node }
+        ensures ordered { IsOrdered self.now }
+    {
+        newest_serial(self.past.as_slice(), self.floor)
+    }
+
+    /// The machine where it stands. Takes no memory.
+    pub fn state(&self) -> &S
+        ensures { result.now ≡ (here self.now).node }
+    {
+        &self.state
+    }
+
+    /// Performs an event, as the machine's rule says: appends its station under the next serial,
+    /// and tells `n` equal values of it. Amortized, it costs the machine's step and no more.
+    ///
+    /// # Errors
+    ///
+    /// In this order: `SerialEnd`; `Step` with the rule's refusal; `Memory`, which names the mark
+    /// where the journal stands, and which hides no refusal that is told without memory. Each
+    /// leaves the journal as it was.
+    pub fn perform(
+        &mut self,
+        event: &S::Event,
+        n: u8,
+    ) -> Result<Vec<Told<S::Answer, S::Note>>, JournalError<S::Refusal, S::Note>>
+        ensures performed { IfOk result
+            (λ told. Performs (S.rule (here self.old).node event.now) n self.old told.items self.new) }
+        ensures refused { IfErr result
+            (PerformFails (S.rule (here self.old).node event.now)
+            (S.refusal_without_memory (here self.old).node event.now) self.old) }
+        ensures serial_end { self.old.last ≡ 2 ^ 64 - 1 → result ≡ Err JournalError.SerialEnd }
+        ensures err { OnErr result (self.new ≡ self.old) }
+    {
+        if self.last == u64::MAX {
+            return Err(JournalError::SerialEnd);
+        }
+        if self.past.reserve(1).is_err() {
+            return match self.state.refusal(event) {
+                Some(refusal) => Err(JournalError::Step(refusal)),
+                None => Err(self.out_of_memory()),
+            };
+        }
+        let (told, trace, note) = match step(&mut self.state, event, n) {
+            Ok(stepped) => stepped,
+            Err(StepError::Rule(refusal)) => return Err(JournalError::Step(refusal)),
+            Err(StepError::Memory) => return Err(self.out_of_memory()),
+        };
+        self.last += 1;
+        let entry = Entry {
+            serial: self.last,
+            trace,
+            note,
+            node: Snapshot::of(&self.state),
+        };
+        put(&mut self.past, entry);
+        Ok(told)
+    }
+
+    /// Undoes every step after the mark, and reports it `n` times: how many steps, and their notes,
+    /// oldest first. It costs a binary search, `n` copies of the notes of what it was asked to cut,
+    /// and the reverts of what it cuts.
+    ///
+    /// # Errors
+    ///
+    /// `DeadMark` where no station has the mark, which leaves the journal as it was. `Memory` where
+    /// memory is refused, and then the journal stands at a station at or after the mark: the error
+    /// names that station and has `n` reports of what was cut up to there, but none where nothing
+    /// was. The same undo may be called again, and with memory it ends at the mark.
+    pub fn undo(
+        &mut self,
+        mark: Mark,
+        n: u8,
+    ) -> Result<Vec<Report<S::Note>>, JournalError<S::Refusal, S::Note>>
+        ensures undone { OnOk result (cut_to mark self.old ≡ Some self.new) }
+        ensures at_mark { OnOk result ((here self.new).serial ≡ mark) }
+        ensures reported { IfOk result
+            (λ reports. reports.items ≡ replicate n (report_of (cut_stations self.old self.new))) }
+        ensures err { IfErr result (UndoFails mark n self.old self.new) }
+        ensures front { IsFront self.old self.new }
+        ensures noted { length (notes_of (cut_stations self.old self.new))
+            ≡ length (cut_stations self.old self.new) }
+    {
+        let Some(keep) = kept_entries(self.past.as_slice(), self.floor, mark) else {
+            return Err(JournalError::DeadMark);
+        };
+        let Ok(mut reports) = reports_on(self.alloc, &self.past[keep..], n) else {
+            return Err(self.out_of_memory());
+        };
+        let stood = self.past.len();
+        take_back_to(&mut self.state, &mut self.past, keep);
+        if self.past.len() == keep {
+            return Ok(reports);
+        }
+        keep_newest(&mut reports, stood - self.past.len());
+        Err(JournalError::Memory {
+            mark: self.mark(),
+            reports,
+        })
+    }
+
+    /// Want of memory that changed nothing.
+    fn out_of_memory(&self) -> JournalError<S::Refusal, S::Note>
+        ensures { IsOutOfMemoryAt (here self.now).serial result }
+    {
+        JournalError::Memory {
+            mark: self.mark(),
+            reports: Vec::new(self.alloc),
+        }
+    }
+}
+
+/// Makes a step, and sets one of the equal values that tell of it aside: its note is the journal's.
+fn step<S: Reversible>(
+    state: &mut S,
+    event: &S::Event,
+    n: u8,
+) -> Result<(Vec<Told<S::Answer, S::Note>>, S::Record, S::Note), StepError<S::Refusal>>
+    ensures accepted { IfOk result
+        (λ done. AcceptsWith (S.rule state.old event.now) state.new n done.0.items done.2) }
+    ensures reversible { IfOk result (λ done. S.undoes done.1 state.old state.new) }
+    ensures refused { IfErr result
+        (Refuses (S.rule state.old event.now) (S.refusal_without_memory state.old event.now)) }
+    ensures err { OnErr result (state.new ≡ state.old) }
+{
+    let Stepped { mut told, trace } = state.step(event, usize::from(n) + 1)?;
+    let Some(kept) = told.pop() else {
+        unreachable!()
+    };
+    let Told { answer: _, note } = kept;
+    Ok((told, trace, note))
+}
