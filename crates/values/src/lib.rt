@@ -5,6 +5,10 @@
 //! [`Shared`] are seen by contracts as the items and the value alone, so they can be compared and
 //! copied by value; [`Same`] and [`Duplicate`] are those two operations. The integers of up to 64 bits,
 //! `bool` and `()` have both, and so have `Option`, pairs, [`Row`] and [`Shared`] over such types.
+//!
+//! Some bodies have no wrong neighbour: [`same_slices`] may compare the two slices in either order, for
+//! equality is symmetric; a copy of `()` can only be `()`; and of a shared value or a pair of which
+//! nothing but its type is known, a body has nothing else to give than what it was given.
 #![tactic(auto)]
 
 mod duplicate;
