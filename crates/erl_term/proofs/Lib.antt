@@ -1,0 +1,4 @@
+pub mod Ascii
+pub mod Reading
+pub mod Rows
+pub mod Texts

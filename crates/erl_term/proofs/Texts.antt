@@ -1,0 +1,289 @@
+-- Lemmas on the texts of terms, and on their bytes.
+use Rattle.std.proofs.Common.{◌≡◌, ℕ, ℤ, pos, negsuc, ◌+◌, ◌/◌, ◌%◌, ◌^◌, ◌<◌, ◌≤◌, Bool, true, false, not, ◌&&◌, cond, nat_le, List, [], ◌∷◌, ◌++◌, length, get_or, take, length-take, subst, ◌⊎◌, inl, inr, codes, Result, Ok, Err, Option, Some, None, OnOk, is_ok, option_map, append_assoc, sym, ap, ◌∙◌, refl, arith}
+use Rattle.std.specs.Option.{option_to_list}
+use Rattle.std.specs.List.{list_all, flat_map}
+use Rattle.std.specs.Str.{IsUtf8, IsAscii, chars}
+use Rattle.std.specs.Fmt.{decimal, signed_decimal, digits, digit_glyph}
+use Rattle.std.proofs.lemmas.List.{append-nil, take_more, flat_map_more}
+use Rattle.std.proofs.lemmas.List.Concat.{flat_map-append}
+use Rattle.std.proofs.lemmas.Str.{encodes-append, encodes-IsAscii, encodes-chars, IsAscii-append}
+use Rattle.std.proofs.lemmas.Str.Ascii.{IsAscii-nil, IsAscii-cons}
+use Rattle.std.proofs.lemmas.Fmt.{IsAscii-decimal, IsAscii-signed, hex_one_digit, hex_two_digits}
+use Rattle.std.proofs.lemmas.Bool.{cond-true, cond-false}
+use Rattle.std.proofs.lemmas.Bool.Decides.{nat_tests, leb_tells}
+use lib.Signed.{mag}
+use lib.Utf8.{encode}
+use Rattle.erl_term.specs.declared.term.Term.{Term}
+use Rattle.erl_term.specs.Tree.{Tree, Trees, int, atom, pid, tuple, list, none, more}
+use Rattle.erl_term.specs.Term.{tree, trees}
+use Rattle.erl_term.specs.Text.{utf8, atom_text, hex, hex_digit, quoted_char, begins_lower, is_name_char, is_quoted_word, is_plain, printable, string_char, string_text, list_text, text, elements_text, others_text}
+use Rattle.erl_term.specs.Strings.{printable_char, printable_chars, has_chars}
+
+-- Bytes
+
+pub utf8-append : (cs ds : List ℕ) → utf8 (cs ++ ds) ≡ utf8 cs ++ utf8 ds
+unfolding utf8
+utf8-append cs ds = encodes-append cs ds
+
+pub utf8-cons : (c : ℕ) (cs : List ℕ) → utf8 (c ∷ cs) ≡ encode c ++ utf8 cs
+unfolding utf8
+utf8-cons c cs = refl
+
+pub utf8-nil : utf8 [] ≡ []
+unfolding utf8
+utf8-nil = refl
+
+pub utf8-one : (c : ℕ) → utf8 (c ∷ []) ≡ encode c
+utf8-one c = utf8-cons c [] ∙ ap (λ bs. encode c ++ bs) utf8-nil ∙ append-nil (encode c)
+
+pub utf8-ascii : (cs : List ℕ) → IsAscii cs → utf8 cs ≡ cs
+unfolding utf8
+utf8-ascii cs ascii = encodes-IsAscii cs ascii
+
+pub utf8-chars : (bs : List ℕ) → IsUtf8 bs → utf8 (chars bs) ≡ bs
+unfolding utf8
+utf8-chars bs whole = encodes-chars bs whole
+
+-- What calls append
+
+-- the bytes that a last call appends, where they are those of a text
+pub pushes : {T E : Type 0} (r : Result T E) (new old bs ds cs : List ℕ) → new ≡ cond (is_ok r) (old ++ bs) old → old ++ bs ≡ ds ++ utf8 cs → OnOk r (new ≡ ds ++ utf8 cs)
+pushes (Ok x) new old bs ds cs h e = h ∙ e
+pushes (Err x) new old bs ds cs h e = tt
+
+-- Numbers
+
+glyph-digit : (n : ℕ) → digit_glyph false n ≡ hex_digit n
+glyph-digit n = grind (arith, nat_tests)
+
+pub hex-digits : (n : ℕ) → n < 256 → digits 16 false n ≡ hex n
+hex-digits n small =
+    elim (leb_tells n 15) [
+      | inl below ↦
+          hex_one_digit false n (omega (arith, below.1)) ∙ ap (λ d. d ∷ []) (glyph-digit n) ∙ sym (cond-true (nat_le n 15) (hex_digit n ∷ []) (hex_digit (n / 16) ∷ hex_digit (n % 16) ∷ []) below.0)
+      | inr above ↦
+          hex_two_digits false n (omega (arith, above.1)) small ∙ ap (λ d. d ∷ digit_glyph false (n % 16) ∷ []) (glyph-digit (n / 16)) ∙ ap (λ d. hex_digit (n / 16) ∷ d ∷ []) (glyph-digit (n % 16)) ∙ sym (cond-false (nat_le n 15) (hex_digit n ∷ []) (hex_digit (n / 16) ∷ hex_digit (n % 16) ∷ []) above.0)
+    ]
+
+hex_digit-ascii : (n : ℕ) → n < 16 → hex_digit n < 128
+hex_digit-ascii n small = grind (arith, nat_tests)
+
+hex-ascii : (n : ℕ) → n < 256 → IsAscii (hex n)
+hex-ascii n small =
+    elim (leb_tells n 15) [
+      | inl below ↦
+          subst IsAscii (sym (cond-true (nat_le n 15) (hex_digit n ∷ []) (hex_digit (n / 16) ∷ hex_digit (n % 16) ∷ []) below.0)) (IsAscii-cons (hex_digit n) [] (hex_digit-ascii n (omega (arith, below.1))) IsAscii-nil)
+      | inr above ↦
+          subst IsAscii (sym (cond-false (nat_le n 15) (hex_digit n ∷ []) (hex_digit (n / 16) ∷ hex_digit (n % 16) ∷ []) above.0)) (IsAscii-cons (hex_digit (n / 16)) (hex_digit (n % 16) ∷ []) (hex_digit-ascii (n / 16) (omega arith)) (IsAscii-cons (hex_digit (n % 16)) [] (hex_digit-ascii (n % 16) (omega arith)) IsAscii-nil))
+    ]
+
+ascii-three : (a b c : ℕ) → a < 128 → b < 128 → c < 128 → IsAscii (a ∷ b ∷ c ∷ [])
+ascii-three a b c first second third =
+    IsAscii-cons a (b ∷ c ∷ []) first (IsAscii-cons b (c ∷ []) second (IsAscii-cons c [] third IsAscii-nil))
+
+pub integer-bytes : (n : ℤ) → mag n < 2 ^ 63 → utf8 (signed_decimal n) ≡ signed_decimal n
+integer-bytes n small = utf8-ascii (signed_decimal n) (IsAscii-signed n small)
+
+-- a process identifier
+pub pid-bytes : (n : ℕ) → n < 2 ^ 64 → utf8 (codes "<0." ++ (decimal n ++ codes ".0>")) ≡ codes "<0." ++ (decimal n ++ codes ".0>")
+pid-bytes n small =
+    utf8-ascii (codes "<0." ++ (decimal n ++ codes ".0>")) (IsAscii-append (codes "<0.") (decimal n ++ codes ".0>") (ascii-three 60 48 46 (omega arith) (omega arith) (omega arith)) (IsAscii-append (decimal n) (codes ".0>") (IsAscii-decimal n small) (ascii-three 46 48 62 (omega arith) (omega arith) (omega arith))))
+
+-- Atoms
+
+pub quoted-escaped : (c : ℕ) → (c ≡ 39) ⊎ (c ≡ 92) → quoted_char c ≡ 92 ∷ c ∷ []
+quoted-escaped c either =
+    elim either [
+      | inl e ↦ ap quoted_char e ∙ ap (λ d. 92 ∷ d ∷ []) (sym e)
+      | inr e ↦ ap quoted_char e ∙ ap (λ d. 92 ∷ d ∷ []) (sym e)
+    ]
+
+pub quoted-control : (c : ℕ) → (c ≡ 39 → ⊥) → (c ≡ 92 → ⊥) → (c < 32) ⊎ (c ≡ 127) → quoted_char c ≡ codes "\\x{" ++ (hex c ++ 125 ∷ [])
+quoted-control c other neither either = grind (arith, nat_tests)
+
+pub quoted-plain : (c : ℕ) → (c ≡ 39 → ⊥) → (c ≡ 92 → ⊥) → 32 ≤ c → (c ≡ 127 → ⊥) → quoted_char c ≡ c ∷ []
+quoted-plain c other neither above nor = grind (arith, nat_tests)
+
+-- the bytes of each kind of quoted character
+pub escaped-bytes : (c : ℕ) (old mid : List ℕ) → (c ≡ 39) ⊎ (c ≡ 92) → mid ≡ old ++ encode 92 → mid ++ encode c ≡ old ++ utf8 (quoted_char c)
+escaped-bytes c old mid either is =
+    ap (λ bs. bs ++ encode c) is ∙ append_assoc old (encode 92) (encode c) ∙ ap (λ bs. old ++ (encode 92 ++ bs)) (sym (utf8-one c)) ∙ ap (λ bs. old ++ bs) (sym (utf8-cons 92 (c ∷ []))) ∙ ap (λ cs. old ++ utf8 cs) (sym (quoted-escaped c either))
+
+pub plain-bytes : (c : ℕ) → (c ≡ 39 → ⊥) → (c ≡ 92 → ⊥) → 32 ≤ c → (c ≡ 127 → ⊥) → utf8 (quoted_char c) ≡ encode c
+plain-bytes c other neither above nor = ap utf8 (quoted-plain c other neither above nor) ∙ utf8-one c
+
+pub control-bytes : (c : ℕ) → (c ≡ 39 → ⊥) → (c ≡ 92 → ⊥) → (c < 32) ⊎ (c ≡ 127) → utf8 (quoted_char c) ≡ codes "\\x{" ++ (digits 16 false c ++ 125 ∷ [])
+control-bytes c other neither either =
+    let small : c < 128 = elim either [ inl below ↦ omega (arith, below) | inr is ↦ omega (arith, is) ] in
+    let ascii : IsAscii (codes "\\x{" ++ (hex c ++ 125 ∷ [])) = IsAscii-append (codes "\\x{") (hex c ++ 125 ∷ []) (ascii-three 92 120 123 (omega arith) (omega arith) (omega arith)) (IsAscii-append (hex c) (125 ∷ []) (hex-ascii c (omega arith)) (IsAscii-cons 125 [] (omega arith) IsAscii-nil)) in
+    ap utf8 (quoted-control c other neither either) ∙ utf8-ascii (codes "\\x{" ++ (hex c ++ 125 ∷ [])) ascii ∙ ap (λ cs. codes "\\x{" ++ (cs ++ 125 ∷ [])) (sym (hex-digits c (omega arith)))
+
+-- one character more between quotes
+pub quoted-more : (out old new cs : List ℕ) (c : ℕ) → out ≡ old ++ utf8 (flat_map quoted_char cs) → new ≡ out ++ utf8 (quoted_char c) → new ≡ old ++ utf8 (flat_map quoted_char (cs ++ c ∷ []))
+quoted-more out old new cs c so_far here =
+    here ∙ ap (λ bs. bs ++ utf8 (quoted_char c)) so_far ∙ append_assoc old (utf8 (flat_map quoted_char cs)) (utf8 (quoted_char c)) ∙ ap (λ bs. old ++ bs) (sym (utf8-append (flat_map quoted_char cs) (quoted_char c))) ∙ ap (λ ds. old ++ utf8 ds) (flat_map_more quoted_char [] cs c)
+
+name_char-ascii : (c : ℕ) → is_name_char c ≡ true → c < 128
+name_char-ascii c is = grind (arith, nat_tests)
+
+and_parts : (a b : Bool) → (a && b) ≡ true → (a ≡ true) × (b ≡ true)
+and_parts true b e = (refl, e)
+and_parts false b e = absurd (let no : ⊥ = cc in no)
+
+pub names-ascii : (cs : List ℕ) → list_all is_name_char cs ≡ true → IsAscii cs
+names-ascii [] all = IsAscii-nil
+names-ascii (c ∷ cs) all =
+    let both = and_parts (is_name_char c) (list_all is_name_char cs) all in
+    IsAscii-cons c cs (name_char-ascii c both.0) (names-ascii cs both.1)
+
+-- characters that are all ASCII are their bytes
+pub names-bytes : (bs : List ℕ) → IsUtf8 bs → list_all is_name_char (chars bs) ≡ true → chars bs ≡ bs
+names-bytes bs whole all =
+    sym (encodes-IsAscii (chars bs) (names-ascii (chars bs) all)) ∙ encodes-chars bs whole
+
+pub plain-by_words : (cs bs : List ℕ) (r : Bool) → begins_lower cs ≡ true → list_all is_name_char cs ≡ true → cs ≡ bs → r ≡ is_quoted_word bs → not r ≡ is_plain cs
+plain-by_words cs bs r begins all same is =
+    sym (ap (λ b. b && (list_all is_name_char cs && not (is_quoted_word cs))) begins ∙ ap (λ b. b && not (is_quoted_word cs)) all ∙ ap (λ ds. not (is_quoted_word ds)) same ∙ ap not (sym is))
+
+-- Elements
+
+pub others-push : (ts : List Term) (t : Term) → others_text (trees (ts ++ t ∷ [])) ≡ others_text (trees ts) ++ 44 ∷ text (tree t)
+others-push [] t = ap (λ cs. 44 ∷ cs) (append-nil (text (tree t)))
+others-push (u ∷ us) t =
+    ap (λ cs. 44 ∷ (text (tree u) ++ cs)) (others-push us t) ∙ ap (λ cs. 44 ∷ cs) (sym (append_assoc (text (tree u)) (others_text (trees us)) (44 ∷ text (tree t))))
+
+pub elements-one : (t : Term) → elements_text (trees (t ∷ [])) ≡ text (tree t)
+elements-one t = append-nil (text (tree t))
+
+pub elements-push : (ts : List Term) (t : Term) → 0 < length ts → elements_text (trees (ts ++ t ∷ [])) ≡ elements_text (trees ts) ++ 44 ∷ text (tree t)
+elements-push [] t some = absurd (omega arith)
+elements-push (u ∷ us) t some =
+    ap (λ cs. text (tree u) ++ cs) (others-push us t) ∙ sym (append_assoc (text (tree u)) (others_text (trees us)) (44 ∷ text (tree t)))
+
+-- Strings
+
+abbrev joined : Option ℕ → Option (List ℕ) → Option (List ℕ)
+joined None cs = None
+joined (Some c) cs = option_map (λ ds. c ∷ ds) cs
+
+joined-cond : (b : Bool) (n : ℕ) (cs : Option (List ℕ)) → cond b (option_map (λ ds. n ∷ ds) cs) None ≡ joined (cond b (Some n) None) cs
+joined-cond true n cs = refl
+joined-cond false n cs = refl
+
+-- a row's characters are those of its first term and of the others
+printable-more : (t : Tree) (ts : Trees) → printable (more t ts) ≡ joined (printable_char t) (printable ts)
+printable-more (int (pos n)) ts = joined-cond (nat_le 32 n && nat_le n 126) n (printable ts)
+printable-more (int (negsuc n)) ts = refl
+printable-more (atom cs) ts = refl
+printable-more (pid n) ts = refl
+printable-more (tuple us) ts = refl
+printable-more (list us) ts = refl
+
+chars_from_joined : (o : Option ℕ) (r : Option (List ℕ)) (ds cs : List ℕ) → ((es : List ℕ) → r ≡ Some es → ds ≡ es) → joined o r ≡ Some cs → option_to_list o ++ ds ≡ cs
+chars_from_joined None r ds cs h e = absurd (let no : ⊥ = cc in no)
+chars_from_joined (Some c) None ds cs h e = absurd (let no : ⊥ = cc in no)
+chars_from_joined (Some c) (Some es) ds cs h e = let here : ds ≡ es = h es refl in cc
+
+-- where all terms have characters, the characters are all
+pub printable-chars : (ts : Trees) (cs : List ℕ) → printable ts ≡ Some cs → printable_chars ts ≡ cs
+printable-chars none cs e = cc
+printable-chars (more t ts) cs e =
+    chars_from_joined (printable_char t) (printable ts) (printable_chars ts) cs (λ es is. printable-chars ts es is) (sym (printable-more t ts) ∙ e)
+
+string_by_chars : (o : Option (List ℕ)) (ds es : List ℕ) → ((cs : List ℕ) → o ≡ Some cs → ds ≡ cs) → has_chars o ≡ true → list_text o es ≡ string_text ds
+string_by_chars None ds es h is = absurd (let no : ⊥ = cc in no)
+string_by_chars (Some []) ds es h is = absurd (let no : ⊥ = cc in no)
+string_by_chars (Some (c ∷ cs)) ds es h is = sym (ap string_text (h (c ∷ cs) refl))
+
+-- a list's text, where it is a string
+pub list-string : (ts : Trees) → has_chars (printable ts) ≡ true → text (list ts) ≡ string_text (printable_chars ts)
+list-string ts is = string_by_chars (printable ts) (printable_chars ts) (elements_text ts) (printable-chars ts) is
+
+elements_by_chars : (o : Option ℕ) (r : Option (List ℕ)) (es : List ℕ) → has_chars (joined o r) ≡ false → list_text (joined o r) es ≡ 91 ∷ (es ++ 93 ∷ [])
+elements_by_chars None r es is = refl
+elements_by_chars (Some c) None es is = refl
+elements_by_chars (Some c) (Some cs) es is = absurd (let no : ⊥ = cc in no)
+
+-- and where it is none
+pub list-elements : (ts : Trees) → has_chars (printable ts) ≡ false → text (list ts) ≡ 91 ∷ (elements_text ts ++ 93 ∷ [])
+list-elements none is = refl
+list-elements (more t ts) is =
+    ap (λ o. list_text o (elements_text (more t ts))) (printable-more t ts) ∙ elements_by_chars (printable_char t) (printable ts) (elements_text (more t ts)) (ap has_chars (sym (printable-more t ts)) ∙ is)
+
+-- Loops over terms
+
+take_here : (items : List Term) (i : ℕ) (t : Term) → i < length items → t ≡ get_or items i t → take (i + 1) items ≡ take i items ++ t ∷ []
+take_here items i t within is = take_more items i t within ∙ ap (λ u. take i items ++ u ∷ []) (sym is)
+
+chars-push : (ts : List Term) (t : Term) → printable_chars (trees (ts ++ t ∷ [])) ≡ printable_chars (trees ts) ++ option_to_list (printable_char (tree t))
+chars-push [] t = append-nil (option_to_list (printable_char (tree t)))
+chars-push (u ∷ us) t =
+    ap (λ cs. option_to_list (printable_char (tree u)) ++ cs) (chars-push us t) ∙ sym (append_assoc (option_to_list (printable_char (tree u))) (printable_chars (trees us)) (option_to_list (printable_char (tree t))))
+
+-- the characters of the terms so far, and of the next
+pub chars-more : (items : List Term) (i : ℕ) (t : Term) (old out new : List ℕ) → i < length items → t ≡ get_or items i t → out ≡ old ++ utf8 (flat_map string_char (printable_chars (trees (take i items)))) → new ≡ out ++ utf8 (flat_map string_char (option_to_list (printable_char (tree t)))) → new ≡ old ++ utf8 (flat_map string_char (printable_chars (trees (take (i + 1) items))))
+chars-more items i t old out new within is so_far here =
+    let cs = printable_chars (trees (take i items)) in
+    let ds = option_to_list (printable_char (tree t)) in
+    here ∙ ap (λ bs. bs ++ utf8 (flat_map string_char ds)) so_far ∙ append_assoc old (utf8 (flat_map string_char cs)) (utf8 (flat_map string_char ds)) ∙ ap (λ bs. old ++ bs) (sym (utf8-append (flat_map string_char cs) (flat_map string_char ds))) ∙ ap (λ es. old ++ utf8 es) (sym (flat_map-append string_char cs ds)) ∙ ap (λ es. old ++ utf8 (flat_map string_char es)) (sym (chars-push (take i items) t)) ∙ ap (λ ts. old ++ utf8 (flat_map string_char (printable_chars (trees ts)))) (sym (take_here items i t within is))
+
+-- the first element's text
+pub elements-first : (items : List Term) (i : ℕ) (t : Term) (old out new : List ℕ) → i < length items → t ≡ get_or items i t → i ≡ 0 → out ≡ old ++ utf8 (elements_text (trees (take i items))) → new ≡ out ++ utf8 (text (tree t)) → new ≡ old ++ utf8 (elements_text (trees (take (i + 1) items)))
+elements-first items i t old out new within is first so_far here =
+    let nothing : out ≡ old = so_far ∙ ap (λ k. old ++ utf8 (elements_text (trees (take k items)))) first ∙ ap (λ bs. old ++ bs) utf8-nil ∙ append-nil old in
+    let one : take (i + 1) items ≡ t ∷ [] = take_here items i t within is ∙ ap (λ k. take k items ++ t ∷ []) first in
+    here ∙ ap (λ bs. bs ++ utf8 (text (tree t))) nothing ∙ ap (λ cs. old ++ utf8 cs) (sym (elements-one t)) ∙ ap (λ ts. old ++ utf8 (elements_text (trees ts))) (sym one)
+
+-- and each further one's, behind a comma
+pub elements-further : (items : List Term) (i : ℕ) (t : Term) (old out mid new : List ℕ) → i < length items → t ≡ get_or items i t → 0 < i → out ≡ old ++ utf8 (elements_text (trees (take i items))) → mid ≡ out ++ encode 44 → new ≡ mid ++ utf8 (text (tree t)) → new ≡ old ++ utf8 (elements_text (trees (take (i + 1) items)))
+elements-further items i t old out mid new within is further so_far comma here =
+    let es = elements_text (trees (take i items)) in
+    let some : 0 < length (take i items) = simp length-take (omega arith) in
+    here ∙ ap (λ bs. bs ++ utf8 (text (tree t))) comma ∙ append_assoc out (encode 44) (utf8 (text (tree t))) ∙ ap (λ bs. out ++ bs) (sym (utf8-cons 44 (text (tree t)))) ∙ ap (λ bs. bs ++ utf8 (44 ∷ text (tree t))) so_far ∙ append_assoc old (utf8 es) (utf8 (44 ∷ text (tree t))) ∙ ap (λ bs. old ++ bs) (sym (utf8-append es (44 ∷ text (tree t)))) ∙ ap (λ cs. old ++ utf8 cs) (sym (elements-push (take i items) t some)) ∙ ap (λ ts. old ++ utf8 (elements_text (trees ts))) (sym (take_here items i t within is))
+
+-- a text between two characters
+pub between-bytes : (a b : ℕ) (old first mid cs : List ℕ) → first ≡ old ++ encode a → mid ≡ first ++ utf8 cs → mid ++ encode b ≡ old ++ utf8 (a ∷ (cs ++ b ∷ []))
+between-bytes a b old first mid cs opened filled =
+    ap (λ bs. bs ++ encode b) (filled ∙ ap (λ bs. bs ++ utf8 cs) opened ∙ append_assoc old (encode a) (utf8 cs)) ∙ append_assoc old (encode a ++ utf8 cs) (encode b) ∙ ap (λ bs. old ++ bs) (append_assoc (encode a) (utf8 cs) (encode b)) ∙ ap (λ bs. old ++ (encode a ++ (utf8 cs ++ bs))) (sym (utf8-one b)) ∙ ap (λ bs. old ++ (encode a ++ bs)) (sym (utf8-append cs (b ∷ []))) ∙ ap (λ bs. old ++ bs) (sym (utf8-cons a (cs ++ b ∷ [])))
+
+-- Atoms, whole
+
+pub atom-plain : (bs : List ℕ) → IsUtf8 bs → is_plain (chars bs) ≡ true → utf8 (atom_text (chars bs)) ≡ bs
+atom-plain bs whole is =
+    ap utf8 (cond-true (is_plain (chars bs)) (chars bs) (39 ∷ (flat_map quoted_char (chars bs) ++ 39 ∷ [])) is) ∙ utf8-chars bs whole
+
+pub atom-quoted : (cs : List ℕ) → is_plain cs ≡ false → atom_text cs ≡ 39 ∷ (flat_map quoted_char cs ++ 39 ∷ [])
+atom-quoted cs is = cond-false (is_plain cs) cs (39 ∷ (flat_map quoted_char cs ++ 39 ∷ [])) is
+
+-- Characters of strings
+
+string-escaped : (c : ℕ) → (c ≡ 34) ⊎ (c ≡ 92) → string_char c ≡ 92 ∷ c ∷ []
+string-escaped c either =
+    elim either [
+      | inl e ↦ ap string_char e ∙ ap (λ d. 92 ∷ d ∷ []) (sym e)
+      | inr e ↦ ap string_char e ∙ ap (λ d. 92 ∷ d ∷ []) (sym e)
+    ]
+
+string-plain : (c : ℕ) → (c ≡ 34 → ⊥) → (c ≡ 92 → ⊥) → string_char c ≡ c ∷ []
+string-plain c other neither = grind (arith, nat_tests)
+
+pub string-escaped-bytes : (c : ℕ) (old mid : List ℕ) → (c ≡ 34) ⊎ (c ≡ 92) → mid ≡ old ++ encode 92 → mid ++ encode c ≡ old ++ utf8 (string_char c)
+string-escaped-bytes c old mid either is =
+    ap (λ bs. bs ++ encode c) is ∙ append_assoc old (encode 92) (encode c) ∙ ap (λ bs. old ++ (encode 92 ++ bs)) (sym (utf8-one c)) ∙ ap (λ bs. old ++ bs) (sym (utf8-cons 92 (c ∷ []))) ∙ ap (λ cs. old ++ utf8 cs) (sym (string-escaped c either))
+
+pub string-plain-bytes : (c : ℕ) (old mid : List ℕ) → (c ≡ 34 → ⊥) → (c ≡ 92 → ⊥) → mid ≡ old → mid ++ encode c ≡ old ++ utf8 (string_char c)
+string-plain-bytes c old mid other neither is =
+    ap (λ bs. bs ++ encode c) is ∙ ap (λ bs. old ++ bs) (sym (utf8-one c)) ∙ ap (λ cs. old ++ utf8 cs) (sym (string-plain c other neither))
+
+-- what a term adds to a string: its character, or nothing
+pub char-added : (o : Option ℕ) (c : ℕ) (out new : List ℕ) → o ≡ Some c → new ≡ out ++ utf8 (string_char c) → new ≡ out ++ utf8 (flat_map string_char (option_to_list o))
+char-added o c out new is here =
+    here ∙ ap (λ cs. out ++ utf8 cs) (sym (append-nil (string_char c))) ∙ ap (λ p. out ++ utf8 (flat_map string_char (option_to_list p))) (sym is)
+
+pub none-added : (o : Option ℕ) (out new : List ℕ) → o ≡ None → new ≡ out → new ≡ out ++ utf8 (flat_map string_char (option_to_list o))
+none-added o out new is here =
+    here ∙ sym (append-nil out) ∙ ap (λ bs. out ++ bs) (sym utf8-nil) ∙ ap (λ p. out ++ utf8 (flat_map string_char (option_to_list p))) (sym is)
+
+-- where nothing is written yet
+pub nothing-yet : (old : List ℕ) → old ≡ old ++ utf8 []
+nothing-yet old = sym (ap (λ bs. old ++ bs) utf8-nil ∙ append-nil old)

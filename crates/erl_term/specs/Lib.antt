@@ -1,0 +1,11 @@
+pub mod Ascii
+pub mod Order
+pub mod OrderLaws
+pub mod Strings
+pub mod Text
+pub mod Tree
+pub mod TreeCode
+pub mod Readers
+pub mod Term
+pub mod TermFalls
+pub mod TermOrder

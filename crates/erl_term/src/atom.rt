@@ -1,0 +1,104 @@
+// Atoms.
+ghost use Rattle.std.specs.Prelude.{◌≡◌, ◌<◌, ◌≤◌, ◌↔◌, ℕ, List, length, IfOk, IsTrue, Err, string_bytes};
+ghost use Rattle.std.specs.Str.{bytes_eq, chars};
+ghost use Rattle.erl_term.specs.Ascii.{is_ascii_text};
+
+use std::alloc::{AllocError, Global};
+use std::marker::Model;
+use thiserror::Error;
+use values::{Duplicate, Same};
+
+/// An atom: a name of at most 255 characters, seen by contracts as its code points.
+#[derive(Drop)]
+pub struct Atom {
+    text: String,
+}
+
+impl Model for Atom {
+    ghost Value = { List ℕ };
+
+    ghost view = { λ a. chars (string_bytes a.text) };
+
+    ghost invariant = { λ a. length (chars (string_bytes a.text)) ≤ 255 };
+}
+
+/// Why there is no atom of a text.
+#[derive(Clone, Copy, Debug, PartialEq, Eq, Error)]
+pub enum AtomError {
+    /// The text has more than 255 characters.
+    #[error("an atom has at most 255 characters")]
+    AtomTooLong,
+    /// Memory was refused.
+    #[error("out of memory")]
+    Memory,
+}
+
+impl Atom {
+    /// The atom of a text's characters.
+    ///
+    /// # Errors
+    ///
+    /// `AtomTooLong` over 255 characters, and else `Memory` where memory is refused.
+    pub fn new(alloc: Global, text: &str) -> Result<Atom, AtomError>
+        ensures ok { IfOk result (λ atom. atom ≡ chars text.now) }
+        ensures too_long { (result ≡ Err AtomError.AtomTooLong) ↔ (255 < length (chars text.now)) }
+    {
+        if count(text) > 255 {
+            return Err(AtomError::AtomTooLong);
+        }
+        match String::from_str(alloc, text) {
+            Ok(text) => Ok(Atom { text }),
+            Err(AllocError) => Err(AtomError::Memory),
+        }
+    }
+
+    /// The atom of an ASCII word of the program's own.
+    ///
+    /// # Errors
+    ///
+    /// `AllocError` where memory is refused.
+    pub fn word(alloc: Global, word: &str) -> Result<Atom, AllocError>
+        requires ascii { IsTrue (is_ascii_text word.now) }
+        requires short { length word.now ≤ 255 }
+        ensures { IfOk result (λ atom. atom ≡ word.now) }
+    {
+        let text = String::from_str(alloc, word)?;
+        Ok(Atom { text })
+    }
+
+    /// Whether the atom is this ASCII word. Takes no memory.
+    pub fn is(&self, word: &str) -> bool
+        requires { IsTrue (is_ascii_text word.now) }
+        ensures { result ≡ bytes_eq self.now word.now }
+    {
+        self.text.as_str() == word
+    }
+
+    /// The atom's characters. Takes no memory.
+    pub fn as_str(&self) -> &str
+        ensures chars { chars result.now ≡ self.now }
+        ensures kept { length self.now ≤ 255 }
+    {
+        String::as_str(&self.text)
+    }
+}
+
+impl Duplicate for Atom {
+    fn copy(&self, alloc: Global) -> Result<Atom, AllocError> {
+        let text = String::from_str(alloc, self.text.as_str())?;
+        Ok(Atom { text })
+    }
+}
+
+impl Same for Atom {
+    fn same(&self, other: &Atom) -> bool {
+        self.text.as_str() == other.text.as_str()
+    }
+}
+
+/// How many characters a text has.
+fn count(text: &str) -> usize
+    ensures { result ≡ length (chars text.now) }
+{
+    text.chars().count()
+}

@@ -1,0 +1,37 @@
+//! Erlang terms, their order and their text.
+//!
+//! A [`Term`] is an integer, an atom, a process identifier, a tuple or a proper list. Contracts see it as
+//! a `Tree`: `tree` is the tree of a term, and `trees` the row of trees of terms in a row. A tuple's or a
+//! list's elements are [`Terms`], which contracts see as such a row already.
+//!
+//! # What is proved
+//!
+//! - [`Atom::new`] gives the atom of exactly the text's characters, or `AtomTooLong` exactly where there
+//!   are over 255.
+//! - [`Term::depth`] and [`Term::size`] are those of the tree.
+//! - `Ord` is the order of the Erlang Reference Manual (Term Comparisons), total, and equal exactly for
+//!   equal terms. `Same` decides equality, and `Duplicate` gives an equal term.
+//! - [`print`] appends exactly the bytes of the term's text, and leaves the output as it was where memory
+//!   is refused.
+//! - The readers ([`Term::as_int`] and its neighbours, [`first`], [`one`] to [`eight`], [`string`],
+//!   [`character`]) answer exactly where the term is what they read, and with exactly that.
+//!
+//! # What no contract says
+//!
+//! That there is memory, and what a call costs: each is linear in the terms that it is given. `print`
+//! builds the text before it appends it. All calls recurse as deep as the term and no deeper, and so does
+//! dropping one: terms of depth 1,024 are tested on a stack of 8 MB. A caller that takes terms from outside bounds
+//! their depth first.
+#![tactic(auto)]
+
+mod atom;
+mod printing;
+mod readers;
+mod term;
+#[cfg(test)]
+mod tests;
+
+pub use atom::{Atom, AtomError};
+pub use printing::print;
+pub use readers::{character, eight, first, five, four, one, seven, six, string, three, two};
+pub use term::{Term, Terms};

@@ -1,0 +1,124 @@
+// The text of terms.
+ghost use Rattle.std.specs.Prelude.{◌≡◌, ◌++◌, ◌∷◌, [], codes, OnOk, OnErr, string_bytes};
+ghost use Rattle.std.specs.Str.{chars};
+ghost use Rattle.std.specs.Fmt.{decimal, signed_decimal};
+ghost use Rattle.std.specs.List.{flat_map, list_all};
+ghost use Rattle.erl_term.specs.Term.{tree};
+ghost use Rattle.erl_term.specs.Text.{utf8, text, atom_text, begins_lower, is_name_char, is_plain, is_quoted_word, quoted_char};
+
+use crate::term::Term;
+use std::alloc::AllocError;
+
+/// The words that no atom is printed as without quotes: those that are reserved, and `else` and `maybe`,
+/// which newer releases reserve.
+const QUOTED_WORDS: [&str; 29] = [
+    "after", "and", "andalso", "band", "begin", "bnot", "bor", "bsl", "bsr", "bxor", "case",
+    "catch", "cond", "div", "else", "end", "fun", "if", "let", "maybe", "not", "of", "or",
+    "orelse", "receive", "rem", "try", "when", "xor",
+];
+
+/// Appends the term's text, in UTF-8, by Erlang's syntax (Erlang Reference Manual, Data Types): integers in
+/// decimal, atoms in quotes where they need them, process identifiers as `<0.N.0>`, lists of printable
+/// characters as strings, and no blanks.
+///
+/// # Errors
+///
+/// `AllocError` where memory is refused; the output is then as it was.
+pub fn print(term: &Term, out: &mut Vec<u8>) -> Result<(), AllocError>
+    ensures printed { OnOk result (out.new.items ≡ out.old.items ++ utf8 (text (tree term.now))) }
+    ensures err { OnErr result (out.new.items ≡ out.old.items) }
+{
+    let mut text = String::new(*out.allocator());
+    term.append_text(&mut text)?;
+    out.extend_from_slice(text.as_bytes())
+}
+
+/// Appends a number in decimal.
+pub(crate) fn append_integer(n: i64, out: &mut String) -> Result<(), AllocError>
+    ensures { OnOk result (string_bytes out.new ≡ string_bytes out.old ++ utf8 (signed_decimal n)) }
+{
+    write!(out, "{n}")
+}
+
+/// Appends a process identifier.
+pub(crate) fn append_pid(n: u64, out: &mut String) -> Result<(), AllocError>
+    ensures { OnOk result (string_bytes out.new ≡ string_bytes out.old ++ utf8 (codes "<0." ++ (decimal n ++ codes ".0>"))) }
+{
+    write!(out, "<0.{n}.0>")
+}
+
+/// Appends the atom of these characters.
+pub(crate) fn append_atom(name: &str, out: &mut String) -> Result<(), AllocError>
+    ensures { OnOk result (string_bytes out.new ≡ string_bytes out.old ++ utf8 (atom_text (chars name.now))) }
+{
+    if is_plain(name) {
+        out.push_str(name)
+    } else {
+        out.push('\'')?;
+        append_quoted(name, out)?;
+        out.push('\'')
+    }
+}
+
+/// Appends characters as they stand between single quotes.
+fn append_quoted(name: &str, out: &mut String) -> Result<(), AllocError>
+    ensures { OnOk result (string_bytes out.new ≡ string_bytes out.old ++ utf8 (flat_map quoted_char (chars name.now))) }
+{
+    for c in name.chars() {
+        append_quoted_char(c, out)?;
+    }
+    Ok(())
+}
+
+/// Appends a character as it stands between single quotes.
+fn append_quoted_char(c: char, out: &mut String) -> Result<(), AllocError>
+    ensures { OnOk result (string_bytes out.new ≡ string_bytes out.old ++ utf8 (quoted_char c)) }
+{
+    if c == '\'' || c == '\\' {
+        out.push('\\')?;
+        out.push(c)
+    } else if c < ' ' || c == '\u{7f}' {
+        let code = u32::from(c);
+        write!(out, "\\x{{{code:x}}}")
+    } else {
+        out.push(c)
+    }
+}
+
+/// Whether the atom of these characters stands without quotes.
+fn is_plain(name: &str) -> bool
+    ensures { result ≡ is_plain (chars name.now) }
+{
+    begins_lower(name) && has_name_chars(name) && !is_quoted_word(name)
+}
+
+/// Whether the first character is a lower-case letter.
+fn begins_lower(name: &str) -> bool
+    ensures { result ≡ begins_lower (chars name.now) }
+{
+    match name.chars().next() {
+        Some(c) => c.is_ascii_lowercase(),
+        None => false,
+    }
+}
+
+/// Whether all characters may stand in an atom without quotes.
+fn has_name_chars(name: &str) -> bool
+    ensures { result ≡ list_all is_name_char (chars name.now) }
+{
+    name.chars().all(|c| is_name_char(c))
+}
+
+/// Whether the character may stand in an atom without quotes.
+fn is_name_char(c: char) -> bool
+    ensures { result ≡ is_name_char c }
+{
+    matches!(c, 'a'..='z' | 'A'..='Z' | '0'..='9' | '_' | '@')
+}
+
+/// Whether the text is one of the words that get quotes.
+fn is_quoted_word(name: &str) -> bool
+    ensures { result ≡ is_quoted_word name.now }
+{
+    QUOTED_WORDS.iter().any(|word| *word == name)
+}

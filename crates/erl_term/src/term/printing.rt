@@ -1,0 +1,125 @@
+// The text of terms with elements.
+ghost use Rattle.std.specs.Prelude.{◌≡◌, ◌++◌, OnOk, string_bytes};
+ghost use Rattle.std.specs.List.{flat_map};
+ghost use Rattle.erl_term.specs.Term.{tree};
+ghost use Rattle.erl_term.specs.Tree.{int, tuple, list};
+ghost use Rattle.erl_term.specs.Text.{utf8, text, elements_text, printable, string_char};
+ghost use Rattle.erl_term.specs.Strings.{printable_char, printable_chars, has_chars};
+
+use super::{Term, Terms};
+use crate::printing::{append_atom, append_integer, append_pid};
+use std::alloc::AllocError;
+
+impl Term {
+    /// Appends the term's text.
+    #[cycle(print)]
+    pub(crate) fn append_text(&self, out: &mut String) -> Result<(), AllocError>
+        ensures { OnOk result (string_bytes out.new ≡ string_bytes out.old ++ utf8 (text (tree self.now))) }
+    {
+        match self {
+            Term::Int(n) => append_integer(*n, out),
+            Term::Atom(atom) => append_atom(atom.as_str(), out),
+            Term::Pid(n) => append_pid(*n, out),
+            Term::Tuple(row) => row.append_as_tuple(out),
+            Term::List(row) => row.append_as_list(out),
+        }
+    }
+
+    /// The character that the term is, where it is an integer from 32 to 126.
+    fn printable_char(&self) -> Option<u8>
+        ensures { result ≡ printable_char (tree self.now) }
+    {
+        match self {
+            Term::Int(n) => printable_integer(*n),
+            Term::Atom(_) | Term::Pid(_) | Term::Tuple(_) | Term::List(_) => None,
+        }
+    }
+}
+
+/// The character that the integer is, where it is one from 32 to 126.
+fn printable_integer(n: i64) -> Option<u8>
+    ensures { result ≡ printable_char (int n) }
+{
+    if 32 <= n && n <= 126 {
+        Some(n as u8)
+    } else {
+        None
+    }
+}
+
+impl Terms {
+    /// Appends the tuple of the terms.
+    #[cycle(print)]
+    fn append_as_tuple(&self, out: &mut String) -> Result<(), AllocError>
+        ensures { OnOk result (string_bytes out.new ≡ string_bytes out.old ++ utf8 (text (tuple self.now))) }
+    {
+        out.push('{')?;
+        self.append_elements(out)?;
+        out.push('}')
+    }
+
+    /// Appends the list of the terms.
+    #[cycle(print)]
+    fn append_as_list(&self, out: &mut String) -> Result<(), AllocError>
+        ensures { OnOk result (string_bytes out.new ≡ string_bytes out.old ++ utf8 (text (list self.now))) }
+    {
+        if self.is_string() {
+            out.push('"')?;
+            self.append_chars(out)?;
+            out.push('"')
+        } else {
+            out.push('[')?;
+            self.append_elements(out)?;
+            out.push(']')
+        }
+    }
+
+    /// Appends the terms' texts, with commas between them.
+    #[cycle(print)]
+    fn append_elements(&self, out: &mut String) -> Result<(), AllocError>
+        ensures { OnOk result (string_bytes out.new ≡ string_bytes out.old ++ utf8 (elements_text self.now)) }
+    {
+        for (i, term) in self.items.iter().enumerate() {
+            if i > 0 {
+                out.push(',')?;
+            }
+            term.append_text(out)?;
+        }
+        Ok(())
+    }
+
+    /// Whether there are terms, and each is an integer from 32 to 126.
+    fn is_string(&self) -> bool
+        ensures { result ≡ has_chars (printable self.now) }
+    {
+        for term in &self.items {
+            if term.printable_char().is_none() {
+                return false;
+            }
+        }
+        !self.items.is_empty()
+    }
+
+    /// Appends the characters of those terms that are integers from 32 to 126, as they stand between
+    /// double quotes.
+    fn append_chars(&self, out: &mut String) -> Result<(), AllocError>
+        ensures { OnOk result (string_bytes out.new ≡ string_bytes out.old ++ utf8 (flat_map string_char (printable_chars self.now))) }
+    {
+        for term in &self.items {
+            if let Some(c) = term.printable_char() {
+                append_string_char(c, out)?;
+            }
+        }
+        Ok(())
+    }
+}
+
+/// Appends a character as it stands between double quotes.
+fn append_string_char(c: u8, out: &mut String) -> Result<(), AllocError>
+    ensures { OnOk result (string_bytes out.new ≡ string_bytes out.old ++ utf8 (string_char c)) }
+{
+    if c == b'"' || c == b'\\' {
+        out.push('\\')?;
+    }
+    out.push(char::from(c))
+}
