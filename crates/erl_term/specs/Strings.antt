@@ -1,4 +1,5 @@
--- The characters of a list that is a string, one by one.
+-- The characters of a list that is a string, one by one: words for the steps of printing, which no public
+-- clause cites.
 use Rattle.std.specs.Prelude.{ℕ, pos, negsuc, nat_le, ◌&&◌, Bool, true, false, if◌then◌else◌, List, [], ◌∷◌, ◌++◌, Option, Some, None, option_to_list}
 use Rattle.erl_term.specs.Tree.{Tree, Trees, int, atom, pid, tuple, list, none, more}
 

@@ -8,7 +8,7 @@
 //!
 //! - [`Atom::new`] gives the atom of exactly the text's characters, or `AtomTooLong` exactly where there
 //!   are over 255.
-//! - [`Term::depth`] and [`Term::size`] are those of the tree.
+//! - [`Term::depth`] and [`Term::size`] are those of the tree, up to `2^64 - 1`.
 //! - `Ord` is the order of the Erlang Reference Manual (Term Comparisons), total, and equal exactly for
 //!   equal terms. `Same` decides equality, and `Duplicate` gives an equal term.
 //! - [`print`] appends exactly the bytes of the term's text, and leaves the output as it was where memory
@@ -19,9 +19,10 @@
 //! # What no contract says
 //!
 //! That there is memory, and what a call costs: each is linear in the terms that it is given. `print`
-//! builds the text before it appends it. All calls recurse as deep as the term and no deeper, and so does
-//! dropping one: terms of depth 1,024 are tested on a stack of 8 MB. A caller that takes terms from outside bounds
-//! their depth first.
+//! builds the text before it appends it. What goes down a term, dropping it too, recurses as deep as the
+//! term and no deeper: a caller that takes terms from outside bounds their depth first. On a stack of 8 MB
+//! the tests copy, compare for equality, measure the depth of and drop a term of depth 1,024; they order
+//! and print shallow terms alone.
 #![tactic(auto)]
 
 mod atom;
