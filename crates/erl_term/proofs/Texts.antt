@@ -1,6 +1,6 @@
 -- Lemmas on the texts of terms, and on their bytes.
-use Rattle.std.proofs.Common.{◌≡◌, ℕ, ℤ, pos, negsuc, ◌+◌, ◌/◌, ◌%◌, ◌^◌, ◌<◌, ◌≤◌, Bool, true, false, not, ◌&&◌, cond, nat_le, List, [], ◌∷◌, ◌++◌, length, get_or, take, length-take, subst, ◌⊎◌, inl, inr, codes, Result, Ok, Err, Option, Some, None, OnOk, is_ok, option_map, append_assoc, sym, ap, ◌∙◌, refl, arith}
-use Rattle.std.specs.Option.{option_to_list}
+use Rattle.std.proofs.Common.{◌≡◌, ℕ, ℤ, ◌+◌, ◌/◌, ◌%◌, ◌^◌, ◌<◌, ◌≤◌, Bool, true, false, not, ◌&&◌, cond, nat_le, List, [], ◌∷◌, ◌++◌, length, get_or, take, length-take, subst, ◌⊎◌, inl, inr, codes, Result, Ok, Err, Option, Some, None, OnOk, is_ok, option_map, append_assoc, sym, ap, ◌∙◌, refl, arith}
+use Rattle.std.specs.Option.{option_and_then, option_to_list}
 use Rattle.std.specs.List.{list_all, flat_map}
 use Rattle.std.specs.Str.{IsUtf8, IsAscii, chars}
 use Rattle.std.specs.Fmt.{decimal, signed_decimal, digits, digit_glyph}
@@ -14,10 +14,10 @@ use Rattle.std.proofs.lemmas.Bool.Decides.{nat_tests, leb_tells}
 use lib.Signed.{mag}
 use lib.Utf8.{encode}
 use Rattle.erl_term.specs.declared.term.Term.{Term}
-use Rattle.erl_term.specs.Tree.{Tree, Trees, int, atom, pid, tuple, list, none, more}
+use Rattle.erl_term.specs.Tree.{Trees, list, none, more}
 use Rattle.erl_term.specs.Term.{tree, trees}
-use Rattle.erl_term.specs.Text.{utf8, atom_text, hex, hex_digit, quoted_char, begins_lower, is_name_char, is_quoted_word, is_plain, printable, string_char, string_text, list_text, text, elements_text, others_text}
-use Rattle.erl_term.specs.Strings.{printable_char, printable_chars, has_chars}
+use Rattle.erl_term.specs.Text.{utf8, atom_text, hex, hex_digit, quoted_char, begins_lower, is_name_char, is_quoted_word, is_plain, printable_char, printable, string_char, string_text, list_text, text, elements_text, others_text}
+use Rattle.erl_term.specs.Strings.{printable_chars, has_chars}
 
 -- Bytes
 
@@ -162,22 +162,9 @@ elements-push (u ∷ us) t some =
 
 -- Strings
 
+-- a row's characters, from those of its first term and of the others
 abbrev joined : Option ℕ → Option (List ℕ) → Option (List ℕ)
-joined None cs = None
-joined (Some c) cs = option_map (λ ds. c ∷ ds) cs
-
-joined-cond : (b : Bool) (n : ℕ) (cs : Option (List ℕ)) → cond b (option_map (λ ds. n ∷ ds) cs) None ≡ joined (cond b (Some n) None) cs
-joined-cond true n cs = refl
-joined-cond false n cs = refl
-
--- a row's characters are those of its first term and of the others
-printable-more : (t : Tree) (ts : Trees) → printable (more t ts) ≡ joined (printable_char t) (printable ts)
-printable-more (int (pos n)) ts = joined-cond (nat_le 32 n && nat_le n 126) n (printable ts)
-printable-more (int (negsuc n)) ts = refl
-printable-more (atom cs) ts = refl
-printable-more (pid n) ts = refl
-printable-more (tuple us) ts = refl
-printable-more (list us) ts = refl
+joined o r = option_and_then (λ c. option_map (λ cs. c ∷ cs) r) o
 
 chars_from_joined : (o : Option ℕ) (r : Option (List ℕ)) (ds cs : List ℕ) → ((es : List ℕ) → r ≡ Some es → ds ≡ es) → joined o r ≡ Some cs → option_to_list o ++ ds ≡ cs
 chars_from_joined None r ds cs h e = absurd (let no : ⊥ = cc in no)
@@ -188,7 +175,7 @@ chars_from_joined (Some c) (Some es) ds cs h e = let here : ds ≡ es = h es ref
 pub printable-chars : (ts : Trees) (cs : List ℕ) → printable ts ≡ Some cs → printable_chars ts ≡ cs
 printable-chars none cs e = cc
 printable-chars (more t ts) cs e =
-    chars_from_joined (printable_char t) (printable ts) (printable_chars ts) cs (λ es is. printable-chars ts es is) (sym (printable-more t ts) ∙ e)
+    chars_from_joined (printable_char t) (printable ts) (printable_chars ts) cs (λ es is. printable-chars ts es is) e
 
 string_by_chars : (o : Option (List ℕ)) (ds es : List ℕ) → ((cs : List ℕ) → o ≡ Some cs → ds ≡ cs) → has_chars o ≡ true → list_text o es ≡ string_text ds
 string_by_chars None ds es h is = absurd (let no : ⊥ = cc in no)
@@ -207,8 +194,7 @@ elements_by_chars (Some c) (Some cs) es is = absurd (let no : ⊥ = cc in no)
 -- and where it is none
 pub list-elements : (ts : Trees) → has_chars (printable ts) ≡ false → text (list ts) ≡ 91 ∷ (elements_text ts ++ 93 ∷ [])
 list-elements none is = refl
-list-elements (more t ts) is =
-    ap (λ o. list_text o (elements_text (more t ts))) (printable-more t ts) ∙ elements_by_chars (printable_char t) (printable ts) (elements_text (more t ts)) (ap has_chars (sym (printable-more t ts)) ∙ is)
+list-elements (more t ts) is = elements_by_chars (printable_char t) (printable ts) (elements_text (more t ts)) is
 
 -- Loops over terms
 

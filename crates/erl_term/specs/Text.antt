@@ -2,6 +2,7 @@
 -- Types), but for process identifiers, which that syntax lacks.
 use Rattle.std.specs.Prelude.{ℕ, pos, negsuc, ◌+◌, ◌/◌, ◌%◌, nat_le, ◌==◌, Bool, false, not, ◌&&◌, ◌||◌, if◌then◌else◌, List, [], ◌∷◌, ◌++◌, codes, Option, Some, None, option_map}
 use Rattle.std.specs.List.{list_any, list_all, flat_map}
+use Rattle.std.specs.Option.{option_and_then}
 use Rattle.std.specs.Str.{bytes_eq}
 use Rattle.std.specs.Fmt.{decimal, signed_decimal}
 use lib.Utf8.{encodes}
@@ -57,16 +58,19 @@ atom_text cs = if is_plain cs then cs else 39 ∷ (flat_map quoted_char cs ++ 39
 
 -- Lists
 
--- the characters of a row of integers from 32 to 126; None of any other row
+-- the character of an integer from 32 to 126; None of any other term
+abbrev pub printable_char : Tree → Option ℕ
+printable_char (int (pos n)) = if nat_le 32 n && nat_le n 126 then Some n else None
+printable_char (int (negsuc n)) = None
+printable_char (atom cs) = None
+printable_char (pid n) = None
+printable_char (tuple ts) = None
+printable_char (list ts) = None
+
+-- the characters of a row of such integers; None of any other row
 abbrev pub printable : Trees → Option (List ℕ)
 printable none = Some []
-printable (more (int (pos n)) ts) =
-    if nat_le 32 n && nat_le n 126 then option_map (λ cs. n ∷ cs) (printable ts) else None
-printable (more (int (negsuc n)) ts) = None
-printable (more (atom cs) ts) = None
-printable (more (pid n) ts) = None
-printable (more (tuple us) ts) = None
-printable (more (list us) ts) = None
+printable (more t ts) = option_and_then (λ c. option_map (λ cs. c ∷ cs) (printable ts)) (printable_char t)
 
 -- a character between double quotes: a quote and a backslash get a backslash
 abbrev pub string_char : ℕ → List ℕ

@@ -1,9 +1,16 @@
 // Atoms.
 ghost use Rattle.std.specs.Prelude.{◌≡◌, ◌<◌, ◌≤◌, ◌↔◌, ℕ, List, length, IfOk, IsTrue, Err, string_bytes};
 ghost use Rattle.std.specs.Str.{bytes_eq, chars};
+ghost use Rattle.std.specs.Hash as fed;
+ghost use Rattle.std.specs.Cmp.{partial_equiv_from_equiv};
+ghost use Rattle.std.specs.Cmp.Lexicographic.{nat_list_eq_equiv};
+ghost use Rattle.std.specs.Cmp.Rules.{hashing};
+ghost use Rattle.std.proofs.Common.{rules};
 ghost use Rattle.erl_term.specs.Ascii.{is_ascii_text};
+ghost use Rattle.erl_term.specs.Text.{utf8};
 
 use std::alloc::{AllocError, Global};
+use std::hash::{Hash, Hasher};
 use std::marker::Model;
 use thiserror::Error;
 use values::{Duplicate, Same};
@@ -93,6 +100,30 @@ impl Duplicate for Atom {
 impl Same for Atom {
     fn same(&self, other: &Atom) -> bool {
         self.text.as_str() == other.text.as_str()
+    }
+}
+
+impl PartialEq for Atom {
+    ghost eq = { bytes_eq };
+
+    ghost laws = { partial_equiv_from_equiv nat_list_eq_equiv };
+
+    fn eq(&self, other: &Atom) -> bool {
+        self.same(other)
+    }
+}
+
+impl Eq for Atom {
+    ghost laws = { nat_list_eq_equiv };
+}
+
+impl Hash for Atom {
+    ghost hash_input = { λ a. fed.str (utf8 a) };
+
+    ghost respects_eq = { Prim.search (hashing, rules) };
+
+    fn hash<H: Hasher>(&self, state: &mut H) {
+        self.text.as_str().hash(state);
     }
 }
 

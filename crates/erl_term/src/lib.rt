@@ -12,7 +12,7 @@
 //! - `Ord` is the order of the Erlang Reference Manual (Term Comparisons), total, and equal exactly for
 //!   equal terms. `Same` decides equality, and `Duplicate` gives an equal term.
 //! - [`print`] appends exactly the bytes of the term's text, and leaves the output as it was where memory
-//!   is refused.
+//!   is refused; [`print_atom`] does so of an atom.
 //! - The readers ([`Term::as_int`] and its neighbours, [`first`], [`one`] to [`eight`], [`string`],
 //!   [`character`]) answer exactly where the term is what they read, and with exactly that.
 //!
@@ -21,8 +21,7 @@
 //! That there is memory, and what a call costs: each is linear in the terms that it is given. `print`
 //! builds the text before it appends it. What goes down a term, dropping it too, recurses as deep as the
 //! term and no deeper: a caller that takes terms from outside bounds their depth first. On a stack of 8 MB
-//! the tests copy, compare for equality, measure the depth of and drop a term of depth 1,024; they order
-//! and print shallow terms alone.
+//! the tests copy, compare, order, measure, print and drop a term of depth 1,024.
 #![tactic(auto)]
 
 mod atom;
@@ -33,6 +32,6 @@ mod term;
 mod tests;
 
 pub use atom::{Atom, AtomError};
-pub use printing::print;
+pub use printing::{print, print_atom};
 pub use readers::{character, eight, first, five, four, one, seven, six, string, three, two};
 pub use term::{Term, Terms};

@@ -6,6 +6,7 @@ ghost use Rattle.std.specs.List.{flat_map, list_all};
 ghost use Rattle.erl_term.specs.Term.{tree};
 ghost use Rattle.erl_term.specs.Text.{utf8, text, atom_text, begins_lower, is_name_char, is_plain, is_quoted_word, quoted_char};
 
+use crate::atom::Atom;
 use crate::term::Term;
 use std::alloc::AllocError;
 
@@ -31,6 +32,25 @@ pub fn print(term: &Term, out: &mut Vec<u8>) -> Result<(), AllocError>
     let mut text = String::new(*out.allocator());
     term.append_text(&mut text)?;
     out.extend_from_slice(text.as_bytes())
+}
+
+/// Appends the text of an atom, as [`print`] does. An atom that needs no quotes takes no memory but the
+/// output's.
+///
+/// # Errors
+///
+/// `AllocError` where memory is refused; the output is then as it was.
+pub fn print_atom(name: &Atom, out: &mut Vec<u8>) -> Result<(), AllocError>
+    ensures printed { OnOk result (out.new.items ≡ out.old.items ++ utf8 (atom_text name.now)) }
+    ensures err { OnErr result (out.new.items ≡ out.old.items) }
+{
+    let word = name.as_str();
+    if is_plain(word) {
+        return out.extend_from_slice(word.as_bytes());
+    }
+    let mut quoted = String::new(*out.allocator());
+    append_atom(word, &mut quoted)?;
+    out.extend_from_slice(quoted.as_bytes())
 }
 
 /// Appends a number in decimal.

@@ -8,11 +8,8 @@ use values::{Duplicate, Same};
 
 mod printing;
 
-fn atom_of(alloc: Global, text: &str) -> Result<Term, AllocError> {
-    match Atom::new(alloc, text) {
-        Ok(atom) => Ok(Term::Atom(atom)),
-        Err(_) => Err(AllocError),
-    }
+fn atom_of(alloc: Global, text: &str) -> Result<Term, Fail> {
+    Ok(Term::Atom(Atom::new(alloc, text)?))
 }
 
 fn ints(alloc: Global, numbers: &[i64]) -> Result<Terms, AllocError> {
@@ -43,7 +40,7 @@ fn nested(alloc: Global, depth: u32) -> Result<Term, AllocError> {
 }
 
 /// Terms in their order, from the least on.
-fn rising(alloc: Global) -> Result<Vec<Term>, AllocError> {
+fn rising(alloc: Global) -> Result<Vec<Term>, Fail> {
     let mut terms = vec![in alloc; Term::Int(i64::MIN), Term::Int(-1), Term::Int(3)]?;
     for text in ["", "A", "a", "aa", "b", "\u{e9}", "\u{ffff}", "\u{10000}"] {
         terms.push(atom_of(alloc, text)?)?;
@@ -116,6 +113,11 @@ fn deep_terms(rt: HostRuntime) -> Result<(), Fail> {
     assert!(rt; deep.same(&copy));
     assert!(rt; deep == copy);
     assert_eq!(rt; deep.depth(), 1024);
+    assert_eq!(rt; deep.size(), 1025);
+    assert!(rt; deep.cmp(&copy) == Ordering::Equal);
+    let mut out = Vec::new(rt.alloc());
+    print(&deep, &mut out)?;
+    assert_eq!(rt; out.len(), 2 * 1024 + 1);
     Ok(())
 }
 
@@ -125,9 +127,7 @@ fn atoms(rt: HostRuntime) -> Result<(), Fail> {
     let longest = "\u{e9}".repeat(alloc, 255)?;
     let too_long = "a".repeat(alloc, 256)?;
     assert_eq!(rt;
-        Atom::new(alloc, longest.as_str())
-            .map_err(|_| "refused")?
-            .as_str(),
+        Atom::new(alloc, longest.as_str())?.as_str(),
         longest.as_str()
     );
     assert!(rt;

@@ -3,8 +3,8 @@ ghost use Rattle.std.specs.Prelude.{◌≡◌, ◌++◌, OnOk, string_bytes};
 ghost use Rattle.std.specs.List.{flat_map};
 ghost use Rattle.erl_term.specs.Term.{tree};
 ghost use Rattle.erl_term.specs.Tree.{int, tuple, list};
-ghost use Rattle.erl_term.specs.Text.{utf8, text, elements_text, printable, string_char};
-ghost use Rattle.erl_term.specs.Strings.{printable_char, printable_chars, has_chars};
+ghost use Rattle.erl_term.specs.Text.{utf8, text, elements_text, printable_char, printable, string_char};
+ghost use Rattle.erl_term.specs.Strings.{printable_chars, has_chars};
 
 use super::{Term, Terms};
 use crate::printing::{append_atom, append_integer, append_pid};

@@ -4,8 +4,8 @@ use Rattle.std.specs.Option.{option_to_list}
 use Rattle.std.specs.List.{flat_map}
 use Rattle.std.proofs.lemmas.List.{take_all}
 use Rattle.erl_term.specs.Term.{tree, trees}
-use Rattle.erl_term.specs.Text.{utf8, string_char}
-use Rattle.erl_term.specs.Strings.{printable_char, printable_chars}
+use Rattle.erl_term.specs.Text.{utf8, printable_char, string_char}
+use Rattle.erl_term.specs.Strings.{printable_chars}
 use Rattle.erl_term.proofs.Texts.{nothing-yet, char-added, none-added, chars-more}
 use Rattle.erl_term.proofs.term.Terms.append_chars.Goals as goal
 use Rattle.erl_term.proofs.term.Terms.append_chars.Goals.{in-Some+in_ok-append_string_char, in_default}
