@@ -1,0 +1,4 @@
+pub mod Changes
+pub mod Reloads
+pub mod Sound
+pub mod Standing

@@ -1,0 +1,131 @@
+-- A purge and a load in one: what it does where the module stands, and which undo takes it back.
+use Rattle.std.proofs.Common.{◌≡◌, ℕ, ◌+◌, ◌-◌, ◌^◌, ◌<◌, ◌==◌, Bool, true, false, if◌then◌else◌, List, [], ◌∷◌, ◌++◌, length, take, insert, remove, slice_get, position, Option, None, Some, option_and_then, is_some, refl, sym, ap, ◌∙◌, length-append, arith}
+use Rattle.std.proofs.lemmas.Bool.{eq-eqb, ne_eqb}
+use Rattle.std.proofs.lemmas.List.Edits.{insert_end, length-remove}
+use Rattle.std.proofs.lemmas.Option.{same_Some}
+use Rattle.std.specs.Map.{lookup}
+use Rattle.std.specs.Option.{option_map_or}
+use Rattle.std.specs.Str.{bytes_eq}
+use Rattle.indexmap.specs.IndexMap.{move_index}
+use Rattle.indexmap.proofs.MapLemmas.{some_index}
+use Rattle.values.proofs.Edits.{changed_at-end, changed_at-twice, insert-remove, last_place, slice_get-changed_at, slice_get-end, take-end}
+use Rattle.code_server.specs.declared.error.CodeError.TheVariants.{NotPurged, CounterEnd}
+use Rattle.code_server.specs.declared.modules.Instance.{Instance}
+use Rattle.code_server.specs.declared.modules.Slots.{Slots}
+use Rattle.code_server.specs.declared.undo.Undo.TheVariants.{Moved}
+use Rattle.code_server.specs.Modules.{Entry, Table, IsSound, current_of, old_of, place_of, with_slots, load_refusal, stacked, loaded_at, loaded, purged_slots, purged}
+use Rattle.code_server.specs.Places.{former_at}
+use Rattle.code_server.specs.Undo.{Fits, moved_back, undone}
+use Rattle.code_server.proofs.Changes.{none_from_test, old_of-slots, purged-absent, purged-gone, purged-kept, same_slots, taken_back}
+use Rattle.code_server.proofs.Sound.{IsSound-added, IsSound-removed}
+use Rattle.code_server.proofs.Standing.{Stands, Stands-place, absent_from_place, keys-with_slots}
+
+module _ {C : Type 0} where
+  -- No old code stays
+
+  -- the module's place, where its instances changed
+  place_of-with_slots : (f : Slots C → Slots C) (name : List ℕ) (es : List (Entry C)) (place : ℕ) → place_of name es ≡ Some place → place_of name (with_slots f es place) ≡ Some place
+  place_of-with_slots f name es place found =
+      ap (position (bytes_eq name)) (keys-with_slots f es place) ∙ found
+
+  old_of-kept : (name : List ℕ) (t : Table C) (place : ℕ) → place_of name t.entries ≡ Some place → old_of name (record { entries = with_slots purged_slots t.entries place; next = t.next }) ≡ None
+  old_of-kept name t place found =
+      let kept : Table C = record { entries = with_slots purged_slots t.entries place; next = t.next } in
+      let before = Stands-place name t.entries place found in
+      let after = Stands-place name kept.entries place (place_of-with_slots purged_slots name t.entries place found) in
+      let changed = slice_get-changed_at (λ e. (e.0, purged_slots e.1)) t.entries place (name, before.slots) before.entry in
+      let same = same_Some (name, after.slots) (name, purged_slots before.slots) (sym after.entry ∙ changed) in
+      old_of-slots name kept place after ∙ ap (λ e. e.1.former) same
+
+  old_of-absent : (name : List ℕ) (t : Table C) → lookup (bytes_eq name) t.entries ≡ None → old_of name t ≡ None
+  old_of-absent name t absent = ap (option_and_then (λ slots. slots.former)) absent
+
+  pub old_of-purged : (name : List ℕ) (t : Table C) → IsSound t → old_of name (purged name t) ≡ None
+  old_of-purged name t sound =
+      by (place_of name t.entries) refl (is_some (current_of name t)) refl
+    where
+      by : (r : Option ℕ) → place_of name t.entries ≡ r → (b : Bool) → is_some (current_of name t) ≡ b → old_of name (purged name t) ≡ None
+      by None found b there =
+          ap (old_of name) (purged-absent name t found) ∙ old_of-absent name t (absent_from_place name t.entries found)
+      by (Some place) found true there =
+          ap (old_of name) (purged-kept name t place found there) ∙ old_of-kept name t place found
+      by (Some place) found false there =
+          let at = Stands-place name t.entries place found in
+          ap (old_of name) (purged-gone name t place found there) ∙ old_of-absent name (record { entries = remove t.entries place; next = t.next }) (at.gone sound.distinct)
+
+  -- so nothing but the counter refuses
+  pub refusal-purged : (name : List ℕ) (t : Table C) (b : Bool) → IsSound t → (t.next == 2 ^ 64) ≡ b → load_refusal name (purged name t) ≡ (if b then Some CounterEnd else None)
+  refusal-purged name t b sound is =
+      (λ j. if is_some (old_of-purged name t sound j) then Some NotPurged else (if is j then Some CounterEnd else None))
+
+  pub refused-end : (name : List ℕ) (t now : Table C) → IsSound t → t.next ≡ 2 ^ 64 → t ≡ now → load_refusal name (purged name now) ≡ Some CounterEnd
+  refused-end name t now sound end same =
+      sym (ap (λ u. load_refusal name (purged name u)) same) ∙ refusal-purged name t true sound (eq-eqb t.next (2 ^ 64) end)
+
+  pub refused-never : (name : List ℕ) (t now : Table C) → IsSound t → t.next < 2 ^ 64 → t ≡ now → load_refusal name (purged name now) ≡ None
+  refused-never name t now sound below same =
+      sym (ap (λ u. load_refusal name (purged name u)) same) ∙ refusal-purged name t false sound (ne_eqb t.next (2 ^ 64) (λ e. absurd (omega (arith, e))))
+
+  -- A module with current code stays
+
+  pub loaded-kept : (name : List ℕ) (code : C) (t : Table C) (place : ℕ) → place_of name t.entries ≡ Some place → is_some (current_of name t) ≡ true → loaded name code (purged name t) ≡ record { entries = with_slots (stacked (record { serial = t.next; code = code })) t.entries place; next = t.next + 1 }
+  loaded-kept name code t place found there =
+      let instance : Instance C = record { serial = t.next; code = code } in
+      let kept = with_slots purged_slots t.entries place in
+      let at = Stands-place name t.entries place found in
+      let stays = place_of-with_slots purged_slots name t.entries place found in
+      let once = changed_at-twice (λ e. (e.0, purged_slots e.1)) (λ e. (e.0, stacked instance e.1)) (λ e. (e.0, stacked instance e.1)) t.entries place (name, at.slots) at.entry refl in
+      ap (loaded name code) (purged-kept name t place found there)
+      ∙ (λ j. record { entries = loaded_at (stays j) name instance kept; next = t.next + 1 })
+      ∙ (λ j. record { entries = once j; next = t.next + 1 })
+
+  -- A module with old code alone goes last
+
+  moved-last : (name : List ℕ) (es : List (Entry C)) (place : ℕ) (at : Stands name es place) → move_index es place (length es - 1) ≡ remove es place ++ (name, at.slots) ∷ []
+  moved-last name es place at =
+      let others = remove es place in
+      let shorter = length-remove es place at.within in
+      let last : length es - 1 ≡ length others = omega arith in
+      ap (λ o. option_map_or (λ e. insert others (length es - 1) e) o es) at.entry ∙ ap (λ n. insert others n (name, at.slots)) last ∙ insert_end others (name, at.slots)
+
+  last_is : (name : List ℕ) (es : List (Entry C)) (place : ℕ) → Stands name es place → length es - 1 ≡ length (remove es place)
+  last_is name es place at =
+      let shorter = length-remove es place at.within in
+      omega arith
+
+  pub stacked-last : (name : List ℕ) (es : List (Entry C)) (place : ℕ) (instance : Instance C) (at : Stands name es place) → at.slots.current ≡ None → with_slots (stacked instance) (move_index es place (length es - 1)) (length es - 1) ≡ remove es place ++ (name, record { current = Some instance; former = None }) ∷ []
+  stacked-last name es place instance at none =
+      let others = remove es place in
+      (λ j. with_slots (stacked instance) (moved-last name es place at j) (last_is name es place at j))
+      ∙ changed_at-end (λ e. (e.0, stacked instance e.1)) others (name, at.slots)
+      ∙ (λ j. others ++ (name, record { current = Some instance; former = none j }) ∷ [])
+
+  pub former-last : (name : List ℕ) (es : List (Entry C)) (place : ℕ) (at : Stands name es place) → former_at (move_index es place (length es - 1)) (length es - 1) ≡ at.slots.former
+  former-last name es place at =
+      (λ j. former_at (moved-last name es place at j) (last_is name es place at j)) ∙ ap (option_and_then (λ entry. entry.1.former)) (slice_get-end (remove es place) (name, at.slots))
+
+  pub loaded-gone : (name : List ℕ) (code : C) (t : Table C) (place : ℕ) → IsSound t → place_of name t.entries ≡ Some place → is_some (current_of name t) ≡ false → loaded name code (purged name t) ≡ record { entries = remove t.entries place ++ (name, record { current = Some (record { serial = t.next; code = code }); former = None }) ∷ []; next = t.next + 1 }
+  loaded-gone name code t place sound found there =
+      let instance : Instance C = record { serial = t.next; code = code } in
+      let others = remove t.entries place in
+      let at = Stands-place name t.entries place found in
+      let nowhere = none_from_test (place_of name others) (some_index (bytes_eq name) others ∙ ap is_some (at.gone sound.distinct)) in
+      ap (loaded name code) (purged-gone name t place found there) ∙ (λ j. record { entries = loaded_at (nowhere j) name instance others; next = t.next + 1 })
+
+  pub IsSound-reloaded : (name : List ℕ) (t : Table C) (place : ℕ) (instance : Instance C) → IsSound t → Stands name t.entries place → instance.serial ≡ t.next → t.next < 2 ^ 64 → IsSound (record { entries = remove t.entries place ++ (name, record { current = Some instance; former = None }) ∷ []; next = t.next + 1 })
+  IsSound-reloaded name t place instance sound at is below =
+      IsSound-added (record { entries = remove t.entries place; next = t.next }) name instance (IsSound-removed t place sound) (at.gone sound.distinct) is below
+
+  pub Moved-back : (name : List ℕ) (t now : Table C) (place : ℕ) (es : List (Entry C)) (instance former : Instance C) (at : Stands name t.entries place) → at.slots.current ≡ None → at.slots.former ≡ Some former → es ≡ remove t.entries place ++ (name, record { current = Some instance; former = None }) ∷ [] → IsSound t → t ≡ now → Fits (Moved place former) (record { entries = es; next = t.next + 1 }) × (undone (Moved place former) (record { entries = es; next = t.next + 1 }) ≡ now)
+  Moved-back name t now place es instance former at none some is sound same =
+      let others = remove t.entries place in
+      let entry : Entry C = (name, record { current = Some instance; former = None }) in
+      let slots = same_slots None (Some former) at.slots none some in
+      let long = length-append others (entry ∷ []) in
+      let shorter = length-remove t.entries place at.within in
+      let last : length es - 1 ≡ length others = (λ j. length (is j) - 1) ∙ last_place others entry in
+      let found : slice_get es (length es - 1) ≡ Some entry = (λ j. slice_get (is j) (last j)) ∙ slice_get-end others entry in
+      let taken : take (length es - 1) es ≡ others = (λ j. take (last j) (is j)) ∙ take-end others entry in
+      let back : moved_back place former (slice_get es (length es - 1)) (take (length es - 1) es) ≡ t.entries = (λ j. moved_back place former (found j) (taken j)) ∙ (λ j. insert others place (name, slots j)) ∙ insert-remove t.entries place (name, at.slots) at.entry in
+      let count : t.next + 1 - 1 ≡ t.next = omega arith in
+      taken_back (Moved place former) (record { entries = es; next = t.next + 1 }) t now (omega (arith, ap length is, at.within, long, shorter)) (λ j. record { entries = back j; next = count j }) sound same

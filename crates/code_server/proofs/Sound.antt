@@ -1,0 +1,90 @@
+-- Every change leaves a sound table.
+use Rattle.std.proofs.Common.{◌≡◌, ℕ, ◌+◌, ◌^◌, ◌<◌, ◌≤◌, true, false, ◌||◌, List, [], ◌∷◌, ◌++◌, remove, slice_get, All, Bool, Option, None, Some, option_and_then, is_some, refl, sym, ap, subst, ◌∙◌, arith}
+use Rattle.std.proofs.lemmas.List.{map-append}
+use Rattle.std.proofs.lemmas.List.Elements.{All-from_recursion, All-map, All-push, All-weaker}
+use Rattle.std.proofs.lemmas.List.Folds.{list_any_none}
+use Rattle.std.proofs.lemmas.Map.{none_passes_from_lookup}
+use Rattle.std.proofs.lemmas.Map.Keys.{IsDistinct-push}
+use Rattle.std.specs.Cmp.Lexicographic.{nat_list_eq_equiv}
+use Rattle.std.specs.List.{IsDistinct, list_any}
+use Rattle.std.specs.Map.{keys_of, lookup}
+use Rattle.std.specs.Str.{bytes_eq}
+use Rattle.values.proofs.Edits.{All-changed_at, All-remove, All-slice_get, IsDistinct-remove, map-remove}
+use Rattle.code_server.specs.declared.modules.Instance.{Instance}
+use Rattle.code_server.specs.declared.modules.Slots.{Slots}
+use Rattle.code_server.specs.Modules.{Entry, Table, HasCode, IsGiven, IsSound, with_slots, stacked, retired, purged_slots}
+use Rattle.code_server.specs.Places.{current_at}
+use Rattle.code_server.proofs.Standing.{keys-with_slots}
+
+module _ {C : Type 0} where
+  -- both instances of an entry were given
+  abbrev pub AreGiven : ℕ → Entry C → Type 0
+  AreGiven next entry = IsGiven next entry.1.current × IsGiven next entry.1.former
+
+  pub IsGiven-later : (n m : ℕ) (o : Option (Instance C)) → n ≤ m → IsGiven n o → IsGiven m o
+  IsGiven-later n m None later given = tt
+  IsGiven-later n m (Some instance) later given = (given.0, omega (arith, given.1))
+
+  AreGiven-later : (n m : ℕ) (es : List (Entry C)) → n ≤ m → All (AreGiven n) es → All (AreGiven m) es
+  AreGiven-later n m es later given =
+      All-weaker (AreGiven n) (AreGiven m) (λ e g. (IsGiven-later n m e.1.current later g.0, IsGiven-later n m e.1.former later g.1)) es given
+
+  -- the instances of one module change
+  pub IsSound-with_slots : (f : Slots C → Slots C) (t : Table C) (place next : ℕ) → IsSound t → t.next ≤ next → next ≤ 2 ^ 64 → ((e : Entry C) → slice_get t.entries place ≡ Some e → HasCode (e.0, f e.1) × AreGiven next (e.0, f e.1)) → IsSound (record { entries = with_slots f t.entries place; next = next })
+  IsSound-with_slots f t place next sound later end at = record {
+    distinct = subst (IsDistinct bytes_eq) (sym (keys-with_slots f t.entries place)) sound.distinct;
+    with_code = All-changed_at (λ e. HasCode e) (λ e. (e.0, f e.1)) t.entries place sound.with_code (λ e is. (at e is).0);
+    given = All-changed_at (AreGiven next) (λ e. (e.0, f e.1)) t.entries place (AreGiven-later t.next next t.entries later sound.given) (λ e is. (at e is).1);
+    counted = (omega (arith, sound.counted.0), end);
+  }
+
+  -- a load of a module that is there
+  pub IsSound-stacked : (t : Table C) (place : ℕ) (instance : Instance C) → IsSound t → instance.serial ≡ t.next → t.next < 2 ^ 64 → IsSound (record { entries = with_slots (stacked instance) t.entries place; next = t.next + 1 })
+  IsSound-stacked t place instance sound is below =
+      IsSound-with_slots (stacked instance) t place (t.next + 1) sound (omega arith) (omega arith) (λ e at.
+      let given = All-slice_get (AreGiven t.next) t.entries place e sound.given at in (
+        refl,
+        ((omega (arith, sound.counted.0, is), omega (arith, is)), IsGiven-later t.next (t.next + 1) e.1.current (omega arith) given.0),
+      ))
+
+  current_at_some : (es : List (Entry C)) (place : ℕ) (e : Entry C) → slice_get es place ≡ Some e → is_some (current_at es place) ≡ true → is_some e.1.current ≡ true
+  current_at_some es place e at there =
+      sym (ap (λ o. is_some (option_and_then (λ entry. entry.1.current) o)) at) ∙ there
+
+  -- a delete
+  pub IsSound-retired : (t : Table C) (place : ℕ) → IsSound t → is_some (current_at t.entries place) ≡ true → IsSound (record { entries = with_slots retired t.entries place; next = t.next })
+  IsSound-retired t place sound there =
+      IsSound-with_slots retired t place t.next sound (omega arith) sound.counted.1 (λ e at.
+      let given = All-slice_get (AreGiven t.next) t.entries place e sound.given at in
+      (current_at_some t.entries place e at there, (tt, given.0)))
+
+  -- a purge of a module with current code
+  pub IsSound-purged_slots : (t : Table C) (place : ℕ) → IsSound t → is_some (current_at t.entries place) ≡ true → IsSound (record { entries = with_slots purged_slots t.entries place; next = t.next })
+  IsSound-purged_slots t place sound there =
+      IsSound-with_slots purged_slots t place t.next sound (omega arith) sound.counted.1 (λ e at.
+      let given = All-slice_get (AreGiven t.next) t.entries place e sound.given at in
+      (ap (λ b. b || false) (current_at_some t.entries place e at there), (given.0, tt)))
+
+  -- a purge of a module with old code alone
+  pub IsSound-removed : (t : Table C) (place : ℕ) → IsSound t → IsSound (record { entries = remove t.entries place; next = t.next })
+  IsSound-removed t place sound = record {
+    distinct = subst (IsDistinct bytes_eq) (sym (map-remove (λ e. e.0) t.entries place)) (IsDistinct-remove bytes_eq (keys_of t.entries) place sound.distinct);
+    with_code = All-remove (λ e. HasCode e) t.entries place sound.with_code;
+    given = All-remove (AreGiven t.next) t.entries place sound.given;
+    counted = sound.counted;
+  }
+
+  absent_from_keys : (es : List (Entry C)) (test : List ℕ → Bool) → lookup test es ≡ None → list_any test (keys_of es) ≡ false
+  absent_from_keys es test absent =
+      list_any_none test (keys_of es) (All-map (λ k. test k ≡ false) (λ e. e.0) es (All-from_recursion (λ e. test e.0 ≡ false) es (none_passes_from_lookup test es absent)))
+
+  -- a load of a module that is not there
+  pub IsSound-added : (t : Table C) (name : List ℕ) (instance : Instance C) → IsSound t → lookup (bytes_eq name) t.entries ≡ None → instance.serial ≡ t.next → t.next < 2 ^ 64 → IsSound (record { entries = t.entries ++ (name, record { current = Some instance; former = None }) ∷ []; next = t.next + 1 })
+  IsSound-added t name instance sound absent is below =
+      let slots : Slots C = record { current = Some instance; former = None } in
+      record {
+        distinct = subst (IsDistinct bytes_eq) (sym (map-append (λ e. e.0) t.entries ((name, slots) ∷ []))) (IsDistinct-push nat_list_eq_equiv (keys_of t.entries) name sound.distinct (absent_from_keys t.entries (bytes_eq name) absent));
+        with_code = All-push (λ e. HasCode e) t.entries (name, slots) sound.with_code refl;
+        given = All-push (AreGiven (t.next + 1)) t.entries (name, slots) (AreGiven-later t.next (t.next + 1) t.entries (omega arith) sound.given) ((omega (arith, sound.counted.0, is), omega (arith, is)), tt);
+        counted = (omega arith, omega arith);
+      }

@@ -1,0 +1,132 @@
+-- What was old is gone, and the new code is on top, or its module last.
+use Rattle.std.proofs.Common.{◌+◌, ◌^◌, ◌<◌, None, Some, true, false, refl, sym, ap, ◌∙◌, arith}
+use Rattle.code_server.specs.Modules.{Table, loaded, purged}
+use Rattle.code_server.proofs.Changes.{Added-back, Replaced-back, Stacked-back, codeless, current_of-at, former-taken, no_current, none_unless}
+use Rattle.code_server.proofs.Reloads.{IsSound-reloaded, Moved-back, former-last, loaded-gone, loaded-kept, refused-end, refused-never, stacked-last}
+use Rattle.code_server.proofs.Sound.{IsSound-added, IsSound-stacked}
+use Rattle.code_server.proofs.Standing.{Stands-place, absent_from_place}
+use Rattle.code_server.proofs.modules.Modules.purge_and_load.Goals as goal
+
+pub returns-then-self-clause-refused : goal.returns-then-self-clause-refused
+returns-then-self-clause-refused g c =
+    let t : Table g.row.C.Denot = record { entries = c.self.inside.table.entries; next = c.self.inside.last + 1 } in
+    refused-end c.args.name t c.args.self.now c.self.invariant (omega (arith, c.if-self.true)) c.self.view_is
+
+pub invariant_of-self-in_default : goal.invariant_of-self-in_default
+invariant_of-self-in_default g c =
+    let t : Table g.row.C.Denot = record { entries = c.self.inside.table.entries; next = c.self.inside.last + 1 } in
+    let below : c.self.inside.last + 1 < 2 ^ 64 = omega (arith, c.self.invariant.counted.1, c.if-self.false) in
+    let absent = absent_from_place c.args.name t.entries (sym c.get_index_of.ensures.index ∙ none_unless c.get_index_of.result c.in_default.not-Some) in
+    rw c.in_ok-add.ensures.added (IsSound-added t c.args.name _ c.self.invariant absent refl below)
+
+pub returns-in_default-clause-inverse : goal.returns-in_default-clause-inverse
+returns-in_default-clause-inverse g c =
+    let t : Table g.row.C.Denot = record { entries = c.self.inside.table.entries; next = c.self.inside.last + 1 } in
+    Added-back t c.args.self.now _ c.add.new.table.entries c.in_ok-add.ensures.added c.self.invariant c.self.view_is
+
+pub invariant_of-self-in_default-stack_at : goal.invariant_of-self-in_default-stack_at
+invariant_of-self-in_default-stack_at g c =
+    let t : Table g.row.C.Denot = record { entries = c.self.inside.table.entries; next = c.self.inside.last + 1 } in
+    let below : c.self.inside.last + 1 < 2 ^ 64 = omega (arith, c.self.invariant.counted.1, c.if-self.false) in
+    rw c.stack_at.ensures.stacked (IsSound-stacked t c.in-Some.place _ c.self.invariant refl below)
+
+pub returns-in_default-stack_at-clause-ok : goal.returns-in_default-stack_at-clause-ok
+returns-in_default-stack_at-clause-ok g c =
+    let t : Table g.row.C.Denot = record { entries = c.self.inside.table.entries; next = c.self.inside.last + 1 } in
+    let below : c.self.inside.last + 1 < 2 ^ 64 = omega (arith, c.self.invariant.counted.1, c.if-self.false) in
+    refused-never c.args.name t c.args.self.now c.self.invariant below c.self.view_is
+
+pub returns-in_default-stack_at-clause-loaded : goal.returns-in_default-stack_at-clause-loaded
+returns-in_default-stack_at-clause-loaded g c =
+    let t : Table g.row.C.Denot = record { entries = c.self.inside.table.entries; next = c.self.inside.last + 1 } in
+    let place = c.in-Some.place in
+    let found = sym c.get_index_of.ensures.index ∙ c.in-Some.is in
+    let at = Stands-place c.args.name t.entries place found in
+    let has = current_of-at c.args.name t place true at (sym c.has_current.ensures ∙ c.if-has_current.true) in
+    ap (λ es. record { entries = es; next = t.next + 1 }) c.stack_at.ensures.stacked ∙ sym (loaded-kept c.args.name c.args.code t place found has) ∙ ap (λ u. loaded c.args.name c.args.code (purged c.args.name u)) c.self.view_is
+
+pub returns-in_default-stack_at-clause-inverse : goal.returns-in_default-stack_at-clause-inverse
+returns-in_default-stack_at-clause-inverse g c =
+    let t : Table g.row.C.Denot = record { entries = c.self.inside.table.entries; next = c.self.inside.last + 1 } in
+    let place = c.in-Some.place in
+    let found = sym c.get_index_of.ensures.index ∙ c.in-Some.is in
+    let at = Stands-place c.args.name t.entries place found in
+    let former = former-taken c.args.name t.entries place at c.stack_at.result None c.stack_at.ensures.former (none_unless c.stack_at.result c.in_default-stack_at.not-Some) in
+    Stacked-back c.args.name t c.args.self.now place c.stack_at.new.table.entries _ at former c.stack_at.ensures.stacked c.self.invariant c.self.view_is
+
+pub invariant_of-self-then-has_current : goal.invariant_of-self-then-has_current
+invariant_of-self-then-has_current g c =
+    let t : Table g.row.C.Denot = record { entries = c.self.inside.table.entries; next = c.self.inside.last + 1 } in
+    let below : c.self.inside.last + 1 < 2 ^ 64 = omega (arith, c.self.invariant.counted.1, c.if-self.false) in
+    rw c.stack_at.ensures.stacked (IsSound-stacked t c.in-Some.place _ c.self.invariant refl below)
+
+pub returns-then-has_current-clause-ok : goal.returns-then-has_current-clause-ok
+returns-then-has_current-clause-ok g c =
+    let t : Table g.row.C.Denot = record { entries = c.self.inside.table.entries; next = c.self.inside.last + 1 } in
+    let below : c.self.inside.last + 1 < 2 ^ 64 = omega (arith, c.self.invariant.counted.1, c.if-self.false) in
+    refused-never c.args.name t c.args.self.now c.self.invariant below c.self.view_is
+
+pub returns-then-has_current-clause-loaded : goal.returns-then-has_current-clause-loaded
+returns-then-has_current-clause-loaded g c =
+    let t : Table g.row.C.Denot = record { entries = c.self.inside.table.entries; next = c.self.inside.last + 1 } in
+    let place = c.in-Some.place in
+    let found = sym c.get_index_of.ensures.index ∙ c.in-Some.is in
+    let at = Stands-place c.args.name t.entries place found in
+    let has = current_of-at c.args.name t place true at (sym c.has_current.ensures ∙ c.if-has_current.true) in
+    ap (λ es. record { entries = es; next = t.next + 1 }) c.stack_at.ensures.stacked ∙ sym (loaded-kept c.args.name c.args.code t place found has) ∙ ap (λ u. loaded c.args.name c.args.code (purged c.args.name u)) c.self.view_is
+
+pub returns-then-has_current-clause-inverse : goal.returns-then-has_current-clause-inverse
+returns-then-has_current-clause-inverse g c =
+    let t : Table g.row.C.Denot = record { entries = c.self.inside.table.entries; next = c.self.inside.last + 1 } in
+    let place = c.in-Some.place in
+    let found = sym c.get_index_of.ensures.index ∙ c.in-Some.is in
+    let at = Stands-place c.args.name t.entries place found in
+    let former = former-taken c.args.name t.entries place at c.stack_at.result (Some c.in-Some-stack_at.former) c.stack_at.ensures.former c.in-Some-stack_at.is in
+    Replaced-back c.args.name t c.args.self.now place c.stack_at.new.table.entries _ c.in-Some-stack_at.former at former c.stack_at.ensures.stacked c.self.invariant c.self.view_is
+
+pub unreachable-requires : goal.unreachable-requires
+unreachable-requires g c =
+    let t : Table g.row.C.Denot = record { entries = c.self.inside.table.entries; next = c.self.inside.last + 1 } in
+    let place = c.in-Some.place in
+    let found = sym c.get_index_of.ensures.index ∙ c.in-Some.is in
+    let at = Stands-place c.args.name t.entries place found in
+    let none = no_current c.args.name t.entries place at (sym c.has_current.ensures ∙ c.if-has_current.false) in
+    codeless c.args.name t place at c.self.invariant none (sym (former-last c.args.name t.entries place at) ∙ sym c.stack_last.ensures.former ∙ c.in-None.is)
+
+pub invariant_of-self-2 : goal.invariant_of-self-2
+invariant_of-self-2 g c =
+    let t : Table g.row.C.Denot = record { entries = c.self.inside.table.entries; next = c.self.inside.last + 1 } in
+    let below : c.self.inside.last + 1 < 2 ^ 64 = omega (arith, c.self.invariant.counted.1, c.if-self.false) in
+    let place = c.in-Some.place in
+    let found = sym c.get_index_of.ensures.index ∙ c.in-Some.is in
+    let at = Stands-place c.args.name t.entries place found in
+    let none = no_current c.args.name t.entries place at (sym c.has_current.ensures ∙ c.if-has_current.false) in
+    rw (c.stack_last.ensures.stacked ∙ stacked-last c.args.name t.entries place _ at none) (IsSound-reloaded c.args.name t place _ c.self.invariant at refl below)
+
+pub returns-clause-ok : goal.returns-clause-ok
+returns-clause-ok g c =
+    let t : Table g.row.C.Denot = record { entries = c.self.inside.table.entries; next = c.self.inside.last + 1 } in
+    let below : c.self.inside.last + 1 < 2 ^ 64 = omega (arith, c.self.invariant.counted.1, c.if-self.false) in
+    refused-never c.args.name t c.args.self.now c.self.invariant below c.self.view_is
+
+pub returns-clause-loaded : goal.returns-clause-loaded
+returns-clause-loaded g c =
+    let t : Table g.row.C.Denot = record { entries = c.self.inside.table.entries; next = c.self.inside.last + 1 } in
+    let place = c.in-Some.place in
+    let found = sym c.get_index_of.ensures.index ∙ c.in-Some.is in
+    let at = Stands-place c.args.name t.entries place found in
+    let has = current_of-at c.args.name t place false at (sym c.has_current.ensures ∙ c.if-has_current.false) in
+    let none = no_current c.args.name t.entries place at (sym c.has_current.ensures ∙ c.if-has_current.false) in
+    let entries = c.stack_last.ensures.stacked ∙ stacked-last c.args.name t.entries place _ at none in
+    ap (λ es. record { entries = es; next = t.next + 1 }) entries ∙ sym (loaded-gone c.args.name c.args.code t place c.self.invariant found has) ∙ ap (λ u. loaded c.args.name c.args.code (purged c.args.name u)) c.self.view_is
+
+pub returns-clause-inverse : goal.returns-clause-inverse
+returns-clause-inverse g c =
+    let t : Table g.row.C.Denot = record { entries = c.self.inside.table.entries; next = c.self.inside.last + 1 } in
+    let place = c.in-Some.place in
+    let found = sym c.get_index_of.ensures.index ∙ c.in-Some.is in
+    let at = Stands-place c.args.name t.entries place found in
+    let none = no_current c.args.name t.entries place at (sym c.has_current.ensures ∙ c.if-has_current.false) in
+    let former = sym (former-last c.args.name t.entries place at) ∙ sym c.stack_last.ensures.former ∙ c.in-Some-stack_last.is in
+    let entries = c.stack_last.ensures.stacked ∙ stacked-last c.args.name t.entries place _ at none in
+    Moved-back c.args.name t c.args.self.now place c.stack_last.new.table.entries _ c.in-Some-stack_last.former at none former entries c.self.invariant c.self.view_is

@@ -1,0 +1,127 @@
+-- The code server's table: a module has one or two instances of code, the current one and the old one
+-- (Erlang Reference Manual, Compilation and Code Loading, Code Replacement; code(3)).
+use Rattle.std.specs.Prelude.{◌≡◌, ℕ, ◌+◌, ◌^◌, ◌<◌, ◌≤◌, ◌==◌, Bool, ◌&&◌, ◌||◌, if◌then◌else◌, IsTrue, List, [], ◌∷◌, ◌++◌, All, remove, position, Option, None, Some, is_some, option_and_then}
+use Rattle.std.specs.List.{IsDistinct}
+use Rattle.std.specs.Map.{keys_of, lookup}
+use Rattle.std.specs.Str.{bytes_eq}
+use Rattle.values.specs.Edits.{changed_at}
+use Rattle.code_server.specs.declared.modules.Instance.{Instance}
+use Rattle.code_server.specs.declared.modules.Slots.{Slots}
+use Rattle.code_server.specs.declared.error.CodeError.{CodeError}
+use Rattle.code_server.specs.declared.error.CodeError.TheVariants.{NotLoaded, NotPurged, OldInUse, CounterEnd, Memory}
+
+-- A module as the table has it: its name, and its instances. A name is the list of its characters.
+abbrev pub Entry : Type 0 → Type 0
+Entry C = List ℕ × Slots C
+
+-- The modules, first loaded first, and the serial that the next load gives.
+pub record Table (C : Type 0) : Type 0 where
+  pub entries : List (Entry C)
+  pub next : ℕ
+
+-- no module, and the first serial to be given is 1
+abbrev pub empty_table : {C : Type 0} → Table C
+empty_table = record { entries = []; next = 1 }
+
+-- the instances of a module, where it is in the table
+abbrev pub slots_of : {C : Type 0} → List ℕ → Table C → Option (Slots C)
+slots_of name t = lookup (bytes_eq name) t.entries
+
+-- its current code
+abbrev pub current_of : {C : Type 0} → List ℕ → Table C → Option (Instance C)
+current_of name t = option_and_then (λ slots. slots.current) (slots_of name t)
+
+-- its old code
+abbrev pub old_of : {C : Type 0} → List ℕ → Table C → Option (Instance C)
+old_of name t = option_and_then (λ slots. slots.former) (slots_of name t)
+
+-- where it stands
+abbrev pub place_of : {C : Type 0} → List ℕ → List (Entry C) → Option ℕ
+place_of name entries = position (bytes_eq name) (keys_of entries)
+
+-- the entries with a module's instances changed
+abbrev pub with_slots : {C : Type 0} → (Slots C → Slots C) → List (Entry C) → ℕ → List (Entry C)
+with_slots f entries place = changed_at (λ entry. (entry.0, f entry.1)) entries place
+
+-- Load: the new code becomes current under the next serial, and what was current becomes old. A module
+-- that is not in the table goes last. Where there is old code it has to be purged first.
+
+abbrev pub load_refusal : {C : Type 0} → List ℕ → Table C → Option CodeError
+load_refusal name t =
+    if is_some (old_of name t) then Some NotPurged else (if t.next == 2 ^ 64 then Some CounterEnd else None)
+
+-- the instances with a new one on top: what was current is old
+abbrev pub stacked : {C : Type 0} → Instance C → Slots C → Slots C
+stacked instance slots = record { current = Some instance; former = slots.current }
+
+abbrev pub loaded_at : {C : Type 0} → Option ℕ → List ℕ → Instance C → List (Entry C) → List (Entry C)
+loaded_at None name instance entries = entries ++ (name, record { current = Some instance; former = None }) ∷ []
+loaded_at (Some place) name instance entries = with_slots (stacked instance) entries place
+
+abbrev pub loaded : {C : Type 0} → List ℕ → C → Table C → Table C
+loaded name code t = record {
+  entries = loaded_at (place_of name t.entries) name (record { serial = t.next; code = code }) t.entries;
+  next = t.next + 1;
+}
+
+-- Delete: the current code becomes old. A module without current code is not loaded; old code has to be
+-- purged first.
+
+abbrev pub delete_refusal : {C : Type 0} → List ℕ → Table C → Option CodeError
+delete_refusal name t =
+    if is_some (current_of name t) then (if is_some (old_of name t) then Some NotPurged else None) else Some NotLoaded
+
+abbrev pub retired : {C : Type 0} → Slots C → Slots C
+retired slots = record { current = None; former = slots.current }
+
+abbrev pub deleted_at : {C : Type 0} → Option ℕ → List (Entry C) → List (Entry C)
+deleted_at None entries = entries
+deleted_at (Some place) entries = with_slots retired entries place
+
+abbrev pub deleted : {C : Type 0} → List ℕ → Table C → Table C
+deleted name t = record { entries = deleted_at (place_of name t.entries) t.entries; next = t.next }
+
+-- Purge: the old code is gone, if there is any. A module that is left without code leaves the table.
+
+abbrev pub purged_slots : {C : Type 0} → Slots C → Slots C
+purged_slots slots = record { current = slots.current; former = None }
+
+abbrev pub purged_at : {C : Type 0} → Option ℕ → Bool → List (Entry C) → List (Entry C)
+purged_at None has_current entries = entries
+purged_at (Some place) has_current entries =
+    if has_current then with_slots purged_slots entries place else remove entries place
+
+abbrev pub purged : {C : Type 0} → List ℕ → Table C → Table C
+purged name t = record {
+  entries = purged_at (place_of name t.entries) (is_some (current_of name t)) t.entries;
+  next = t.next;
+}
+
+-- Soft purge: a purge that is refused where there is old code and somebody uses it.
+abbrev pub soft_purge_refusal : {C : Type 0} → List ℕ → Bool → Table C → Option CodeError
+soft_purge_refusal name in_use t = if is_some (old_of name t) && in_use then Some OldInUse else None
+
+-- The error of a call that has this refusal, or none: the refusal, or want of memory where there is none.
+abbrev pub Tells : CodeError → Option CodeError → Type 0
+Tells NotLoaded refusal = refusal ≡ Some NotLoaded
+Tells NotPurged refusal = refusal ≡ Some NotPurged
+Tells OldInUse refusal = refusal ≡ Some OldInUse
+Tells CounterEnd refusal = refusal ≡ Some CounterEnd
+Tells Memory refusal = refusal ≡ None
+
+-- What holds of every table.
+
+-- a module has an instance (and no more than two, by its type)
+abbrev pub HasCode : {C : Type 0} → Entry C → Type 0
+HasCode entry = IsTrue (is_some entry.1.current || is_some entry.1.former)
+
+-- an instance's serial was given by a load
+abbrev pub IsGiven : {C : Type 0} → ℕ → Option (Instance C) → Type 0
+IsGiven next None = Unit {0}
+IsGiven next (Some instance) = (1 ≤ instance.serial) × (instance.serial < next)
+
+pub record IsSound {C : Type 0} (t : Table C) : Type 0 where
+  pub distinct : IsDistinct bytes_eq (keys_of t.entries)
+  pub with_code : All HasCode t.entries
+  pub given : All (λ entry. IsGiven t.next entry.1.current × IsGiven t.next entry.1.former) t.entries
+  pub counted : (1 ≤ t.next) × (t.next ≤ 2 ^ 64)

@@ -1,0 +1,17 @@
+-- What the functions that read and write at a place of the table say of it.
+use Rattle.std.specs.Prelude.{ℕ, List, Option, None, Some, option_and_then, slice_get}
+use Rattle.code_server.specs.declared.modules.Instance.{Instance}
+use Rattle.code_server.specs.declared.modules.Slots.{Slots}
+use Rattle.code_server.specs.Modules.{Entry}
+
+-- the current code of the module at a place
+abbrev pub current_at : {C : Type 0} → List (Entry C) → ℕ → Option (Instance C)
+current_at entries place = option_and_then (λ entry. entry.1.current) (slice_get entries place)
+
+-- its old code
+abbrev pub former_at : {C : Type 0} → List (Entry C) → ℕ → Option (Instance C)
+former_at entries place = option_and_then (λ entry. entry.1.former) (slice_get entries place)
+
+-- this old code alone
+abbrev pub old_alone : {C : Type 0} → Instance C → Slots C → Slots C
+old_alone instance slots = record { current = None; former = Some instance }

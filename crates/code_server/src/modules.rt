@@ -1,0 +1,330 @@
+// The table of modules.
+ghost use Rattle.std.specs.Prelude.{◌≡◌, ◌↔◌, [], None, Some, length, slice_get, IsTrue, IfOk, IfErr, OnOk, OnErr, MatchResult};
+ghost use Rattle.std.specs.Map.Iter.{deref_pair};
+ghost use Rattle.std.specs.Option.{option_map, option_copied};
+
+use crate::error::CodeError;
+use crate::places::{
+    add, has_current, move_back, purge_at, put_back, restore_at, retire_at, stack_at, stack_last,
+    swap_back_at, take_out, unpurge_at,
+};
+use crate::undo::Undo;
+use erl_term::Atom;
+use indexmap::IndexMap;
+use std::alloc::Global;
+use std::marker::Model;
+
+/// One instance of a module's code.
+#[derive(Drop)]
+pub struct Instance<C> {
+    /// The serial of the load that made it, from 1 on.
+    pub serial: u64,
+    /// The code.
+    pub code: C,
+}
+
+/// The instances of a module.
+#[derive(Drop)]
+pub struct Slots<C> {
+    /// The current code.
+    pub current: Option<Instance<C>>,
+    /// The old code.
+    pub former: Option<Instance<C>>,
+}
+
+/// The modules and their code, first loaded first.
+#[derive(Drop)]
+pub struct Modules<C> {
+    table: IndexMap<Atom, Slots<C>>,
+    last: u64,
+}
+
+impl<C> Model for Modules<C> {
+    ghost use Rattle.std.specs.Prelude.{◌+◌};
+    ghost use Rattle.code_server.specs.Modules.{Table, IsSound};
+
+    ghost Value = { Table C };
+
+    ghost view = { λ m. record { entries = m.table.entries; next = m.last + 1 } };
+
+    ghost invariant = { λ m. IsSound (record { entries = m.table.entries; next = m.last + 1 }) };
+}
+
+impl<C: Drop> Modules<C> {
+    ghost use Rattle.code_server.specs.Modules.{Table, IsSound, Tells, empty_table, slots_of, current_of, old_of, load_refusal, loaded, delete_refusal, deleted, purged, soft_purge_refusal};
+    ghost use Rattle.code_server.specs.Undo.{Fits, IsRemoval, undone};
+
+    /// A table without modules, whose first load has serial 1. Takes no memory.
+    pub fn new(alloc: Global) -> Modules<C>
+        ensures { result ≡ empty_table }
+    {
+        Modules {
+            table: IndexMap::new(alloc),
+            last: 0,
+        }
+    }
+
+    /// How many modules there are. Takes no memory.
+    pub fn len(&self) -> usize
+        ensures len { result ≡ length self.now.entries }
+        ensures sound { IsSound self.now }
+    {
+        self.table.len()
+    }
+
+    /// Whether there is no module. Takes no memory.
+    pub fn is_empty(&self) -> bool
+        ensures { IsTrue result ↔ (self.now.entries ≡ []) }
+    {
+        self.table.is_empty()
+    }
+
+    /// The module at a place, counted from 0: its name and its instances. Takes no memory.
+    pub fn entry(&self, place: usize) -> Option<(&Atom, &Slots<C>)>
+        ensures { option_map deref_pair result ≡ slice_get self.now.entries place }
+    {
+        self.table.get_index(place)
+    }
+
+    /// A module's current code, found by key. Takes no memory.
+    pub fn current(&self, name: &Atom) -> Option<&Instance<C>>
+        ensures { option_copied result ≡ current_of name.now self.now }
+    {
+        match self.table.get(name) {
+            Some(slots) => slots.current.as_ref(),
+            None => None,
+        }
+    }
+
+    /// A module's old code, found by key. Takes no memory.
+    pub fn old(&self, name: &Atom) -> Option<&Instance<C>>
+        ensures { option_copied result ≡ old_of name.now self.now }
+    {
+        match self.table.get(name) {
+            Some(slots) => slots.former.as_ref(),
+            None => None,
+        }
+    }
+
+    /// Why a load of the module would be refused, but for want of memory. Takes no memory.
+    pub fn load_refusal(&self, name: &Atom) -> Option<CodeError>
+        ensures { result ≡ load_refusal name.now self.now }
+    {
+        match self.old(name) {
+            Some(_) => Some(CodeError::NotPurged),
+            None if self.last == u64::MAX => Some(CodeError::CounterEnd),
+            None => None,
+        }
+    }
+
+    /// Why [`Modules::purge_and_load`] of the module would be refused, but for want of memory. Takes no
+    /// memory.
+    pub fn purge_and_load_refusal(&self, name: &Atom) -> Option<CodeError>
+        ensures { result ≡ load_refusal name.now (purged name.now self.now) }
+    {
+        let _ = name;
+        if self.last == u64::MAX {
+            return Some(CodeError::CounterEnd);
+        }
+        None
+    }
+
+    /// Why a delete of the module would be refused. Takes no memory.
+    pub fn delete_refusal(&self, name: &Atom) -> Option<CodeError>
+        ensures { result ≡ delete_refusal name.now self.now }
+    {
+        match (self.current(name), self.old(name)) {
+            (None, _) => Some(CodeError::NotLoaded),
+            (Some(_), Some(_)) => Some(CodeError::NotPurged),
+            (Some(_), None) => None,
+        }
+    }
+
+    /// Loads code: it becomes current under the next serial, and the current code becomes old. A module
+    /// that is not in the table goes last, and only then is memory asked for.
+    ///
+    /// # Errors
+    ///
+    /// In this order: `NotPurged` where there is old code, `CounterEnd` where the last serial was given,
+    /// `Memory`. The table is then as it was; name and code are dropped.
+    pub fn load(&mut self, name: Atom, code: C) -> Result<Undo<C>, CodeError>
+        ensures ok { OnOk result (load_refusal name self.old ≡ None) }
+        ensures loaded { OnOk result (self.new ≡ loaded name code self.old) }
+        ensures inverse { IfOk result (λ undo. Fits undo self.new × (undone undo self.new ≡ self.old)) }
+        ensures refused { IfErr result (λ e. Tells e (load_refusal name self.old)) }
+        ensures memory { IfErr result (λ e. e ≡ CodeError.Memory → slots_of name self.old ≡ None) }
+        ensures err { OnErr result (self.new ≡ self.old) }
+    {
+        if let Some(refusal) = self.load_refusal(&name) {
+            return Err(refusal);
+        }
+        let serial = self.last + 1;
+        let instance = Instance { serial, code };
+        match self.table.get_index_of(&name) {
+            Some(place) => {
+                let _ = stack_at(&mut self.table, place, instance);
+                self.last = serial;
+                Ok(Undo::Stacked(place))
+            }
+            None => {
+                add(&mut self.table, name, instance)?;
+                self.last = serial;
+                Ok(Undo::Added)
+            }
+        }
+    }
+
+    /// Purges what is old, and loads: as [`Modules::purge`] and then [`Modules::load`], in one change. So a
+    /// module that has old code alone leaves its place and goes last. Memory is asked for only where the
+    /// module is not in the table. Who uses the old code is the caller's to see to.
+    ///
+    /// # Errors
+    ///
+    /// `CounterEnd` where the last serial was given, and else `Memory`. The table is then as it was; name
+    /// and code are dropped.
+    pub fn purge_and_load(&mut self, name: Atom, code: C) -> Result<Undo<C>, CodeError>
+        ensures ok { OnOk result (load_refusal name (purged name self.old) ≡ None) }
+        ensures loaded { OnOk result (self.new ≡ loaded name code (purged name self.old)) }
+        ensures inverse { IfOk result (λ undo. Fits undo self.new × (undone undo self.new ≡ self.old)) }
+        ensures refused { IfErr result (λ e. Tells e (load_refusal name (purged name self.old))) }
+        ensures memory { IfErr result (λ e. e ≡ CodeError.Memory → slots_of name self.old ≡ None) }
+        ensures err { OnErr result (self.new ≡ self.old) }
+    {
+        if self.last == u64::MAX {
+            return Err(CodeError::CounterEnd);
+        }
+        let serial = self.last + 1;
+        let instance = Instance { serial, code };
+        let Some(place) = self.table.get_index_of(&name) else {
+            add(&mut self.table, name, instance)?;
+            self.last = serial;
+            return Ok(Undo::Added);
+        };
+        self.last = serial;
+        if has_current(&self.table, place) {
+            let Some(former) = stack_at(&mut self.table, place, instance) else {
+                return Ok(Undo::Stacked(place));
+            };
+            return Ok(Undo::Replaced(place, former));
+        }
+        match stack_last(&mut self.table, place, instance) {
+            Some(former) => Ok(Undo::Moved(place, former)),
+            None => unreachable!(),
+        }
+    }
+
+    /// Deletes a module: its current code becomes old. Takes no memory.
+    ///
+    /// # Errors
+    ///
+    /// In this order: `NotLoaded` where there is no current code, `NotPurged` where there is old code. The
+    /// table is then as it was.
+    pub fn delete(&mut self, name: &Atom) -> Result<Undo<C>, CodeError>
+        ensures deleted { OnOk result (self.new ≡ deleted name.now self.old) }
+        ensures inverse { IfOk result (λ undo. Fits undo self.new × (undone undo self.new ≡ self.old)) }
+        ensures refused { MatchResult result (λ _. delete_refusal name.now self.old ≡ None)
+            (λ e. delete_refusal name.now self.old ≡ Some e) }
+        ensures err { OnErr result (self.new ≡ self.old) }
+    {
+        if let Some(refusal) = self.delete_refusal(name) {
+            return Err(refusal);
+        }
+        match self.table.get_index_of(name) {
+            Some(place) => {
+                retire_at(&mut self.table, place);
+                Ok(Undo::Retired(place))
+            }
+            None => Err(CodeError::NotLoaded),
+        }
+    }
+
+    /// Purges a module: its old code is gone, if it has any, and a module that is left without code leaves
+    /// the table. Who uses the old code is the caller's to see to. Takes no memory.
+    pub fn purge(&mut self, name: &Atom) -> Undo<C>
+        ensures purged { self.new ≡ purged name.now self.old }
+        ensures inverse { Fits result self.new × (undone result self.new ≡ self.old) }
+    {
+        let Some(place) = self.table.get_index_of(name) else {
+            return Undo::Nothing;
+        };
+        if has_current(&self.table, place) {
+            let Some(former) = purge_at(&mut self.table, place) else {
+                return Undo::Nothing;
+            };
+            return Undo::Purged(place, former);
+        }
+        match take_out(&mut self.table, place) {
+            Some((name, former)) => Undo::Removed(place, name, former),
+            None => unreachable!(),
+        }
+    }
+
+    /// Purges a module, unless it has old code that is in use, which the caller says. Takes no memory.
+    ///
+    /// # Errors
+    ///
+    /// `OldInUse` where there is old code and it is in use. The table is then as it was.
+    pub fn soft_purge(&mut self, name: &Atom, in_use: bool) -> Result<Undo<C>, CodeError>
+        ensures purged { OnOk result (self.new ≡ purged name.now self.old) }
+        ensures inverse { IfOk result (λ undo. Fits undo self.new × (undone undo self.new ≡ self.old)) }
+        ensures refused { MatchResult result (λ _. soft_purge_refusal name.now in_use self.old ≡ None)
+            (λ e. soft_purge_refusal name.now in_use self.old ≡ Some e) }
+        ensures err { OnErr result (self.new ≡ self.old) }
+    {
+        if in_use && self.old(name).is_some() {
+            return Err(CodeError::OldInUse);
+        }
+        Ok(self.purge(name))
+    }
+
+    /// Takes the newest change back. Memory is asked for only where a module comes back to the table.
+    ///
+    /// # Errors
+    ///
+    /// The undo, where memory is refused. The table is then as it was.
+    pub fn revert(&mut self, undo: Undo<C>) -> Result<(), Undo<C>>
+        requires { Fits undo self.old }
+        ensures ok { OnOk result (self.new ≡ undone undo self.old) }
+        ensures back { IfErr result (λ it. it ≡ undo) }
+        ensures removal { OnErr result (IsRemoval undo) }
+        ensures err { OnErr result (self.new ≡ self.old) }
+    {
+        match undo {
+            Undo::Nothing => Ok(()),
+            Undo::Added => {
+                let _ = self.table.pop();
+                self.last -= 1;
+                Ok(())
+            }
+            Undo::Stacked(place) => {
+                restore_at(&mut self.table, place);
+                self.last -= 1;
+                Ok(())
+            }
+            Undo::Replaced(place, instance) => {
+                swap_back_at(&mut self.table, place, instance);
+                self.last -= 1;
+                Ok(())
+            }
+            Undo::Moved(place, instance) => {
+                move_back(&mut self.table, place, instance);
+                self.last -= 1;
+                Ok(())
+            }
+            Undo::Retired(place) => {
+                restore_at(&mut self.table, place);
+                Ok(())
+            }
+            Undo::Purged(place, instance) => {
+                unpurge_at(&mut self.table, place, instance);
+                Ok(())
+            }
+            Undo::Removed(place, name, instance) => {
+                match put_back(&mut self.table, place, name, instance) {
+                    Ok(()) => Ok(()),
+                    Err((name, instance)) => Err(Undo::Removed(place, name, instance)),
+                }
+            }
+        }
+    }
+}
