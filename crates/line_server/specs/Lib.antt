@@ -1,0 +1,4 @@
+pub mod Lines
+pub mod Progress
+pub mod Serving
+pub mod Session

@@ -1,0 +1,111 @@
+// Answers that are not yet written.
+ghost use Rattle.std.specs.Prelude.{◌≡◌, ◌↔◌, [], false, IfErr, IfOk, OnErr, OnOk, Some};
+ghost use Rattle.std.specs.Io.KnownBytes.{Appends};
+ghost use Rattle.line_server.specs.declared.ended.Fault.TheVariants.{Memory};
+ghost use Rattle.line_server.specs.declared.session.Fate.TheVariants.{Whole};
+ghost use Rattle.line_server.specs.Lines.{heard};
+ghost use Rattle.line_server.specs.Session.{Says};
+ghost use Rattle.line_server.specs.Progress.{Hears, Stays, Moves, TakesFront, IsOfWriting};
+
+use crate::ended::Fault;
+use crate::line_start::LONGEST_LINE;
+use crate::session::{Fate, Session};
+use crate::writing::write_out;
+use std::alloc::{AllocError, Global};
+use std::io::Write;
+
+/// How many bytes of answers may wait while more lines of a chunk are answered.
+const MOST_WAITING: usize = 65_536;
+
+/// Answers that are not yet written.
+#[derive(Drop)]
+pub(crate) struct Answers {
+    pub(crate) text: Vec<u8>,
+    /// Whether the session met want of memory at some line.
+    pub(crate) is_refused: bool,
+}
+
+impl Answers {
+    /// No answers.
+    pub(crate) fn new(alloc: Global) -> Answers
+        ensures text { result.text.items ≡ [] }
+        ensures unrefused { result.is_refused ≡ false }
+    {
+        Answers {
+            text: Vec::new(alloc),
+            is_refused: false,
+        }
+    }
+
+    /// Has the session answer a line, or hear that it is too long.
+    pub(crate) fn hear<S: Session>(
+        &mut self,
+        session: &mut S,
+        line: &[u8],
+    ) -> Result<(), AllocError>
+        ensures heard { OnOk result (Hears S.turn line.now session.old session.new self.old self.new) }
+        ensures err { OnErr result (Stays self.old self.new) }
+    {
+        let fate = answer(session, line, &mut self.text)?;
+        self.is_refused |= is_refused(fate);
+        Ok(())
+    }
+
+    /// Writes the answers.
+    pub(crate) fn write<W: Write>(&mut self, writer: &mut W) -> Result<(), Fault>
+        ensures whole { OnOk result (Appends (W.contents writer.old) (W.contents writer.new) self.old.text.items) }
+        ensures front { TakesFront (W.contents writer.old) (W.contents writer.new) self.old.text.items }
+        ensures none_left { OnOk result (self.new.text.items ≡ []) }
+        ensures err { IfErr result IsOfWriting }
+        ensures refused { self.new.is_refused ≡ self.old.is_refused }
+    {
+        if self.text.is_empty() {
+            return Ok(());
+        }
+        write_out(self.text.as_slice(), writer)?;
+        self.text.clear();
+        Ok(())
+    }
+
+    /// Writes the answers where many wait.
+    pub(crate) fn write_many<W: Write>(&mut self, writer: &mut W) -> Result<(), Fault>
+        ensures moved { OnOk result (Moves (W.contents writer.old) (W.contents writer.new) self.old.text.items self.new.text.items) }
+        ensures front { TakesFront (W.contents writer.old) (W.contents writer.new) self.old.text.items }
+        ensures err { IfErr result IsOfWriting }
+        ensures refused { self.new.is_refused ≡ self.old.is_refused }
+    {
+        if self.text.len() > MOST_WAITING {
+            return self.write(writer);
+        }
+        Ok(())
+    }
+
+    /// Writes what answers there are where no memory is left for more.
+    pub(crate) fn give_up<W: Write>(&mut self, writer: &mut W) -> Fault
+        ensures front { TakesFront (W.contents writer.old) (W.contents writer.new) self.old.text.items }
+        ensures fault { result ≡ Memory }
+        ensures refused { self.new.is_refused ≡ self.old.is_refused }
+    {
+        let _ = self.write(writer);
+        Fault::Memory
+    }
+}
+
+/// The session's answer to a line, appended to the text.
+fn answer<S: Session>(session: &mut S, line: &[u8], text: &mut Vec<u8>) -> Result<Fate, AllocError>
+    ensures answered { IfOk result
+        (λ fate. Says (S.turn fate session.old (heard line.now)) session.new text.old.items text.new.items) }
+    ensures err { OnErr result (text.new.items ≡ text.old.items) }
+{
+    if line.len() <= LONGEST_LINE {
+        return session.line(line, text);
+    }
+    session.too_long(text)
+}
+
+/// Whether the session met want of memory.
+fn is_refused(fate: Fate) -> bool
+    ensures { (result ≡ false) ↔ (fate ≡ Whole) }
+{
+    !matches!(fate, Fate::Whole)
+}

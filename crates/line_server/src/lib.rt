@@ -1,0 +1,27 @@
+//! Serves the lines of a reader to a session, and writes the session's answers.
+//!
+//! A [`Session`] says what it makes of a line: the bytes that are written, and the session after it. [`serve`]
+//! reads bytes in chunks, cuts them into lines, gives each to the session in turn, and writes the answers before
+//! it reads on. It keeps no more than one chunk, one line and one buffer of answers.
+//!
+//! A line may have 65,536 bytes without its newline. Of a longer one the session hears that it is too long.
+//!
+//! No contract can say that a fault is a real one, nor that answers are written before the next read: the tests
+//! look at both.
+#![tactic(auto)]
+
+mod answers;
+mod ended;
+mod line_start;
+mod lines;
+mod pending;
+mod serving;
+mod session;
+#[cfg(test)]
+mod tests;
+mod writing;
+
+pub use ended::{Ended, Fault};
+pub use lines::lines_make_the_bytes;
+pub use serving::serve;
+pub use session::{Fate, Session};

@@ -1,0 +1,49 @@
+// A session that counts lines.
+ghost use Rattle.std.specs.Prelude.{◌≡◌, ◌+◌, ◌%◌, ◌^◌, ◌++◌, ◌∷◌, [], ℕ, List, length, Option, None, Some};
+ghost use Rattle.std.specs.Fmt.{decimal};
+ghost use Rattle.line_server.specs.declared.session.Fate.TheVariants.{Whole, Refused, StoppedAt};
+
+use crate::session::{Fate, Session};
+use std::alloc::{AllocError, Global};
+
+/// Answers its N-th line by `N:LENGTH`, or by `N:long`. The line after `refused` lines has no answer,
+/// once, and that after `failed` lines has no memory for one.
+#[derive(Drop)]
+pub(super) struct Counting {
+    pub(super) alloc: Global,
+    pub(super) lines: u64,
+    pub(super) refused: Option<u64>,
+    pub(super) failed: Option<u64>,
+}
+
+impl Session for Counting {
+    ghost turn = { λ fate s line. elim fate [
+      | Whole ↦ record {
+        text = decimal s.lines ++ 58 ∷ (elim line [ None ↦ 108 ∷ 111 ∷ 110 ∷ 103 ∷ [] | Some bytes ↦ decimal (length bytes) ]) ++ 10 ∷ [];
+        after = record s { lines = (s.lines + 1) % 2 ^ 64 };
+      }
+      | Refused ↦ record { text = []; after = record s { refused = None } }
+      | StoppedAt mark ↦ record { text = []; after = s }
+    ] };
+
+    fn line(&mut self, line: &[u8], out: &mut Vec<u8>) -> Result<Fate, AllocError> {
+        if self.failed == Some(self.lines) {
+            return Err(AllocError);
+        }
+        if self.refused == Some(self.lines) {
+            self.refused = None;
+            return Ok(Fate::Refused);
+        }
+        let text = format!(in self.alloc; "{}:{}\n", self.lines, line.len())?;
+        out.extend_from_slice(text.as_bytes())?;
+        self.lines = self.lines.wrapping_add(1);
+        Ok(Fate::Whole)
+    }
+
+    fn too_long(&mut self, out: &mut Vec<u8>) -> Result<Fate, AllocError> {
+        let text = format!(in self.alloc; "{}:long\n", self.lines)?;
+        out.extend_from_slice(text.as_bytes())?;
+        self.lines = self.lines.wrapping_add(1);
+        Ok(Fate::Whole)
+    }
+}
