@@ -1,0 +1,4 @@
+mod Lines
+mod Replays
+mod Spaces
+mod Texts

@@ -1,0 +1,16 @@
+-- The pieces are the line's.
+use Rattle.std.proofs.Common.{◌++◌, ◌∷◌, [], codes}
+use Rattle.std.specs.Fmt.{decimal}
+use Rattle.relnode.specs.Answers.{line_of, stopped_undo}
+use Rattle.relnode.proofs.Texts.{wrote, five_pieces, stopped-line}
+use Rattle.relnode.proofs.answers.write_stopped.Goals as goal
+
+pub returns : goal.returns
+returns c =
+    let old = c.args.out.now.items in
+    let m = c.args.mark in
+    let n = c.args.cut in
+    let last = c.extend_from_slice-3 in
+    let mid = c.write_number-2.new.out.items in
+    let line = line_of (stopped_undo m n) in
+    wrote last.result last.new.self.items mid (codes ",[],[]}}\n") (old ++ line) last.ensures.items (five_pieces old c.extend_from_slice.new.self.items c.write_number.new.out.items c.extend_from_slice-2.new.self.items mid (codes "{error,{memory,") (decimal m) (44 ∷ []) (decimal n) (codes ",[],[]}}\n") line c.in_ok-extend_from_slice.ensures.items c.in_ok-write_number.ensures c.in_ok-extend_from_slice-2.ensures.items c.in_ok-write_number-2.ensures (stopped-line m n c.ranges.mark.fits c.ranges.cut.fits))

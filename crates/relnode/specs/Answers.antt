@@ -1,0 +1,98 @@
+-- What the program answers: terms, each printed on a line of its own.
+use Rattle.std.specs.Prelude.{ℕ, pos, ◌==◌, if◌then◌else◌, Bool, true, false, List, [], ◌∷◌, ◌++◌, codes, Option, None, Some}
+use Rattle.std.specs.Str.{chars}
+use Rattle.erl_term.specs.Tree.{Tree, Trees, int, atom, tuple, list, none, more}
+use Rattle.erl_term.specs.Text.{utf8, text}
+use Rattle.code_server.specs.declared.error.CodeError.{CodeError}
+use Rattle.code_server.specs.declared.error.CodeError.TheVariants.{NotLoaded, NotPurged, OldInUse, CounterEnd, Memory as NoMemory}
+use Rattle.code_server.specs.declared.modules.Instance.{Instance}
+use Rattle.code_server.specs.Modules.{Entry}
+use Rattle.relnode.specs.declared.event.Event.{Event}
+use Rattle.relnode.specs.declared.event.Event.TheVariants.{Load, Delete, Purge, SoftPurge}
+use Rattle.relnode.specs.declared.event.Answer.{Answer}
+use Rattle.relnode.specs.declared.event.Answer.TheVariants.{Done, Killed}
+use Rattle.relnode.specs.declared.answers.Fixed.{Fixed}
+use Rattle.relnode.specs.declared.answers.Fixed.TheVariants.{True, False, BadCommand, LineTooLong, SerialEnd, CounterAtEnd, DeadMark, Memory}
+
+-- the line of a term
+abbrev pub line_of : Tree → List ℕ
+line_of answer = utf8 (text answer) ++ 10 ∷ []
+
+abbrev pub pair : Tree → Tree → Tree
+pair t u = tuple (more t (more u none))
+
+-- `{error,Name}`
+abbrev pub error : List ℕ → Tree
+error name = pair (atom (codes "error")) (atom name)
+
+abbrev pub truth : Bool → Tree
+truth true = atom (codes "true")
+truth false = atom (codes "false")
+
+-- the answers that have nothing in them but their words
+abbrev pub fixed : Fixed → Tree
+fixed True = truth true
+fixed False = truth false
+fixed BadCommand = error (codes "bad_command")
+fixed LineTooLong = error (codes "line_too_long")
+fixed SerialEnd = error (codes "serial_end")
+fixed CounterAtEnd = error (codes "counter_end")
+fixed DeadMark = error (codes "dead_mark")
+fixed Memory = error (codes "memory")
+
+-- `{error,{file,Path,missing}}`
+abbrev pub char_ints : List ℕ → Trees
+char_ints [] = none
+char_ints (c ∷ cs) = more (int (pos c)) (char_ints cs)
+
+abbrev pub missing_file : List ℕ → Tree
+missing_file path =
+    pair (atom (codes "error")) (tuple (more (atom (codes "file")) (more (list (char_ints (chars path))) (more (atom (codes "missing")) none))))
+
+-- `{mark,K}`
+abbrev pub mark_at : ℕ → Tree
+mark_at mark = pair (atom (codes "mark")) (int (pos mark))
+
+-- `{undone,Cut,Replies,Arrivals}`: no event sends a reply or brings in a message
+abbrev pub undone_steps : ℕ → Tree
+undone_steps cut = tuple (more (atom (codes "undone")) (more (int (pos cut)) (more (list none) (more (list none) none))))
+
+-- `{error,{memory,K,Cut,Replies,Arrivals}}`
+abbrev pub stopped_undo : ℕ → ℕ → Tree
+stopped_undo mark cut =
+    pair (atom (codes "error")) (tuple (more (atom (codes "memory")) (more (int (pos mark)) (more (int (pos cut)) (more (list none) (more (list none) none))))))
+
+-- what an accepted event answers
+abbrev pub answer_of : Event → Answer → Tree
+answer_of (Load name code) Done = pair (atom (codes "module")) (atom name)
+answer_of (Load name code) (Killed b) = pair (atom (codes "module")) (atom name)
+answer_of (Delete name) Done = truth true
+answer_of (Delete name) (Killed b) = truth b
+answer_of (Purge name) Done = truth true
+answer_of (Purge name) (Killed b) = truth b
+answer_of (SoftPurge name) Done = truth true
+answer_of (SoftPurge name) (Killed b) = truth b
+
+-- What a refused event answers: `false`, where OTP's code server answers so.
+abbrev pub fixed_of : CodeError → Fixed
+fixed_of NotLoaded = False
+fixed_of NotPurged = False
+fixed_of OldInUse = False
+fixed_of CounterEnd = CounterAtEnd
+fixed_of NoMemory = Memory
+
+-- `[{Mod,Current,Old}]`: load serials, or `none`
+abbrev pub serial_of : Option (Instance (List ℕ)) → Tree
+serial_of None = atom (codes "none")
+serial_of (Some instance) = int (pos instance.serial)
+
+abbrev pub module_of : Entry (List ℕ) → Tree
+module_of entry = tuple (more (atom entry.0) (more (serial_of entry.1.current) (more (serial_of entry.1.former) none)))
+
+abbrev pub modules_of : List (Entry (List ℕ)) → Trees
+modules_of [] = none
+modules_of (entry ∷ entries) = more (module_of entry) (modules_of entries)
+
+-- what stands before the element of a list at a place
+abbrev pub separator : ℕ → List ℕ
+separator place = if place == 0 then [] else 44 ∷ []

@@ -1,0 +1,7 @@
+pub mod Answers
+pub mod Files
+pub mod Node
+pub mod Replay
+pub mod Run
+pub mod Shell
+pub mod Words

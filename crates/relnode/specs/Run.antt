@@ -1,0 +1,10 @@
+-- What a run of the program does.
+use Rattle.std.specs.Prelude.{ℕ, List, Option}
+use Rattle.line_server.specs.declared.ended.Ended.{Ended}
+use Rattle.line_server.specs.Serving.{Serves}
+use Rattle.relnode.specs.Shell.{Desk, desk_turn}
+
+-- From a desk: the bytes that were read are answered line by line, as the commands say, up to some desk. `left`
+-- and `rest` are what the reader has left before and after, `held` and `holds` what the writer holds.
+abbrev pub Runs : Desk → Option (List ℕ) → Option (List ℕ) → Option (List ℕ) → Option (List ℕ) → Ended → Type 0
+Runs start left rest held holds ended = (end : Desk) × Serves desk_turn start end left rest held holds ended

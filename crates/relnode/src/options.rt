@@ -1,0 +1,205 @@
+// The words of the command line.
+use clap::error::ErrorKind;
+use clap::{Arg, ArgAction, Command};
+use std::alloc::{AllocError, Global};
+use std::env::FillError;
+use std::rt::Env;
+use std::{env, io, str};
+use thiserror::Error;
+
+const NAME: &str = "relnode";
+
+const VERSION: &str = "0.1.0";
+
+const ABOUT: &str =
+    "An Erlang/OTP node whose release commands can be undone: loads, deletes and purges modules, sets marks, and goes back to any mark";
+
+const ROOT_HELP: &str = "The folder of the node's files; all files below it are read at the start";
+
+const VSN_HELP: &str = "The version of the release that the node boots";
+
+const AFTER_HELP: &str = "Examples:
+  relnode /srv/node 1.0
+  relnode ./tree Z < commands.txt > answers.txt
+  printf 'load m a/m.erl\\nmodules\\nundo 0\\n' | relnode ./tree Z
+
+The program reads a command a line from its standard input, and docs/COMMANDS.md describes
+the commands. Its status is 0 at the end of the input, 1 after a fault of the files, of the
+input or of the output, and 2 after a bad command line.";
+
+/// The longest word that is looked at when a word that is not UTF-8 is sought; the system passes none
+/// that is longer.
+const LONGEST_WORD: usize = 1 << 18;
+
+/// What a run of the program is asked to work on.
+#[derive(Debug, Drop)]
+pub struct Options {
+    /// The folder of the node's files, as the word stands.
+    pub root: String,
+    /// The version of the release, as the word stands.
+    pub vsn: String,
+}
+
+/// What a good command line asks for.
+#[derive(Debug, Drop)]
+pub enum Request {
+    /// To run the node.
+    Run(Options),
+    /// To write this text, of `--help` or of `--version`, and to end.
+    Show(String),
+}
+
+/// Why a command line is no request. The message is one line, whatever the words hold.
+#[derive(Debug, Drop, Error)]
+pub enum OptionsError {
+    /// A word is missing, is one too many or is no option.
+    #[error("{0} (try --help)")]
+    Words(String),
+    /// The word at this place, from 1, is not UTF-8.
+    #[error("word {0} of the command line is not UTF-8")]
+    NotUtf8(usize),
+    /// The system gave no words.
+    #[error("cannot read the command line: {0}")]
+    Unread(io::Error),
+    /// Memory was refused.
+    #[error("no memory to read the command line")]
+    Memory(#[from(alloc)] AllocError),
+}
+
+impl OptionsError {
+    /// The status that the program ends with: 2 for bad words, and else 1.
+    pub fn status(&self) -> u8 {
+        match self {
+            OptionsError::Words(_) | OptionsError::NotUtf8(_) => 2,
+            OptionsError::Unread(_) | OptionsError::Memory(_) => 1,
+        }
+    }
+}
+
+/// Reads the words that the program was started with.
+///
+/// # Errors
+///
+/// `Words` where the words are not ROOT and VSN, `NotUtf8` where one is not UTF-8, `Unread` where the
+/// system does not give them, `Memory` where memory is refused.
+pub fn read_request<R: Env + AllocGlobal>(rt: &R) -> Result<Request, OptionsError> {
+    let words: Vec<String> = match env::args(rt) {
+        Ok(words) => words.collect(rt.alloc())?,
+        Err(error) => return Err(unread(rt, error)?),
+    };
+    request_of(rt.alloc(), words.as_slice())
+}
+
+/// What the words, from the program's name on, ask for.
+fn request_of(alloc: Global, words: &[String]) -> Result<Request, OptionsError> {
+    let error = match command(alloc)?.try_get_matches_from(words) {
+        Ok(matches) => {
+            let root = owned(alloc, matches.get_str("ROOT"))?;
+            let vsn = owned(alloc, matches.get_str("VSN"))?;
+            return Ok(Request::Run(Options { root, vsn }));
+        }
+        Err(error) => error,
+    };
+    match error.kind() {
+        ErrorKind::DisplayHelp | ErrorKind::DisplayVersion => {
+            Ok(Request::Show(error.to_string(alloc)?))
+        }
+        ErrorKind::OutOfMemory => Err(OptionsError::Memory(AllocError)),
+        _ => Err(OptionsError::Words(message_of(alloc, words)?)),
+    }
+}
+
+/// The command line as clap reads it.
+fn command<'a>(alloc: Global) -> Result<Command<'a>, AllocError> {
+    let root = Arg::new(alloc, "ROOT")
+        .required(true)
+        .action(ArgAction::Set)
+        .help(ROOT_HELP);
+    let vsn = Arg::new(alloc, "VSN")
+        .required(true)
+        .action(ArgAction::Set)
+        .help(VSN_HELP);
+    Command::new(alloc, NAME)
+        .bin_name(NAME)?
+        .version(VERSION)
+        .about(ABOUT)
+        .after_help(AFTER_HELP)
+        .arg(root)?
+        .arg(vsn)
+}
+
+/// A copy of a word that the command requires, so that it is there.
+fn owned(alloc: Global, word: Option<&str>) -> Result<String, AllocError> {
+    String::from_str(alloc, word.unwrap_or(""))
+}
+
+/// What is wrong with words that clap does not take, in one line: the first paragraph of its message,
+/// which names the word.
+///
+/// A word may hold line breaks and whatever else, so the message is made anew from the words as they can
+/// be shown.
+fn message_of(alloc: Global, words: &[String]) -> Result<String, OptionsError> {
+    let shown: Vec<String> = words
+        .iter()
+        .map(|word| shown_word(alloc, word.as_str()))
+        .try_collect(alloc)?;
+    match command(alloc)?.try_get_matches_from(shown.as_slice()) {
+        Ok(_) => Ok(String::from_str(alloc, "these words are no command line")?),
+        Err(error) => Ok(first_paragraph(alloc, error.to_string(alloc)?.as_str())?),
+    }
+}
+
+/// The word with its control characters, such as line breaks, as Rust escapes them.
+fn shown_word(alloc: Global, word: &str) -> Result<String, AllocError> {
+    let mut shown = String::new(alloc);
+    for c in word.chars() {
+        if c.is_control() {
+            write!(shown, "{}", c.escape_default())?;
+        } else {
+            shown.push(c)?;
+        }
+    }
+    Ok(shown)
+}
+
+/// The lines of the text up to the first empty one, as one line and without the word `error:`.
+fn first_paragraph(alloc: Global, text: &str) -> Result<String, AllocError> {
+    let mut line = String::new(alloc);
+    for part in text.lines() {
+        if part.is_empty() {
+            break;
+        }
+        if !line.is_empty() {
+            line.push(' ')?;
+        }
+        line.push_str(part.trim())?;
+    }
+    let message = line.as_str();
+    String::from_str(alloc, message.strip_prefix("error: ").unwrap_or(message))
+}
+
+/// Why the system's words could not be read, given the error that `env::args` gave.
+fn unread<R: Env + AllocGlobal>(rt: &R, error: io::Error) -> Result<OptionsError, AllocError> {
+    match error.kind() {
+        io::ErrorKind::OutOfMemory => Err(AllocError),
+        io::ErrorKind::InvalidData => match bad_word(rt)? {
+            Some(place) => Ok(OptionsError::NotUtf8(place)),
+            None => Ok(OptionsError::Unread(error)),
+        },
+        _ => Ok(OptionsError::Unread(error)),
+    }
+}
+
+/// The place, from 1, of the first word behind the program's name that is not UTF-8. The name counts as
+/// place 0.
+fn bad_word<R: Env + AllocGlobal>(rt: &R) -> Result<Option<usize>, AllocError> {
+    let mut word = vec![in rt.alloc(); 0u8; LONGEST_WORD]?;
+    for place in 0..usize::MAX {
+        match rt.arg(place, word.as_mut_slice()) {
+            Ok(length) if str::from_utf8(&word[..length]).is_err() => return Ok(Some(place)),
+            Err(FillError::NotPresent) => break,
+            _ => {}
+        }
+    }
+    Ok(None)
+}
