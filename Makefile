@@ -1,13 +1,19 @@
 # make test: the merge gate. Its last line is 'N passed, M failed'.
-# make demo: what there is to run.
+# make relnode: proves and builds the program, and leaves it at crates/relnode/out/relnode.
+# make demo: the program on the example tree.
 RT ?= rt
 
-.PHONY: test demo
+.PHONY: test demo relnode
 
 test:
 	@$(RT) ci
 
-# There is no program yet: the demo proves and runs the journal's tests, in which a counter and a
-# table step, are undone, and meet want of memory at each place in turn.
-demo:
-	@cd crates/undo_journal && $(RT) test | grep -E '^(tests:|test )'
+relnode:
+	@cd crates/relnode && $(RT) run > /dev/null 2>&1; test -x out/relnode
+	@echo crates/relnode/out/relnode
+
+# Loads a module twice, with a mark in between, and goes back to the mark.
+demo: relnode
+	@echo '$$ relnode data/tree Z'
+	@sed 's/^/< /' crates/relnode/stdin
+	@cd crates/relnode && out/relnode data/tree Z < stdin | sed 's/^/> /'
