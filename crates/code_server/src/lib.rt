@@ -2,7 +2,7 @@
 //!
 //! As in Erlang/OTP, a module may have two instances of its code: a load makes the new one current and
 //! the former current one old; a third load asks that old code be purged first (Erlang Reference Manual,
-//! Compilation and Code Loading). Each load has a serial, from 1 on, by which an instance is known.
+//! Compilation and Code Loading). Each load has a serial, from 1 on.
 //!
 //! [`Modules`] is the table, first loaded first. Each change hands out an [`Undo`], by which
 //! [`Modules::revert`] takes the newest change back, whole: instances, the module's place in the table,

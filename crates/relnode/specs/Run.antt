@@ -2,9 +2,9 @@
 use Rattle.std.specs.Prelude.{ℕ, List, Option}
 use Rattle.line_server.specs.declared.ended.Ended.{Ended}
 use Rattle.line_server.specs.Serving.{Serves}
-use Rattle.relnode.specs.Shell.{Desk, desk_turn}
+use Rattle.relnode.specs.Shell.{ShellState, shell_turn}
 
--- From a desk: the bytes that were read are answered line by line, as the commands say, up to some desk. `left`
+-- From a state: the bytes that were read are answered line by line, as the commands say, up to some state. `left`
 -- and `rest` are what the reader has left before and after, `held` and `holds` what the writer holds.
-abbrev pub Runs : Desk → Option (List ℕ) → Option (List ℕ) → Option (List ℕ) → Option (List ℕ) → Ended → Type 0
-Runs start left rest held holds ended = (end : Desk) × Serves desk_turn start end left rest held holds ended
+abbrev pub Runs : ShellState → Option (List ℕ) → Option (List ℕ) → Option (List ℕ) → Option (List ℕ) → Ended → Type 0
+Runs start left rest held holds ended = (end : ShellState) × Serves shell_turn start end left rest held holds ended

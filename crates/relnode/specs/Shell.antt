@@ -5,6 +5,8 @@ use Rattle.erl_term.specs.Tree.{Tree, list}
 use Rattle.code_server.specs.Modules.{empty_table}
 use Rattle.undo_journal.specs.declared.reversible.Told.{Told}
 use Rattle.undo_journal.specs.declared.report.Report.{Report}
+use Rattle.undo_journal.specs.declared.history.Command.{Command}
+use Rattle.undo_journal.specs.declared.history.Command.TheVariants.{Perform, Undo}
 use Rattle.undo_journal.specs.Timeline.{Timeline, here, opened, appended, cut_to, cut_stations}
 use Rattle.line_server.specs.declared.session.Fate.{Fate}
 use Rattle.line_server.specs.declared.session.Fate.TheVariants.{Whole, Refused, StoppedAt}
@@ -21,53 +23,68 @@ use Rattle.relnode.specs.Node.{Node, Ruled, rule}
 use Rattle.relnode.specs.Words.{words_of, is_silent, only_word, two_words, number_of}
 
 -- the journal of the node
-abbrev pub Book : Type 0
-Book = Timeline Node Note
+abbrev pub NodeTimeline : Type 0
+NodeTimeline = Timeline Node Note
 
 -- what the program holds: the files, and the journal
-pub record Desk : Type 0 where
+pub record ShellState : Type 0 where
   pub files : Contents
-  pub book : Book
+  pub timeline : NodeTimeline
 
 -- it begins with a node without modules
-abbrev pub opened_desk : Contents → Desk
-opened_desk files = record { files = files; book = opened empty_table }
+abbrev pub opened_shell : Contents → ShellState
+opened_shell files = record { files = files; timeline = opened empty_table }
+
+-- What a line does: its answer, the journal after it, and the command that made it so, if one was carried out.
+pub record Deed : Type 0 where
+  pub text : List ℕ
+  pub after : NodeTimeline
+  pub command : Option (Command Event)
 
 -- an answer that leaves the journal as it is
-abbrev pub told : Book → Tree → Turn Book
-told book answer = record { text = line_of answer; after = book }
+abbrev pub told : NodeTimeline → Tree → Deed
+told timeline answer = record { text = line_of answer; after = timeline; command = None }
 
 -- An event is performed: the journal has one more station, or is as it was where the event is refused.
-abbrev pub ruled_turn : Book → Event → Ruled → Turn Book
-ruled_turn book e (Ok a) = record { text = line_of (answer_of e a.answer); after = appended book a.node a.note }
-ruled_turn book e (Err refusal) = told book (fixed (fixed_of refusal))
+abbrev pub ruled_turn : NodeTimeline → Event → Ruled → Deed
+ruled_turn timeline e (Ok a) = record {
+  text = line_of (answer_of e a.answer);
+  after = appended timeline a.node a.note;
+  command = Some (Perform e);
+}
+ruled_turn timeline e (Err refusal) = told timeline (fixed (fixed_of refusal))
 
-abbrev pub performed : Book → Event → Turn Book
-performed book e =
-    if book.last == 2 ^ 64 - 1 then told book (fixed SerialEnd) else ruled_turn book e (rule (here book).node e)
+abbrev pub performed : NodeTimeline → Event → Deed
+performed timeline e =
+    if timeline.last == 2 ^ 64 - 1 then told timeline (fixed SerialEnd) else ruled_turn timeline e (rule (here timeline).node e)
 
-abbrev pub event_turn : Fate → Book → Event → Turn Book
-event_turn Whole book e = performed book e
-event_turn Refused book e = told book (fixed Memory)
-event_turn (StoppedAt mark) book e = performed book e
+abbrev pub event_turn : Fate → NodeTimeline → Event → Deed
+event_turn Whole timeline e = performed timeline e
+event_turn Refused timeline e = told timeline (fixed Memory)
+event_turn (StoppedAt mark) timeline e = performed timeline e
 
 -- An undo to a mark: the stations after it are cut. One that found no memory stands at a mark after it.
-abbrev pub undone_to : Book → Book → Turn Book
-undone_to book cut = record { text = line_of (undone_steps (length (cut_stations book cut))); after = cut }
-
-abbrev pub stopped_at : ℕ → Book → Book → Option Book → Turn Book
-stopped_at reached book cut None = undone_to book cut
-stopped_at reached book cut (Some at) = record {
-  text = line_of (stopped_undo reached (length (cut_stations book at)));
-  after = at;
+abbrev pub undone_to : NodeTimeline → ℕ → NodeTimeline → Deed
+undone_to timeline mark cut = record {
+  text = line_of (undone_steps (length (cut_stations timeline cut)));
+  after = cut;
+  command = Some (Undo mark);
 }
 
-abbrev pub undo_turn : Fate → Book → ℕ → Option Book → Turn Book
-undo_turn fate book mark None = told book (fixed DeadMark)
-undo_turn Whole book mark (Some cut) = undone_to book cut
-undo_turn Refused book mark (Some cut) = undone_to book cut
-undo_turn (StoppedAt reached) book mark (Some cut) =
-    if nat_le mark reached then stopped_at reached book cut (cut_to reached book) else undone_to book cut
+abbrev pub stopped_at : NodeTimeline → ℕ → NodeTimeline → ℕ → Option NodeTimeline → Deed
+stopped_at timeline mark cut reached None = undone_to timeline mark cut
+stopped_at timeline mark cut reached (Some at) = record {
+  text = line_of (stopped_undo reached (length (cut_stations timeline at)));
+  after = at;
+  command = Some (Undo reached);
+}
+
+abbrev pub undo_turn : Fate → NodeTimeline → ℕ → Option NodeTimeline → Deed
+undo_turn fate timeline mark None = told timeline (fixed DeadMark)
+undo_turn Whole timeline mark (Some cut) = undone_to timeline mark cut
+undo_turn Refused timeline mark (Some cut) = undone_to timeline mark cut
+undo_turn (StoppedAt reached) timeline mark (Some cut) =
+    if nat_le mark reached then stopped_at timeline mark cut reached (cut_to reached timeline) else undone_to timeline mark cut
 
 -- the atom of a word's characters, of which there are at most 255
 abbrev pub name_of : List ℕ → Option (List ℕ)
@@ -78,68 +95,68 @@ abbrev pub one_name : List (List ℕ) → Option (List ℕ)
 one_name words = option_and_then name_of (only_word words)
 
 -- a command with one module as its word
-abbrev pub named_turn : Fate → Book → (List ℕ → Event) → Option (List ℕ) → Turn Book
-named_turn fate book event None = told book (fixed BadCommand)
-named_turn fate book event (Some name) = event_turn fate book (event name)
+abbrev pub named_turn : Fate → NodeTimeline → (List ℕ → Event) → Option (List ℕ) → Deed
+named_turn fate timeline event None = told timeline (fixed BadCommand)
+named_turn fate timeline event (Some name) = event_turn fate timeline (event name)
 
 -- `load MOD PATH`: a missing file comes before the event's refusals
-abbrev pub code_turn : Fate → Book → List ℕ → List ℕ → Option (List ℕ) → Turn Book
-code_turn fate book name path None = told book (missing_file path)
-code_turn fate book name path (Some code) = event_turn fate book (Load name code)
+abbrev pub code_turn : Fate → NodeTimeline → List ℕ → List ℕ → Option (List ℕ) → Deed
+code_turn fate timeline name path None = told timeline (missing_file path)
+code_turn fate timeline name path (Some code) = event_turn fate timeline (Load name code)
 
-abbrev pub file_turn : Fate → Contents → Book → Option (List ℕ) → List ℕ → Turn Book
-file_turn fate files book None path = told book (fixed BadCommand)
-file_turn fate files book (Some name) path = code_turn fate book name path (file_of path files)
+abbrev pub file_turn : Fate → Contents → NodeTimeline → Option (List ℕ) → List ℕ → Deed
+file_turn fate files timeline None path = told timeline (fixed BadCommand)
+file_turn fate files timeline (Some name) path = code_turn fate timeline name path (file_of path files)
 
-abbrev pub load_turn : Fate → Contents → Book → Option (List ℕ × List ℕ) → Turn Book
-load_turn fate files book None = told book (fixed BadCommand)
-load_turn fate files book (Some words) = file_turn fate files book (name_of words.0) words.1
+abbrev pub load_turn : Fate → Contents → NodeTimeline → Option (List ℕ × List ℕ) → Deed
+load_turn fate files timeline None = told timeline (fixed BadCommand)
+load_turn fate files timeline (Some words) = file_turn fate files timeline (name_of words.0) words.1
 
 -- a command without words
-abbrev pub alone_turn : Book → Tree → List (List ℕ) → Turn Book
-alone_turn book answer [] = told book answer
-alone_turn book answer (w ∷ ws) = told book (fixed BadCommand)
+abbrev pub alone_turn : NodeTimeline → Tree → List (List ℕ) → Deed
+alone_turn timeline answer [] = told timeline answer
+alone_turn timeline answer (w ∷ ws) = told timeline (fixed BadCommand)
 
 -- `undo K`
-abbrev pub mark_turn : Fate → Book → Option ℕ → Turn Book
-mark_turn fate book None = told book (fixed BadCommand)
-mark_turn fate book (Some mark) = undo_turn fate book mark (cut_to mark book)
+abbrev pub mark_turn : Fate → NodeTimeline → Option ℕ → Deed
+mark_turn fate timeline None = told timeline (fixed BadCommand)
+mark_turn fate timeline (Some mark) = undo_turn fate timeline mark (cut_to mark timeline)
 
-abbrev pub numbered_turn : Fate → Book → Option (List ℕ) → Turn Book
-numbered_turn fate book None = told book (fixed BadCommand)
-numbered_turn fate book (Some word) = mark_turn fate book (number_of word)
+abbrev pub numbered_turn : Fate → NodeTimeline → Option (List ℕ) → Deed
+numbered_turn fate timeline None = told timeline (fixed BadCommand)
+numbered_turn fate timeline (Some word) = mark_turn fate timeline (number_of word)
 
 -- a command, by its first word and the others
-abbrev pub verb_turn : Fate → Contents → Book → List ℕ → List (List ℕ) → Turn Book
-verb_turn fate files book verb words =
-    if bytes_eq verb (codes "load") then load_turn fate files book (two_words words)
-    else (if bytes_eq verb (codes "delete") then named_turn fate book Delete (one_name words)
-    else (if bytes_eq verb (codes "purge") then named_turn fate book Purge (one_name words)
-    else (if bytes_eq verb (codes "soft_purge") then named_turn fate book SoftPurge (one_name words)
-    else (if bytes_eq verb (codes "modules") then alone_turn book (list (modules_of (here book).node.entries)) words
-    else (if bytes_eq verb (codes "mark") then alone_turn book (mark_at (here book).serial) words
-    else (if bytes_eq verb (codes "undo") then numbered_turn fate book (only_word words)
-    else told book (fixed BadCommand)))))))
+abbrev pub verb_turn : Fate → Contents → NodeTimeline → List ℕ → List (List ℕ) → Deed
+verb_turn fate files timeline verb words =
+    if bytes_eq verb (codes "load") then load_turn fate files timeline (two_words words)
+    else (if bytes_eq verb (codes "delete") then named_turn fate timeline Delete (one_name words)
+    else (if bytes_eq verb (codes "purge") then named_turn fate timeline Purge (one_name words)
+    else (if bytes_eq verb (codes "soft_purge") then named_turn fate timeline SoftPurge (one_name words)
+    else (if bytes_eq verb (codes "modules") then alone_turn timeline (list (modules_of (here timeline).node.entries)) words
+    else (if bytes_eq verb (codes "mark") then alone_turn timeline (mark_at (here timeline).serial) words
+    else (if bytes_eq verb (codes "undo") then numbered_turn fate timeline (only_word words)
+    else told timeline (fixed BadCommand)))))))
 
-abbrev pub words_turn : Fate → Contents → Book → List (List ℕ) → Turn Book
-words_turn fate files book [] = told book (fixed BadCommand)
-words_turn fate files book (verb ∷ words) = verb_turn fate files book verb words
+abbrev pub words_turn : Fate → Contents → NodeTimeline → List (List ℕ) → Deed
+words_turn fate files timeline [] = told timeline (fixed BadCommand)
+words_turn fate files timeline (verb ∷ words) = verb_turn fate files timeline verb words
 
 -- A line: its length comes first, then whether it is silent, then whether it is UTF-8.
-abbrev pub heard_turn : Fate → Contents → Book → Option (List ℕ) → Turn Book
-heard_turn fate files book None = told book (fixed LineTooLong)
-heard_turn fate files book (Some line) =
-    if is_silent line then record { text = []; after = book }
-    else (if is_utf8 line then words_turn fate files book (words_of line) else told book (fixed BadCommand))
+abbrev pub heard_turn : Fate → Contents → NodeTimeline → Option (List ℕ) → Deed
+heard_turn fate files timeline None = told timeline (fixed LineTooLong)
+heard_turn fate files timeline (Some line) =
+    if is_silent line then record { text = []; after = timeline; command = None }
+    else (if is_utf8 line then words_turn fate files timeline (words_of line) else told timeline (fixed BadCommand))
 
-abbrev pub desk_turn : Fate → Desk → Option (List ℕ) → Turn Desk
-desk_turn fate desk line = record {
-  text = (heard_turn fate desk.files desk.book line).text;
-  after = record { files = desk.files; book = (heard_turn fate desk.files desk.book line).after };
+abbrev pub shell_turn : Fate → ShellState → Option (List ℕ) → Turn ShellState
+shell_turn fate state line = record {
+  text = (heard_turn fate state.files state.timeline line).text;
+  after = record { files = state.files; timeline = (heard_turn fate state.files state.timeline line).after };
 }
 
 -- a command was answered so: the journal is the one after it, and its text is appended to the answer
-abbrev pub Answers : Turn Book → Book → List ℕ → List ℕ → Type 0
+abbrev pub Answers : Deed → NodeTimeline → List ℕ → List ℕ → Type 0
 Answers t new old answer = (new ≡ t.after) × (answer ≡ old ++ t.text)
 
 -- how many steps the first of reports tells of

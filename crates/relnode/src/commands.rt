@@ -1,11 +1,12 @@
 // The commands: each line's answer, and what it does to the journal.
-ghost use Rattle.std.specs.Prelude.{◌≡◌, ◌<◌, ◌++◌, length, is_some, Some, IsSome, IfOk, OnOk, OnErr};
+ghost use Rattle.std.specs.Prelude.{◌≡◌, ◌<◌, ◌++◌, length, is_some, None, Some, IsSome, IfOk, OnOk, OnErr};
 ghost use Rattle.std.specs.Str.{chars};
 ghost use Rattle.erl_term.specs.Tree.{list};
 ghost use Rattle.undo_journal.specs.Timeline.{here, cut_to};
 ghost use Rattle.line_server.specs.declared.session.Fate.TheVariants.{Whole, Refused};
 ghost use Rattle.relnode.specs.declared.event.Event.TheVariants.{Load, Delete, Purge, SoftPurge};
-ghost use Rattle.relnode.specs.Answers.{line_of, fixed, fixed_of, answer_of, mark_at, modules_of};
+ghost use Rattle.relnode.specs.Answers.{line_of, fixed, fixed_of, missing_file, answer_of, mark_at, modules_of};
+ghost use Rattle.relnode.specs.Node.{refusal_of};
 ghost use Rattle.relnode.specs.Words.{words_of, only_word, two_words};
 ghost use Rattle.relnode.specs.Shell.{Answers, name_of, one_name, event_turn, named_turn, load_turn, alone_turn, numbered_turn, undo_turn, verb_turn, heard_turn, first_cut, first_answer};
 
@@ -108,13 +109,20 @@ fn load(
         return say(Fixed::BadCommand, out);
     }
     let Some(code) = files.get(path) else {
-        write_missing(alloc, path, out)?;
-        return Ok(Fate::Whole);
+        return miss(alloc, path, out);
     };
     let Ok((name, code)) = named_code(alloc, word, code) else {
         return refuse(out);
     };
     perform(journal, Event::Load { name, code }, out)
+}
+
+/// Tells that there is no file at the path.
+fn miss(alloc: Global, path: &str, out: &mut Vec<u8>) -> Said
+    ensures { IfOk result (λ fate. (fate ≡ Whole) × (out.new.items ≡ out.old.items ++ line_of (missing_file path.now))) }
+{
+    write_missing(alloc, path, out)?;
+    Ok(Fate::Whole)
 }
 
 /// The atom of a name, and a copy of its code.
@@ -195,7 +203,10 @@ fn soft_purge(alloc: Global, journal: &mut Journal<Node>, words: &str, out: &mut
 
 /// Performs an event, and tells its answer or why it is refused.
 fn perform(journal: &mut Journal<Node>, event: Event, out: &mut Vec<u8>) -> Said
-    ensures { IfOk result (λ fate. Answers (event_turn fate journal.old event) journal.new out.old.items out.new.items) }
+    ensures done { IfOk result (λ fate. Answers (event_turn fate journal.old event) journal.new out.old.items out.new.items) }
+
+    // Want of memory hides no refusal.
+    ensures unhidden { IfOk result (λ fate. fate ≡ Refused → refusal_of (here journal.old).node event ≡ None) }
 {
     match journal.perform(&event, 1) {
         Ok(told) => {

@@ -2,8 +2,8 @@
 ghost use Rattle.std.specs.Prelude.{◌≡◌, ℕ, ◌++◌, List, [], None, Some, false};
 ghost use Rattle.line_server.specs.Lines.{lines_of};
 ghost use Rattle.line_server.specs.declared.session.Fate.{Fate};
-ghost use Rattle.line_server.specs.Session.{text_of, session_after};
-ghost use Rattle.relnode.specs.Shell.{desk_turn, opened_desk};
+ghost use Rattle.line_server.specs.Session.{text_of};
+ghost use Rattle.relnode.specs.Shell.{shell_turn, opened_shell};
 ghost use Rattle.relnode.specs.Run.{Runs};
 ghost use Rattle.relnode.specs.Replay.{IsReplayed};
 
@@ -27,19 +27,19 @@ pub fn run<R: Read, W: Write>(
     reader: &mut R,
     writer: &mut W,
 ) -> Ended
-    ensures ran { Runs (opened_desk files) (R.remaining reader.old) (R.remaining reader.new)
+    ensures ran { Runs (opened_shell files) (R.remaining reader.old) (R.remaining reader.new)
         (W.contents writer.old) (W.contents writer.new) result }
 
     // Where reader and writer tell their bytes, no fault came and no memory was refused: all that the reader had
     // was read, and the text of its lines was written behind what the writer held.
     ensures whole { (input before : List ℕ) → R.remaining reader.old ≡ Some input → W.contents writer.old ≡ Some before
         → result.fault ≡ None → result.is_refused ≡ false
-        → W.contents writer.new ≡ Some (before ++ text_of desk_turn [] (opened_desk files) (lines_of input)) }
+        → W.contents writer.new ≡ Some (before ++ text_of shell_turn [] (opened_shell files) (lines_of input)) }
 
     // Whatever lines the shell is given, and whichever of them met want of memory: its journal is the timeline of the
     // commands that they carried out, and its node the fold of the rule over the steps that are not undone.
     ensures headline { (fates : List Fate) (lines : List (List ℕ))
-        → IsReplayed (session_after desk_turn fates (opened_desk files) lines).book }
+        → IsReplayed files fates lines }
 {
     let Ok(mut shell) = Shell::new(alloc, files) else {
         return Ended {

@@ -1,6 +1,6 @@
 // The shell: a session over the journal of a node.
 ghost use Rattle.std.specs.Prelude.{◌≡◌, ℕ, List, Option, IfOk};
-ghost use Rattle.relnode.specs.Shell.{desk_turn, opened_desk};
+ghost use Rattle.relnode.specs.Shell.{shell_turn, opened_shell};
 
 use crate::commands::{answer_line, answer_long_line};
 use crate::files::Files;
@@ -20,11 +20,11 @@ pub struct Shell {
 }
 
 impl Model for Shell {
-    ghost use Rattle.relnode.specs.Shell.{Desk};
+    ghost use Rattle.relnode.specs.Shell.{ShellState};
 
-    ghost Value = { Desk };
+    ghost Value = { ShellState };
 
-    ghost view = { λ s. record { files = s.files; book = s.journal } };
+    ghost view = { λ s. record { files = s.files; timeline = s.journal } };
 }
 
 impl Shell {
@@ -34,7 +34,7 @@ impl Shell {
     ///
     /// `AllocError` where memory is refused.
     pub fn new(alloc: Global, files: Files) -> Result<Shell, AllocError>
-        ensures { IfOk result (λ shell. shell ≡ opened_desk files) }
+        ensures { IfOk result (λ shell. shell ≡ opened_shell files) }
     {
         let journal = Journal::new(alloc, Node::new(alloc))?;
         Ok(Shell {
@@ -47,7 +47,7 @@ impl Shell {
 }
 
 impl Session for Shell {
-    ghost turn = { desk_turn };
+    ghost turn = { shell_turn };
 
     fn line(&mut self, line: &[u8], out: &mut Vec<u8>) -> Result<Fate, AllocError> {
         self.answer.clear();

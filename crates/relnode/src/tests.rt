@@ -40,7 +40,7 @@ fn files(alloc: Global) -> Result<Files, AllocError> {
     Ok(files)
 }
 
-/// How the fault is named, and what was written.
+/// How the fault is named, or, without one, whether memory was refused, and what was written.
 fn answers(alloc: Global, case: &Case<'_>) -> Result<(&'static str, Vec<u8>), AllocError> {
     let mut reader = Source {
         bytes: case.input,
@@ -49,13 +49,14 @@ fn answers(alloc: Global, case: &Case<'_>) -> Result<(&'static str, Vec<u8>), Al
         interruptions: 0,
     };
     let mut writer = Sink {
-        taken: Vec::new(alloc),
+        taken: Vec::with_capacity(alloc, 4_096)?,
         most: case.writes,
         room: case.room,
         interruptions: 0,
     };
     let ended = run(alloc, files(alloc)?, "Z", &mut reader, &mut writer);
     let fault = match ended.fault {
+        None if ended.is_refused => "refused",
         None => "none",
         Some(Fault::Read(_)) => "read",
         Some(Fault::Endless) => "endless",
@@ -294,16 +295,16 @@ const REFUSED: [&str; 9] = [
 /// so and changes nothing, or the run ends with a front of the answers.
 #[test]
 fn a_refusal_changes_nothing(rt: HostRuntime) -> Result<(), Fail> {
-    let (fault, written) = answers(rt.alloc(), &plain(MODULE_TABLE.as_bytes()))?;
-    if fault == "memory" {
-        assert!(rt; REFUSED[0].as_bytes().starts_with(written.as_slice()));
-        return Ok(());
-    }
-    assert_eq!(rt; fault, "none");
-    assert!(rt;
-        REFUSED
+    let case = plain(MODULE_TABLE.as_bytes());
+    let (fault, written) = answers(rt.alloc(), &case)?;
+    let right = match fault {
+        "none" => REFUSED[0].as_bytes() == written.as_slice(),
+        "refused" => REFUSED[1..]
             .iter()
-            .any(|want| want.as_bytes() == written.as_slice())
-    );
+            .any(|want| want.as_bytes() == written.as_slice()),
+        "memory" => REFUSED[0].as_bytes().starts_with(written.as_slice()),
+        _ => false,
+    };
+    assert!(rt; right, "{fault}");
     Ok(())
 }
