@@ -1,16 +1,15 @@
 -- Whatever lines the shell is given, its journal is the timeline of the commands that they carried out.
-use Rattle.std.proofs.Common.{◌≡◌, ℕ, Bool, true, false, nat_le, ◌==◌, ◌-◌, ◌^◌, cond, List, [], ◌∷◌, ◌++◌, codes, Option, None, Some, option_to_list, unwrap_or, Ok, Err, refl, sym, ap, subst, ◌∙◌, ◌⊎◌, inl, inr}
+use Rattle.std.proofs.Common.{◌≡◌, ℕ, Bool, true, false, nat_le, ◌==◌, ◌-◌, ◌^◌, cond, List, [], ◌∷◌, ◌++◌, codes, Option, None, Some, option_to_list, unwrap_or, Ok, Err, refl, sym, ap, subst, ◌∙◌}
 use Rattle.std.specs.Str.{bytes_eq, is_utf8}
 use Rattle.erl_term.specs.Tree.{Tree, list}
 use Rattle.code_server.specs.Modules.{empty_table}
 use Rattle.undo_journal.specs.declared.history.Command.{Command}
-use Rattle.undo_journal.specs.declared.history.Command.TheVariants.{Perform, Undo}
 use Rattle.undo_journal.specs.Timeline.{here, opened, cut_to}
 use Rattle.undo_journal.specs.History.{after_event, after_command, timeline_after, live_steps, Makes}
 use Rattle.undo_journal.proofs.Histories.{Makes-live, fold_of-live}
 use Rattle.line_server.specs.declared.session.Fate.{Fate}
 use Rattle.line_server.specs.declared.session.Fate.TheVariants.{Whole, Refused, StoppedAt}
-use Rattle.line_server.specs.Session.{Turn, first_fate, later_fates, session_after}
+use Rattle.line_server.specs.Session.{first_fate, later_fates, session_after}
 use Rattle.line_server.specs.Lines.{heard}
 use Rattle.relnode.specs.declared.event.Event.{Event}
 use Rattle.relnode.specs.declared.event.Event.TheVariants.{Load, Delete, Purge, SoftPurge}
