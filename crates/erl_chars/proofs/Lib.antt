@@ -1,0 +1,3 @@
+pub mod Characters
+pub mod Numbers
+pub mod Utf8

@@ -1,0 +1,42 @@
+//! Characters of Erlang texts: a cursor over them, blanks and comments, escapes and quotes.
+//!
+//! A [`Cursor`] stands in a text and steps over it. Contracts see what is left of the text as a list of code points,
+//! `left`; the bytes of the whole text, `total`, stay. A step that fails says so by an error of its own, without
+//! words on where in the text it stands, but for [`QuoteError::BadEscape`]; [`ReadError`] is what a reader above makes
+//! of it.
+//!
+//! # What is proved
+//!
+//! - [`Cursor::peek`] gives the next character and [`Cursor::advance`] steps over it; [`Cursor::place`] is how many
+//!   bytes stand before the cursor.
+//! - [`Cursor::skip_gap`] steps over exactly the blanks and comments in front.
+//! - [`Cursor::escape`] gives the character that an escape stands for, and else `Cut` exactly where the text ends
+//!   first and `Wrong` exactly where no escape is written so.
+//! - [`Cursor::quoted`] gives exactly the characters written between quotes, and stands behind the closing one.
+//!   `Unclosed` is told only where the text ends first, and `BadEscape` only at the first backslash with no escape
+//!   behind it. [`quotes_read_one_way`]: a text has no two of these readings.
+//! - A [`Text`] keeps the characters it is made of, and so does a [`Name`]: [`Name::from_text`] refuses exactly the
+//!   texts of over 255 characters.
+//!
+//! # What no contract says
+//!
+//! That there is memory, which only [`Text::new`] and [`Cursor::quoted`] ask for; that `Memory` and `AllocError` are
+//! told only where it was refused; and what a call costs: each is linear in what it steps over, but for
+//! [`Name::from_text`], which counts the characters of its text.
+#![tactic(auto)]
+
+mod bytes;
+mod cursor;
+mod error;
+mod escapes;
+mod quotes;
+mod steps;
+#[cfg(test)]
+mod tests;
+mod text;
+
+pub use cursor::Cursor;
+pub use error::{Fault, ReadError};
+pub use escapes::EscapeError;
+pub use quotes::{QuoteError, quotes_read_one_way};
+pub use text::{Name, NameError, Text};

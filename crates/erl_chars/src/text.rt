@@ -1,0 +1,101 @@
+// Texts, and names.
+ghost use Rattle.std.specs.Prelude.{◌≡◌, ◌<◌, ◌≤◌, ◌↔◌, ℕ, List, length, IfOk, IsErr, string_bytes};
+ghost use Rattle.std.specs.Str.{chars};
+
+use std::alloc::{AllocError, Global};
+use std::marker::Model;
+use thiserror::Error;
+
+/// A text, seen by contracts as its code points.
+#[derive(Drop)]
+pub struct Text {
+    pub(crate) text: String,
+}
+
+impl Model for Text {
+    ghost Value = { List ℕ };
+
+    ghost view = { λ a. chars (string_bytes a.text) };
+}
+
+/// A text of at most 255 characters, as a name has, seen by contracts as its code points.
+#[derive(Drop)]
+pub struct Name {
+    text: String,
+}
+
+impl Model for Name {
+    ghost Value = { List ℕ };
+
+    ghost view = { λ a. chars (string_bytes a.text) };
+
+    ghost invariant = { λ a. length (chars (string_bytes a.text)) ≤ 255 };
+}
+
+/// Why a text is no name.
+#[derive(Clone, Copy, Debug, PartialEq, Eq, Error)]
+#[error("a name has at most 255 characters")]
+pub struct NameError;
+
+impl Text {
+    /// The text of these characters.
+    ///
+    /// # Errors
+    ///
+    /// `AllocError` where memory is refused.
+    pub fn new(alloc: Global, text: &str) -> Result<Text, AllocError>
+        ensures { IfOk result (λ it. it ≡ chars text.now) }
+    {
+        let text = String::from_str(alloc, text)?;
+        Ok(Text { text })
+    }
+
+    /// The characters. Takes no memory.
+    pub fn as_str(&self) -> &str
+        ensures { chars result.now ≡ self.now }
+    {
+        self.text.as_str()
+    }
+}
+
+impl Name {
+    /// The name that a text is. Takes no memory.
+    ///
+    /// # Errors
+    ///
+    /// `NameError` where the text has over 255 characters.
+    pub fn from_text(text: Text) -> Result<Name, NameError>
+        ensures ok { IfOk result (λ name. name ≡ text) }
+        ensures too_long { IsErr result ↔ (255 < length text) }
+    {
+        if count(text.as_str()) > 255 {
+            return Err(NameError);
+        }
+        let Text { text } = text;
+        Ok(Name { text })
+    }
+
+    /// The characters. Takes no memory.
+    pub fn as_str(&self) -> &str
+        ensures chars { chars result.now ≡ self.now }
+        ensures short { length self.now ≤ 255 }
+    {
+        String::as_str(&self.text)
+    }
+
+    /// The characters, to keep. Takes no memory.
+    pub fn into_string(self) -> String
+        ensures chars { chars (string_bytes result) ≡ self }
+        ensures short { length self ≤ 255 }
+    {
+        let Name { text } = self;
+        text
+    }
+}
+
+/// How many characters a text has.
+fn count(text: &str) -> usize
+    ensures { result ≡ length (chars text.now) }
+{
+    text.chars().count()
+}
