@@ -6,7 +6,7 @@ use Rattle.std.specs.Char.{digit_value}
 abbrev pub is_between : ℕ → ℕ → ℕ → Bool
 is_between first last c = nat_le first c && nat_le c last
 
--- blanks: the control characters and the space, and what Latin-1 has of both
+-- blanks: 0 to 32, and 128 to 160
 abbrev pub is_blank : ℕ → Bool
 is_blank c = nat_le c 32 || is_between 128 160 c
 
@@ -14,11 +14,11 @@ is_blank c = nat_le c 32 || is_between 128 160 c
 abbrev pub is_decimal : ℕ → Bool
 is_decimal c = is_between 48 57 c
 
--- `a` to `z`, and the small letters of Latin-1, whose block has the sign of division (247) among them
+-- `a` to `z`, and 223 to 255 of Latin-1 but the sign of division (247)
 abbrev pub is_small : ℕ → Bool
 is_small c = is_between 97 122 c || (is_between 223 255 c && not (c == 247))
 
--- `A` to `Z`, and the capital letters of Latin-1, whose block has the sign of multiplication (215) among them
+-- `A` to `Z`, and 192 to 222 of Latin-1 but the sign of multiplication (215)
 abbrev pub is_capital : ℕ → Bool
 is_capital c = is_between 65 90 c || (is_between 192 222 c && not (c == 215))
 

@@ -1,0 +1,43 @@
+//! Tokens of Erlang texts (Erlang Reference Manual; after `erl_scan` of OTP 25).
+//!
+//! A [`Scanner`] stands in a text and gives its tokens one after the other, each as a [`Spot`]: the [`Token`], and the
+//! byte at which it begins. Contracts see what is left of the text as a list of code points, `left`. A number has no
+//! sign, and a float no value. What Erlang has and this scanner does not read, such as a string between three double
+//! quotes, is told as `Unsupported`. `erl_scan` differs in little: it has tokens for ``& @ \ ^ ` ~`` and 127, which here
+//! begin none, and it does not take U+FFFE and U+FFFF.
+//!
+//! # What is proved
+//!
+//! - [`Scanner::new`] stands at the start of the text.
+//! - [`Scanner::next_token`] gives the token that comes next behind blanks and comments, with its place, and stands
+//!   right behind it; it gives none exactly at the end. An error other than `Memory` is the fault that comes next, at
+//!   its place: a token's own fault at the token's first character, but a bad escape at its backslash.
+//! - [`tokens_read_one_way`]: one thing comes next in a text, so that what `next_token` answers is fixed by the text,
+//!   want of memory aside, and as many tokens of a text are read in one way.
+//! - [`marks_are_longest`]: of the marks that a text begins with, the longest is read.
+//!
+//! # What no contract says
+//!
+//! That there is memory, which the atoms, variables, strings and reserved words ask for; that `Memory` is told only
+//! where it was refused; and what a call costs: it is linear in what it steps over. A name is copied twice.
+#![tactic(auto)]
+
+mod laws;
+mod mark;
+mod marks;
+mod names;
+mod numbers;
+mod quoted;
+mod scanner;
+mod scanning;
+#[cfg(test)]
+mod tests;
+mod token;
+mod word;
+
+pub use erl_chars::{Fault, Name, ReadError, Text};
+pub use laws::{marks_are_longest, tokens_read_one_way};
+pub use mark::Mark;
+pub use scanner::Scanner;
+pub use token::{Spot, Token};
+pub use word::Word;

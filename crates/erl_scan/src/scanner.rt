@@ -1,0 +1,16 @@
+// The scanner.
+use erl_chars::{Cursor, Fault, ReadError};
+use std::alloc::Global;
+
+/// A text, and how far its tokens are read.
+#[derive(Drop)]
+pub struct Scanner<'a> {
+    pub(crate) alloc: Global,
+    pub(crate) cursor: Cursor<'a>,
+}
+
+/// Memory was refused.
+pub(crate) const OUT_OF_MEMORY: ReadError = ReadError {
+    kind: Fault::Memory,
+    at: 0,
+};

@@ -1,0 +1,34 @@
+// Tokens.
+use crate::mark::Mark;
+use crate::word::Word;
+use erl_chars::{Name, Text};
+
+/// A token of an Erlang text (Erlang Reference Manual; after `erl_scan`).
+#[derive(Drop)]
+pub enum Token {
+    /// An integer, at most 2^63: in decimal, in another base, or a character behind `$`. It has no sign.
+    Integer(u64),
+    /// A float. Its value is not read.
+    Float,
+    /// An atom: a name that is no reserved word, or what stands between single quotes.
+    Atom(Name),
+    /// A reserved word.
+    Word(Word),
+    /// A variable.
+    Variable(Text),
+    /// What stands between double quotes.
+    String(Text),
+    /// Punctuation.
+    Mark(Mark),
+    /// The dot that ends a form: blanks, a comment or the end of the text follow.
+    Dot,
+}
+
+/// A token where it stands.
+#[derive(Drop)]
+pub struct Spot {
+    /// The token.
+    pub what: Token,
+    /// Its first byte in the text, from 0.
+    pub at: usize,
+}
