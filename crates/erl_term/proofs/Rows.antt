@@ -19,7 +19,7 @@ total_size-push [] t = omega arith
 total_size-push (u ∷ us) t = omega (arith, total_size-push us t)
 
 -- the term that a loop is at, behind those that it passed
-take_here : (items : List Term) (i : ℕ) (t : Term) → i < length items → t ≡ get_or items i t → take (i + 1) items ≡ take i items ++ t ∷ []
+pub take_here : (items : List Term) (i : ℕ) (t : Term) → i < length items → t ≡ get_or items i t → take (i + 1) items ≡ take i items ++ t ∷ []
 take_here items i t within is = take_more items i t within ∙ ap (λ u. take i items ++ u ∷ []) (sym is)
 
 -- the greater of the depths so far and the next

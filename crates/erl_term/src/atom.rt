@@ -9,6 +9,7 @@ ghost use Rattle.std.proofs.Common.{rules};
 ghost use Rattle.erl_term.specs.Ascii.{is_ascii_text};
 ghost use Rattle.erl_term.specs.Text.{utf8};
 
+use erl_scan::Name;
 use std::alloc::{AllocError, Global};
 use std::hash::{Hash, Hasher};
 use std::marker::Model;
@@ -71,6 +72,15 @@ impl Atom {
     {
         let text = String::from_str(alloc, word)?;
         Ok(Atom { text })
+    }
+
+    /// The atom of a name. Takes no memory.
+    pub(crate) fn from_name(name: Name) -> Atom
+        ensures { result ≡ name }
+    {
+        Atom {
+            text: name.into_string(),
+        }
     }
 
     /// Whether the atom is this ASCII word. Takes no memory.

@@ -5,6 +5,7 @@ ghost use Rattle.erl_term.specs.Tree.{none, count, depth, greatest_depth, size, 
 
 mod order;
 mod printing;
+mod readable;
 
 use crate::atom::Atom;
 use std::alloc::{AllocError, Global};

@@ -7,6 +7,7 @@ use std::test::Fail;
 use values::{Duplicate, Same};
 
 mod printing;
+mod reading;
 
 fn atom_of(alloc: Global, text: &str) -> Result<Term, Fail> {
     Ok(Term::Atom(Atom::new(alloc, text)?))

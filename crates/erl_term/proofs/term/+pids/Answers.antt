@@ -1,0 +1,13 @@
+-- Each turn looks at one term more.
+use Rattle.erl_term.proofs.Bounds.{have_pids-more, are_bounded-more, atom_bounded}
+use Rattle.erl_term.proofs.term.+pids.Goals as goal
+
+pub Term::has_pids-returns-in-Atom-clause-bounded :
+    goal.Term::has_pids-returns-in-Atom-clause-bounded
+Term::has_pids-returns-in-Atom-clause-bounded t c = atom_bounded c.args.self.now c.in-Atom.atom c.as_str-name.result.now c.in-Atom.is c.as_str-name.ensures.chars c.as_str-name.ensures.kept c.as_str-name.utf8
+
+pub Terms::have_pids-loop-term-preserved : goal.Terms::have_pids-loop-term-preserved
+Terms::have_pids-loop-term-preserved t c = record {
+  pids = have_pids-more c.deref-term-items.result.now c.loop-term.term-index c.term-item.result c.loop-term.have c.has_pids-have.result c.loop-term-test.true c.term-item.is c.loop-term.invariant.pids c.has_pids-have.ensures.pids;
+  bounded = are_bounded-more c.deref-term-items.result.now c.loop-term.term-index c.term-item.result c.loop-term-test.true c.term-item.is c.loop-term.invariant.bounded c.has_pids-have.ensures.bounded;
+}
