@@ -1466,3 +1466,22 @@ fn characters_that_are_not_seen(rt: HostRuntime) -> Result<(), Fail> {
     expect_fault(&rt, alloc, "a.\u{7f}", Fault::Syntax, 1);
     Ok(())
 }
+
+#[test]
+fn refused_memory_is_told_and_changes_nothing(rt: HostRuntime) -> Result<(), Fail> {
+    let alloc = rt.alloc();
+    let text = r#"{'a b',[-1,$c,2#11|["d" "e"]],{[],{}}}. "fg". h."#;
+    let terms = match read_terms(alloc, text.as_bytes()) {
+        Ok(terms) => terms,
+        Err(e) => {
+            assert_eq!(rt; e.kind, Fault::Memory);
+            read_terms(alloc, text.as_bytes())?
+        }
+    };
+    let found = printed(alloc, terms.as_slice())?;
+    assert_eq!(rt;
+        found.as_str(),
+        r#"{'a b',[-1,99,3,"de"],{[],{}}} "fg" h"#
+    );
+    Ok(())
+}
