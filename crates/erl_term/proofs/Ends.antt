@@ -14,6 +14,7 @@ use Rattle.erl_term.proofs.Nesting.{nested-counts, innermost-from_nested, innerm
 use Rattle.erl_term.proofs.Judging.{Bracketed, at_tuple, at_list, at_tail, Lasting, none_last, sign_last, form_last, strings_last, place_of, places, show, bare, sign_end, string_end, other_end, end_at, Follows, Judged, is_unread_part, is_out, is_misplaced, is_wrong, is_deep, is_next}
 use Rattle.erl_term.proofs.Judges.{judge}
 use Rattle.erl_term.proofs.Reached.{take_all, take_all-append, outcome_then, goes-fails, Stands, stands-none, stands-next, Tells, faulty-from_judged, judged-from_faulty, is-sign}
+use Rattle.erl_term.proofs.Truth.{clash}
 
 -- The end
 
@@ -91,9 +92,6 @@ cut-from_end before w [] (form_last f) total k told stands e =
     form_cut before total k told (last_of before) (level before w (form_last f) stands) refl stands.tells e
 cut-from_end before w [] (strings_last cs others) total k told stands e =
     string_cut before total k told (last_of before) (level before w (strings_last cs others) stands) refl stands.tells e
-
-clash : {A : Type 0} → (b : Bool) → b ≡ true → b ≡ false → A
-clash b holds fails_it = absurd (true≢false (sym holds ∙ fails_it))
 
 bracket_end : (b : Bracketed) (os : List Bracketed) (w : Forms) (r : Lasting) (total : ℕ) → end_of (show w (b ∷ os) r) total ≡ cut_short Unclosed (place_of b)
 bracket_end (at_tuple at fs) os w r total = refl

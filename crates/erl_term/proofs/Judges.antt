@@ -1,5 +1,5 @@
 -- Each token is judged: part by part, by what was read before it.
-use Rattle.std.proofs.Common.{◌≡◌, ℕ, suc, pos, ◌^◌, ◌<◌, ◌≤◌, Bool, true, false, cond, not, ◌&&◌, List, [], ◌∷◌, ◌++◌, length, Some, None, refl, ap, ap₂, sym, subst, ◌∙◌, append_assoc, append-nil, arith, true≢false, nat_lt}
+use Rattle.std.proofs.Common.{◌≡◌, ℕ, suc, pos, ◌^◌, ◌<◌, ◌≤◌, Bool, true, false, cond, not, ◌&&◌, List, [], ◌∷◌, ◌++◌, length, Some, None, refl, ap, sym, subst, ◌∙◌, append_assoc, append-nil, arith, nat_lt}
 use Rattle.std.specs.Prelude.{Option, nat_le}
 use Rattle.std.specs.List.{flat_map}
 use borrow.Author.Tests.{ltb-true, ltb-false}
@@ -10,14 +10,9 @@ use Rattle.erl_term.specs.Faults.{opens, closes, begins_list}
 use Rattle.erl_term.specs.Steps.{Frame, nothing, sign, term, text, Seen, Outcome, goes, fails, take_part, with_element, elements_at, tail_elements, closed_with, begins, if_room}
 use Rattle.erl_term.proofs.Spelling.{step, signed}
 use Rattle.erl_term.proofs.Judging.{Bracketed, at_tuple, at_list, at_tail, Lasting, none_last, sign_last, form_last, strings_last, show_all, show, bare, end_at, end_minus, end_string, end_bar, end_place, TellsPart, faulty_by, tail_by, nesting_by, FineForm, FineForms, FineOne, FineAll, FineLast, is_tail, is_tuple, Fine, Moves, same, one_more, one_less, place_of, places, Judged, is_unread_part, is_out, is_misplaced, is_wrong, is_deep, is_next, length-show}
+use Rattle.erl_term.proofs.Truth.{never, and-true}
 
 -- Truth
-
-and-true : (a b : Bool) → a ≡ true → b ≡ true → a && b ≡ true
-and-true a b a_is b_is = ap₂ (λ x y. x && y) a_is b_is
-
-never : {A : Type 0} → false ≡ true → A
-never e = absurd (true≢false (sym e))
 
 -- Forms within the limits
 

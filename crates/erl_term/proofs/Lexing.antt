@@ -26,6 +26,7 @@ use Rattle.erl_scan.specs.Marks.{mark_in}
 use Rattle.erl_scan.specs.Numbers.{digits_on, after_digits, whole, number_by, number_in, greatest_magnitude}
 use Rattle.erl_scan.specs.Tokens.{Next, token, fault, Comes, NextBy, begins_two_quotes, number_next, name_next, mark_next, plain_next}
 use Rattle.erl_term.specs.Text.{is_lower, is_name_char, is_quoted_word, is_plain, hex_digit, hex, quoted_char, atom_text, string_char}
+use Rattle.erl_term.proofs.Truth.{not_true, and_left, and_right, or_true}
 
 -- What ends a printed piece: a comma, a closing bracket, or the dot and the newline behind a term.
 pub record Ends (rest : List ℕ) : Type 0 where
@@ -142,10 +143,6 @@ gap-decimal n rest le =
 
 -- Names without quotes
 
-or_true : (b : Bool) → b || true ≡ true
-or_true true = refl
-or_true false = refl
-
 -- the name characters of printing are some of reading's
 name-or : (a b d e f x y : Bool) → a || b || d || e || f ≡ true → (a || x) || ((b || y) || (d || (e || f))) ≡ true
 name-or true b d e f x y h = refl
@@ -158,18 +155,6 @@ name-or false false false false false x y h = absurd (true≢false (sym h))
 name-char : (c : ℕ) → is_name_char c ≡ true → kinds.is_name_char c ≡ true
 name-char c h =
     name-or (is_lower c) (nat_le 65 c && nat_le c 90) (nat_le 48 c && nat_le c 57) (eqb c 95) (eqb c 64) (is_between 223 255 c && not (eqb c 247)) (is_between 192 222 c && not (eqb c 215)) h
-
-pub and_left : (a b : Bool) → a && b ≡ true → a ≡ true
-and_left true b e = refl
-and_left false b e = e
-
-pub and_right : (a b : Bool) → a && b ≡ true → b ≡ true
-and_right true b e = e
-and_right false b e = absurd (true≢false (sym e))
-
-pub not_true : (b : Bool) → not b ≡ true → b ≡ false
-not_true true e = absurd (true≢false (sym e))
-not_true false e = refl
 
 front-name : (cs rest : List ℕ) → list_all is_name_char cs ≡ true → front kinds.is_name_char rest ≡ [] → front kinds.is_name_char (cs ++ rest) ≡ cs
 front-name [] rest all ends = ends

@@ -15,4 +15,5 @@ pub mod Spelling
 pub mod Stepping
 pub mod Taking
 pub mod Texts
+pub mod Truth
 pub mod Uniqueness

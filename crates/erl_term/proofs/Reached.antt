@@ -12,6 +12,7 @@ use Rattle.erl_term.specs.Steps.{Seen, nothing_seen, Outcome, goes, fails, take_
 use Rattle.erl_term.proofs.Spelling.{State, step, run, beginning, sign_part, start-from_run, run-from_start, run-append}
 use Rattle.erl_term.proofs.Nesting.{Nested, nested-plain, nested-open, nested-close, nested-counts}
 use Rattle.erl_term.proofs.Judging.{Bracketed, Lasting, none_last, places, show, bare, length-places, End, start_end, sign_end, string_end, bar_end, other_end, end_at, TellsPart, end_minus, end_string, end_bar, end_place, out_by, faulty_by, tail_by, nesting_by, Fine, Moves, same, one_more, one_less, Follows, Judged, is_unread_part, is_out, is_misplaced, is_wrong, is_deep, is_next}
+use Rattle.erl_term.proofs.Truth.{clash, or-right}
 
 -- Outcomes
 
@@ -185,7 +186,7 @@ stands-none = record {
   fine = record { whole = (refl, (refl, omega arith)); brackets = tt; last = tt };
 }
 
-parts-append : (xs ys : List Spot) → parts (xs ++ ys) ≡ parts xs ++ parts ys
+pub parts-append : (xs ys : List Spot) → parts (xs ++ ys) ≡ parts xs ++ parts ys
 parts-append [] ys = refl
 parts-append (x ∷ xs) ys = ap (λ ps. spot_part x ∷ ps) (parts-append xs ys)
 
@@ -307,15 +308,8 @@ faulty-from_judged before w os r p at k told stands (is_next sound no_tail room 
 
 -- A faulty token fails
 
-or-right : (a b : Bool) → b ≡ true → a || b ≡ true
-or-right true b e = refl
-or-right false b e = e
-
 fails-both : (k l : Fault) (at to : ℕ) → k ≡ l → at ≡ to → fails k at ≡ fails l to
 fails-both k l at to k_is at_is = ap₂ fails k_is at_is
-
-clash : {A : Type 0} → (b : Bool) → b ≡ true → b ≡ false → A
-clash b holds fails_it = absurd (true≢false (sym holds ∙ fails_it))
 
 unread-faulty : (b : Bool) (p : Part) → p ≡ unread → faulty_by b p ≡ true
 unread-faulty b p is = ap (faulty_by b) is

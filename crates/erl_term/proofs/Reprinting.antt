@@ -23,10 +23,12 @@ use Rattle.erl_scan.specs.Tokens.{Comes, token, Reads}
 use Rattle.erl_term.specs.Tree.{Tree, Trees, int, atom, pid, tuple, list, none, more, depth, greatest_depth}
 use Rattle.erl_term.specs.Text.{utf8, text, elements_text, others_text, list_text, printable, printable_char, string_text, string_char, atom_text, quoted_char, is_plain, hex, hex_digit}
 use Rattle.erl_term.specs.Grammar.{Part, number, minus, name, string, open_tuple, close_tuple, open_list, close_list, comma, dot, part_of, Form, Forms, unsigned, negative, atom_form, strings, empty_tuple, some_tuple, empty_list, some_list, start, then, form_parts, with_commas, append_trees, integers, form_tree, form_trees, nesting, nestings, deepest, fits, all_fit, has_list_tails, have_list_tails, IsText}
-use Rattle.erl_term.specs.Faults.{spot_part, parts}
+use Rattle.erl_term.specs.Faults.{parts}
 use Rattle.erl_term.specs.Readable.{has_pids, have_pids, is_bounded, are_bounded, PrintedReads}
 use Rattle.erl_term.proofs.Judges.{append_trees-assoc}
-use Rattle.erl_term.proofs.Lexing.{Ends, ends-comma, ends-tuple, ends-list, ends-dot, comes-open_tuple, comes-close_tuple, comes-open_list, comes-close_list, comes-comma, comes-dot, comes-decimal, comes-minus, gap-decimal, comes-string, lexed-atom, and_left, and_right, not_true, control-small}
+use Rattle.erl_term.proofs.Lexing.{Ends, ends-comma, ends-tuple, ends-list, ends-dot, comes-open_tuple, comes-close_tuple, comes-open_list, comes-close_list, comes-comma, comes-dot, comes-decimal, comes-minus, gap-decimal, comes-string, lexed-atom, control-small}
+use Rattle.erl_term.proofs.Reached.{parts-append}
+use Rattle.erl_term.proofs.Truth.{not_true, and-true, and_left, and_right, or_left, or_right}
 
 -- The form that a term is printed in
 
@@ -100,9 +102,6 @@ abbrev AllFine : List Form → Type 0
 AllFine [] = Unit {0}
 AllFine (f ∷ fs) = Fine f × AllFine fs
 
-and-true : (a b : Bool) → a ≡ true → b ≡ true → a && b ≡ true
-and-true a b a_is b_is = ap₂ (λ x y. x && y) a_is b_is
-
 front-fine : (acc : Forms) (f : Form) (fs : List Form) → (all_fit acc ≡ true) × (have_list_tails acc ≡ true) → Fine f → AllFine fs → ((all_fit (row_front acc f fs) && fits (row_last f fs)) ≡ true) × ((have_list_tails (row_front acc f fs) && has_list_tails (row_last f fs)) ≡ true)
 front-fine acc f [] fine one others =
     (and-true (all_fit acc) (fits f) fine.0 one.0, and-true (have_list_tails acc) (has_list_tails f) fine.1 one.1)
@@ -118,14 +117,6 @@ list-fine None [] fine = (refl, refl)
 list-fine None (f ∷ fs) fine = front-fine start f fs (refl, refl) fine.0 fine.1
 list-fine (Some []) fs fine = (refl, refl)
 list-fine (Some (c ∷ cs)) fs fine = (refl, refl)
-
-or_left : (a b : Bool) → a || b ≡ false → a ≡ false
-or_left true b e = e
-or_left false b e = refl
-
-or_right : (a b : Bool) → a || b ≡ false → b ≡ false
-or_right true b e = absurd (true≢false e)
-or_right false b e = e
 
 mutual
   form-fine : (t : Tree) → is_bounded t ≡ true → Fine (form_of t)
@@ -233,10 +224,6 @@ reads-then : (total : ℕ) (cs mid rest : List ℕ) (xs ys : List Spot) → Read
 reads-then total cs mid rest [] ys first second = subst (λ c. Reads total c ys rest) (sym first) second
 reads-then total cs mid rest (x ∷ xs) ys (left, comes, at, later) second =
     (left, comes, at, reads-then total left mid rest xs ys later second)
-
-parts-append : (xs ys : List Spot) → parts (xs ++ ys) ≡ parts xs ++ parts ys
-parts-append [] ys = refl
-parts-append (x ∷ xs) ys = ap (λ ps. spot_part x ∷ ps) (parts-append xs ys)
 
 and_then : (total : ℕ) (cs mid rest : List ℕ) (ps qs : List Part) → Reading total cs mid ps → Reading total mid rest qs → Reading total cs rest (ps ++ qs)
 and_then total cs mid rest ps qs first second = record {

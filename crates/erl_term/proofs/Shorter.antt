@@ -19,6 +19,7 @@ use Rattle.erl_scan.specs.Words.{word_of}
 use Rattle.erl_scan.specs.Marks.{Marked, mark_text, all_marks, behind, or_else, mark_among, mark_in}
 use Rattle.erl_scan.specs.Numbers.{Number, whole, real, no_base, begins_with_digit, after_digits, value_in, after_sign, after_exponent, number_by, number_in, greatest_magnitude}
 use Rattle.erl_scan.specs.Tokens.{Next, ends, token, fault, Comes, NextBy, atom_next, string_next, begins_two_quotes, number_next, escaped_next, character_next, name_next, mark_next, plain_next, ends_form}
+use Rattle.erl_term.proofs.Truth.{and_left, and_right}
 
 -- of two lists, one of which is taken
 either : (b : Bool) (x y : List ℕ) (n : ℕ) → length x ≤ n → length y ≤ n → length (cond b x y) ≤ n
@@ -142,14 +143,6 @@ among_on : (m : Mark) (c : ℕ) (cs : List ℕ) (found : Option (List ℕ)) (oth
 among_on m c cs None others r some is later e = later e
 among_on m c cs (Some rest) others r some is later e =
     omega (arith, behind-less (mark_text m) c cs rest some is, ap (λ x. length x.rest) (same_Some (record { mark = m; rest = rest }) r e))
-
-and_left : (a b : Bool) → a && b ≡ true → a ≡ true
-and_left true b e = refl
-and_left false b e = e
-
-and_right : (a b : Bool) → a && b ≡ true → b ≡ true
-and_right true b e = e
-and_right false b e = absurd (true≢false (sym e))
 
 among-less : (ms : List Mark) (c : ℕ) (cs : List ℕ) (r : Marked) → list_all (λ m. has_some (mark_text m)) ms ≡ true → mark_among ms (c ∷ cs) ≡ Some r → length r.rest ≤ length cs
 among-less [] c cs r some e = absurd (none-some r e)

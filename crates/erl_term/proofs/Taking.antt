@@ -10,6 +10,7 @@ use Rattle.erl_term.specs.Faults.{spot_part, parts}
 use Rattle.erl_term.specs.Steps.{Bracket, of_tuple, of_list, of_tail, Frame, Last, nothing, sign, term, text, Seen, Outcome, goes, fails, take_part, nothing_seen, with_element, elements_at, tail_elements, closed_with, begins, if_room, term_of_last, element_ended, dot_behind}
 use Rattle.erl_term.proofs.Judges.{append_trees-assoc, joined-integers, tail-list, elements-term, elements-text}
 use Rattle.erl_term.proofs.Reached.{outcome_then, take_all, take_all-append}
+use Rattle.erl_term.proofs.Truth.{never, and_left, and_right}
 
 -- Tokens in a row
 
@@ -152,17 +153,6 @@ last-element ts (some_tuple fs f) = elements-term ts (form_tree (some_tuple fs f
 last-element ts empty_list = elements-term ts (form_tree empty_list)
 last-element ts (some_list fs f) = elements-term ts (form_tree (some_list fs f))
 last-element ts (tailed_list fs f tail) = elements-term ts (form_tree (tailed_list fs f tail))
-
-and_left : (a b : Bool) → a && b ≡ true → a ≡ true
-and_left true b e = refl
-and_left false b e = e
-
-and_right : (a b : Bool) → a && b ≡ true → b ≡ true
-and_right true b e = e
-and_right false b e = absurd (true≢false (sym e))
-
-never : {A : Type 0} → false ≡ true → A
-never e = absurd (true≢false (sym e))
 
 -- One form
 

@@ -1479,9 +1479,6 @@ fn refused_memory_is_told_and_changes_nothing(rt: HostRuntime) -> Result<(), Fai
         }
     };
     let found = printed(alloc, terms.as_slice())?;
-    assert_eq!(rt;
-        found.as_str(),
-        r#"{'a b',[-1,99,3,"de"],{[],{}}} "fg" h"#
-    );
+    assert_eq!(rt; found.as_str(), r#"{'a b',[-1,99,3,"de"],{[],{}}} "fg" h"#);
     Ok(())
 }
