@@ -1,0 +1,7 @@
+mod Binding
+mod Completeness
+mod Filled
+pub mod Found
+mod Soundness
+pub mod Spelling
+mod Supervisors

@@ -1,0 +1,5 @@
+pub mod Complete
+pub mod Found
+pub mod Parts
+pub mod Rows
+pub mod Sound

@@ -1,0 +1,10 @@
+-- The changes so far, and those that are left, are those of the whole.
+use Rattle.std.proofs.Common.{◌≡◌, ◌++◌, drop, Some}
+use Rattle.erl_term.specs.Readers.{all_of}
+use Rattle.erl_term.specs.Term.{trees}
+use Rattle.low_instructions.specs.Reading.{given, change_of}
+use Rattle.low_instructions.proofs.reading.rows.changes.Given as goal
+
+abbrev pub invariant-loop-term : goal.invariant-loop-term
+invariant-loop-term l =
+    all_of change_of (trees l.term-items) ≡ given (all_of change_of (trees (drop l.term-index l.term-items))) (λ rest. Some (l.changes.items ++ rest))
