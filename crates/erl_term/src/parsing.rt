@@ -11,8 +11,6 @@ ghost use Rattle.erl_term.specs.Reading.{NextScanned};
 ghost use Rattle.erl_term.specs.Term.{trees};
 
 mod reader;
-#[cfg(test)]
-mod tests;
 
 use crate::term::Term;
 use erl_scan::{Fault, ReadError, Scanner, Spot};

@@ -96,54 +96,21 @@ fn quoted_characters(rt: HostRuntime) -> Result<(), Fail> {
     Ok(())
 }
 
+/// The words that are printed between quotes.
+const QUOTED: &str =
+    "after and andalso band begin bnot bor bsl bsr bxor case catch cond div else end fun if let maybe not of or orelse receive rem try when xor";
+
+/// Words like them that are printed without.
+const PLAIN: &str = "ender en e ifs andals xors ok undefined";
+
 #[test]
 fn quoted_words(rt: HostRuntime) -> Result<(), Fail> {
     let alloc = rt.alloc();
-    let quoted = [
-        "'after'",
-        "'and'",
-        "'andalso'",
-        "'band'",
-        "'begin'",
-        "'bnot'",
-        "'bor'",
-        "'bsl'",
-        "'bsr'",
-        "'bxor'",
-        "'case'",
-        "'catch'",
-        "'cond'",
-        "'div'",
-        "'else'",
-        "'end'",
-        "'fun'",
-        "'if'",
-        "'let'",
-        "'maybe'",
-        "'not'",
-        "'of'",
-        "'or'",
-        "'orelse'",
-        "'receive'",
-        "'rem'",
-        "'try'",
-        "'when'",
-        "'xor'",
-    ];
-    for wanted in quoted {
-        let name = wanted.trim_matches('\'');
-        assert_eq!(rt; text(alloc, &atom_of(alloc, name)?)?.as_str(), wanted);
+    for name in QUOTED.split_whitespace() {
+        let wanted = ["'", name, "'"].concat(alloc)?;
+        assert_eq!(rt; text(alloc, &atom_of(alloc, name)?)?, wanted);
     }
-    for name in [
-        "ender",
-        "en",
-        "e",
-        "ifs",
-        "andals",
-        "xors",
-        "ok",
-        "undefined",
-    ] {
+    for name in PLAIN.split_whitespace() {
         assert_eq!(rt; text(alloc, &atom_of(alloc, name)?)?.as_str(), name);
     }
     Ok(())

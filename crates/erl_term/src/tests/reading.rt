@@ -208,32 +208,38 @@ fn greatest_and_least_integers(rt: HostRuntime) -> Result<(), Fail> {
 }
 
 /// The reserved words but `fun`.
-const RESERVED: [&str; 26] = [
-    "after", "and", "andalso", "band", "begin", "bnot", "bor", "bsl", "bsr", "bxor", "case",
-    "catch", "cond", "div", "end", "if", "let", "not", "of", "or", "orelse", "receive", "rem",
-    "try", "when", "xor",
-];
+const RESERVED: &str =
+    "after and andalso band begin bnot bor bsl bsr bxor case catch cond div end if let not of or orelse receive rem try when xor";
+
+/// Texts around a reserved word, which stands for `W`, and the place where it is told.
+const AROUND: &str = "\
+W. 0
+W 0
+[W]. 1
+{a,W}. 3
+a W. 2
+-W. 1
+[a|W]. 3";
 
 #[test]
 fn reserved_words(rt: HostRuntime) -> Result<(), Fail> {
     let alloc = rt.alloc();
-    for word in RESERVED {
-        for (open, close, at) in [
-            ("", ".", 0),
-            ("", "", 0),
-            ("[", "].", 1),
-            ("{a,", "}.", 3),
-            ("a ", ".", 2),
-            ("-", ".", 1),
-            ("[a|", "].", 3),
-        ] {
-            let text = [open, word, close].concat(alloc)?;
-            expect_fault(&rt, alloc, text.as_str(), Fault::Syntax, at);
+    for word in RESERVED.split_whitespace() {
+        for row in AROUND.lines() {
+            let (around, at) = row.rsplit_once(' ').ok_or("no place")?;
+            let text = around.replace(alloc, "W", word)?;
+            expect_fault(
+                &rt,
+                alloc,
+                text.as_str(),
+                Fault::Syntax,
+                at.parse::<usize>()?,
+            );
         }
         let quoted = ["'", word, "'"].concat(alloc)?;
         let text = [quoted.as_str(), "."].concat(alloc)?;
         expect_text(&rt, alloc, text.as_str(), quoted.as_str())?;
-        for end in ["@", "_", "0", "z", "Z", "\u{e9}"] {
+        for end in "@ _ 0 z Z \u{e9}".split_whitespace() {
             let name = [word, end].concat(alloc)?;
             let text = [name.as_str(), "."].concat(alloc)?;
             let found = only_term(alloc, text.as_str())?;
