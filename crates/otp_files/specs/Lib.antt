@@ -1,0 +1,12 @@
+pub mod Distinct
+pub mod Drafts
+pub mod Entries
+pub mod Every
+pub mod Laws
+pub mod Numbered
+pub mod OneTerm
+pub mod ReadBack
+pub mod Reading
+pub mod Shapes
+pub mod Texts
+pub mod UsedKeys

@@ -1,0 +1,18 @@
+// The laws of the files.
+ghost use Rattle.std.specs.Prelude.{ℕ, List};
+ghost use Rattle.otp_files.specs.Laws.{OneOfEach, Tables};
+
+/// A law: a term is read as the record that it says, by the forms in which each record is written.
+pub fn terms_are_read_as_they_are_written()
+    ensures { Tables }
+{
+    low_instructions::low_forms_are_read();
+    high_instructions::instruction_forms_are_read();
+}
+
+/// A law: bytes are one file of each kind, or none for one reason.
+pub fn files_are_read_one_way()
+    ensures { (bytes : List ℕ) → OneOfEach bytes }
+{
+    erl_term::texts_read_one_way();
+}
