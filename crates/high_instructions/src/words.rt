@@ -8,12 +8,13 @@ use erl_term::{Atom, Term, two};
 use std::alloc::{AllocError, Global};
 use values::{Duplicate, Same};
 
-/// What a module's processes do when their code is changed down (appup(4), ModType).
+/// Whether a module's processes switch to new code by themselves (appup(4), ModType).
 #[derive(Clone, Copy, Debug, PartialEq, Eq, Drop)]
 pub enum ModuleType {
-    /// `static`: the new code is loaded before they change their state.
+    /// `static`: they do not. New code is loaded before they change their state, up and down.
     Static,
-    /// `dynamic`: and after.
+    /// `dynamic`: they do, as those of a callback module. New code is loaded before they change their state on the way
+    /// up, and after it on the way down.
     Dynamic,
 }
 

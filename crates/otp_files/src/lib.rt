@@ -1,4 +1,25 @@
 //! The files of a release: `.app`, `.rel`, `.appup` and relup (app(4), rel(4), appup(4), relup(4)).
+//!
+//! A file holds one term, with its dot. Its record has only what such a file may say, so a version is a [`Version`],
+//! the applications of a release are [`Applications`], none of them twice, and a script is a [`Script`] of low-level
+//! instructions. Each record has `copy` and `same`.
+//!
+//! # What is proved
+//!
+//! - [`read_app`], [`read_rel`], [`read_appup`] and [`read_relup`] answer the record that the bytes say, or, want of
+//!   memory aside, what is wrong with them first, in the order of [`FileError`].
+//! - [`terms_are_read_as_they_are_written`]: a term is read as a record exactly where it is written in one of the
+//!   record's forms. [`files_are_read_one_way`]: bytes are one file of a kind, or none for one reason, and never both.
+//! - [`relup_term`] and [`low_term`] give terms that are read back as what they were made of, and so does
+//!   [`print_relup`], where no process identifier stands in the relup and it is nested at most 256 deep; its output
+//!   stays as it was where memory is refused.
+//! - `up_from` and `down_to` give the first entry of a version; [`Applications::new`] refuses exactly where two
+//!   applications have one name.
+//!
+//! # What no contract says
+//!
+//! That there is memory, and what a call costs: reading is linear in the file, but that names of applications are
+//! looked up by hashing; the text is held as a term while the record is made of it.
 #![tactic(auto)]
 
 mod app;
