@@ -1,5 +1,5 @@
 -- Lemmas on characters between quotes, and on escapes.
-use Rattle.std.proofs.Common.{◌≡◌, ℕ, suc, ◌<◌, ◌≤◌, Bool, true, false, ◌&&◌, ◌==◌, cond, List, [], ◌∷◌, ◌++◌, length, length-drop, ap, sym, ◌∙◌, refl, arith}
+use Rattle.std.proofs.Common.{◌≡◌, ℕ, zero, suc, ◌<◌, ◌≤◌, Bool, true, false, ◌&&◌, ◌==◌, cond, List, [], ◌∷◌, ◌++◌, length, length-drop, ap, sym, ◌∙◌, refl, arith}
 use Rattle.std.specs.Str.Parse.{digits_value}
 use Rattle.std.proofs.lemmas.Bool.{cond_both}
 use lib.Utf8.{scalar}
@@ -156,3 +156,29 @@ character-shorter quote v [] more is = cc
 character-shorter quote v (c ∷ cs) more is =
     let le : length more ≤ length cs = rw is at (character-length quote c cs) in
     omega arith
+
+-- Quotes have a reading
+
+-- a character before a reading makes one
+reading-more : (quote v : ℕ) (cs more : List ℕ) (q : Quoted) → character quote cs ≡ stands v more → IsQuoted quote more q → (p : Quoted) × IsQuoted quote cs p
+reading-more quote v cs more (closed vs rest) is h = (closed (v ∷ vs) rest, (h.0, (more, is, h.1), h.2))
+reading-more quote v cs more unclosed is h = (unclosed, (v ∷ h.0, h.1, (more, is, h.2), h.3))
+reading-more quote v cs more (bad_escape here) is h = (bad_escape here, (v ∷ h.0, (more, is, h.1), h.2))
+
+-- by what the characters begin with, where whatever is left behind a character has a reading
+reading-by : (quote : ℕ) (cs : List ℕ) (s : Step) → character quote cs ≡ s → ((more : List ℕ) → length more < length cs → (q : Quoted) × IsQuoted quote more q) → (q : Quoted) × IsQuoted quote cs q
+reading-by quote cs (stands v more) is behind =
+    let q = behind more (character-shorter quote v cs more is) in
+    reading-more quote v cs more q.0 is q.1
+reading-by quote cs (closing rest) is behind = (closed [] rest, (cs, refl, is))
+reading-by quote cs cut is behind = (unclosed, ([], cs, refl, is))
+reading-by quote cs wrong is behind = (bad_escape cs, ([], refl, is))
+
+reading-within : (n quote : ℕ) (cs : List ℕ) → length cs < n → (q : Quoted) × IsQuoted quote cs q
+reading-within zero quote cs less = absurd (omega (arith, less))
+reading-within (suc n) quote cs less =
+    reading-by quote cs (character quote cs) refl (λ more shorter. reading-within n quote more (omega (arith, less, shorter)))
+
+-- whatever the characters, quotes close, or the text ends first, or an escape is none
+pub some-reading : (quote : ℕ) (cs : List ℕ) → (q : Quoted) × IsQuoted quote cs q
+some-reading quote cs = reading-within (suc (length cs)) quote cs (omega arith)

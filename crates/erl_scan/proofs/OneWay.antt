@@ -3,9 +3,10 @@ use Rattle.std.proofs.Common.{◌≡◌, ℕ, Bool, true, false, List, [], ◌�
 use Rattle.std.specs.Prelude.{nat_eq}
 use Rattle.erl_chars.specs.Gaps.{after_gap}
 use Rattle.erl_chars.specs.Quotes.{Quoted, IsQuoted}
+use Rattle.erl_chars.proofs.Characters.{some-reading}
 use Rattle.erl_scan.specs.declared.token.Spot.{Spot}
 use Rattle.erl_scan.specs.declared.token.Token.{Token}
-use Rattle.erl_scan.specs.Tokens.{Next, token, atom_next, double_quoted, NextBy, ComesOne, ReadsOne}
+use Rattle.erl_scan.specs.Tokens.{Next, ends, token, atom_next, double_quoted, plain_next, NextBy, Comes, ComesOne, ReadsOne}
 
 -- what stands between quotes is read in one way
 abbrev pub QuotedOne : Type 0
@@ -21,6 +22,16 @@ next_one quoted false false c cs one other p q = p ∙ sym q
 pub comes_one : QuotedOne → ComesOne
 comes_one quoted [] one other p q = p ∙ sym q
 comes_one quoted (c ∷ cs) one other p q = next_one quoted (nat_eq c 39) (nat_eq c 34) c cs one other p q
+
+next_some : (single double : Bool) (c : ℕ) (cs : List ℕ) → (next : Next) × NextBy single double c cs next
+next_some true double c cs = let q = some-reading 39 cs in (atom_next (c ∷ cs) q.0, (q.0, q.1, refl))
+next_some false true c cs = let q = some-reading 34 cs in (double_quoted (c ∷ cs) cs q.0, (q.0, q.1, refl))
+next_some false false c cs = (plain_next c cs, refl)
+
+-- whatever the characters, something comes next
+pub comes_some : (cs : List ℕ) → (next : Next) × Comes cs next
+comes_some [] = (ends, refl)
+comes_some (c ∷ cs) = next_some (nat_eq c 39) (nat_eq c 34) c cs
 
 abbrev spot : Token → ℕ → Spot
 spot what at = record { what = what; at = at }

@@ -66,7 +66,7 @@ so_far-more cs left rest held new s so comes at took =
       holds = next.1;
     }
 
-sound : (before : List Spot) → Somewhere before → NoneFaults before
+pub sound : (before : List Spot) → Somewhere before → NoneFaults before
 sound before here = sound-from_taken before (show here.whole here.brackets here.last) here.stands.took
 
 -- a token that is faulty where it stands

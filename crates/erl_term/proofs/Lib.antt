@@ -2,6 +2,7 @@ pub mod Ascii
 pub mod Bounds
 pub mod Ends
 pub mod Joining
+pub mod Judged
 pub mod Judges
 pub mod Judging
 pub mod Lexing

@@ -11,6 +11,7 @@ use Rattle.erl_term.specs.Tree.{Trees}
 use Rattle.erl_term.specs.Grammar.{IsText}
 use Rattle.erl_term.specs.Faults.{spot_part, parts, IsFaulty, IsCutShort, NextFaults, NoneFaults, FaultsFirst, IsRefused, not_utf8, faults, IsTextOf, OneReading}
 use Rattle.erl_term.specs.Steps.{nothing_seen, nothing, goes, end_of}
+use Rattle.erl_term.proofs.Judged.{judged}
 use Rattle.erl_term.proofs.Judging.{show}
 use Rattle.erl_term.proofs.Reached.{take_all, same_goes, same_kind, same_place}
 use Rattle.erl_term.proofs.Taking.{take_text}
@@ -201,4 +202,5 @@ one_reading comes reads bytes = record {
   terms = one_text reads bytes;
   faults = one_refusal comes reads bytes;
   apart = not_both comes reads bytes;
+  judged = judged bytes;
 }

@@ -179,8 +179,14 @@ pub record IsTextOf (bytes : List ℕ) (ts : Trees) : Type 0 where
   pub ended : after_gap left ≡ []
   pub text : IsText (parts spots) ts
 
--- The law: bytes are a text of one list of terms, or refused for one reason at one byte.
+-- Bytes are a text of some terms, or refused with some fault at some byte.
+pub data IsJudged (bytes : List ℕ) : Type 0 where
+  is_text : (ts : Trees) → IsTextOf bytes ts → IsJudged bytes
+  is_refused : (kind : Fault) → (told : ℕ) → IsRefused bytes kind told → IsJudged bytes
+
+-- The law: all bytes are a text of one list of terms, or refused for one reason at one byte, and never both.
 pub record OneReading (bytes : List ℕ) : Type 0 where
   pub terms : (ts us : Trees) → IsTextOf bytes ts → IsTextOf bytes us → ts ≡ us
   pub faults : (kind other : Fault) → (told place : ℕ) → IsRefused bytes kind told → IsRefused bytes other place → (kind ≡ other) × (told ≡ place)
   pub apart : (ts : Trees) → (kind : Fault) → (told : ℕ) → IsTextOf bytes ts → IsRefused bytes kind told → ⊥
+  pub judged : IsJudged bytes

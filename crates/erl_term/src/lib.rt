@@ -16,7 +16,7 @@
 //! - [`read_terms`] gives the terms exactly of the texts of terms, and of every other bytes the first fault, at its
 //!   place, want of memory aside. The grammar is one of whole token lists (`IsText`), and the first fault is that of
 //!   the first token that is faulty by itself or that no text has behind the tokens before it, or the end
-//!   (`IsRefused`). [`texts_read_one_way`]: bytes are a text of one list of terms, or refused for one reason at one
+//!   (`IsRefused`). [`texts_read_one_way`]: all bytes are a text of one list of terms, or refused for one reason at one
 //!   byte, and never both.
 //! - [`printed_terms_are_read`]: what `print` writes of a term, with a dot and a newline behind it, is the text of that
 //!   term alone, where no process identifier stands in it and it is nested at most 256 deep
@@ -28,10 +28,9 @@
 //!
 //! That there is memory, and what a call costs: each is linear in the terms or the bytes that it is given, but that
 //! the elements of a tail are moved once for each tail that they stand in, of which 256 at most are open. `print`
-//! builds the text before it appends it. `read_terms` needs no stack for nesting. That all bytes are a text or
-//! refused follows from `read_terms` only where there is memory. What goes down a term, dropping it too,
-//! recurses as deep as the term and no deeper: a caller that takes terms from outside bounds their depth
-//! first. On a stack of 8 MB the tests copy, compare, order, measure, print and drop a term of depth 1,024.
+//! builds the text before it appends it. `read_terms` needs no stack for nesting. What goes down a term,
+//! dropping it too, recurses as deep as the term and no deeper: a caller that takes terms from outside bounds their
+//! depth first. On a stack of 8 MB the tests copy, compare, order, measure, print and drop a term of depth 1,024.
 #![tactic(auto)]
 
 mod atom;

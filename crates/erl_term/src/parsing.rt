@@ -62,7 +62,7 @@ fn next_spot(scanner: &mut Scanner, reader: &Reader) -> Result<Option<Spot>, Rea
     }
 }
 
-/// A law: bytes are a text of one list of terms, or refused for one reason at one byte.
+/// A law: all bytes are a text of one list of terms, or refused for one reason at one byte, and never both.
 pub fn texts_read_one_way()
     ensures { (text : List ℕ) → OneReading text }
 {

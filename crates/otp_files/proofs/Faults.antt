@@ -90,7 +90,7 @@ app_fault t =
     after_fault (element 3 (used_of p.2)) _ (element_fault 3 (used_of p.2)) (λ used. if_fault (has_duplicate used) _ DuplicateKey tt))))
 
 -- what is wrong with a term is wrong with its bytes
-faulty_file : {A : Type 0} (of : Tree → Result A FileError) (bytes : List ℕ) (e : FileError) → IsFaultyFile of bytes e → IsTermFault e → IsFileError of bytes e
+pub faulty_file : {A : Type 0} (of : Tree → Result A FileError) (bytes : List ℕ) (e : FileError) → IsFaultyFile of bytes e → IsTermFault e → IsFileError of bytes e
 faulty_file of bytes (Text error) it fault = absurd fault
 faulty_file of bytes NoTerm it fault = absurd fault
 faulty_file of bytes ManyTerms it fault = absurd fault
@@ -101,7 +101,7 @@ faulty_file of bytes PatternVersion it fault = absurd fault
 faulty_file of bytes (OutOfProfile n) it fault = it
 faulty_file of bytes Memory it fault = absurd fault
 
-faulty_appup : {A : Type 0} (of : Tree → Result A FileError) (bytes : List ℕ) (e : FileError) → IsFaultyFile of bytes e → IsTermFault e → IsAppupError of bytes e
+pub faulty_appup : {A : Type 0} (of : Tree → Result A FileError) (bytes : List ℕ) (e : FileError) → IsFaultyFile of bytes e → IsTermFault e → IsAppupError of bytes e
 faulty_appup of bytes (Text error) it fault = absurd fault
 faulty_appup of bytes NoTerm it fault = absurd fault
 faulty_appup of bytes ManyTerms it fault = absurd fault

@@ -6,6 +6,7 @@ mod Distinct
 mod Entries
 mod Faults
 mod Finding
+mod Judged
 mod Making
 mod Many
 mod Numbers

@@ -10,6 +10,9 @@ use Rattle.otp_files.specs.declared.error.FileError.TheVariants.{Text, NoTerm, M
 use Rattle.otp_files.specs.Laws.{OneOfEach}
 use Rattle.otp_files.specs.Reading.{app_of, rel_of, appup_of, relup_of}
 use Rattle.otp_files.specs.Texts.{IsFile, IsFaultyFile, HasPattern, IsFileError, IsAppupError, OneFile}
+use Rattle.otp_files.proofs.Faults.{app_fault, rel_fault, appup_fault, relup_fault}
+use Rattle.otp_files.proofs.Judged.{file_judged, appup_judged}
+use Rattle.otp_files.proofs.TermFaults.{HasTermFault}
 
 -- what a row of terms says as a file
 abbrev verdict : {A : Type 0} → (Tree → Result A FileError) → Trees → Result A FileError
@@ -127,11 +130,12 @@ fault_apart : {A : Type 0} (of : Tree → Result A FileError) (bytes : List ℕ)
 fault_apart of bytes one file fault r (unread u) = unread_apart of bytes one (Ok file) fault r u
 fault_apart of bytes one file fault r (read s) = apart_results file fault (read_same of bytes one (Ok file) (Err fault) r s)
 
-one_file : {A : Type 0} (of : Tree → Result A FileError) (bytes : List ℕ) → OneReading bytes → OneFile of (IsFileError of) bytes
-one_file of bytes one = record {
+one_file : {A : Type 0} (of : Tree → Result A FileError) (bytes : List ℕ) → ((t : Tree) → HasTermFault (of t)) → OneReading bytes → OneFile of (IsFileError of) bytes
+one_file of bytes fault_of one = record {
   files = λ file other is is_other. same_Ok file other (read_same of bytes one (Ok file) (Ok other) (file_read of bytes file is) (file_read of bytes other is_other));
   faults = λ fault other is is_other. faults_same of bytes one fault other (why of bytes fault is) (why of bytes other is_other);
   apart = λ file fault is is_error. fault_apart of bytes one file fault (file_read of bytes file is) (why of bytes fault is_error);
+  judged = file_judged of bytes fault_of one.judged;
 }
 
 -- Appups
@@ -152,12 +156,13 @@ appup_fault_apart of bytes one file fault r (appup_unread u n) = unread_apart of
 appup_fault_apart of bytes one file fault r (appup_patterned p) = patterned_apart of bytes one (Ok file) fault r p
 appup_fault_apart of bytes one file fault r (appup_read s) = apart_results file fault (read_same of bytes one (Ok file) (Err fault) r s)
 
-one_appup : {A : Type 0} (of : Tree → Result A FileError) (bytes : List ℕ) → OneReading bytes → OneFile of (IsAppupError of) bytes
-one_appup of bytes one = record {
+one_appup : {A : Type 0} (of : Tree → Result A FileError) (bytes : List ℕ) → ((t : Tree) → HasTermFault (of t)) → OneReading bytes → OneFile of (IsAppupError of) bytes
+one_appup of bytes fault_of one = record {
   files = λ file other is is_other. same_Ok file other (read_same of bytes one (Ok file) (Ok other) (file_read of bytes file is) (file_read of bytes other is_other));
   faults = λ fault other is is_other. appup_faults_same of bytes one fault other (why_appup of bytes fault is) (why_appup of bytes other is_other);
   apart = λ file fault is is_error. appup_fault_apart of bytes one file fault (file_read of bytes file is) (why_appup of bytes fault is_error);
+  judged = appup_judged of bytes fault_of one one.judged;
 }
 
 pub one_of_each : (bytes : List ℕ) → OneReading bytes → OneOfEach bytes
-one_of_each bytes one = record { apps = one_file app_of bytes one; rels = one_file rel_of bytes one; appups = one_appup appup_of bytes one; relups = one_file relup_of bytes one }
+one_of_each bytes one = record { apps = one_file app_of bytes app_fault one; rels = one_file rel_of bytes rel_fault one; appups = one_appup appup_of bytes appup_fault one; relups = one_file relup_of bytes relup_fault one }

@@ -17,7 +17,7 @@ pub record Tables : Type 0 where
   pub appups : (t : Tree) (appup : Appup) → (appup_of t ≡ Ok appup) ↔ IsAppup t appup
   pub relups : (t : Tree) (relup : Relup) → (relup_of t ≡ Ok relup) ↔ IsRelup t relup
 
--- Bytes are one file of a kind, or none for one reason.
+-- All bytes are one file of a kind, or none for one reason, and never both.
 pub record OneOfEach (bytes : List ℕ) : Type 0 where
   pub apps : OneFile app_of (IsFileError app_of) bytes
   pub rels : OneFile rel_of (IsFileError rel_of) bytes

@@ -55,8 +55,14 @@ IsAppupError of bytes PatternVersion = HasPattern bytes
 IsAppupError of bytes (OutOfProfile n) = IsFileError of bytes (OutOfProfile n)
 IsAppupError of bytes Memory = ⊥
 
--- The law: bytes are one file, or none for one reason, and never both.
+-- bytes are some file of a kind, or none for some reason
+pub data IsJudgedFile {A : Type 0} (of : Tree → Result A FileError) (IsError : List ℕ → FileError → Type 0) (bytes : List ℕ) : Type 0 where
+  is_file : (file : A) → IsFile of bytes file → IsJudgedFile of IsError bytes
+  is_none : (fault : FileError) → IsError bytes fault → IsJudgedFile of IsError bytes
+
+-- The law: bytes are just one file, or none for just one reason.
 pub record OneFile {A : Type 0} (of : Tree → Result A FileError) (IsError : List ℕ → FileError → Type 0) (bytes : List ℕ) : Type 0 where
   pub files : (file other : A) → IsFile of bytes file → IsFile of bytes other → file ≡ other
   pub faults : (fault other : FileError) → IsError bytes fault → IsError bytes other → fault ≡ other
   pub apart : (file : A) → (fault : FileError) → IsFile of bytes file → IsError bytes fault → ⊥
+  pub judged : IsJudgedFile of IsError bytes

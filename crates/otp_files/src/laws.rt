@@ -10,7 +10,7 @@ pub fn terms_are_read_as_they_are_written()
     high_instructions::instruction_forms_are_read();
 }
 
-/// A law: bytes are one file of each kind, or none for one reason.
+/// A law: all bytes are one file of each kind, or none for one reason, and never both.
 pub fn files_are_read_one_way()
     ensures { (bytes : List ℕ) → OneOfEach bytes }
 {
