@@ -32,6 +32,8 @@ mod rel;
 mod release_name;
 mod relup;
 mod script;
+#[cfg(test)]
+mod tests;
 mod words;
 
 pub use app::{AppSpec, StartModule, read_app};
