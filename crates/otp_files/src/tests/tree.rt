@@ -117,40 +117,40 @@ fn resume(alloc: Global, name: &str) -> Result<Low, Fail> {
     })
 }
 
-/// The script of one module: these two instructions while its processes are suspended.
-fn script(
-    alloc: Global,
-    number: &str,
-    name: &str,
-    first: Low,
-    second: Low,
-) -> Result<Script, Fail> {
-    let mut lows = Vec::new(alloc);
-    lows.push(object_code(alloc, number, name)?)?;
-    lows.push(Low::PointOfNoReturn)?;
-    lows.push(suspend(alloc, name)?)?;
-    lows.push(first)?;
-    lows.push(second)?;
-    lows.push(resume(alloc, name)?)?;
-    Ok(Row::new(lows))
+/// How the script of one module begins.
+fn suspending(alloc: Global, number: &str, name: &str) -> Result<Vec<Low>, Fail> {
+    let mut script = Vec::new(alloc);
+    script.push(object_code(alloc, number, name)?)?;
+    script.push(Low::PointOfNoReturn)?;
+    script.push(suspend(alloc, name)?)?;
+    Ok(script)
 }
 
 /// The script of an upgrade of one module.
 fn script_up(alloc: Global, number: &str, name: &str, extra: Term) -> Result<Script, Fail> {
-    let change = change(alloc, Direction::Up, name, extra)?;
-    script(alloc, number, name, load(alloc, name)?, change)
+    let mut script = suspending(alloc, number, name)?;
+    script.push(load(alloc, name)?)?;
+    script.push(change(alloc, Direction::Up, name, extra)?)?;
+    script.push(resume(alloc, name)?)?;
+    Ok(Row::new(script))
 }
 
 /// The script of its downgrade to version 1, where the module is loaded last.
 fn script_down(alloc: Global, name: &str) -> Result<Script, Fail> {
-    let change = change(alloc, Direction::Down, name, empty_list(alloc))?;
-    script(alloc, "1", name, change, load(alloc, name)?)
+    let mut script = suspending(alloc, "1", name)?;
+    script.push(change(alloc, Direction::Down, name, empty_list(alloc))?)?;
+    script.push(load(alloc, name)?)?;
+    script.push(resume(alloc, name)?)?;
+    Ok(Row::new(script))
 }
 
 /// The script of its downgrade to version 1, where the module is loaded first.
 fn script_down_loading(alloc: Global, name: &str) -> Result<Script, Fail> {
-    let change = change(alloc, Direction::Down, name, empty_list(alloc))?;
-    script(alloc, "1", name, load(alloc, name)?, change)
+    let mut script = suspending(alloc, "1", name)?;
+    script.push(load(alloc, name)?)?;
+    script.push(change(alloc, Direction::Down, name, empty_list(alloc))?)?;
+    script.push(resume(alloc, name)?)?;
+    Ok(Row::new(script))
 }
 
 /// A script for a version, with the description `[]`.
