@@ -20,18 +20,18 @@ use Rattle.otp_files.proofs.OneWay.{same_Ok}
 
 -- Properties
 
-property_is : (t : Tree) (p : List ℕ × Tree) → property_of t ≡ Some p → t ≡ property_tree p
+pub property_is : (t : Tree) (p : List ℕ × Tree) → property_of t ≡ Some p → t ≡ property_tree p
 property_is t p e =
     let both = pair_is _ t p e in
     let key = map_is _ (atom_of both.0.0) p both.2 in
     both.1 ∙ ap tuple (two_parts both.0.0 both.0.1 (atom key.0) both.0.1 (atom_is both.0.0 key.0 key.1) refl) ∙ ap property_tree key.2
 
-properties_back : (ps : Properties) → all_of property_of (rows property_tree ps) ≡ Some ps
+pub properties_back : (ps : Properties) → all_of property_of (rows property_tree ps) ≡ Some ps
 properties_back ps = all_back property_of property_tree (λ p. refl) ps
 
 -- The callback module
 
-abbrev start_tree : Option StartModule → Tree
+abbrev pub start_tree : Option StartModule → Tree
 start_tree (Some start) = tuple (row (atom start.name ∷ tree start.arguments ∷ []))
 start_tree None = list none
 
@@ -39,7 +39,7 @@ no_start_is : (ts : Trees) (s : Option StartModule) → no_start_of ts ≡ Some 
 no_start_is none s e = (refl, same_Some None s e)
 no_start_is (more t ts) s e = absurd (let no : ⊥ = cc in no)
 
-start_is : (t : Tree) (s : Option StartModule) → start_of t ≡ Some s → t ≡ start_tree s
+pub start_is : (t : Tree) (s : Option StartModule) → start_of t ≡ Some s → t ≡ start_tree s
 start_is t s e =
     elim (either_is (start_pair_of t) (given (list_of t) no_start_of) s e) [
       | inl pair ↦
@@ -52,7 +52,7 @@ start_is t s e =
           list_is t inside.0 inside.1 ∙ ap list nothing.0 ∙ ap start_tree nothing.1
     ]
 
-start_back : (s : Option StartModule) → start_of (start_tree s) ≡ Some s
+pub start_back : (s : Option StartModule) → start_of (start_tree s) ≡ Some s
 start_back (Some start) = ap (λ a. Some (Some (record { name = start.name; arguments = a }))) (term_of-tree start.arguments)
 start_back None = refl
 

@@ -20,19 +20,19 @@ use Rattle.otp_files.proofs.Outcomes.{after_is, element_then}
 use Rattle.otp_files.proofs.OneWay.{same_Ok}
 use Rattle.otp_files.proofs.Scripts.{each_first, each_none, script_is, script_back}
 
-instruction_sound : InstructionTable → (t : Tree) (i : Instruction) → instruction_result t ≡ Ok i → IsProperInstruction t i
+pub instruction_sound : InstructionTable → (t : Tree) (i : Instruction) → instruction_result t ≡ Ok i → IsProperInstruction t i
 instruction_sound table t i e = subst (InstructionReads t) e (table.sound t)
 
-instruction_complete : InstructionTable → (t : Tree) (i : Instruction) → IsProperInstruction t i → instruction_result t ≡ Ok i
+pub instruction_complete : InstructionTable → (t : Tree) (i : Instruction) → IsProperInstruction t i → instruction_result t ≡ Ok i
 instruction_complete table t i is = table.complete t i is.1 is.0
 
 -- Entries
 
-record IsDraft (t : Tree) (d : AppupDraft) : Type 0 where
+pub record IsDraft (t : Tree) (d : AppupDraft) : Type 0 where
   pub is : t ≡ tuple (row (string_tree d.0 ∷ list d.1 ∷ []))
   pub proper : is_version d.0 ≡ true
 
-draft_is : (t : Tree) (d : AppupDraft) → appup_draft_of t ≡ Some d → IsDraft t d
+pub draft_is : (t : Tree) (d : AppupDraft) → appup_draft_of t ≡ Some d → IsDraft t d
 draft_is t d e =
     let inside = given_is (tuple_of t) _ d e in
     let p = given_is (two_of inside.0) _ d inside.2 in
@@ -44,7 +44,7 @@ draft_is t d e =
       proper = proper.1;
     })
 
-drafts_are : (ts : Trees) (ds : List AppupDraft) → all_of appup_draft_of ts ≡ Some ds → Each IsDraft ts ds
+pub drafts_are : (ts : Trees) (ds : List AppupDraft) → all_of appup_draft_of ts ≡ Some ds → Each IsDraft ts ds
 drafts_are none ds e = each_none IsDraft ds (same_Some [] ds e)
 drafts_are (more t ts) ds e =
     let first = given_is (appup_draft_of t) _ ds e in
@@ -69,12 +69,12 @@ entries_are table n (more t ts) (d ∷ ds) es each e =
     let others = after_is (appup_entries (n + count d.1) ds) _ es script.2 in
     each_first IsAppupEntry t ts (record { version = d.0; instructions = script.0 }) others.0 es (same_Ok _ es others.2) (entry_is table n t d script.0 each.0 script.1) (entries_are table (n + count d.1) ts ds others.0 each.1 others.1)
 
-record IsDrafts (t : Tree) (ds : List AppupDraft) : Type 0 where
+pub record IsDrafts (t : Tree) (ds : List AppupDraft) : Type 0 where
   pub terms : Trees
   pub is : t ≡ list terms
   pub each : Each IsDraft terms ds
 
-list_of_drafts : (t : Tree) (ds : List AppupDraft) → appup_drafts_of t ≡ Some ds → IsDrafts t ds
+pub list_of_drafts : (t : Tree) (ds : List AppupDraft) → appup_drafts_of t ≡ Some ds → IsDrafts t ds
 list_of_drafts t ds e =
     let inside = given_is (list_of t) (all_of appup_draft_of) ds e in
     record { terms = inside.0; is = list_is t inside.0 inside.1; each = drafts_are inside.0 ds inside.2 }
@@ -112,7 +112,7 @@ record Drafted (ts : Trees) (es : List AppupEntry) : Type 0 where
   pub are : all_of appup_draft_of ts ≡ Some drafts
   pub entries : (n : ℕ) → appup_entries n drafts ≡ Ok es
 
-draft_back : (v : List ℕ) (ts : Trees) → is_version v ≡ true → appup_draft_of (tuple (row (string_tree v ∷ list ts ∷ []))) ≡ Some (v, ts)
+pub draft_back : (v : List ℕ) (ts : Trees) → is_version v ≡ true → appup_draft_of (tuple (row (string_tree v ∷ list ts ∷ []))) ≡ Some (v, ts)
 draft_back v ts fine =
     ap (λ o. given {B = AppupDraft} o (λ version. Some (version, ts))) (version_back v fine)
 

@@ -6,6 +6,7 @@ mod Distinct
 mod Entries
 mod Faults
 mod Finding
+mod FirstWrong
 mod Judged
 mod Making
 mod Many
@@ -14,6 +15,11 @@ mod OneWay
 mod Outcomes
 mod Properties
 mod Reading
+mod RefusedApps
+mod RefusedAppups
+mod RefusedParts
+mod RefusedRels
+mod RefusedRelups
 mod Relups
 mod Rels
 mod Rows

@@ -81,7 +81,7 @@ ok_of (Err e) = None
 abbrev said : {A : Type 0} → A → Result A FileError
 said x = Ok x
 
-abbrev faulted : {A : Type 0} → FileError → Result A FileError
+abbrev pub faulted : {A : Type 0} → FileError → Result A FileError
 faulted e = Err e
 
 pub same_Ok : {A : Type 0} (x y : A) → said x ≡ said y → x ≡ y
@@ -91,7 +91,7 @@ abbrev err_of : {A : Type 0} → Result A FileError → Option FileError
 err_of (Ok x) = None
 err_of (Err e) = Some e
 
-same_Err : {A : Type 0} (x y : FileError) → faulted {A = A} x ≡ faulted y → x ≡ y
+pub same_Err : {A : Type 0} (x y : FileError) → faulted {A = A} x ≡ faulted y → x ≡ y
 same_Err x y e = same_Some x y (ap err_of e)
 
 apart_results : {A : Type 0} (x : A) (e : FileError) → said x ≡ faulted e → ⊥

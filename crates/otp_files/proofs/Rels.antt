@@ -132,13 +132,13 @@ rel_app_is t app e =
       proper = ap is_version behind.3 ∙ version.1;
     }
 
-record AreRelApps (ts : Trees) (apps : List RelApp) : Type 0 where
+pub record AreRelApps (ts : Trees) (apps : List RelApp) : Type 0 where
   pub forms : List RelAppForm
   pub are : ts ≡ rows rel_app_tree forms
   pub mean : apps ≡ map rel_app_meant forms
   pub proper : list_all (λ app. is_version app.version) apps ≡ true
 
-rel_apps_are : (ts : Trees) (apps : List RelApp) → all_of rel_app_of ts ≡ Some apps → AreRelApps ts apps
+pub rel_apps_are : (ts : Trees) (apps : List RelApp) → all_of rel_app_of ts ≡ Some apps → AreRelApps ts apps
 rel_apps_are none apps e =
     subst (AreRelApps none) (same_Some [] apps e) (record { forms = []; are = refl; mean = refl; proper = refl })
 rel_apps_are (more t ts) apps e =
@@ -165,7 +165,7 @@ form_back (including a v names) fine =
 form_back (typed_including a v type names) fine =
     ap (λ o. given o (λ v. rel_app_behind a v (row (start_type_tree type ∷ names_tree names ∷ [])))) (version_back v fine) ∙ ap (λ o. given o (λ type. option_map (λ names. rel_app_meant (typed_including a v type names)) (names_of (names_tree names)))) (start_type_read type) ∙ ap (λ o. option_map (λ names. rel_app_meant (typed_including a v type names)) o) (names_back names)
 
-forms_back : (forms : List RelAppForm) → list_all (λ app. is_version app.version) (map rel_app_meant forms) ≡ true → all_of rel_app_of (rows rel_app_tree forms) ≡ Some (map rel_app_meant forms)
+pub forms_back : (forms : List RelAppForm) → list_all (λ app. is_version app.version) (map rel_app_meant forms) ≡ true → all_of rel_app_of (rows rel_app_tree forms) ≡ Some (map rel_app_meant forms)
 forms_back [] fine = refl
 forms_back (f ∷ fs) fine =
     let both = and_parts (is_version (rel_app_meant f).version) (list_all (λ app. is_version app.version) (map rel_app_meant fs)) fine in
@@ -173,7 +173,7 @@ forms_back (f ∷ fs) fine =
 
 -- Releases
 
-four_is : (ts : Trees) (p : Tree × Tree × Tree × Tree) → four_of ts ≡ Some p → ts ≡ more p.0 (more p.1 (more p.2 (more p.3 none)))
+pub four_is : (ts : Trees) (p : Tree × Tree × Tree × Tree) → four_of ts ≡ Some p → ts ≡ more p.0 (more p.1 (more p.2 (more p.3 none)))
 four_is none p e = none_some p e
 four_is (more a us) p e =
     let others = map_is _ (three_of us) p e in
@@ -183,12 +183,12 @@ four_parts : (a b c d x y z w : Tree) → a ≡ x → b ≡ y → c ≡ z → d 
 four_parts a b c d x y z w first second third fourth =
     ap (λ t. more t (more b (more c (more d none)))) first ∙ ap (λ r. more x r) (three_parts b c d y z w second third fourth)
 
-record IsTitle (t : Tree) (title : List ℕ × List ℕ) : Type 0 where
+pub record IsTitle (t : Tree) (title : List ℕ × List ℕ) : Type 0 where
   pub is : t ≡ tuple (row (string_tree title.0 ∷ string_tree title.1 ∷ []))
   pub characters : list_all is_scalar title.0 ≡ true
   pub proper : is_version title.1 ≡ true
 
-title_is : (t : Tree) (title : List ℕ × List ℕ) → title_of t ≡ Some title → IsTitle t title
+pub title_is : (t : Tree) (title : List ℕ × List ℕ) → title_of t ≡ Some title → IsTitle t title
 title_is t title e =
     let both = pair_is _ t title e in
     let name = given_is (string_of both.0.0) _ title both.2 in
@@ -200,14 +200,14 @@ title_is t title e =
       proper = proper.1;
     })
 
-erts_is : (t : Tree) (v : List ℕ) → erts_of t ≡ Some v → (t ≡ tuple (row (word (codes "erts") ∷ string_tree v ∷ []))) × (is_version v ≡ true)
+pub erts_is : (t : Tree) (v : List ℕ) → erts_of t ≡ Some v → (t ≡ tuple (row (word (codes "erts") ∷ string_tree v ∷ []))) × (is_version v ≡ true)
 erts_is t v e =
     let both = pair_is _ t v e in
     let word = given_is (word_of (codes "erts") both.0.0) _ v both.2 in
     let proper = version_is both.0.1 v word.2 in
     (both.1 ∙ ap tuple (two_parts both.0.0 both.0.1 _ _ (word_is (codes "erts") both.0.0 word.0 word.1) proper.0), proper.1)
 
-distinct_is : (apps found : List RelApp) → distinct_of apps ≡ Some found → (apps ≡ found) × (are_distinct (app_names found) ≡ true)
+pub distinct_is : (apps found : List RelApp) → distinct_of apps ≡ Some found → (apps ≡ found) × (are_distinct (app_names found) ≡ true)
 distinct_is apps found e =
     choice (λ x. (apps ≡ x) × (are_distinct (app_names x) ≡ true)) (are_distinct (app_names apps)) apps None found (λ holds. (refl, holds)) (none_some found) e
 
@@ -241,11 +241,11 @@ rel_sound t rel e =
       distinct = distinct.1;
     })
 
-title_back : (name v : List ℕ) → list_all is_scalar name ≡ true → is_version v ≡ true → title_of (tuple (row (string_tree name ∷ string_tree v ∷ []))) ≡ Some (name, v)
+pub title_back : (name v : List ℕ) → list_all is_scalar name ≡ true → is_version v ≡ true → title_of (tuple (row (string_tree name ∷ string_tree v ∷ []))) ≡ Some (name, v)
 title_back name v characters fine =
     ap (λ o. given {B = List ℕ × List ℕ} o (λ name. option_map (λ version. (name, version)) (version_of (string_tree v)))) (string_back name characters) ∙ ap (λ o. option_map {U = List ℕ × List ℕ} (λ version. (name, version)) o) (version_back v fine)
 
-apps_back : (forms : List RelAppForm) (apps : List RelApp) → apps ≡ map rel_app_meant forms → list_all (λ app. is_version app.version) apps ≡ true → are_distinct (app_names apps) ≡ true → rel_apps_of (list (rows rel_app_tree forms)) ≡ Some apps
+pub apps_back : (forms : List RelAppForm) (apps : List RelApp) → apps ≡ map rel_app_meant forms → list_all (λ app. is_version app.version) apps ≡ true → are_distinct (app_names apps) ≡ true → rel_apps_of (list (rows rel_app_tree forms)) ≡ Some apps
 apps_back forms apps means fine distinct =
     ap (λ o. given o distinct_of) (forms_back forms (ap (list_all (λ app. is_version app.version)) (sym means) ∙ fine) ∙ ap (λ x. Some x) (sym means)) ∙ ap (λ b. if b then Some apps else None) distinct
 

@@ -20,19 +20,19 @@ use Rattle.otp_files.proofs.Outcomes.{after_is, element_then}
 use Rattle.otp_files.proofs.OneWay.{same_Ok}
 use Rattle.otp_files.proofs.Scripts.{each_first, each_none, script_is, script_back}
 
-low_sound : LowTable → (t : Tree) (l : Low) → low_result t ≡ Ok l → IsProperLow t l
+pub low_sound : LowTable → (t : Tree) (l : Low) → low_result t ≡ Ok l → IsProperLow t l
 low_sound table t l e = subst (LowReads t) e (table.sound t)
 
-low_complete : LowTable → (t : Tree) (l : Low) → IsProperLow t l → low_result t ≡ Ok l
+pub low_complete : LowTable → (t : Tree) (l : Low) → IsProperLow t l → low_result t ≡ Ok l
 low_complete table t l is = table.complete t l is.1 is.0
 
 -- Entries
 
-record IsDraft (t : Tree) (d : RelupDraft) : Type 0 where
+pub record IsDraft (t : Tree) (d : RelupDraft) : Type 0 where
   pub is : t ≡ tuple (row (string_tree d.0 ∷ d.1 ∷ list d.2 ∷ []))
   pub proper : is_version d.0 ≡ true
 
-draft_is : (t : Tree) (d : RelupDraft) → relup_draft_of t ≡ Some d → IsDraft t d
+pub draft_is : (t : Tree) (d : RelupDraft) → relup_draft_of t ≡ Some d → IsDraft t d
 draft_is t d e =
     let inside = given_is (tuple_of t) _ d e in
     let p = given_is (three_of inside.0) _ d inside.2 in
@@ -44,7 +44,7 @@ draft_is t d e =
       proper = proper.1;
     })
 
-drafts_are : (ts : Trees) (ds : List RelupDraft) → all_of relup_draft_of ts ≡ Some ds → Each IsDraft ts ds
+pub drafts_are : (ts : Trees) (ds : List RelupDraft) → all_of relup_draft_of ts ≡ Some ds → Each IsDraft ts ds
 drafts_are none ds e = each_none IsDraft ds (same_Some [] ds e)
 drafts_are (more t ts) ds e =
     let first = given_is (relup_draft_of t) _ ds e in
@@ -69,12 +69,12 @@ entries_are table n (more t ts) (d ∷ ds) es each e =
     let others = after_is (relup_entries (n + count d.2) ds) _ es script.2 in
     each_first IsRelupEntry t ts (record { version = d.0; description = term_of d.1; script = script.0 }) others.0 es (same_Ok _ es others.2) (entry_is table n t d script.0 each.0 script.1) (entries_are table (n + count d.2) ts ds others.0 each.1 others.1)
 
-record IsDrafts (t : Tree) (ds : List RelupDraft) : Type 0 where
+pub record IsDrafts (t : Tree) (ds : List RelupDraft) : Type 0 where
   pub terms : Trees
   pub is : t ≡ list terms
   pub each : Each IsDraft terms ds
 
-list_of_drafts : (t : Tree) (ds : List RelupDraft) → relup_drafts_of t ≡ Some ds → IsDrafts t ds
+pub list_of_drafts : (t : Tree) (ds : List RelupDraft) → relup_drafts_of t ≡ Some ds → IsDrafts t ds
 list_of_drafts t ds e =
     let inside = given_is (list_of t) (all_of relup_draft_of) ds e in
     record { terms = inside.0; is = list_is t inside.0 inside.1; each = drafts_are inside.0 ds inside.2 }
@@ -112,7 +112,7 @@ record Drafted (ts : Trees) (es : List RelupEntry) : Type 0 where
   pub are : all_of relup_draft_of ts ≡ Some drafts
   pub entries : (n : ℕ) → relup_entries n drafts ≡ Ok es
 
-draft_back : (v : List ℕ) (d : Tree) (ts : Trees) → is_version v ≡ true → relup_draft_of (tuple (row (string_tree v ∷ d ∷ list ts ∷ []))) ≡ Some (v, d, ts)
+pub draft_back : (v : List ℕ) (d : Tree) (ts : Trees) → is_version v ≡ true → relup_draft_of (tuple (row (string_tree v ∷ d ∷ list ts ∷ []))) ≡ Some (v, d, ts)
 draft_back v d ts fine =
     ap (λ o. given {B = RelupDraft} o (λ version. Some (version, d, ts))) (version_back v fine)
 

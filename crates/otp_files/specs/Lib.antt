@@ -7,6 +7,7 @@ pub mod Numbered
 pub mod OneTerm
 pub mod ReadBack
 pub mod Reading
+pub mod Refusals
 pub mod Shapes
 pub mod Texts
 pub mod UsedKeys

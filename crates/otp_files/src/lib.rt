@@ -9,7 +9,9 @@
 //! - [`read_app`], [`read_rel`], [`read_appup`] and [`read_relup`] answer the record that the bytes say, or, want of
 //!   memory aside, what is wrong with them first, in the order of [`FileError`].
 //! - [`terms_are_read_as_they_are_written`]: a term is read as a record exactly where it is written in one of the
-//!   record's forms. [`files_are_read_one_way`]: bytes are one file of a kind, or none for one reason, and never both.
+//!   record's forms. [`terms_are_refused_for_what_is_wrong_first`]: every other term is refused for the first element of
+//!   the outer tuple that is wrong, for a key that stands twice, or for the first instruction of the file that is none.
+//!   [`files_are_read_one_way`]: all bytes are one file of a kind, or none for one reason, and never both.
 //! - [`relup_term`] and [`low_term`] give terms that are read back as what they were made of, and so does
 //!   [`print_relup`], where no process identifier stands in the relup and it is nested at most 256 deep; its output
 //!   stays as it was where memory is refused.
@@ -41,7 +43,10 @@ pub use applications::{Applications, RelApp};
 pub use appup::{Appup, AppupEntry, read_appup};
 pub use error::FileError;
 pub use high_instructions::{Change, High, Instruction, ModuleType, StartType};
-pub use laws::{files_are_read_one_way, terms_are_read_as_they_are_written};
+pub use laws::{
+    files_are_read_one_way, terms_are_read_as_they_are_written,
+    terms_are_refused_for_what_is_wrong_first,
+};
 pub use low_instructions::{
     Direction, Low, Milliseconds, ModuleChange, Purge, Script, Suspension, Timeout, Version,
     VersionError, low_term,
