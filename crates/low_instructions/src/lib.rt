@@ -16,6 +16,8 @@ mod low;
 mod purge;
 mod reading;
 mod table;
+#[cfg(test)]
+mod tests;
 mod timeout;
 mod version;
 mod words;
