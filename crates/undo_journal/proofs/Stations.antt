@@ -40,6 +40,15 @@ module _ {S N : Type 0} where
   newest-take-le (suc j) (suc k) s [] below h = omega arith
   newest-take-le (suc j) (suc k) s (t ∷ ts) below h = newest-take-le j k t ts (omega arith) h.1
 
+  -- and where the shorter one lacks a station of the longer one, below it
+  pub newest-take-lt : (j k : ℕ) (s : Station S N) (ss : List (Station S N)) → j < k → k ≤ length ss → Rises s.serial ss → (newest s (take j ss)).serial < (newest s (take k ss)).serial
+  newest-take-lt j zero s ss below within h = absurd (omega arith)
+  newest-take-lt j (suc k) s [] below within h = absurd (omega arith)
+  newest-take-lt zero (suc k) s (t ∷ ts) below within h =
+      let above = newest-above t (take k ts) (Rises-take k t.serial ts h.1) in
+      omega (arith, h.0, above)
+  newest-take-lt (suc j) (suc k) s (t ∷ ts) below within h = newest-take-lt j k t ts (omega arith) (omega arith) h.1
+
   -- the mark of a front's newest keeps that front
   pub kept_to-newest : (k : ℕ) (s : Station S N) (ss : List (Station S N)) → Rises s.serial ss → kept_to (newest s (take k ss)).serial s ss ≡ Some (take k ss)
   kept_to-newest zero s ss h = kept_to-first s ss

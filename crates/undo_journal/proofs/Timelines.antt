@@ -13,7 +13,7 @@ use Rattle.undo_journal.specs.Reversible.{Accepted, AcceptsWith}
 use Rattle.undo_journal.specs.Timeline.{Station, Timeline, newest, here, appended, kept_to, cut_to, cut_stations, notes_of, report_of, Rises, IsFront, IsOrdered}
 use Rattle.undo_journal.specs.Journal.{IsOutOfMemoryAt, Performs, PerformFails, UndoFails, Stopped, stopped_reports}
 use Rattle.undo_journal.proofs.Chains.{Chained-push}
-use Rattle.undo_journal.proofs.Stations.{newest-push, Rises-push, Rises-take, newest-take, newest-take-le, kept_to-newest, kept_to-names, notes_of-stations}
+use Rattle.undo_journal.proofs.Stations.{newest-push, Rises-push, Rises-take, newest-take, newest-take-le, newest-take-lt, kept_to-newest, kept_to-names, notes_of-stations}
 
 -- a step more: the entry's station is appended
 pub timeline_of-push : {S R N : Type 0} (floor : ℕ) (node : S) (noted : Option N) (past : List (Entry S R N)) (last : ℕ) (p : Entry S R N) → p.serial ≡ last + 1 → timeline_of floor node noted (past ++ p ∷ []) (last + 1) ≡ appended (timeline_of floor node noted past last) p.node.value p.note
@@ -77,8 +77,8 @@ stopped_reports-some n [] some = absurd (omega arith)
 stopped_reports-some n (s ∷ ss) some = refl
 
 -- where an undo stands that cut what is behind k stations, of those that it had to cut behind `keep`
-pub Stopped-at : {S N : Type 0} (mark n keep k last : ℕ) (s : Station S N) (ss : List (Station S N)) (reports : List (Report N)) → Rises s.serial ss → kept_to mark s ss ≡ Some (take keep ss) → keep ≤ k → k ≤ length ss → reports ≡ stopped_reports n (drop k ss) → Stopped mark n record { first = s; later = ss; last = last } record { first = s; later = take k ss; last = last } (newest s (take k ss)).serial reports
-Stopped-at {S} {N} mark n keep k last s ss reports rises kept order within told =
+pub Stopped-at : {S N : Type 0} (mark n keep k last : ℕ) (s : Station S N) (ss : List (Station S N)) (reports : List (Report N)) → Rises s.serial ss → kept_to mark s ss ≡ Some (take keep ss) → keep ≤ k → k ≤ length ss → (k ≡ keep → k ≡ length ss) → reports ≡ stopped_reports n (drop k ss) → Stopped mark n record { first = s; later = ss; last = last } record { first = s; later = take k ss; last = last } (newest s (take k ss)).serial reports
+Stopped-at {S} {N} mark n keep k last s ss reports rises kept order within uncut told =
     let names = kept_to-names mark s ss (take keep ss) kept in
     let short = length-take-le k ss within in
     let shorter = length-take-le keep ss (omega arith) in
@@ -91,6 +91,15 @@ Stopped-at {S} {N} mark n keep k last s ss reports rises kept order within told 
       alive = rw kept refl;
       after_mark = omega (arith, names.0, above);
       at_reached = ap cut (kept_to-newest k s ss rises);
+      at_mark =
+          λ is.
+          let all : k ≡ length ss = elim (cases_lt keep k) [
+            | inl below ↦
+                let short_of = newest-take-lt keep k s ss below within rises in
+                absurd (omega (arith, short_of, names.0, is))
+            | inr above ↦ uncut (omega (arith, above, order))
+          ] in
+          ap (λ us. record { first = s; later = us; last = last }) (take_all k ss (omega (arith, all)));
       reported = rw short told;
       same_end = ap cut same;
       whole =
@@ -154,11 +163,11 @@ reported-stopped {S} {R} {N} past keep k n cut all reports order within is told 
     ]
 
 -- where an undo stands that stopped, by the entries that it left
-pub stopped-front : {S R N : Type 0} (floor : ℕ) (node : S) (noted : Option N) (past items : List (Entry S R N)) (last mark n keep k : ℕ) (reports : List (Report N)) → IsOrdered (timeline_of floor node noted past last) → kept_to mark record { serial = floor; node = node; note = noted } (stations past) ≡ Some (take keep (stations past)) → keep ≤ k → k ≤ length past → items ≡ take k past → reports ≡ stopped_reports n (drop k (stations past)) → Stopped mark n (timeline_of floor node noted past last) (timeline_of floor node noted items last) (here (timeline_of floor node noted items last)).serial reports
-stopped-front {S} {R} {N} floor node noted past items last mark n keep k reports ordered kept order within front told =
+pub stopped-front : {S R N : Type 0} (floor : ℕ) (node : S) (noted : Option N) (past items : List (Entry S R N)) (last mark n keep k : ℕ) (reports : List (Report N)) → IsOrdered (timeline_of floor node noted past last) → kept_to mark record { serial = floor; node = node; note = noted } (stations past) ≡ Some (take keep (stations past)) → keep ≤ k → k ≤ length past → (k ≡ keep → k ≡ length past) → items ≡ take k past → reports ≡ stopped_reports n (drop k (stations past)) → Stopped mark n (timeline_of floor node noted past last) (timeline_of floor node noted items last) (here (timeline_of floor node noted items last)).serial reports
+stopped-front {S} {R} {N} floor node noted past items last mark n keep k reports ordered kept order within uncut front told =
     let first : Station S N = record { serial = floor; node = node; note = noted } in
     let stations_front : take k (stations past) ≡ stations items = take-map station_of k past ∙ ap stations (sym front) in
-    subst (λ ss. Stopped mark n (timeline_of floor node noted past last) record { first = first; later = ss; last = last } (newest first ss).serial reports) stations_front (Stopped-at mark n keep k last first (stations past) reports ordered.rises kept order (rw length-map within) told)
+    subst (λ ss. Stopped mark n (timeline_of floor node noted past last) record { first = first; later = ss; last = last } (newest first ss).serial reports) stations_front (Stopped-at mark n keep k last first (stations past) reports ordered.rises kept order (rw length-map within) (rw length-map uncut) told)
 
 -- the reports of the entries behind `keep`, made from a slice of them
 pub told-behind : {S R N : Type 0} (past lent : List (Entry S R N)) (keep n : ℕ) (reports : List (Report N)) → lent ≡ past → reports ≡ replicate n (report_of (stations (take (length lent - keep) (drop keep lent)))) → reports ≡ replicate n (report_of (stations (drop keep past)))
@@ -174,7 +183,7 @@ kept-lent past lent first mark keep same kept =
 pub stopped-before : {S R N : Type 0} (floor : ℕ) (node : S) (noted : Option N) (past : List (Entry S R N)) (last mark n keep : ℕ) (t : Timeline S N) → IsOrdered (timeline_of floor node noted past last) → kept_to mark record { serial = floor; node = node; note = noted } (stations past) ≡ Some (take keep (stations past)) → keep ≤ length past → timeline_of floor node noted past last ≡ t → Stopped mark n t t (here t).serial []
 stopped-before floor node noted past last mark n keep t ordered kept within is =
     let behind = drop_all (length past) (stations past) (simp length-map (omega arith)) in
-    let stopped = stopped-front floor node noted past past last mark n keep (length past) [] ordered kept within (omega arith) (sym (take_all (length past) past (omega arith))) (sym (ap (λ ss. stopped_reports n ss) behind)) in
+    let stopped = stopped-front floor node noted past past last mark n keep (length past) [] ordered kept within (omega arith) (λ _. refl) (sym (take_all (length past) past (omega arith))) (sym (ap (λ ss. stopped_reports n ss) behind)) in
     subst (λ u. Stopped mark n u u (here u).serial []) is stopped
 
 -- a timeline is a front of itself

@@ -33,12 +33,14 @@ stopped_reports n [] = []
 stopped_reports n (s ∷ ss) = replicate n (report_of (s ∷ ss))
 
 -- Where an undo stands that found no memory: at a station at or after the mark, which it names and
--- whose timeline it leaves, with the reports of what it cut. The mark is alive, and the same undo
--- called again has the same end; what the two cut is then what one undo would have cut.
+-- whose timeline it leaves, with the reports of what it cut. At its own mark it cut nothing, for it
+-- stood there before: an undo that reaches its mark has not failed. The mark is alive, and the same
+-- undo called again has the same end; what the two cut is then what one undo would have cut.
 pub record Stopped {S N : Type 0} (mark n : ℕ) (old new : Timeline S N) (reached : ℕ) (reports : List (Report N)) : Type 0 where
   pub alive : IsSome (cut_to mark old)
   pub after_mark : mark ≤ reached
   pub at_reached : cut_to reached old ≡ Some new
+  pub at_mark : reached ≡ mark → new ≡ old
   pub reported : reports ≡ stopped_reports n (cut_stations old new)
   pub same_end : cut_to mark new ≡ cut_to mark old
   pub whole : (end : Timeline S N) → cut_to mark old ≡ Some end → cut_stations old end ≡ cut_stations new end ++ cut_stations old new

@@ -1,5 +1,5 @@
 // The journal.
-ghost use Rattle.std.specs.Prelude.{◌≡◌, ◌-◌, ◌^◌, [], length, Some, Err, IfOk, IfErr, OnOk, OnErr, replicate};
+ghost use Rattle.std.specs.Prelude.{◌≡◌, ◌↔◌, ◌-◌, ◌^◌, [], length, Some, Err, IfOk, IfErr, IsTrue, OnOk, OnErr, replicate};
 ghost use Rattle.undo_journal.specs.Journal.{Performs, PerformFails, UndoFails, IsOutOfMemoryAt};
 ghost use Rattle.undo_journal.specs.Reversible.{AcceptsWith, Refuses};
 ghost use Rattle.undo_journal.specs.Timeline.{here, opened, cut_to, cut_stations, node_at, notes_of, report_of, IsFront, IsOrdered};
@@ -80,6 +80,13 @@ impl<S: Reversible> Journal<S> {
         ensures { result.now ≡ (here self.now).node }
     {
         &self.state
+    }
+
+    /// Whether no serial is left for another step. Takes no memory.
+    pub fn is_full(&self) -> bool
+        ensures { IsTrue result ↔ (self.now.last ≡ 2 ^ 64 - 1) }
+    {
+        self.last == u64::MAX
     }
 
     /// Performs an event, as the machine's rule says: appends its station under the next serial,

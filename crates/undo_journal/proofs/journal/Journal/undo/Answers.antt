@@ -58,7 +58,8 @@ returns-clause-err g c =
     let shorter : k ≤ length past = omega (arith, c.take_back_to.ensures.shorter, j.past.ok.0) in
     let cut : c.len-stood.result - c.len-2.result ≡ length past - k = omega (arith, c.len-stood.ensures, c.len-2.ensures, j.past.ok.0) in
     let reports = reported-stopped past c.in-Some.keep k c.args.n _ c.in-Ok.reports.items c.keep_newest.new.reports.items c.take_back_to.ensures.kept shorter cut told c.keep_newest.ensures.none c.keep_newest.ensures.some in
-    let stopped = stopped-front j.floor j.first.value j.first_note past items j.last c.args.mark c.args.n c.in-Some.keep k c.keep_newest.new.reports.items c.self.invariant.1 kept c.take_back_to.ensures.kept shorter c.take_back_to.ensures.front reports in
+    let uncut = λ (is : k ≡ c.in-Some.keep). absurd (c.if-len-keep.false (c.len.ensures ∙ is)) in
+    let stopped = stopped-front j.floor j.first.value j.first_note past items j.last c.args.mark c.args.n c.in-Some.keep k c.keep_newest.new.reports.items c.self.invariant.1 kept c.take_back_to.ensures.kept shorter uncut c.take_back_to.ensures.front reports in
     subst (λ m. Stopped c.args.mark c.args.n c.args.self.now new m c.keep_newest.new.reports.items) (sym c.mark.ensures.serial) (subst (λ t. Stopped c.args.mark c.args.n t new (here new).serial c.keep_newest.new.reports.items) c.self.view_is stopped)
 
 pub returns-then-len-keep-clause-at_mark : goal.returns-then-len-keep-clause-at_mark
