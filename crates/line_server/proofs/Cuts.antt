@@ -1,10 +1,10 @@
 -- Lemmas on lines: what more bytes do to the whole lines and to the rest.
-use Rattle.std.proofs.Common.{◌≡◌, get_or, ℕ, zero, suc, ◌+◌, ◌-◌, ◌<◌, ◌≤◌, Bool, true, false, cond, eqb, ◌||◌, List, [], ◌∷◌, ◌++◌, length, take, drop, refl, sym, ap, ◌∙◌, append_assoc, append-nil, arith}
+use Rattle.std.proofs.Common.{◌≡◌, get_or, ℕ, zero, suc, ◌+◌, ◌-◌, ◌<◌, ◌≤◌, Bool, true, false, cond, eqb, ◌||◌, List, [], ◌∷◌, ◌++◌, length, take, drop, All, refl, sym, ap, ◌∙◌, append_assoc, append-nil, arith}
 use Rattle.std.proofs.lemmas.Bool.{cond-true, cond-false, eqb-true}
 use Rattle.std.proofs.lemmas.List.{take-append-drop, take_all, take_rest, drop_all, drop_more}
 use Rattle.std.proofs.lemmas.List.Folds.{list_any-append}
-use Rattle.line_server.specs.Lines.{begun, whole_lines, rest_of, closed}
-use Rattle.line_server.specs.Progress.{has_newline}
+use Rattle.std.proofs.lemmas.List.Elements.{All-nil, All-cons, All-head, All-tail}
+use Rattle.line_server.specs.Lines.{begun, whole_lines, rest_of, closed, has_newline}
 
 -- Bytes without a newline
 
@@ -70,6 +70,23 @@ pub closed-whole_lines : (bs : List ℕ) → closed (whole_lines bs) ++ rest_of 
 closed-whole_lines [] = refl
 closed-whole_lines (b ∷ bs) = law_step b bs (eqb b 10) (has_newline bs) refl refl (closed-whole_lines bs)
 
+or-none : (p q : Bool) → p ≡ false → q ≡ false → (p || q) ≡ false
+or-none p q none more = rw none more
+
+-- no newline stands in a line
+lines_clean_step : (b : ℕ) (bs : List ℕ) (p : Bool) → eqb b 10 ≡ p → All (λ line. has_newline line ≡ false) (whole_lines bs) → All (λ line. has_newline line ≡ false) (cond p ([] ∷ whole_lines bs) (begun b (whole_lines bs)))
+lines_clean_step b bs true newline clean = All-cons (λ line. has_newline line ≡ false) [] (whole_lines bs) refl clean
+lines_clean_step b bs false newline clean = begun_clean (whole_lines bs) clean
+  where
+    begun_clean : (lines : List (List ℕ)) → All (λ line. has_newline line ≡ false) lines → All (λ line. has_newline line ≡ false) (begun b lines)
+    begun_clean [] clean = clean
+    begun_clean (l ∷ ls) clean =
+        All-cons (λ line. has_newline line ≡ false) (b ∷ l) ls (or-none (eqb b 10) (has_newline l) newline (All-head (λ line. has_newline line ≡ false) l ls clean)) (All-tail (λ line. has_newline line ≡ false) l ls clean)
+
+pub whole_lines-clean : (bs : List ℕ) → All (λ line. has_newline line ≡ false) (whole_lines bs)
+whole_lines-clean [] = All-nil (λ line. has_newline line ≡ false)
+whole_lines-clean (b ∷ bs) = lines_clean_step b bs (eqb b 10) refl (whole_lines-clean bs)
+
 -- More bytes
 
 begun-append : (b : ℕ) (l : List ℕ) (ls lines more : List (List ℕ)) → lines ≡ l ∷ ls → begun b (lines ++ more) ≡ begun b lines ++ more
@@ -94,9 +111,6 @@ or-left p q is = rw is refl
 or-right : (p q : Bool) → q ≡ true → (p || q) ≡ true
 or-right true q is = refl
 or-right false q is = is
-
-or-none : (p q : Bool) → p ≡ false → q ≡ false → (p || q) ≡ false
-or-none p q none more = rw none more
 
 has_newline-append : (bs cs : List ℕ) → has_newline bs ≡ false → has_newline cs ≡ false → has_newline (bs ++ cs) ≡ false
 has_newline-append bs cs none more =

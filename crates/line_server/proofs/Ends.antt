@@ -1,32 +1,30 @@
 -- Lemmas on serving a reader's chunks one after the other, and on how it ends.
-use Rattle.std.proofs.Common.{◌≡◌, ℕ, ◌+◌, ◌≤◌, false, List, [], ◌++◌, length, Option, None, Some, Result, Ok, Err, OnOk, IfErr, IsErrAnd, refl, sym, ap, subst, ◌∙◌, append-nil, arith, length-append}
+use Rattle.std.proofs.Common.{◌≡◌, ℕ, ◌+◌, false, List, [], ◌++◌, length, Option, None, Some, Result, Ok, Err, OnOk, IfErr, IsErrAnd, refl, sym, ap, subst, ◌∙◌, append-nil, arith}
 use Rattle.std.proofs.lemmas.List.{take_all}
 use Rattle.std.proofs.lemmas.List.Elements.{All-nil}
 use Rattle.std.specs.Result.{result_err}
 use Rattle.std.specs.Io.KnownBytes.{Keeps, Appends, Consumes, IsAtEnd}
 use Rattle.std.proofs.KnownBytes.{Appends-nil, Appends-trans, Consumes-nil, Consumes-trans, Consumes-kept}
-use Rattle.line_server.specs.declared.session.Fate.{Fate}
-use Rattle.line_server.specs.declared.session.Fate.TheVariants.{Whole}
 use Rattle.line_server.specs.declared.ended.Fault.{Fault}
 use Rattle.line_server.specs.declared.ended.Fault.TheVariants.{Read, Endless, Write, WriteZero, Memory}
 use Rattle.line_server.specs.declared.ended.Ended.{Ended}
 use Rattle.line_server.specs.declared.pending.Pending.{Pending}
 use Rattle.line_server.specs.Lines.{whole_lines, rest_of, last_line, lines_of, longest_line}
-use Rattle.line_server.specs.Session.{Turns, text_of}
+use Rattle.line_server.specs.Session.{Turns, Fates, MayBefallEach, text_of}
 use Rattle.line_server.specs.Serving.{IsToldWhole, IsToldInPart, Tells, Serves}
 use Rattle.line_server.specs.Progress.{SoFar, IsOfWriting, GoesOn, StopsIn, Finishes, fault_of}
-use Rattle.line_server.proofs.Telling.{text_of-whole}
+use Rattle.line_server.proofs.Telling.{text_of-whole, MayBefallEach-more}
 
 -- Some chunks are served: the reader gave bytes, the text of their whole lines is written, and no answer waits.
-pub record Served {S : Type 0} (turn : Turns S) (start now : S) (left rest held holds : Option (List ℕ)) (pending : Pending) : Type 0 where
+pub record Served {S F : Type 0} (turn : Turns S F) (may_befall : Fates S F) (start now : S) (left rest held holds : Option (List ℕ)) (pending : Pending) : Type 0 where
   pub bytes : List ℕ
   pub told : List ℕ
   pub consumed : Consumes left rest bytes
   pub written : Appends held holds told
-  pub so_far : SoFar turn start bytes told now pending
+  pub so_far : SoFar turn may_befall start bytes told now pending
   pub none_left : pending.answers.text.items ≡ []
 
-Tells-part : {S : Type 0} (turn : Turns S) (fates : List Fate) (start new : S) (bytes told : List ℕ) (fault : Fault) → IsOfWriting fault → IsToldInPart turn fates start (lines_of bytes) told → Tells (Some fault) turn fates start new bytes told
+Tells-part : {S F : Type 0} (turn : Turns S F) (fates : List (Option F)) (start new : S) (bytes told : List ℕ) (fault : Fault) → IsOfWriting fault → IsToldInPart turn fates start (lines_of bytes) told → Tells (Some fault) turn fates start new bytes told
 Tells-part turn fates start new bytes told (Read e) writing part = absurd writing
 Tells-part turn fates start new bytes told Endless writing part = absurd writing
 Tells-part turn fates start new bytes told (Write e) writing part = part
@@ -36,9 +34,9 @@ Tells-part turn fates start new bytes told Memory writing part = part
 no_fault : (fault : Fault) (P : Type 0) → Some fault ≡ None → P
 no_fault fault P is = absurd (let never : ⊥ = cc in never)
 
-module _ {S : Type 0} (turn : Turns S) (start : S) where
+module _ {S F : Type 0} (turn : Turns S F) (may_befall : Fates S F) (start : S) where
   -- before the first read
-  pub Served-none : (left held : Option (List ℕ)) (pending : Pending) → pending.line.bytes.items ≡ [] → pending.answers.text.items ≡ [] → pending.answers.is_refused ≡ false → Served turn start start left left held held pending
+  pub Served-none : (left held : Option (List ℕ)) (pending : Pending) → pending.line.bytes.items ≡ [] → pending.answers.text.items ≡ [] → pending.answers.is_refused ≡ false → Served turn may_befall start start left left held held pending
   Served-none left held pending line text unrefused = record {
     bytes = [];
     told = [];
@@ -49,15 +47,16 @@ module _ {S : Type 0} (turn : Turns S) (start : S) where
       answered = refl;
       text = sym text;
       stands = refl;
+      befell = tt;
       line = line ∙ sym (take_all (longest_line + 1) [] (omega arith));
-      unrefused = λ r. All-nil (λ fate. fate ≡ Whole);
+      unrefused = λ r. All-nil (λ fate. fate ≡ None);
       refused = λ all. unrefused;
     };
     none_left = text;
   }
 
   -- a chunk more
-  pub Served-chunk : (chunk : List ℕ) (old new : S) (left rest resting held holds holding : Option (List ℕ)) (before after : Pending) → Served turn start old left rest held holds before → Consumes rest resting chunk → GoesOn turn chunk old new holds holding before after → after.answers.text.items ≡ [] → Served turn start new left resting held holding after
+  pub Served-chunk : (chunk : List ℕ) (old new : S) (left rest resting held holds holding : Option (List ℕ)) (before after : Pending) → Served turn may_befall start old left rest held holds before → Consumes rest resting chunk → GoesOn turn may_befall chunk old new holds holding before after → after.answers.text.items ≡ [] → Served turn may_befall start new left resting held holding after
   Served-chunk chunk old new left rest resting held holds holding before after served read on none = record {
     bytes = served.bytes ++ chunk;
     told = served.told ++ on.taken;
@@ -68,7 +67,7 @@ module _ {S : Type 0} (turn : Turns S) (start : S) where
   }
 
   -- a read that was interrupted
-  pub Served-kept : (now : S) (left rest resting held holds : Option (List ℕ)) (pending : Pending) → Served turn start now left rest held holds pending → Keeps rest resting → Served turn start now left resting held holds pending
+  pub Served-kept : (now : S) (left rest resting held holds : Option (List ℕ)) (pending : Pending) → Served turn may_befall start now left rest held holds pending → Keeps rest resting → Served turn may_befall start now left resting held holds pending
   Served-kept now left rest resting held holds pending served kept = record {
     bytes = served.bytes;
     told = served.told;
@@ -79,7 +78,7 @@ module _ {S : Type 0} (turn : Turns S) (start : S) where
   }
 
   -- the text of the whole lines is written
-  told_whole : (now : S) (left rest held holds : Option (List ℕ)) (pending : Pending) (served : Served turn start now left rest held holds pending) → IsToldWhole turn served.so_far.fates start now (whole_lines served.bytes) served.told
+  told_whole : (now : S) (left rest held holds : Option (List ℕ)) (pending : Pending) (served : Served turn may_befall start now left rest held holds pending) → IsToldWhole turn served.so_far.fates start now (whole_lines served.bytes) served.told
   told_whole now left rest held holds pending served =
       let so = served.so_far in
       record {
@@ -87,12 +86,13 @@ module _ {S : Type 0} (turn : Turns S) (start : S) where
         stands = so.stands;
       }
 
-  answered_lines : (fates : List Fate) (bytes : List ℕ) → length fates ≡ length (whole_lines bytes) → length fates ≤ length (lines_of bytes)
-  answered_lines fates bytes each =
-      let all = length-append (whole_lines bytes) (last_line (rest_of bytes)) in omega (arith, each, all)
+  -- the rest has no fate
+  befell_lines : (fates : List (Option F)) (bytes : List ℕ) → length fates ≡ length (whole_lines bytes) → MayBefallEach turn may_befall fates start (whole_lines bytes) → MayBefallEach turn may_befall fates start (lines_of bytes)
+  befell_lines fates bytes each befell =
+      subst (λ fs. MayBefallEach turn may_befall fs start (lines_of bytes)) (append-nil fates) (MayBefallEach-more turn may_befall fates [] start (whole_lines bytes) (last_line (rest_of bytes)) each befell tt)
 
   -- the reader failed, or has no end
-  pub Serves-read : (e : _) (now : S) (left rest resting held holds : Option (List ℕ)) (pending : Pending) → Served turn start now left rest held holds pending → Keeps rest resting → Serves turn start now left resting held holds record { fault = Some (Read e); is_refused = pending.answers.is_refused }
+  pub Serves-read : (e : _) (now : S) (left rest resting held holds : Option (List ℕ)) (pending : Pending) → Served turn may_befall start now left rest held holds pending → Keeps rest resting → Serves turn may_befall start now left resting held holds record { fault = Some (Read e); is_refused = pending.answers.is_refused }
   Serves-read e now left rest resting held holds pending served kept = record {
     bytes = served.bytes;
     fates = served.so_far.fates;
@@ -101,12 +101,12 @@ module _ {S : Type 0} (turn : Turns S) (start : S) where
     written = served.written;
     tells = told_whole now left rest held holds pending served;
     at_end = no_fault (Read e) (IsAtEnd resting);
-    answered = answered_lines served.so_far.fates served.bytes served.so_far.answered;
+    befell = befell_lines served.so_far.fates served.bytes served.so_far.answered served.so_far.befell;
     unrefused = served.so_far.unrefused;
     refused = served.so_far.refused;
   }
 
-  pub Serves-endless : (now : S) (left rest held holds : Option (List ℕ)) (pending : Pending) → Served turn start now left rest held holds pending → Serves turn start now left rest held holds record { fault = Some Endless; is_refused = pending.answers.is_refused }
+  pub Serves-endless : (now : S) (left rest held holds : Option (List ℕ)) (pending : Pending) → Served turn may_befall start now left rest held holds pending → Serves turn may_befall start now left rest held holds record { fault = Some Endless; is_refused = pending.answers.is_refused }
   Serves-endless now left rest held holds pending served = record {
     bytes = served.bytes;
     fates = served.so_far.fates;
@@ -115,13 +115,13 @@ module _ {S : Type 0} (turn : Turns S) (start : S) where
     written = served.written;
     tells = told_whole now left rest held holds pending served;
     at_end = no_fault Endless (IsAtEnd rest);
-    answered = answered_lines served.so_far.fates served.bytes served.so_far.answered;
+    befell = befell_lines served.so_far.fates served.bytes served.so_far.answered served.so_far.befell;
     unrefused = served.so_far.unrefused;
     refused = served.so_far.refused;
   }
 
   -- the writer failed, or memory is wanted
-  pub Serves-stopped : (chunk : List ℕ) (old new : S) (left rest resting held holds holding : Option (List ℕ)) (before after : Pending) (fault : Fault) → Served turn start old left rest held holds before → Consumes rest resting chunk → StopsIn turn chunk old holds holding before after fault → Serves turn start new left resting held holding record { fault = Some fault; is_refused = after.answers.is_refused }
+  pub Serves-stopped : (chunk : List ℕ) (old new : S) (left rest resting held holds holding : Option (List ℕ)) (before after : Pending) (fault : Fault) → Served turn may_befall start old left rest held holds before → Consumes rest resting chunk → StopsIn turn may_befall chunk old holds holding before after fault → Serves turn may_befall start new left resting held holding record { fault = Some fault; is_refused = after.answers.is_refused }
   Serves-stopped chunk old new left rest resting held holds holding before after fault served read stops =
       let bytes = served.bytes ++ chunk in
       let part = stops.part start served.bytes served.told served.so_far in
@@ -133,13 +133,13 @@ module _ {S : Type 0} (turn : Turns S) (start : S) where
         written = Appends-trans held holds holding served.told stops.taken served.written stops.appended;
         tells = Tells-part turn part.fates start new bytes (served.told ++ stops.taken) fault stops.of_writing part.part;
         at_end = no_fault fault (IsAtEnd resting);
-        answered = part.answered;
+        befell = part.befell;
         unrefused = part.unrefused;
         refused = part.refused;
       }
 
   -- the reader is at its end
-  Serves-finished : (old new : S) (left rest resting held holds holding : Option (List ℕ)) (before after : Pending) → Served turn start old left rest held holds before → Consumes rest resting [] → IsAtEnd resting → Finishes turn old new holds holding before after → after.answers.text.items ≡ [] → Serves turn start new left resting held holding record { fault = None; is_refused = after.answers.is_refused }
+  Serves-finished : (old new : S) (left rest resting held holds holding : Option (List ℕ)) (before after : Pending) → Served turn may_befall start old left rest held holds before → Consumes rest resting [] → IsAtEnd resting → Finishes turn may_befall old new holds holding before after → after.answers.text.items ≡ [] → Serves turn may_befall start new left resting held holding record { fault = None; is_refused = after.answers.is_refused }
   Serves-finished old new left rest resting held holds holding before after served read end finishes none =
       let told = served.told ++ finishes.taken in
       let all = finishes.goes start served.bytes served.told served.so_far in
@@ -154,19 +154,19 @@ module _ {S : Type 0} (turn : Turns S) (start : S) where
           stands = all.stands;
         };
         at_end = λ is. end;
-        answered = all.answered;
+        befell = all.befell;
         unrefused = all.unrefused;
         refused = all.refused;
       }
 
-  pub Serves-end : (result : Result (Unit {0}) Fault) (old new : S) (left rest resting held holds holding : Option (List ℕ)) (before after : Pending) → Served turn start old left rest held holds before → Consumes rest resting [] → IsAtEnd resting → OnOk result (Finishes turn old new holds holding before after) → OnOk result (after.answers.text.items ≡ []) → IfErr result (StopsIn turn [] old holds holding before after) → Serves turn start new left resting held holding record { fault = fault_of result; is_refused = after.answers.is_refused }
+  pub Serves-end : (result : Result (Unit {0}) Fault) (old new : S) (left rest resting held holds holding : Option (List ℕ)) (before after : Pending) → Served turn may_befall start old left rest held holds before → Consumes rest resting [] → IsAtEnd resting → OnOk result (Finishes turn may_befall old new holds holding before after) → OnOk result (after.answers.text.items ≡ []) → IfErr result (StopsIn turn may_befall [] old holds holding before after) → Serves turn may_befall start new left resting held holding record { fault = fault_of result; is_refused = after.answers.is_refused }
   Serves-end (Ok u) old new left rest resting held holds holding before after served read end finishes none stops =
       Serves-finished old new left rest resting held holds holding before after served read end finishes none
   Serves-end (Err fault) old new left rest resting held holds holding before after served read end finishes none stops =
       Serves-stopped [] old new left rest resting held holds holding before after fault served read stops
 
   -- without a fault and want of memory, the text of all lines is written behind what the writer held
-  pub whole-from_Serves : (new : S) (left rest held holds : Option (List ℕ)) (ended : Ended) (input before : List ℕ) → Serves turn start new left rest held holds ended → left ≡ Some input → held ≡ Some before → ended.fault ≡ None → ended.is_refused ≡ false → holds ≡ Some (before ++ text_of turn [] start (lines_of input))
+  pub whole-from_Serves : (new : S) (left rest held holds : Option (List ℕ)) (ended : Ended) (input before : List ℕ) → Serves turn may_befall start new left rest held holds ended → left ≡ Some input → held ≡ Some before → ended.fault ≡ None → ended.is_refused ≡ false → holds ≡ Some (before ++ text_of turn [] start (lines_of input))
   whole-from_Serves new left rest held holds ended input before serves gave had none unrefused =
       let tells = subst (λ fault. Tells fault turn serves.fates start new serves.bytes serves.told) none serves.tells in
       let all = all_read rest (subst (λ o. Consumes o rest serves.bytes) gave serves.consumed) (serves.at_end none) in
@@ -191,8 +191,8 @@ fault_of-err (Ok u) = refl
 fault_of-err (Err e) = refl
 
 -- nothing is read where there is no memory to begin with
-pub Serves-memory : {S : Type 0} (turn : Turns S) (start : S) (left held : Option (List ℕ)) → Serves turn start start left left held held record { fault = Some Memory; is_refused = false }
-Serves-memory turn start left held = record {
+pub Serves-memory : {S F : Type 0} (turn : Turns S F) (may_befall : Fates S F) (start : S) (left held : Option (List ℕ)) → Serves turn may_befall start start left left held held record { fault = Some Memory; is_refused = false }
+Serves-memory turn may_befall start left held = record {
   bytes = [];
   fates = [];
   told = [];
@@ -200,7 +200,7 @@ Serves-memory turn start left held = record {
   written = Appends-nil held;
   tells = ([], refl);
   at_end = no_fault Memory (IsAtEnd left);
-  answered = omega arith;
-  unrefused = λ r. All-nil (λ fate. fate ≡ Whole);
+  befell = tt;
+  unrefused = λ r. All-nil (λ fate. fate ≡ None);
   refused = λ all. refl;
 }

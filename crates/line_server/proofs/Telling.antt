@@ -1,17 +1,15 @@
 -- Lemmas on what a session makes of lines: more lines, lines without a fate, and lines that are cut off.
-use Rattle.std.proofs.Common.{◌≡◌, ℕ, zero, suc, ◌+◌, ◌-◌, ◌<◌, ◌≤◌, min, Bool, true, false, cond, ltb, List, [], ◌∷◌, ◌++◌, length, take, None, Some, inl, inr, All, refl, sym, ap, ◌∙◌, append_assoc, arith, length-take}
+use Rattle.std.proofs.Common.{◌≡◌, ℕ, zero, suc, ◌+◌, ◌-◌, ◌<◌, ◌≤◌, min, Bool, true, false, cond, ltb, List, [], ◌∷◌, ◌++◌, length, take, Option, None, Some, inl, inr, All, refl, sym, ap, ◌∙◌, append_assoc, arith, length-take}
 use Rattle.std.proofs.lemmas.Bool.{cond-true, cond-false, cases_lt, lt-ltb, le-ltb}
 use Rattle.std.proofs.lemmas.List.{take_all, take_min}
 use Rattle.std.proofs.Math.Seq.{take-append-add}
 use Rattle.std.proofs.lemmas.List.Elements.{All-head, All-tail}
-use Rattle.line_server.specs.declared.session.Fate.{Fate}
-use Rattle.line_server.specs.declared.session.Fate.TheVariants.{Whole}
 use Rattle.line_server.specs.Lines.{heard, longest_line}
-use Rattle.line_server.specs.Session.{Turns, text_of, session_after}
+use Rattle.line_server.specs.Session.{Turns, Fates, MayBefallEach, text_of, session_after}
 
 -- Where each of some lines has a fate, the others have the fates behind.
-module _ {S : Type 0} (turn : Turns S) where
-  pub text_of-more : (fates more : List Fate) (s : S) (lines others : List (List ℕ)) → length fates ≡ length lines → text_of turn (fates ++ more) s (lines ++ others) ≡ text_of turn fates s lines ++ text_of turn more (session_after turn fates s lines) others
+module _ {S F : Type 0} (turn : Turns S F) where
+  pub text_of-more : (fates more : List (Option F)) (s : S) (lines others : List (List ℕ)) → length fates ≡ length lines → text_of turn (fates ++ more) s (lines ++ others) ≡ text_of turn fates s lines ++ text_of turn more (session_after turn fates s lines) others
   text_of-more [] more s [] others each = refl
   text_of-more [] more s (l ∷ ls) others each = absurd (omega arith)
   text_of-more (f ∷ fs) more s [] others each = absurd (omega arith)
@@ -19,7 +17,7 @@ module _ {S : Type 0} (turn : Turns S) where
       let t = turn f s (heard l) in
       ap (λ text. t.text ++ text) (text_of-more fs more t.after ls others (omega arith)) ∙ sym (append_assoc t.text (text_of turn fs t.after ls) (text_of turn more (session_after turn fs t.after ls) others))
 
-  pub session_after-more : (fates more : List Fate) (s : S) (lines others : List (List ℕ)) → length fates ≡ length lines → session_after turn (fates ++ more) s (lines ++ others) ≡ session_after turn more (session_after turn fates s lines) others
+  pub session_after-more : (fates more : List (Option F)) (s : S) (lines others : List (List ℕ)) → length fates ≡ length lines → session_after turn (fates ++ more) s (lines ++ others) ≡ session_after turn more (session_after turn fates s lines) others
   session_after-more [] more s [] others each = refl
   session_after-more [] more s (l ∷ ls) others each = absurd (omega arith)
   session_after-more (f ∷ fs) more s [] others each = absurd (omega arith)
@@ -27,11 +25,21 @@ module _ {S : Type 0} (turn : Turns S) where
       session_after-more fs more (turn f s (heard l)).after ls others (omega arith)
 
   -- a line without a fate is whole
-  pub text_of-whole : (fates : List Fate) (s : S) (lines : List (List ℕ)) → All (λ fate. fate ≡ Whole) fates → text_of turn fates s lines ≡ text_of turn [] s lines
+  pub text_of-whole : (fates : List (Option F)) (s : S) (lines : List (List ℕ)) → All (λ fate. fate ≡ None) fates → text_of turn fates s lines ≡ text_of turn [] s lines
   text_of-whole [] s lines whole = refl
   text_of-whole (f ∷ fs) s [] whole = refl
   text_of-whole (f ∷ fs) s (l ∷ ls) whole =
-      rw (All-head (λ fate. fate ≡ Whole) f fs whole) (ap (λ text. (turn Whole s (heard l)).text ++ text) (text_of-whole fs (turn Whole s (heard l)).after ls (All-tail (λ fate. fate ≡ Whole) f fs whole)))
+      rw (All-head (λ fate. fate ≡ None) f fs whole) (ap (λ text. (turn None s (heard l)).text ++ text) (text_of-whole fs (turn None s (heard l)).after ls (All-tail (λ fate. fate ≡ None) f fs whole)))
+
+-- Fates of some lines, each of which has one, and of the lines behind them.
+pub MayBefallEach-more : {S F : Type 0} (turn : Turns S F) (may_befall : Fates S F) (fates more : List (Option F)) (s : S) (lines others : List (List ℕ)) → length fates ≡ length lines → MayBefallEach turn may_befall fates s lines → MayBefallEach turn may_befall more (session_after turn fates s lines) others → MayBefallEach turn may_befall (fates ++ more) s (lines ++ others)
+MayBefallEach-more turn may_befall [] more s [] others each first behind = behind
+MayBefallEach-more turn may_befall [] more s (l ∷ ls) others each first behind = absurd (omega arith)
+MayBefallEach-more turn may_befall (f ∷ fs) more s [] others each first behind = absurd first
+MayBefallEach-more turn may_befall (f ∷ fs) more s (l ∷ ls) others each first behind = (
+  first.0,
+  MayBefallEach-more turn may_befall fs more (turn f s (heard l)).after ls others (omega arith) first.1 behind,
+)
 
 -- what is heard of a line is heard of as much of it as tells whether it is too long
 heard-take_at : (n : ℕ) (line : List ℕ) → cond (ltb n (length (take (n + 1) line))) None (Some (take (n + 1) line)) ≡ cond (ltb n (length line)) None (Some line)

@@ -1,7 +1,11 @@
 -- The lines of a stream of bytes. A newline (10) ends a line; what is left behind the last newline is a line too,
 -- where it is not empty.
-use Rattle.std.specs.Prelude.{ℕ, ◌==◌, nat_lt, if◌then◌else◌, List, [], ◌∷◌, ◌++◌, length, Option, None, Some}
+use Rattle.std.specs.Prelude.{ℕ, ◌==◌, nat_lt, if◌then◌else◌, Bool, List, [], ◌∷◌, ◌++◌, length, Option, None, Some}
 use Rattle.std.specs.List.{list_any, flat_map}
+
+-- whether there is a newline among the bytes
+abbrev pub has_newline : List ℕ → Bool
+has_newline bytes = list_any (λ b. b == 10) bytes
 
 -- The first of the lines gets a byte in front. Where there is no line, the byte is of the rest.
 abbrev pub begun : ℕ → List (List ℕ) → List (List ℕ)
@@ -16,7 +20,7 @@ whole_lines (b ∷ bs) = if b == 10 then [] ∷ whole_lines bs else begun b (who
 -- what is left behind the last newline
 abbrev pub rest_of : List ℕ → List ℕ
 rest_of [] = []
-rest_of (b ∷ bs) = if list_any (λ c. c == 10) (b ∷ bs) then rest_of bs else b ∷ bs
+rest_of (b ∷ bs) = if has_newline (b ∷ bs) then rest_of bs else b ∷ bs
 
 abbrev pub last_line : List ℕ → List (List ℕ)
 last_line [] = []

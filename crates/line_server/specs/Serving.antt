@@ -1,27 +1,25 @@
 -- What serving a reader's lines to a session does.
-use Rattle.std.specs.Prelude.{◌≡◌, ℕ, ◌≤◌, false, List, ◌++◌, length, All, Option, None, Some}
+use Rattle.std.specs.Prelude.{◌≡◌, ℕ, false, List, ◌++◌, All, Option, None, Some}
 use Rattle.std.specs.Io.KnownBytes.{Consumes, Appends, IsAtEnd}
-use Rattle.line_server.specs.declared.session.Fate.{Fate}
-use Rattle.line_server.specs.declared.session.Fate.TheVariants.{Whole}
 use Rattle.line_server.specs.declared.ended.Fault.{Fault}
 use Rattle.line_server.specs.declared.ended.Fault.TheVariants.{Read, Endless, Write, WriteZero, Memory}
 use Rattle.line_server.specs.declared.ended.Ended.{Ended}
 use Rattle.line_server.specs.Lines.{whole_lines, lines_of}
-use Rattle.line_server.specs.Session.{Turns, text_of, session_after}
+use Rattle.line_server.specs.Session.{Turns, Fates, MayBefallEach, text_of, session_after}
 
 -- A text was written whole, and the session stands behind its lines.
-pub record IsToldWhole {S : Type 0} (turn : Turns S) (fates : List Fate) (start new : S) (lines : List (List ℕ)) (told : List ℕ) : Type 0 where
+pub record IsToldWhole {S F : Type 0} (turn : Turns S F) (fates : List (Option F)) (start new : S) (lines : List (List ℕ)) (told : List ℕ) : Type 0 where
   pub text : told ≡ text_of turn fates start lines
   pub stands : new ≡ session_after turn fates start lines
 
 -- a front of a text was written
-abbrev pub IsToldInPart : {S : Type 0} → Turns S → List Fate → S → List (List ℕ) → List ℕ → Type 0
+abbrev pub IsToldInPart : {S F : Type 0} → Turns S F → List (Option F) → S → List (List ℕ) → List ℕ → Type 0
 IsToldInPart turn fates start lines told = (untold : List ℕ) × (text_of turn fates start lines ≡ told ++ untold)
 
 -- What was written of the bytes read, by how it ended: without a fault all lines' text, the rest behind the last
 -- newline among them; after a fault of the reader the text of the lines that a newline ended; after a fault
 -- of the writer, and where no memory was left to write with, a front of the text.
-abbrev pub Tells : {S : Type 0} → Option Fault → Turns S → List Fate → S → S → List ℕ → List ℕ → Type 0
+abbrev pub Tells : {S F : Type 0} → Option Fault → Turns S F → List (Option F) → S → S → List ℕ → List ℕ → Type 0
 Tells None turn fates start new bytes told = IsToldWhole turn fates start new (lines_of bytes) told
 Tells (Some (Read e)) turn fates start new bytes told = IsToldWhole turn fates start new (whole_lines bytes) told
 Tells (Some Endless) turn fates start new bytes told = IsToldWhole turn fates start new (whole_lines bytes) told
@@ -32,14 +30,14 @@ Tells (Some Memory) turn fates start new bytes told = IsToldInPart turn fates st
 -- Serving lines from one session to another: the bytes that the reader gave, what became of each line that was
 -- answered, and the bytes that the writer took. `left` and `rest` are what the reader has left before and after,
 -- `held` and `holds` what the writer holds, where these are known.
-pub record Serves {S : Type 0} (turn : Turns S) (start new : S) (left rest held holds : Option (List ℕ)) (ended : Ended) : Type 0 where
+pub record Serves {S F : Type 0} (turn : Turns S F) (may_befall : Fates S F) (start new : S) (left rest held holds : Option (List ℕ)) (ended : Ended) : Type 0 where
   pub bytes : List ℕ
-  pub fates : List Fate
+  pub fates : List (Option F)
   pub told : List ℕ
   pub consumed : Consumes left rest bytes
   pub written : Appends held holds told
   pub tells : Tells ended.fault turn fates start new bytes told
   pub at_end : ended.fault ≡ None → IsAtEnd rest
-  pub answered : length fates ≤ length (lines_of bytes)
-  pub unrefused : ended.is_refused ≡ false → All (λ fate. fate ≡ Whole) fates
-  pub refused : All (λ fate. fate ≡ Whole) fates → ended.is_refused ≡ false
+  pub befell : MayBefallEach turn may_befall fates start (lines_of bytes)
+  pub unrefused : ended.is_refused ≡ false → All (λ fate. fate ≡ None) fates
+  pub refused : All (λ fate. fate ≡ None) fates → ended.is_refused ≡ false

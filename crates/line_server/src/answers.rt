@@ -2,14 +2,13 @@
 ghost use Rattle.std.specs.Prelude.{◌≡◌, ◌↔◌, [], false, IfErr, IfOk, OnErr, OnOk, Some};
 ghost use Rattle.std.specs.Io.KnownBytes.{Appends};
 ghost use Rattle.line_server.specs.declared.ended.Fault.TheVariants.{Memory};
-ghost use Rattle.line_server.specs.declared.session.Fate.TheVariants.{Whole};
 ghost use Rattle.line_server.specs.Lines.{heard};
-ghost use Rattle.line_server.specs.Session.{Says};
+ghost use Rattle.line_server.specs.Session.{Says, MayBe};
 ghost use Rattle.line_server.specs.Progress.{Hears, Stays, Moves, TakesFront, IsOfWriting};
 
 use crate::ended::Fault;
 use crate::line_start::LONGEST_LINE;
-use crate::session::{Fate, Session};
+use crate::session::Session;
 use crate::writing::write_out;
 use std::alloc::{AllocError, Global};
 use std::io::Write;
@@ -43,11 +42,11 @@ impl Answers {
         session: &mut S,
         line: &[u8],
     ) -> Result<(), AllocError>
-        ensures heard { OnOk result (Hears S.turn line.now session.old session.new self.old self.new) }
+        ensures heard { OnOk result (Hears S.turn S.may_befall line.now session.old session.new self.old self.new) }
         ensures err { OnErr result (Stays self.old self.new) }
     {
         let fate = answer(session, line, &mut self.text)?;
-        self.is_refused |= is_refused(fate);
+        self.is_refused |= fate.is_some();
         Ok(())
     }
 
@@ -92,20 +91,18 @@ impl Answers {
 }
 
 /// The session's answer to a line, appended to the text.
-fn answer<S: Session>(session: &mut S, line: &[u8], text: &mut Vec<u8>) -> Result<Fate, AllocError>
+fn answer<S: Session>(
+    session: &mut S,
+    line: &[u8],
+    text: &mut Vec<u8>,
+) -> Result<Option<S::Fate>, AllocError>
     ensures answered { IfOk result
         (λ fate. Says (S.turn fate session.old (heard line.now)) session.new text.old.items text.new.items) }
+    ensures befell { IfOk result (λ fate. MayBe S.may_befall fate session.old (heard line.now)) }
     ensures err { OnErr result (text.new.items ≡ text.old.items) }
 {
     if line.len() <= LONGEST_LINE {
         return session.line(line, text);
     }
     session.too_long(text)
-}
-
-/// Whether the session met want of memory.
-fn is_refused(fate: Fate) -> bool
-    ensures { (result ≡ false) ↔ (fate ≡ Whole) }
-{
-    !matches!(fate, Fate::Whole)
 }

@@ -24,4 +24,4 @@ mod writing;
 pub use ended::{Ended, Fault};
 pub use lines::lines_make_the_bytes;
 pub use serving::serve;
-pub use session::{Fate, Session};
+pub use session::Session;

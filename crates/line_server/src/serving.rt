@@ -27,7 +27,7 @@ pub fn serve<S: Session, R: Read, W: Write>(
     reader: &mut R,
     writer: &mut W,
 ) -> Ended
-    ensures served { Serves S.turn session.old session.new (R.remaining reader.old) (R.remaining reader.new)
+    ensures served { Serves S.turn S.may_befall session.old session.new (R.remaining reader.old) (R.remaining reader.new)
         (W.contents writer.old) (W.contents writer.new) result }
 
     // Where reader and writer tell their bytes, no fault came and no memory was refused: all that the reader had
@@ -71,7 +71,7 @@ fn serve_reads<S: Session, R: Read, W: Write>(
     requires text { pending.old.answers.text.items ≡ [] }
     requires unrefused { pending.old.answers.is_refused ≡ false }
     requires room { 0 < length chunk.old }
-    ensures { Serves S.turn session.old session.new (R.remaining reader.old) (R.remaining reader.new)
+    ensures { Serves S.turn S.may_befall session.old session.new (R.remaining reader.old) (R.remaining reader.new)
         (W.contents writer.old) (W.contents writer.new)
         record { fault = fault_of result; is_refused = pending.new.answers.is_refused } }
 {

@@ -42,7 +42,7 @@ fn from_one(alloc: Global) -> Counting {
     }
 }
 
-/// How the fault is named, what was written, and whether memory was refused.
+/// How the fault is named, what was written and published, and whether memory was refused.
 fn served(
     alloc: Global,
     mut session: Counting,
@@ -56,6 +56,7 @@ fn served(
     };
     let mut writer = Sink {
         taken: Vec::new(alloc),
+        published: 0,
         most: case.writes,
         room: case.room,
         interruptions: case.interruptions,
@@ -69,6 +70,7 @@ fn served(
         Some(Fault::WriteZero) => "write zero",
         Some(Fault::Memory) => "memory",
     };
+    writer.taken.truncate(writer.published);
     Ok((fault, writer.taken, ended.is_refused))
 }
 
@@ -138,12 +140,15 @@ fn many_answers_are_written(rt: HostRuntime) -> Result<(), Fail> {
 #[test]
 fn answers_come_before_the_next_read(rt: HostRuntime) -> Result<(), Fail> {
     let alloc = rt.alloc();
-    let taken = Rc::new(alloc, Cell::new(0))?;
+    let published = Rc::new(alloc, Cell::new(0))?;
     let mut reader = Asking {
         lines: 0,
-        taken: taken.clone()?,
+        published: published.clone()?,
     };
-    let mut writer = Tally { taken };
+    let mut writer = Tally {
+        taken: 0,
+        published,
+    };
     let ended = serve(alloc, &mut from_one(alloc), &mut reader, &mut writer);
     assert!(rt; ended.fault.is_none());
     assert_eq!(rt; reader.lines, 3);

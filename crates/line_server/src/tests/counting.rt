@@ -1,9 +1,8 @@
 // A session that counts lines.
-ghost use Rattle.std.specs.Prelude.{◌≡◌, ◌+◌, ◌%◌, ◌^◌, ◌++◌, ◌∷◌, [], ℕ, List, length, Option, None, Some};
+ghost use Rattle.std.specs.Prelude.{◌≡◌, ◌+◌, ◌%◌, ◌^◌, ◌++◌, ◌∷◌, [], ℕ, List, length, Option, None, Some, IsSome};
 ghost use Rattle.std.specs.Fmt.{decimal};
-ghost use Rattle.line_server.specs.declared.session.Fate.TheVariants.{Whole, Refused, StoppedAt};
 
-use crate::session::{Fate, Session};
+use crate::session::Session;
 use std::alloc::{AllocError, Global};
 
 /// Answers its N-th line by `N:LENGTH`, or by `N:long`. The line after `refused` lines has no answer,
@@ -16,34 +15,41 @@ pub(super) struct Counting {
     pub(super) failed: Option<u64>,
 }
 
+/// That a line had no answer.
+#[derive(Drop)]
+pub(super) struct Unanswered;
+
 impl Session for Counting {
+    type Fate = Unanswered;
+
     ghost turn = { λ fate s line. elim fate [
-      | Whole ↦ record {
+      | None ↦ record {
         text = decimal s.lines ++ 58 ∷ (elim line [ None ↦ 108 ∷ 111 ∷ 110 ∷ 103 ∷ [] | Some bytes ↦ decimal (length bytes) ]) ++ 10 ∷ [];
         after = record s { lines = (s.lines + 1) % 2 ^ 64 };
       }
-      | Refused ↦ record { text = []; after = record s { refused = None } }
-      | StoppedAt mark ↦ record { text = []; after = s }
+      | Some unanswered ↦ record { text = []; after = record s { refused = None } }
     ] };
 
-    fn line(&mut self, line: &[u8], out: &mut Vec<u8>) -> Result<Fate, AllocError> {
+    ghost may_befall = { λ unanswered s line. (s.refused ≡ Some s.lines) × IsSome line };
+
+    fn line(&mut self, line: &[u8], out: &mut Vec<u8>) -> Result<Option<Unanswered>, AllocError> {
         if self.failed == Some(self.lines) {
             return Err(AllocError);
         }
         if self.refused == Some(self.lines) {
             self.refused = None;
-            return Ok(Fate::Refused);
+            return Ok(Some(Unanswered));
         }
         let text = format!(in self.alloc; "{}:{}\n", self.lines, line.len())?;
         out.extend_from_slice(text.as_bytes())?;
         self.lines = self.lines.wrapping_add(1);
-        Ok(Fate::Whole)
+        Ok(None)
     }
 
-    fn too_long(&mut self, out: &mut Vec<u8>) -> Result<Fate, AllocError> {
+    fn too_long(&mut self, out: &mut Vec<u8>) -> Result<Option<Unanswered>, AllocError> {
         let text = format!(in self.alloc; "{}:long\n", self.lines)?;
         out.extend_from_slice(text.as_bytes())?;
         self.lines = self.lines.wrapping_add(1);
-        Ok(Fate::Whole)
+        Ok(None)
     }
 }

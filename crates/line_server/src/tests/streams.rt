@@ -30,10 +30,12 @@ impl Read for Source<'_> {
     }
 }
 
-/// Takes bytes, `most` at a time, and fails once it has `room` of them.
+/// Takes bytes, `most` at a time, fails once it has `room` of them, and publishes what it has where it is flushed.
 #[derive(Drop)]
 pub(super) struct Sink {
     pub(super) taken: Vec<u8>,
+    /// How many of the bytes are published.
+    pub(super) published: usize,
     pub(super) most: usize,
     pub(super) room: usize,
     /// How many calls are still interrupted.
@@ -60,39 +62,41 @@ impl Write for Sink {
             self.interruptions -= 1;
             return Err(Error::from(ErrorKind::Interrupted));
         }
+        self.published = self.taken.len();
         Ok(())
     }
 }
 
-/// Counts the bytes that it takes.
+/// Counts the bytes that it takes, and publishes the count where it is flushed.
 #[derive(Drop)]
 pub(super) struct Tally {
-    pub(super) taken: Rc<Cell<u64>>,
+    pub(super) taken: u64,
+    pub(super) published: Rc<Cell<u64>>,
 }
 
 impl Write for Tally {
     fn write(&mut self, buf: &[u8]) -> io::Result<usize> {
-        let taken = self.taken.get();
-        self.taken.set(taken.wrapping_add(buf.len() as u64));
+        self.taken = self.taken.wrapping_add(buf.len() as u64);
         Ok(buf.len())
     }
 
     fn flush(&mut self) -> io::Result<()> {
+        self.published.set(self.taken);
         Ok(())
     }
 }
 
 /// Gives a line of two bytes three times, and fails where the answers to those before, of four bytes
-/// each, aren't taken yet.
+/// each, aren't published yet.
 #[derive(Drop)]
 pub(super) struct Asking {
     pub(super) lines: u64,
-    pub(super) taken: Rc<Cell<u64>>,
+    pub(super) published: Rc<Cell<u64>>,
 }
 
 impl Read for Asking {
     fn read(&mut self, buf: &mut [u8]) -> io::Result<usize> {
-        if self.taken.get() != self.lines.wrapping_mul(4) || buf.len() < 3 {
+        if self.published.get() != self.lines.wrapping_mul(4) || buf.len() < 3 {
             return Err(Error::from(ErrorKind::BrokenPipe));
         }
         if self.lines == 3 {
