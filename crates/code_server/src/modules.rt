@@ -1,5 +1,6 @@
 // The table of modules.
-ghost use Rattle.std.specs.Prelude.{◌≡◌, ◌↔◌, [], None, Some, length, slice_get, IsTrue, IfOk, IfErr, OnOk, OnErr, MatchResult};
+ghost use Rattle.std.specs.Prelude.{◌≡◌, ◌^◌, ◌↔◌, [], None, Some, length, slice_get, IsTrue, IfOk, IfErr, OnOk, OnErr, MatchOption, MatchResult};
+ghost use Rattle.std.specs.Str.{chars};
 ghost use Rattle.std.specs.Map.Iter.{deref_pair};
 ghost use Rattle.std.specs.Option.{option_map, option_copied};
 
@@ -104,6 +105,29 @@ impl<C: Drop> Modules<C> {
             Some(slots) => slots.former.as_ref(),
             None => None,
         }
+    }
+
+    /// The name of the module that a text spells, as the table has it, where it is there. It walks over the table, for
+    /// where there is no memory for an atom to look up. Takes no memory.
+    pub fn find(&self, text: &str) -> Option<&Atom>
+        ensures { MatchOption result (slots_of (chars text.now) self.now ≡ None) (λ name. name.now ≡ chars text.now) }
+    {
+        for place in 0..self.len() {
+            let Some((name, _)) = self.entry(place) else {
+                unreachable!()
+            };
+            if spells(name, text) {
+                return Some(name);
+            }
+        }
+        None
+    }
+
+    /// Whether no serial is left for a load. Takes no memory.
+    pub fn is_full(&self) -> bool
+        ensures { IsTrue result ↔ (self.now.next ≡ 2 ^ 64) }
+    {
+        self.last == u64::MAX
     }
 
     /// Why a load of the module would be refused, but for want of memory. Takes no memory.
@@ -327,4 +351,11 @@ impl<C: Drop> Modules<C> {
             }
         }
     }
+}
+
+/// Whether a text spells a name.
+fn spells(name: &Atom, text: &str) -> bool
+    ensures { IsTrue result ↔ (name.now ≡ chars text.now) }
+{
+    name.as_str() == text
 }

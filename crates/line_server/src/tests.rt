@@ -42,7 +42,7 @@ fn from_one(alloc: Global) -> Counting {
     }
 }
 
-/// How the fault is named, what was written and published, and whether memory was refused.
+/// How the fault is named, what was published, or, where the writer failed, written, and whether memory was refused.
 fn served(
     alloc: Global,
     mut session: Counting,
@@ -70,7 +70,9 @@ fn served(
         Some(Fault::WriteZero) => "write zero",
         Some(Fault::Memory) => "memory",
     };
-    writer.taken.truncate(writer.published);
+    if fault != "write" {
+        writer.taken.truncate(writer.published);
+    }
     Ok((fault, writer.taken, ended.is_refused))
 }
 
