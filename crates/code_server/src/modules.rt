@@ -1,5 +1,5 @@
 // The table of modules.
-ghost use Rattle.std.specs.Prelude.{◌≡◌, ◌^◌, ◌↔◌, [], None, Some, length, slice_get, IsTrue, IfOk, IfErr, OnOk, OnErr, MatchOption, MatchResult};
+ghost use Rattle.std.specs.Prelude.{◌≡◌, ◌↔◌, ℕ, List, [], None, Some, length, slice_get, IsTrue, IfOk, IfErr, OnOk, OnErr, MatchOption, MatchResult};
 ghost use Rattle.std.specs.Str.{chars};
 ghost use Rattle.std.specs.Map.Iter.{deref_pair};
 ghost use Rattle.std.specs.Option.{option_map, option_copied};
@@ -123,13 +123,6 @@ impl<C: Drop> Modules<C> {
         None
     }
 
-    /// Whether no serial is left for a load. Takes no memory.
-    pub fn is_full(&self) -> bool
-        ensures { IsTrue result ↔ (self.now.next ≡ 2 ^ 64) }
-    {
-        self.last == u64::MAX
-    }
-
     /// Why a load of the module would be refused, but for want of memory. Takes no memory.
     pub fn load_refusal(&self, name: &Atom) -> Option<CodeError>
         ensures { result ≡ load_refusal name.now self.now }
@@ -141,12 +134,10 @@ impl<C: Drop> Modules<C> {
         }
     }
 
-    /// Why [`Modules::purge_and_load`] of the module would be refused, but for want of memory. Takes no
-    /// memory.
-    pub fn purge_and_load_refusal(&self, name: &Atom) -> Option<CodeError>
-        ensures { result ≡ load_refusal name.now (purged name.now self.now) }
+    /// Why [`Modules::purge_and_load`] would be refused, whatever the module, but for want of memory. Takes no memory.
+    pub fn purge_and_load_refusal(&self) -> Option<CodeError>
+        ensures { (name : List ℕ) → result ≡ load_refusal name (purged name self.now) }
     {
-        let _ = name;
         if self.last == u64::MAX {
             return Some(CodeError::CounterEnd);
         }

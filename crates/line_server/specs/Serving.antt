@@ -16,6 +16,16 @@ pub record IsToldWhole {S F : Type 0} (turn : Turns S F) (fates : List (Option F
 abbrev pub IsToldInPart : {S F : Type 0} → Turns S F → List (Option F) → S → List (List ℕ) → List ℕ → Type 0
 IsToldInPart turn fates start lines told = (untold : List ℕ) × (text_of turn fates start lines ≡ told ++ untold)
 
+-- The lines that are answered, by how serving ended: not the rest behind the last newline after a fault of the reader;
+-- after a fault of the writer, and where no memory was left to write with, some of them.
+abbrev pub answered_lines : Option Fault → List ℕ → List (List ℕ)
+answered_lines None bytes = lines_of bytes
+answered_lines (Some (Read e)) bytes = whole_lines bytes
+answered_lines (Some Endless) bytes = whole_lines bytes
+answered_lines (Some (Write e)) bytes = lines_of bytes
+answered_lines (Some WriteZero) bytes = lines_of bytes
+answered_lines (Some Memory) bytes = lines_of bytes
+
 -- What was written of the bytes read, by how it ended: without a fault all lines' text, the rest behind the last
 -- newline among them; after a fault of the reader the text of the lines that a newline ended; after a fault
 -- of the writer, and where no memory was left to write with, a front of the text.

@@ -1,4 +1,5 @@
 mod Lines
+mod Outcomes
 mod Replays
 mod Spaces
 mod Texts

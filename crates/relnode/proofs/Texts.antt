@@ -10,17 +10,23 @@ use Rattle.std.specs.Option.{unwrap_or}
 use Rattle.std.proofs.lemmas.Bool.{cond-true, cond-false, eq-eqb, ne_eqb}
 use Rattle.erl_term.specs.declared.term.Term.TheVariants.{Int}
 use Rattle.erl_term.specs.Term.{trees}
-use Rattle.erl_term.specs.Tree.{int, atom, list, more}
+use Rattle.erl_term.specs.Tree.{int, atom, tuple, list, none, more}
 use Rattle.erl_term.specs.Text.{utf8, is_quoted_word, text, atom_text, elements_text, others_text}
 use Rattle.erl_term.proofs.Texts.{utf8-append, utf8-nil, utf8-ascii}
 use Rattle.code_server.specs.Modules.{Entry}
 use Rattle.relnode.specs.declared.answers.Fixed.TheVariants.{True, False, BadCommand, LineTooLong, SerialEnd, CounterAtEnd, DeadMark, Memory}
-use Rattle.relnode.specs.Answers.{line_of, pair, fixed, char_ints, missing_file, mark_at, undone_steps, stopped_undo, module_of, modules_of, serial_of, separator}
+use Rattle.relnode.specs.declared.event.Note.{Note}
+use Rattle.relnode.specs.Answers.{replies_of, arrivals_of, reported, line_of, pair, fixed, char_ints, missing_file, mark_at, undone_steps, stopped_undo, module_of, modules_of, serial_of, separator}
 
 -- the bytes that a last call appends
 pub wrote : {T E : Type 0} (r : Result T E) (new mid piece goal : List ℕ) → new ≡ cond (is_ok r) (mid ++ piece) mid → mid ++ piece ≡ goal → OnOk r (new ≡ goal)
 wrote (Ok x) new mid piece goal h e = h ∙ e
 wrote (Err x) new mid piece goal h e = tt
+
+-- what an Ok has written, for all notes
+pub OnOk-each : {T E : Type 0} (r : Result T E) (new : List ℕ) (line : List Note → List ℕ) → ((notes : List Note) → OnOk r (new ≡ line notes)) → OnOk r ((notes : List Note) → new ≡ line notes)
+OnOk-each (Ok t) new line each = each
+OnOk-each (Err e) new line each = tt
 
 -- pieces appended one after the other
 pub two_pieces : (old first a b c whole : List ℕ) → first ≡ old ++ a → a ++ b ≡ whole → first ++ b ≡ old ++ whole
@@ -84,11 +90,29 @@ pub none-bytes : utf8 (text (serial_of None)) ≡ codes "none"
 unfolding utf8 is_quoted_word encode
 none-bytes = refl
 
+-- no step has a reply or an arrival
+no_replies : (notes : List Note) → replies_of notes ≡ none
+no_replies [] = refl
+no_replies (n ∷ ns) = no_replies ns
+
+no_arrivals : (notes : List Note) → arrivals_of notes ≡ none
+no_arrivals [] = refl
+no_arrivals (n ∷ ns) = no_arrivals ns
+
+-- what is reported without them
+reported-bare : (n : ℕ) (notes : List Note) → more (int (pos n)) (more (list none) (more (list none) none)) ≡ reported (record { cut = n; notes = notes })
+reported-bare n notes =
+    sym (ap (λ ts. more (int (pos n)) (more (list ts) (more (list (arrivals_of notes)) none))) (no_replies notes) ∙ ap (λ ts. more (int (pos n)) (more (list none) (more (list ts) none))) (no_arrivals notes))
+
 -- `{undone,Cut,[],[]}`
-pub undone-line : (n : ℕ) → n < 2 ^ 64 → codes "{undone," ++ (decimal n ++ codes ",[],[]}\n") ≡ line_of (undone_steps n)
+undone-bare : (n : ℕ) → n < 2 ^ 64 → codes "{undone," ++ (decimal n ++ codes ",[],[]}\n") ≡ line_of (tuple (more (atom (codes "undone")) (more (int (pos n)) (more (list none) (more (list none) none)))))
 unfolding utf8 is_quoted_word encode
-undone-line n small =
+undone-bare n small =
     sym (ap (λ l. codes "{undone," ++ (l ++ 10 ∷ [])) (part (decimal n ++ codes ",[],[]") (125 ∷ []) (decimal n ++ codes ",[],[]") (125 ∷ []) (part (decimal n) (codes ",[],[]") (decimal n) (codes ",[],[]") (number-bytes n small) refl) refl) ∙ ap (λ l. codes "{undone," ++ l) (append_assoc (decimal n ++ codes ",[],[]") (125 ∷ []) (10 ∷ []) ∙ append_assoc (decimal n) (codes ",[],[]") (125 ∷ 10 ∷ [])))
+
+pub undone-line : (n : ℕ) (notes : List Note) → n < 2 ^ 64 → codes "{undone," ++ (decimal n ++ codes ",[],[]}\n") ≡ line_of (undone_steps (record { cut = n; notes = notes }))
+undone-line n notes small =
+    undone-bare n small ∙ ap (λ ts. line_of (tuple (more (atom (codes "undone")) ts))) (reported-bare n notes)
 
 -- `{error,{memory,K,Cut,[],[]}}`
 stopped-numbers : (m n : ℕ) → m < 2 ^ 64 → n < 2 ^ 64 → utf8 (decimal m ++ 44 ∷ (decimal n ++ codes ",[],[]")) ≡ decimal m ++ 44 ∷ (decimal n ++ codes ",[],[]")
@@ -105,11 +129,15 @@ stopped-regrouped : (m n : List ℕ) → (m ++ 44 ∷ (n ++ codes ",[],[]")) ++ 
 stopped-regrouped m n =
     append_assoc m (44 ∷ (n ++ codes ",[],[]")) (codes "}}\n") ∙ ap (λ l. m ++ 44 ∷ l) (append_assoc n (codes ",[],[]") (codes "}}\n"))
 
-pub stopped-line : (m n : ℕ) → m < 2 ^ 64 → n < 2 ^ 64 → codes "{error,{memory," ++ (decimal m ++ (44 ∷ [] ++ (decimal n ++ codes ",[],[]}}\n"))) ≡ line_of (stopped_undo m n)
+stopped-bare : (m n : ℕ) → m < 2 ^ 64 → n < 2 ^ 64 → codes "{error,{memory," ++ (decimal m ++ (44 ∷ [] ++ (decimal n ++ codes ",[],[]}}\n"))) ≡ line_of (pair (atom (codes "error")) (tuple (more (atom (codes "memory")) (more (int (pos m)) (more (int (pos n)) (more (list none) (more (list none) none)))))))
 unfolding utf8 is_quoted_word encode
-stopped-line m n small tiny =
+stopped-bare m n small tiny =
     let numbers = decimal m ++ 44 ∷ (decimal n ++ codes ",[],[]") in
     sym (ap (λ l. codes "{error,{memory," ++ (l ++ 10 ∷ [])) (closed-twice numbers numbers (stopped-numbers m n small tiny)) ∙ ap (λ l. codes "{error,{memory," ++ l) (append_assoc numbers (125 ∷ 125 ∷ []) (10 ∷ []) ∙ stopped-regrouped (decimal m) (decimal n)))
+
+pub stopped-line : (m n : ℕ) (notes : List Note) → m < 2 ^ 64 → n < 2 ^ 64 → codes "{error,{memory," ++ (decimal m ++ (44 ∷ [] ++ (decimal n ++ codes ",[],[]}}\n"))) ≡ line_of (stopped_undo m (record { cut = n; notes = notes }))
+stopped-line m n notes small tiny =
+    stopped-bare m n small tiny ∙ ap (λ ts. line_of (pair (atom (codes "error")) (tuple (more (atom (codes "memory")) (more (int (pos m)) ts))))) (reported-bare n notes)
 
 -- `{module,Mod}`
 pub loaded-line : (name : List ℕ) → codes "{module," ++ (utf8 (atom_text name) ++ codes "}\n") ≡ line_of (pair (atom (codes "module")) (atom name))

@@ -2,15 +2,16 @@
 use Rattle.std.specs.Prelude.{ℕ, pos, ◌==◌, if◌then◌else◌, Bool, true, false, List, [], ◌∷◌, ◌++◌, codes, Option, None, Some}
 use Rattle.std.specs.Str.{chars}
 use Rattle.erl_term.specs.Tree.{Tree, Trees, int, atom, tuple, list, none, more}
+use Rattle.erl_term.specs.Grammar.{append_trees}
 use Rattle.erl_term.specs.Text.{utf8, text}
 use Rattle.code_server.specs.declared.error.CodeError.{CodeError}
 use Rattle.code_server.specs.declared.error.CodeError.TheVariants.{NotLoaded, NotPurged, OldInUse, CounterEnd, Memory as NoMemory}
 use Rattle.code_server.specs.declared.modules.Instance.{Instance}
 use Rattle.code_server.specs.Modules.{Entry}
-use Rattle.relnode.specs.declared.event.Event.{Event}
-use Rattle.relnode.specs.declared.event.Event.TheVariants.{Load, Delete, Purge, SoftPurge}
+use Rattle.undo_journal.specs.declared.report.Report.{Report}
 use Rattle.relnode.specs.declared.event.Answer.{Answer}
-use Rattle.relnode.specs.declared.event.Answer.TheVariants.{Done, Killed}
+use Rattle.relnode.specs.declared.event.Answer.TheVariants.{Module, Truth}
+use Rattle.relnode.specs.declared.event.Note.{Note}
 use Rattle.relnode.specs.declared.answers.Fixed.{Fixed}
 use Rattle.relnode.specs.declared.answers.Fixed.TheVariants.{True, False, BadCommand, LineTooLong, SerialEnd, CounterAtEnd, DeadMark, Memory}
 
@@ -53,25 +54,40 @@ missing_file path =
 abbrev pub mark_at : ℕ → Tree
 mark_at mark = pair (atom (codes "mark")) (int (pos mark))
 
--- `{undone,Cut,Replies,Arrivals}`: no event sends a reply or brings in a message
-abbrev pub undone_steps : ℕ → Tree
-undone_steps cut = tuple (more (atom (codes "undone")) (more (int (pos cut)) (more (list none) (more (list none) none))))
+-- The replies that went out with steps, and the messages that came in, by the steps' notes, in their order. With no
+-- event of modules one does.
+abbrev pub replies_in : Note → Trees
+replies_in note = none
+
+abbrev pub arrivals_in : Note → Trees
+arrivals_in note = none
+
+abbrev pub replies_of : List Note → Trees
+replies_of [] = none
+replies_of (note ∷ notes) = append_trees (replies_in note) (replies_of notes)
+
+abbrev pub arrivals_of : List Note → Trees
+arrivals_of [] = none
+arrivals_of (note ∷ notes) = append_trees (arrivals_in note) (arrivals_of notes)
+
+-- what an undo reports: `Cut,Replies,Arrivals`
+abbrev pub reported : Report Note → Trees
+reported report =
+    more (int (pos report.cut)) (more (list (replies_of report.notes)) (more (list (arrivals_of report.notes)) none))
+
+-- `{undone,Cut,Replies,Arrivals}`
+abbrev pub undone_steps : Report Note → Tree
+undone_steps report = tuple (more (atom (codes "undone")) (reported report))
 
 -- `{error,{memory,K,Cut,Replies,Arrivals}}`
-abbrev pub stopped_undo : ℕ → ℕ → Tree
-stopped_undo mark cut =
-    pair (atom (codes "error")) (tuple (more (atom (codes "memory")) (more (int (pos mark)) (more (int (pos cut)) (more (list none) (more (list none) none))))))
+abbrev pub stopped_undo : ℕ → Report Note → Tree
+stopped_undo mark report =
+    pair (atom (codes "error")) (tuple (more (atom (codes "memory")) (more (int (pos mark)) (reported report))))
 
 -- what an accepted event answers
-abbrev pub answer_of : Event → Answer → Tree
-answer_of (Load name code) Done = pair (atom (codes "module")) (atom name)
-answer_of (Load name code) (Killed b) = pair (atom (codes "module")) (atom name)
-answer_of (Delete name) Done = truth true
-answer_of (Delete name) (Killed b) = truth b
-answer_of (Purge name) Done = truth true
-answer_of (Purge name) (Killed b) = truth b
-answer_of (SoftPurge name) Done = truth true
-answer_of (SoftPurge name) (Killed b) = truth b
+abbrev pub answer_of : Answer → Tree
+answer_of (Module name) = pair (atom (codes "module")) (atom name)
+answer_of (Truth b) = truth b
 
 -- What a refused event answers: `false`, where OTP's code server answers so.
 abbrev pub fixed_of : CodeError → Fixed

@@ -1,36 +1,53 @@
--- What lines leave of the journal: the timeline of the commands that they carry out, and the fold of the rule over the
--- steps that are not undone.
-use Rattle.std.specs.Prelude.{◌≡◌, ℕ, List, [], ◌∷◌, ◌++◌, option_to_list}
+-- What lines leave of the journal: the timeline of the commands that they carry out, the fold of the rule over the steps
+-- that are not undone, and what marks name.
+use Rattle.std.specs.Prelude.{◌≡◌, ℕ, ◌≤◌, List, [], ◌∷◌, ◌++◌, Option, option_to_list, Some, IfSome}
 use Rattle.code_server.specs.Modules.{empty_table}
 use Rattle.undo_journal.specs.declared.history.Command.{Command}
-use Rattle.undo_journal.specs.Timeline.{here, opened}
+use Rattle.undo_journal.specs.Timeline.{here, opened, node_at}
 use Rattle.undo_journal.specs.History.{timeline_after, live_steps, fold_of, Makes}
-use Rattle.line_server.specs.declared.session.Fate.{Fate}
 use Rattle.line_server.specs.Lines.{heard}
 use Rattle.line_server.specs.Session.{first_fate, later_fates, session_after}
 use Rattle.relnode.specs.declared.event.Event.{Event}
+use Rattle.relnode.specs.declared.fate.Fate.{Fate}
 use Rattle.relnode.specs.Files.{Contents}
 use Rattle.relnode.specs.Node.{rule}
-use Rattle.relnode.specs.Shell.{ShellState, Deed, heard_turn, shell_turn, opened_shell}
+use Rattle.relnode.specs.Request.{spoken}
+use Rattle.relnode.specs.Shell.{NodeTimeline, ShellState, Deed, deed, shell_turn, opened_shell}
 
 -- what the first of lines does
-abbrev pub deed : List Fate → ShellState → List ℕ → Deed
-deed fates state line = heard_turn (first_fate fates) state.files state.timeline (heard line)
+abbrev pub first_deed : List (Option Fate) → ShellState → List ℕ → Deed
+first_deed fates s line = deed (first_fate fates) s (spoken (heard line))
 
 -- the commands that lines carry out, in order: accepted events, and undos to the marks that they reached
-abbrev pub carried_out : List Fate → ShellState → List (List ℕ) → List (Command Event)
-carried_out fates state [] = []
-carried_out fates state (line ∷ lines) =
-    option_to_list (deed fates state line).command
-    ++ carried_out (later_fates fates) (record { files = state.files; timeline = (deed fates state line).after }) lines
+abbrev pub carried_out : List (Option Fate) → ShellState → List (List ℕ) → List (Command Event)
+carried_out fates s [] = []
+carried_out fates s (line ∷ lines) =
+    option_to_list (first_deed fates s line).command ++ carried_out (later_fates fates) (first_deed fates s line).after lines
 
--- A journal that began with a node without modules, behind lines: it is the timeline of the commands that they
--- carried out, the stations behind the first are those that the live steps make, and its node is the fold of the
--- rule over them.
-pub record IsReplayed (files : Contents) (fates : List Fate) (lines : List (List ℕ)) : Type 0 where
-  pub timeline : (session_after shell_turn fates (opened_shell files) lines).timeline
+-- the journal behind lines, that began with a node without modules
+abbrev pub timeline_behind : Contents → List (Option Fate) → List (List ℕ) → NodeTimeline
+timeline_behind files fates lines = (session_after shell_turn fates (opened_shell files) lines).timeline
+
+-- A journal behind lines: it is the timeline of the commands that they carried out, the stations behind the first are
+-- those that the live steps make, and its node is the fold of the rule over them.
+pub record IsReplayed (files : Contents) (fates : List (Option Fate)) (lines : List (List ℕ)) : Type 0 where
+  pub timeline : timeline_behind files fates lines
       ≡ timeline_after rule (carried_out fates (opened_shell files) lines) (opened empty_table)
   pub stations : Makes rule empty_table (live_steps rule (carried_out fates (opened_shell files) lines) (opened empty_table) [])
-      (session_after shell_turn fates (opened_shell files) lines).timeline.later
-  pub fold : (here (session_after shell_turn fates (opened_shell files) lines).timeline).node
+      (timeline_behind files fates lines).later
+  pub fold : (here (timeline_behind files fates lines)).node
       ≡ fold_of rule empty_table (live_steps rule (carried_out fates (opened_shell files) lines) (opened empty_table) [])
+
+-- A mark that was given by some of the lines, and is alive behind more of them, names the node that it named; so a
+-- dead mark stays dead.
+abbrev pub MarksName : Contents → List (Option Fate) → List (List ℕ) → List (List ℕ) → Type 0
+MarksName files fates lines more =
+    (mark : ℕ) → mark ≤ (timeline_behind files fates lines).last
+    → IfSome (node_at mark (timeline_behind files fates (lines ++ more)))
+    (λ node. node_at mark (timeline_behind files fates lines) ≡ Some node)
+
+-- The headline, of lines that are answered: behind each front of them the journal is the timeline of what that front
+-- carried out, with its node the fold of the steps that are not undone; and marks name the nodes that they named.
+pub record IsHeadline (files : Contents) (fates : List (Option Fate)) (lines : List (List ℕ)) : Type 0 where
+  pub replayed : (front others : List (List ℕ)) → lines ≡ front ++ others → IsReplayed files fates front
+  pub marks : (front more others : List (List ℕ)) → lines ≡ (front ++ more) ++ others → MarksName files fates front more

@@ -1,32 +1,32 @@
--- What the program makes of a line: its answer, and the journal after it.
-use Rattle.std.specs.Prelude.{◌≡◌, ℕ, ◌-◌, ◌^◌, ◌==◌, nat_le, nat_lt, if◌then◌else◌, List, [], ◌∷◌, ◌++◌, length, codes, Option, None, Some, option_and_then, Ok, Err}
-use Rattle.std.specs.Str.{bytes_eq, chars, is_utf8}
+-- What the shell makes of a line: its answer, and the shell after it.
+use Rattle.std.specs.Prelude.{◌≡◌, ◌≢◌, ℕ, ◌-◌, ◌^◌, ◌≤◌, ◌==◌, if◌then◌else◌, List, [], ◌++◌, Option, None, Some, IsSome, Ok, Err}
+use Rattle.std.specs.Option.{option_map}
 use Rattle.erl_term.specs.Tree.{Tree, list}
 use Rattle.code_server.specs.Modules.{empty_table}
-use Rattle.undo_journal.specs.declared.reversible.Told.{Told}
-use Rattle.undo_journal.specs.declared.report.Report.{Report}
 use Rattle.undo_journal.specs.declared.history.Command.{Command}
 use Rattle.undo_journal.specs.declared.history.Command.TheVariants.{Perform, Undo}
-use Rattle.undo_journal.specs.Timeline.{Timeline, here, opened, appended, cut_to, cut_stations}
-use Rattle.line_server.specs.declared.session.Fate.{Fate}
-use Rattle.line_server.specs.declared.session.Fate.TheVariants.{Whole, Refused, StoppedAt}
+use Rattle.undo_journal.specs.Timeline.{Timeline, here, opened, appended, cut_to, cut_stations, report_of}
 use Rattle.line_server.specs.Session.{Turn}
 use Rattle.relnode.specs.declared.event.Event.{Event}
-use Rattle.relnode.specs.declared.event.Event.TheVariants.{Load, Delete, Purge, SoftPurge}
-use Rattle.relnode.specs.declared.event.Answer.{Answer}
-use Rattle.relnode.specs.declared.event.Answer.TheVariants.{Done}
+use Rattle.relnode.specs.declared.event.Event.TheVariants.{Load}
 use Rattle.relnode.specs.declared.event.Note.{Note}
+use Rattle.relnode.specs.declared.request.Change.{Change}
+use Rattle.relnode.specs.declared.request.Question.{Question}
+use Rattle.relnode.specs.declared.request.Question.TheVariants.{Modules, Mark}
+use Rattle.relnode.specs.declared.fate.Fate.{Fate}
+use Rattle.relnode.specs.declared.fate.Fate.TheVariants.{Refused, StoppedAt}
 use Rattle.relnode.specs.declared.answers.Fixed.TheVariants.{BadCommand, LineTooLong, SerialEnd, DeadMark, Memory}
 use Rattle.relnode.specs.Answers.{line_of, fixed, fixed_of, missing_file, mark_at, undone_steps, stopped_undo, answer_of, modules_of}
 use Rattle.relnode.specs.Files.{Contents, file_of}
-use Rattle.relnode.specs.Node.{Node, Ruled, rule}
-use Rattle.relnode.specs.Words.{words_of, is_silent, only_word, two_words, number_of}
+use Rattle.relnode.specs.Node.{Node, Outcome, rule, refusal_of, event_of}
+use Rattle.relnode.specs.Request.{Request, ask, load, change, undo, Spoken, too_long, silent, unknown, asks, spoken}
 
 -- the journal of the node
 abbrev pub NodeTimeline : Type 0
 NodeTimeline = Timeline Node Note
 
--- what the program holds: the files, and the journal
+-- What the shell holds: the files, which stay as they are, and the journal. What is not taken back by an undo stands
+-- beside the journal.
 pub record ShellState : Type 0 where
   pub files : Contents
   pub timeline : NodeTimeline
@@ -35,136 +35,121 @@ pub record ShellState : Type 0 where
 abbrev pub opened_shell : Contents → ShellState
 opened_shell files = record { files = files; timeline = opened empty_table }
 
--- What a line does: its answer, the journal after it, and the command that made it so, if one was carried out.
+-- What a line does: its answer, the shell after it, and the command to the journal that made it so, if one was carried
+-- out.
 pub record Deed : Type 0 where
   pub text : List ℕ
-  pub after : NodeTimeline
+  pub after : ShellState
   pub command : Option (Command Event)
 
--- an answer that leaves the journal as it is
-abbrev pub told : NodeTimeline → Tree → Deed
-told timeline answer = record { text = line_of answer; after = timeline; command = None }
+-- an answer that leaves the shell as it is
+abbrev pub answered : ShellState → Tree → Deed
+answered s answer = record { text = line_of answer; after = s; command = None }
 
--- An event is performed: the journal has one more station, or is as it was where the event is refused.
-abbrev pub ruled_turn : NodeTimeline → Event → Ruled → Deed
-ruled_turn timeline e (Ok a) = record {
-  text = line_of (answer_of e a.answer);
-  after = appended timeline a.node a.note;
-  command = Some (Perform e);
-}
-ruled_turn timeline e (Err refusal) = told timeline (fixed (fixed_of refusal))
-
-abbrev pub performed : NodeTimeline → Event → Deed
-performed timeline e =
-    if timeline.last == 2 ^ 64 - 1 then told timeline (fixed SerialEnd) else ruled_turn timeline e (rule (here timeline).node e)
-
-abbrev pub event_turn : Fate → NodeTimeline → Event → Deed
-event_turn Whole timeline e = performed timeline e
-event_turn Refused timeline e = told timeline (fixed Memory)
-event_turn (StoppedAt mark) timeline e = performed timeline e
-
--- An undo to a mark: the stations after it are cut. One that found no memory stands at a mark after it.
-abbrev pub undone_to : NodeTimeline → ℕ → NodeTimeline → Deed
-undone_to timeline mark cut = record {
-  text = line_of (undone_steps (length (cut_stations timeline cut)));
-  after = cut;
-  command = Some (Undo mark);
+-- a command that was carried out, with the journal after it
+abbrev pub carried : ShellState → Tree → NodeTimeline → Command Event → Deed
+carried s answer after command = record {
+  text = line_of answer;
+  after = record { files = s.files; timeline = after };
+  command = Some command;
 }
 
-abbrev pub stopped_at : NodeTimeline → ℕ → NodeTimeline → ℕ → Option NodeTimeline → Deed
-stopped_at timeline mark cut reached None = undone_to timeline mark cut
-stopped_at timeline mark cut reached (Some at) = record {
-  text = line_of (stopped_undo reached (length (cut_stations timeline at)));
-  after = at;
-  command = Some (Undo reached);
-}
+-- Events. The journal has one more station, or the shell is as it was where the event is refused.
 
-abbrev pub undo_turn : Fate → NodeTimeline → ℕ → Option NodeTimeline → Deed
-undo_turn fate timeline mark None = told timeline (fixed DeadMark)
-undo_turn Whole timeline mark (Some cut) = undone_to timeline mark cut
-undo_turn Refused timeline mark (Some cut) = undone_to timeline mark cut
-undo_turn (StoppedAt reached) timeline mark (Some cut) =
-    if nat_le mark reached then stopped_at timeline mark cut reached (cut_to reached timeline) else undone_to timeline mark cut
+abbrev pub ruled : ShellState → Event → Outcome → Deed
+ruled s e (Ok a) = carried s (answer_of a.answer) (appended s.timeline a.node a.note) (Perform e)
+ruled s e (Err refusal) = answered s (fixed (fixed_of refusal))
 
--- the atom of a word's characters, of which there are at most 255
-abbrev pub name_of : List ℕ → Option (List ℕ)
-name_of word = if nat_lt 255 (length (chars word)) then None else Some (chars word)
+abbrev pub performed : ShellState → Event → Deed
+performed s e =
+    if s.timeline.last == 2 ^ 64 - 1 then answered s (fixed SerialEnd) else ruled s e (rule (here s.timeline).node e)
 
--- the name that is the only word
-abbrev pub one_name : List (List ℕ) → Option (List ℕ)
-one_name words = option_and_then name_of (only_word words)
-
--- a command with one module as its word
-abbrev pub named_turn : Fate → NodeTimeline → (List ℕ → Event) → Option (List ℕ) → Deed
-named_turn fate timeline event None = told timeline (fixed BadCommand)
-named_turn fate timeline event (Some name) = event_turn fate timeline (event name)
+abbrev pub event_deed : Option Fate → ShellState → Event → Deed
+event_deed None s e = performed s e
+event_deed (Some Refused) s e = answered s (fixed Memory)
+event_deed (Some (StoppedAt mark)) s e = performed s e
 
 -- `load MOD PATH`: a missing file comes before the event's refusals
-abbrev pub code_turn : Fate → NodeTimeline → List ℕ → List ℕ → Option (List ℕ) → Deed
-code_turn fate timeline name path None = told timeline (missing_file path)
-code_turn fate timeline name path (Some code) = event_turn fate timeline (Load name code)
+abbrev pub load_deed : Option Fate → ShellState → List ℕ → List ℕ → Option (List ℕ) → Deed
+load_deed fate s name path None = answered s (missing_file path)
+load_deed fate s name path (Some code) = event_deed fate s (Load name code)
 
-abbrev pub file_turn : Fate → Contents → NodeTimeline → Option (List ℕ) → List ℕ → Deed
-file_turn fate files timeline None path = told timeline (fixed BadCommand)
-file_turn fate files timeline (Some name) path = code_turn fate timeline name path (file_of path files)
+-- Undos. The stations after the mark are cut; an undo that found no memory stands at a mark after it.
 
-abbrev pub load_turn : Fate → Contents → NodeTimeline → Option (List ℕ × List ℕ) → Deed
-load_turn fate files timeline None = told timeline (fixed BadCommand)
-load_turn fate files timeline (Some words) = file_turn fate files timeline (name_of words.0) words.1
+abbrev pub undone_to : ShellState → ℕ → NodeTimeline → Deed
+undone_to s mark end = carried s (undone_steps (report_of (cut_stations s.timeline end))) end (Undo mark)
 
--- a command without words
-abbrev pub alone_turn : NodeTimeline → Tree → List (List ℕ) → Deed
-alone_turn timeline answer [] = told timeline answer
-alone_turn timeline answer (w ∷ ws) = told timeline (fixed BadCommand)
+abbrev pub stopped_at : ShellState → ℕ → Option NodeTimeline → Deed
+stopped_at s reached None = answered s (fixed DeadMark)
+stopped_at s reached (Some end) = carried s (stopped_undo reached (report_of (cut_stations s.timeline end))) end (Undo reached)
 
--- `undo K`
-abbrev pub mark_turn : Fate → NodeTimeline → Option ℕ → Deed
-mark_turn fate timeline None = told timeline (fixed BadCommand)
-mark_turn fate timeline (Some mark) = undo_turn fate timeline mark (cut_to mark timeline)
+abbrev pub undo_deed : Option Fate → ShellState → ℕ → Option NodeTimeline → Deed
+undo_deed fate s mark None = answered s (fixed DeadMark)
+undo_deed None s mark (Some end) = undone_to s mark end
+undo_deed (Some Refused) s mark (Some end) = undone_to s mark end
+undo_deed (Some (StoppedAt reached)) s mark (Some end) = stopped_at s reached (cut_to reached s.timeline)
 
-abbrev pub numbered_turn : Fate → NodeTimeline → Option (List ℕ) → Deed
-numbered_turn fate timeline None = told timeline (fixed BadCommand)
-numbered_turn fate timeline (Some word) = mark_turn fate timeline (number_of word)
+-- Questions.
+abbrev pub told_of : ShellState → Question → Tree
+told_of s Modules = list (modules_of (here s.timeline).node.entries)
+told_of s Mark = mark_at (here s.timeline).serial
 
--- a command, by its first word and the others
-abbrev pub verb_turn : Fate → Contents → NodeTimeline → List ℕ → List (List ℕ) → Deed
-verb_turn fate files timeline verb words =
-    if bytes_eq verb (codes "load") then load_turn fate files timeline (two_words words)
-    else (if bytes_eq verb (codes "delete") then named_turn fate timeline Delete (one_name words)
-    else (if bytes_eq verb (codes "purge") then named_turn fate timeline Purge (one_name words)
-    else (if bytes_eq verb (codes "soft_purge") then named_turn fate timeline SoftPurge (one_name words)
-    else (if bytes_eq verb (codes "modules") then alone_turn timeline (list (modules_of (here timeline).node.entries)) words
-    else (if bytes_eq verb (codes "mark") then alone_turn timeline (mark_at (here timeline).serial) words
-    else (if bytes_eq verb (codes "undo") then numbered_turn fate timeline (only_word words)
-    else told timeline (fixed BadCommand)))))))
+-- a request, by what became of it for want of memory
+abbrev pub request_deed : Option Fate → ShellState → Request → Deed
+request_deed fate s (ask question) = answered s (told_of s question)
+request_deed fate s (load name path) = load_deed fate s name path (file_of path s.files)
+request_deed fate s (change kind name) = event_deed fate s (event_of kind name)
+request_deed fate s (undo mark) = undo_deed fate s mark (cut_to mark s.timeline)
 
-abbrev pub words_turn : Fate → Contents → NodeTimeline → List (List ℕ) → Deed
-words_turn fate files timeline [] = told timeline (fixed BadCommand)
-words_turn fate files timeline (verb ∷ words) = verb_turn fate files timeline verb words
+-- what is said in a line
+abbrev pub deed : Option Fate → ShellState → Spoken → Deed
+deed fate s too_long = answered s (fixed LineTooLong)
+deed fate s silent = record { text = []; after = s; command = None }
+deed fate s unknown = answered s (fixed BadCommand)
+deed fate s (asks request) = request_deed fate s request
 
--- A line: its length comes first, then whether it is silent, then whether it is UTF-8.
-abbrev pub heard_turn : Fate → Contents → NodeTimeline → Option (List ℕ) → Deed
-heard_turn fate files timeline None = told timeline (fixed LineTooLong)
-heard_turn fate files timeline (Some line) =
-    if is_silent line then record { text = []; after = timeline; command = None }
-    else (if is_utf8 line then words_turn fate files timeline (words_of line) else told timeline (fixed BadCommand))
+abbrev pub shell_turn : Option Fate → ShellState → Option (List ℕ) → Turn ShellState
+shell_turn fate s line = record { text = (deed fate s (spoken line)).text; after = (deed fate s (spoken line)).after }
 
-abbrev pub shell_turn : Fate → ShellState → Option (List ℕ) → Turn ShellState
-shell_turn fate state line = record {
-  text = (heard_turn fate state.files state.timeline line).text;
-  after = record { files = state.files; timeline = (heard_turn fate state.files state.timeline line).after };
-}
+-- Which fates may befall a line.
 
--- a command was answered so: the journal is the one after it, and its text is appended to the answer
-abbrev pub Answers : Deed → NodeTimeline → List ℕ → List ℕ → Type 0
-Answers t new old answer = (new ≡ t.after) × (answer ≡ old ++ t.text)
+-- the event that a request makes, unless its file is missing
+abbrev pub event_in : ShellState → Request → Option Event
+event_in s (ask question) = None
+event_in s (load name path) = option_map (Load name) (file_of path s.files)
+event_in s (change kind name) = Some (event_of kind name)
+event_in s (undo mark) = None
 
--- how many steps the first of reports tells of
-abbrev pub first_cut : List (Report Note) → ℕ
-first_cut [] = 0
-first_cut (report ∷ reports) = report.cut
+-- An event that only want of memory can refuse: a serial is left for it, and the rule accepts it.
+pub record IsAcceptable (s : ShellState) (e : Event) : Type 0 where
+  pub serial : s.timeline.last ≢ 2 ^ 64 - 1
+  pub unrefused : refusal_of (here s.timeline).node e ≡ None
 
--- what the first of those that tell of a step answers
-abbrev pub first_answer : List (Told Answer Note) → Answer
-first_answer [] = Done
-first_answer (told ∷ more) = told.answer
+abbrev pub IsRefusable : ShellState → Option Event → Type 0
+IsRefusable s None = ⊥
+IsRefusable s (Some e) = IsAcceptable s e
+
+-- Where an undo may stop: at a mark from its own on, both alive. At its own it cut nothing.
+pub record MayStop (s : ShellState) (mark reached : ℕ) : Type 0 where
+  pub alive : IsSome (cut_to mark s.timeline)
+  pub stands : IsSome (cut_to reached s.timeline)
+  pub behind : mark ≤ reached
+  pub uncut : reached ≡ mark → cut_to reached s.timeline ≡ Some s.timeline
+
+abbrev pub RequestMayMeet : Fate → ShellState → Request → Type 0
+RequestMayMeet Refused s request = IsRefusable s (event_in s request)
+RequestMayMeet (StoppedAt reached) s (ask question) = ⊥
+RequestMayMeet (StoppedAt reached) s (load name path) = ⊥
+RequestMayMeet (StoppedAt reached) s (change kind name) = ⊥
+RequestMayMeet (StoppedAt reached) s (undo mark) = MayStop s mark reached
+
+abbrev pub SpokenMayMeet : Fate → ShellState → Spoken → Type 0
+SpokenMayMeet fate s too_long = ⊥
+SpokenMayMeet fate s silent = ⊥
+SpokenMayMeet fate s unknown = ⊥
+SpokenMayMeet fate s (asks request) = RequestMayMeet fate s request
+
+-- Memory is refused only where a request asks for it and no refusal that is told without memory stands against it; and
+-- only an undo stops.
+abbrev pub may_befall : Fate → ShellState → Option (List ℕ) → Type 0
+may_befall fate s line = SpokenMayMeet fate s (spoken line)

@@ -3,15 +3,16 @@ ghost use Rattle.std.specs.Prelude.{◌≡◌, ◌++◌, ℕ, List, OnOk};
 ghost use Rattle.std.specs.Fmt.{decimal};
 ghost use Rattle.erl_term.specs.Tree.{list, atom};
 ghost use Rattle.erl_term.specs.Text.{utf8, text, elements_text};
-ghost use Rattle.relnode.specs.Answers.{line_of, pair, fixed, missing_file, mark_at, undone_steps, stopped_undo, serial_of, module_of, modules_of, char_ints, separator};
+ghost use Rattle.relnode.specs.Answers.{line_of, answer_of, pair, fixed, fixed_of, missing_file, mark_at, undone_steps, stopped_undo, serial_of, module_of, modules_of, char_ints, separator};
 ghost use Rattle.std.specs.Prelude.{codes, pos, IfOk};
 ghost use Rattle.std.specs.Str.{chars};
 ghost use Rattle.erl_term.specs.Term.{trees};
 
-use crate::event::Code;
-use code_server::{Instance, Modules, Slots};
+use crate::event::{Answer, Code, Note};
+use code_server::{CodeError, Instance, Modules, Slots};
 use erl_term::{Atom, Term, Terms, print, print_atom};
 use itoa::Buffer;
+use undo_journal::Report;
 use std::alloc::{AllocError, Global};
 
 /// The answers that have nothing in them but their words.
@@ -60,6 +61,17 @@ impl Fixed {
     }
 }
 
+/// What a refused event answers.
+pub fn fixed_of(refusal: CodeError) -> Fixed
+    ensures { result ≡ fixed_of refusal }
+{
+    match refusal {
+        CodeError::NotLoaded | CodeError::NotPurged | CodeError::OldInUse => Fixed::False,
+        CodeError::CounterEnd => Fixed::CounterAtEnd,
+        CodeError::Memory => Fixed::Memory,
+    }
+}
+
 /// Appends a number in decimal.
 fn write_number(n: u64, out: &mut Vec<u8>) -> Result<(), AllocError>
     ensures { OnOk result (out.new.items ≡ out.old.items ++ decimal n) }
@@ -68,8 +80,19 @@ fn write_number(n: u64, out: &mut Vec<u8>) -> Result<(), AllocError>
     out.extend_from_slice(buffer.format(n).as_bytes())
 }
 
+/// Appends what an accepted event answers.
+pub fn write_answer(answer: &Answer, out: &mut Vec<u8>) -> Result<(), AllocError>
+    ensures { OnOk result (out.new.items ≡ out.old.items ++ line_of (answer_of answer.now)) }
+{
+    match answer {
+        Answer::Module(name) => write_loaded(name, out),
+        Answer::Truth(true) => Fixed::True.write(out),
+        Answer::Truth(false) => Fixed::False.write(out),
+    }
+}
+
 /// Appends `{module,Mod}`.
-pub fn write_loaded(name: &Atom, out: &mut Vec<u8>) -> Result<(), AllocError>
+fn write_loaded(name: &Atom, out: &mut Vec<u8>) -> Result<(), AllocError>
     ensures { OnOk result (out.new.items ≡ out.old.items ++ line_of (pair (atom (codes "module")) (atom name.now))) }
 {
     out.extend_from_slice(b"{module,")?;
@@ -86,18 +109,34 @@ pub fn write_mark(mark: u64, out: &mut Vec<u8>) -> Result<(), AllocError>
     out.extend_from_slice(b"}\n")
 }
 
-/// Appends `{undone,Cut,[],[]}`.
-pub fn write_undone(cut: usize, out: &mut Vec<u8>) -> Result<(), AllocError>
-    ensures { OnOk result (out.new.items ≡ out.old.items ++ line_of (undone_steps cut)) }
+/// Appends `{undone,Cut,Replies,Arrivals}`.
+pub fn write_undone(report: &Report<Note>, out: &mut Vec<u8>) -> Result<(), AllocError>
+    ensures { OnOk result (out.new.items ≡ out.old.items ++ line_of (undone_steps report.now)) }
+{
+    write_undone_cut(report.cut, out)
+}
+
+/// Appends `{undone,Cut,[],[]}`: no note has a reply or an arrival.
+fn write_undone_cut(cut: usize, out: &mut Vec<u8>) -> Result<(), AllocError>
+    ensures { OnOk result ((notes : List Note)
+        → out.new.items ≡ out.old.items ++ line_of (undone_steps (record { cut = cut; notes = notes }))) }
 {
     out.extend_from_slice(b"{undone,")?;
     write_number(cut as u64, out)?;
     out.extend_from_slice(b",[],[]}\n")
 }
 
+/// Appends `{error,{memory,K,Cut,Replies,Arrivals}}`.
+pub fn write_stopped(mark: u64, report: &Report<Note>, out: &mut Vec<u8>) -> Result<(), AllocError>
+    ensures { OnOk result (out.new.items ≡ out.old.items ++ line_of (stopped_undo mark report.now)) }
+{
+    write_stopped_cut(mark, report.cut, out)
+}
+
 /// Appends `{error,{memory,K,Cut,[],[]}}`.
-pub fn write_stopped(mark: u64, cut: usize, out: &mut Vec<u8>) -> Result<(), AllocError>
-    ensures { OnOk result (out.new.items ≡ out.old.items ++ line_of (stopped_undo mark cut)) }
+fn write_stopped_cut(mark: u64, cut: usize, out: &mut Vec<u8>) -> Result<(), AllocError>
+    ensures { OnOk result ((notes : List Note)
+        → out.new.items ≡ out.old.items ++ line_of (stopped_undo mark (record { cut = cut; notes = notes }))) }
 {
     out.extend_from_slice(b"{error,{memory,")?;
     write_number(mark, out)?;

@@ -24,13 +24,22 @@ pub enum Event {
     SoftPurge(Atom),
 }
 
-/// What is told of an accepted event.
-#[derive(Clone, Copy)]
+/// What is told of an accepted event, as OTP's code server answers.
+#[derive(Drop)]
 pub enum Answer {
-    /// That it was done.
-    Done,
-    /// Whether a purge killed a process.
-    Killed(bool),
+    /// The module that was loaded.
+    Module(Atom),
+    /// `true` or `false`.
+    Truth(bool),
+}
+
+impl Duplicate for Answer {
+    fn copy(&self, alloc: Global) -> Result<Answer, AllocError> {
+        match self {
+            Answer::Module(name) => Ok(Answer::Module(name.copy(alloc)?)),
+            Answer::Truth(truth) => Ok(Answer::Truth(*truth)),
+        }
+    }
 }
 
 /// What an undo of a step reports: the replies that went out with it and the message that came in. With

@@ -34,7 +34,7 @@ impl<'a> Name<'a> {
     ///
     /// `AllocError` where memory is refused.
     pub fn atom(self, alloc: Global) -> Result<Atom, AllocError>
-        ensures { IfOk result (λ atom. atom ≡ chars self.text.now) }
+        ensures { IfOk result (λ atom. atom ≡ chars self.entry.text.now) }
     {
         match Atom::new(alloc, self.text) {
             Ok(atom) => Ok(atom),

@@ -1,10 +1,14 @@
 // The node, and its steps.
-ghost use Rattle.std.specs.Prelude.{◌≡◌, IfOk, replicate};
+ghost use Rattle.std.specs.Prelude.{◌≡◌, ℕ, List, None, IfOk, OnErr, replicate};
+ghost use Rattle.std.specs.Str.{chars};
 ghost use Rattle.code_server.specs.Modules.{empty_table};
-ghost use Rattle.relnode.specs.Node.{rule, refusal_of, undoes, Steps};
-ghost use Rattle.relnode.specs.declared.event.Event.TheVariants.{Load, Delete, Purge, SoftPurge};
+ghost use Rattle.relnode.specs.Node.{rule, refusal_of, undoes, event_of};
+ghost use Rattle.relnode.specs.Steps.{Changes, answer_to};
+ghost use Rattle.relnode.specs.declared.event.Event.TheVariants.{Load};
 
 use crate::event::{Answer, Code, Event, Note};
+use crate::name::Name;
+use crate::request::Change;
 use code_server::{CodeError, Modules, Undo};
 use erl_term::Atom;
 use std::alloc::{AllocError, Global};
@@ -49,58 +53,52 @@ impl Node {
         &self.modules
     }
 
-    fn load(&mut self, name: &Atom, code: &Code, n: usize) -> Step
-        ensures { Steps self.old (Load name.now code.now) n result self.new }
+    /// Why a change of the module of this name is refused, for where there is no memory for an event. Takes no memory.
+    pub fn refusal_by_name(&self, change: Change, name: Name<'_>) -> Option<CodeError>
+        ensures { result ≡ refusal_of self.now (event_of change (chars name.entry.text.now)) }
     {
-        if let Some(refusal) = self.modules.purge_and_load_refusal(name) {
-            return Err(StepError::Rule(refusal));
+        match change {
+            Change::Delete => match self.modules.find(name.text) {
+                Some(name) => self.modules.delete_refusal(name),
+                None => Some(CodeError::NotLoaded),
+            },
+            Change::Purge | Change::SoftPurge => None,
         }
-        let Ok(told) = told(self.alloc, n, Answer::Done) else {
-            return Err(StepError::Memory);
-        };
-        let Ok((name, code)) = copied(self.alloc, name, code) else {
-            return Err(StepError::Memory);
-        };
+    }
+
+    /// Why no load is accepted, if none is. Takes no memory.
+    pub fn load_refusal(&self) -> Option<CodeError>
+        ensures { (name code : List ℕ) → result ≡ refusal_of self.now (Load name code) }
+    {
+        self.modules.purge_and_load_refusal()
+    }
+
+    /// Makes the change of an event that is not refused, and gives the undo of it.
+    fn change(&mut self, event: &Event) -> Result<Undo<Code>, AllocError>
+        requires { refusal_of self.old event.now ≡ None }
+        ensures changed { IfOk result (λ undo. Changes self.old event.now undo self.new) }
+        ensures err { OnErr result (self.new ≡ self.old) }
+    {
+        match event {
+            Event::Load { name, code } => self.load(name, code),
+            Event::Delete(name) => match self.modules.delete(name) {
+                Ok(undo) => Ok(undo),
+                Err(_) => unreachable!(),
+            },
+            Event::Purge(name) | Event::SoftPurge(name) => Ok(self.modules.purge(name)),
+        }
+    }
+
+    /// Loads code that can be loaded.
+    fn load(&mut self, name: &Atom, code: &Code) -> Result<Undo<Code>, AllocError>
+        requires { refusal_of self.old (Load name.now code.now) ≡ None }
+        ensures changed { IfOk result (λ undo. Changes self.old (Load name.now code.now) undo self.new) }
+        ensures err { OnErr result (self.new ≡ self.old) }
+    {
+        let (name, code) = copied(self.alloc, name, code)?;
         match self.modules.purge_and_load(name, code) {
-            Ok(trace) => Ok(Stepped { told, trace }),
-            Err(_) => Err(StepError::Memory),
-        }
-    }
-
-    fn delete(&mut self, name: &Atom, n: usize) -> Step
-        ensures { Steps self.old (Delete name.now) n result self.new }
-    {
-        if let Some(refusal) = self.modules.delete_refusal(name) {
-            return Err(StepError::Rule(refusal));
-        }
-        let Ok(told) = told(self.alloc, n, Answer::Done) else {
-            return Err(StepError::Memory);
-        };
-        match self.modules.delete(name) {
-            Ok(trace) => Ok(Stepped { told, trace }),
-            Err(refusal) => Err(StepError::Rule(refusal)),
-        }
-    }
-
-    fn purge(&mut self, name: &Atom, n: usize) -> Step
-        ensures { Steps self.old (Purge name.now) n result self.new }
-    {
-        let Ok(told) = told(self.alloc, n, Answer::Killed(false)) else {
-            return Err(StepError::Memory);
-        };
-        let trace = self.modules.purge(name);
-        Ok(Stepped { told, trace })
-    }
-
-    fn soft_purge(&mut self, name: &Atom, n: usize) -> Step
-        ensures { Steps self.old (SoftPurge name.now) n result self.new }
-    {
-        let Ok(told) = told(self.alloc, n, Answer::Done) else {
-            return Err(StepError::Memory);
-        };
-        match self.modules.soft_purge(name, false) {
-            Ok(trace) => Ok(Stepped { told, trace }),
-            Err(refusal) => Err(StepError::Rule(refusal)),
+            Ok(undo) => Ok(undo),
+            Err(_) => Err(AllocError),
         }
     }
 }
@@ -123,11 +121,15 @@ impl Reversible for Node {
     ghost undoes = { undoes };
 
     fn step(&mut self, event: &Event, n: usize) -> Step {
-        match event {
-            Event::Load { name, code } => self.load(name, code, n),
-            Event::Delete(name) => self.delete(name, n),
-            Event::Purge(name) => self.purge(name, n),
-            Event::SoftPurge(name) => self.soft_purge(name, n),
+        if let Some(refusal) = self.refusal(event) {
+            return Err(StepError::Rule(refusal));
+        }
+        let Ok(told) = tellings(self.alloc, event, n) else {
+            return Err(StepError::Memory);
+        };
+        match self.change(event) {
+            Ok(trace) => Ok(Stepped { told, trace }),
+            Err(_) => Err(StepError::Memory),
         }
     }
 
@@ -137,23 +139,35 @@ impl Reversible for Node {
 
     fn refusal(&self, event: &Event) -> Option<CodeError> {
         match event {
-            Event::Load { name, code: _ } => self.modules.purge_and_load_refusal(name),
+            Event::Load { .. } => self.load_refusal(),
             Event::Delete(name) => self.modules.delete_refusal(name),
-            Event::Purge(_) => None,
-            Event::SoftPurge(_) => None,
+            Event::Purge(_) | Event::SoftPurge(_) => None,
         }
     }
 }
 
-/// As many equal values as are asked for.
-fn told(alloc: Global, n: usize, answer: Answer) -> Result<Vec<Told<Answer, Note>>, AllocError>
-    ensures { IfOk result (λ told. told.items ≡ replicate n (record { answer = answer; note = record {} })) }
+/// What is told of an event that is accepted, in as many equal values as are asked for.
+fn tellings(alloc: Global, event: &Event, n: usize) -> Result<Vec<Told<Answer, Note>>, AllocError>
+    ensures { IfOk result
+        (λ told. told.items ≡ replicate n (record { answer = answer_to event.now; note = record {} })) }
 {
     let mut told = Vec::with_capacity(alloc, n)?;
     for _i in 0..n {
+        let answer = answer_to(alloc, event)?;
         told.push(Told { answer, note: Note })?;
     }
     Ok(told)
+}
+
+/// The answer to an event that is accepted.
+fn answer_to(alloc: Global, event: &Event) -> Result<Answer, AllocError>
+    ensures { IfOk result (λ answer. answer ≡ answer_to event.now) }
+{
+    match event {
+        Event::Load { name, code: _ } => Ok(Answer::Module(name.copy(alloc)?)),
+        Event::Delete(_) | Event::SoftPurge(_) => Ok(Answer::Truth(true)),
+        Event::Purge(_) => Ok(Answer::Truth(false)),
+    }
 }
 
 /// Copies of a name and of code.

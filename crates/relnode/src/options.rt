@@ -42,14 +42,14 @@ pub struct Options {
 
 /// What a good command line asks for.
 #[derive(Debug, Drop)]
-pub enum Request {
+pub enum Invocation {
     /// To run the node.
     Run(Options),
     /// To write this text, of `--help` or of `--version`, and to end.
     Show(String),
 }
 
-/// Why a command line is no request. The message is one line, whatever the words hold.
+/// Why a command line is no invocation. The message is one line, whatever the words hold.
 #[derive(Debug, Drop, Error)]
 pub enum OptionsError {
     /// A word is missing, is one too many or is no option.
@@ -66,43 +66,33 @@ pub enum OptionsError {
     Memory(#[from(alloc)] AllocError),
 }
 
-impl OptionsError {
-    /// The status that the program ends with: 2 for bad words, and else 1.
-    pub fn status(&self) -> u8 {
-        match self {
-            OptionsError::Words(_) | OptionsError::NotUtf8(_) => 2,
-            OptionsError::Unread(_) | OptionsError::Memory(_) => 1,
-        }
-    }
-}
-
 /// Reads the words that the program was started with.
 ///
 /// # Errors
 ///
 /// `Words` where the words are not ROOT and VSN, `NotUtf8` where one is not UTF-8, `Unread` where the
 /// system does not give them, `Memory` where memory is refused.
-pub fn read_request<R: Env + AllocGlobal>(rt: &R) -> Result<Request, OptionsError> {
+pub fn read_invocation<R: Env + AllocGlobal>(rt: &R) -> Result<Invocation, OptionsError> {
     let words: Vec<String> = match env::args(rt) {
         Ok(words) => words.collect(rt.alloc())?,
         Err(error) => return Err(unread(rt, error)?),
     };
-    request_of(rt.alloc(), words.as_slice())
+    invocation_of(rt.alloc(), words.as_slice())
 }
 
 /// What the words, from the program's name on, ask for.
-fn request_of(alloc: Global, words: &[String]) -> Result<Request, OptionsError> {
+fn invocation_of(alloc: Global, words: &[String]) -> Result<Invocation, OptionsError> {
     let error = match command(alloc)?.try_get_matches_from(words) {
         Ok(matches) => {
             let root = owned(alloc, matches.get_str("ROOT"))?;
             let vsn = owned(alloc, matches.get_str("VSN"))?;
-            return Ok(Request::Run(Options { root, vsn }));
+            return Ok(Invocation::Run(Options { root, vsn }));
         }
         Err(error) => error,
     };
     match error.kind() {
         ErrorKind::DisplayHelp | ErrorKind::DisplayVersion => {
-            Ok(Request::Show(error.to_string(alloc)?))
+            Ok(Invocation::Show(error.to_string(alloc)?))
         }
         ErrorKind::OutOfMemory => Err(OptionsError::Memory(AllocError)),
         _ => Err(OptionsError::Words(message_of(alloc, words)?)),

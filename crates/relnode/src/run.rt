@@ -1,11 +1,9 @@
 // From the bytes of commands to the bytes of answers.
 ghost use Rattle.std.specs.Prelude.{◌≡◌, ℕ, ◌++◌, List, [], None, Some, false};
 ghost use Rattle.line_server.specs.Lines.{lines_of};
-ghost use Rattle.line_server.specs.declared.session.Fate.{Fate};
 ghost use Rattle.line_server.specs.Session.{text_of};
 ghost use Rattle.relnode.specs.Shell.{shell_turn, opened_shell};
 ghost use Rattle.relnode.specs.Run.{Runs};
-ghost use Rattle.relnode.specs.Replay.{IsReplayed};
 
 use crate::files::Files;
 use crate::shell::Shell;
@@ -27,7 +25,7 @@ pub fn run<R: Read, W: Write>(
     reader: &mut R,
     writer: &mut W,
 ) -> Ended
-    ensures ran { Runs (opened_shell files) (R.remaining reader.old) (R.remaining reader.new)
+    ensures ran { Runs files (R.remaining reader.old) (R.remaining reader.new)
         (W.contents writer.old) (W.contents writer.new) result }
 
     // Where reader and writer tell their bytes, no fault came and no memory was refused: all that the reader had
@@ -35,11 +33,6 @@ pub fn run<R: Read, W: Write>(
     ensures whole { (input before : List ℕ) → R.remaining reader.old ≡ Some input → W.contents writer.old ≡ Some before
         → result.fault ≡ None → result.is_refused ≡ false
         → W.contents writer.new ≡ Some (before ++ text_of shell_turn [] (opened_shell files) (lines_of input)) }
-
-    // Whatever lines the shell is given, and whichever of them met want of memory: its journal is the timeline of the
-    // commands that they carried out, and its node the fold of the rule over the steps that are not undone.
-    ensures headline { (fates : List Fate) (lines : List (List ℕ))
-        → IsReplayed files fates lines }
 {
     let Ok(mut shell) = Shell::new(alloc, files) else {
         return Ended {

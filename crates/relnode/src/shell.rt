@@ -1,21 +1,20 @@
-// The shell: a session over the journal of a node.
-ghost use Rattle.std.specs.Prelude.{◌≡◌, ℕ, List, Option, IfOk};
-ghost use Rattle.relnode.specs.Shell.{shell_turn, opened_shell};
+// The shell: a session over what it holds.
+ghost use Rattle.std.specs.Prelude.{◌≡◌, IfOk};
+ghost use Rattle.relnode.specs.Shell.{shell_turn, may_befall, opened_shell};
 
-use crate::commands::{answer_line, answer_long_line};
+use crate::answers::Fixed;
+use crate::fate::Fate;
 use crate::files::Files;
-use crate::node::Node;
-use line_server::{Fate, Session};
+use crate::holdings::Holdings;
+use crate::request::read_line;
+use line_server::Session;
 use std::alloc::{AllocError, Global};
 use std::marker::Model;
-use undo_journal::Journal;
 
-/// What answers lines: the files, the journal of the node, and room to write an answer in.
+/// What answers lines: what it holds, and room to write an answer in.
 #[derive(Drop)]
 pub struct Shell {
-    alloc: Global,
-    files: Files,
-    journal: Journal<Node>,
+    held: Holdings,
     answer: Vec<u8>,
 }
 
@@ -24,7 +23,7 @@ impl Model for Shell {
 
     ghost Value = { ShellState };
 
-    ghost view = { λ s. record { files = s.files; timeline = s.journal } };
+    ghost view = { λ s. s.held };
 }
 
 impl Shell {
@@ -36,36 +35,32 @@ impl Shell {
     pub fn new(alloc: Global, files: Files) -> Result<Shell, AllocError>
         ensures { IfOk result (λ shell. shell ≡ opened_shell files) }
     {
-        let journal = Journal::new(alloc, Node::new(alloc))?;
+        let held = Holdings::new(alloc, files)?;
         Ok(Shell {
-            alloc,
-            files,
-            journal,
+            held,
             answer: Vec::new(alloc),
         })
     }
 }
 
 impl Session for Shell {
+    type Fate = Fate;
+
     ghost turn = { shell_turn };
 
-    fn line(&mut self, line: &[u8], out: &mut Vec<u8>) -> Result<Fate, AllocError> {
+    ghost may_befall = { may_befall };
+
+    fn line(&mut self, line: &[u8], out: &mut Vec<u8>) -> Result<Option<Fate>, AllocError> {
         self.answer.clear();
-        let fate = answer_line(
-            self.alloc,
-            &self.files,
-            &mut self.journal,
-            line,
-            &mut self.answer,
-        )?;
+        let fate = self.held.answer(read_line(line), &mut self.answer)?;
         out.extend_from_slice(self.answer.as_slice())?;
         Ok(fate)
     }
 
-    fn too_long(&mut self, out: &mut Vec<u8>) -> Result<Fate, AllocError> {
+    fn too_long(&mut self, out: &mut Vec<u8>) -> Result<Option<Fate>, AllocError> {
         self.answer.clear();
-        let fate = answer_long_line(&mut self.answer)?;
+        Fixed::LineTooLong.write(&mut self.answer)?;
         out.extend_from_slice(self.answer.as_slice())?;
-        Ok(fate)
+        Ok(None)
     }
 }

@@ -1,15 +1,17 @@
--- With no memory for the shell nothing is read.
+-- With no memory for the shell nothing is read; else the shell is served the lines, and the headline holds of any.
+use Rattle.std.proofs.Common.{subst}
+use Rattle.line_server.specs.Serving.{Serves}
 use Rattle.line_server.proofs.Ends.{Serves-memory}
-use Rattle.relnode.specs.Shell.{shell_turn, opened_shell}
-use Rattle.relnode.proofs.Replays.{lines-replayed}
+use Rattle.relnode.specs.Shell.{ShellState, shell_turn, may_befall, opened_shell}
+use Rattle.relnode.proofs.Replays.{lines-headline}
 use Rattle.relnode.proofs.run.run.Goals as goal
 
 pub returns-in_default-clause-ran : goal.returns-in_default-clause-ran
 returns-in_default-clause-ran g c =
-    (opened_shell c.args.files, Serves-memory shell_turn (opened_shell c.args.files) (g.R.Read.remaining c.args.reader.now) (g.W.Write.contents c.args.writer.now))
+    let serves = Serves-memory shell_turn may_befall (opened_shell c.args.files) (g.R.Read.remaining c.args.reader.now) (g.W.Write.contents c.args.writer.now) in
+    record { end = opened_shell c.args.files; serves = serves; headline = lines-headline c.args.files serves.fates _ }
 
-pub returns-in_default-clause-headline : goal.returns-in_default-clause-headline
-returns-in_default-clause-headline g c = lines-replayed c.args.files
-
-pub returns-clause-headline : goal.returns-clause-headline
-returns-clause-headline g c = lines-replayed c.args.files
+pub returns-clause-ran : goal.returns-clause-ran
+returns-clause-ran g c =
+    let serves = subst (λ (s : ShellState). Serves shell_turn may_befall s c.serve.new.session (g.R.Read.remaining c.args.reader.now) (g.R.Read.remaining c.serve.new.reader) (g.W.Write.contents c.args.writer.now) (g.W.Write.contents c.serve.new.writer) c.serve.result) c.in-Ok.ensures c.serve.ensures.served in
+    record { end = c.serve.new.session; serves = serves; headline = lines-headline c.args.files serves.fates _ }

@@ -1,20 +1,22 @@
 -- A line that is not UTF-8 is no command; any other is the text of its words.
-use Rattle.std.proofs.Common.{◌≡◌, false, true, rules, sym, ap, ◌∙◌}
+use Rattle.std.proofs.Common.{◌≡◌, false, true, Some, refl, sym, ap, ◌∙◌}
 use Rattle.std.specs.Str.{is_utf8}
 use Rattle.std.proofs.lemmas.Str.{is_utf8-from_IsUtf8}
+use Rattle.relnode.specs.Reading.{meant}
+use Rattle.relnode.specs.Request.{request_of}
 use Rattle.relnode.specs.Words.{words_of, is_silent}
 use Rattle.relnode.proofs.Lines.{not_utf8}
-use Rattle.relnode.proofs.commands.answer_line.Goals as goal
+use Rattle.relnode.proofs.request.read_line.Goals as goal
 
 pub returns-in_default : goal.returns-in_default
 returns-in_default c =
     let heard : is_silent c.args.line.now ≡ false = sym c.is_silent.ensures ∙ c.if-is_silent.false in
     let other : is_utf8 c.args.line.now ≡ false = not_utf8 c.args.line.now c.in_default.ensures.cases.0 in
-    rw (heard, other) (search rules)
+    rw (heard, other) refl
 
 pub returns-in-Some : goal.returns-in-Some
 returns-in-Some c =
     let heard : is_silent c.args.line.now ≡ false = sym c.is_silent.ensures ∙ c.if-is_silent.false in
     let text : is_utf8 c.args.line.now ≡ true = is_utf8-from_IsUtf8 c.args.line.now c.in-Ok.ensures.cases.1 in
-    let words = ap words_of (sym c.in-Ok.ensures.cases.0) ∙ c.in-Some.ensures in
-    rw (heard, text, words) c.obey.ensures
+    let asked_for : request_of (words_of c.args.line.now) ≡ Some (meant c.in-Some.request) = ap (λ l. request_of (words_of l)) (sym c.in-Ok.ensures.cases.0) ∙ sym c.in-Some.ensures in
+    rw (heard, text, asked_for) refl

@@ -1,0 +1,36 @@
+-- How the program ends, and with which status.
+use Rattle.std.specs.Prelude.{◌≡◌, ℕ, List, Option, None, Some, Result, Ok, Err}
+use Rattle.line_server.specs.declared.ended.Ended.{Ended}
+use Rattle.line_server.specs.declared.ended.Fault.{Fault as CommandsFault}
+use Rattle.relnode.specs.declared.ending.Fault.{Fault}
+use Rattle.relnode.specs.declared.ending.Fault.TheVariants.{CommandLine, Files, Commands, Output}
+use Rattle.relnode.specs.declared.options.OptionsError.{OptionsError}
+use Rattle.relnode.specs.declared.options.OptionsError.TheVariants.{Words, NotUtf8, Unread, Memory}
+use Rattle.relnode.specs.Files.{Contents}
+use Rattle.relnode.specs.Run.{Runs}
+
+-- the end of the program that the end of its run is
+abbrev pub end_by : Option CommandsFault → Result (Unit {0}) Fault
+end_by None = Ok tt
+end_by (Some fault) = Err (Commands fault)
+
+-- A run over files ended the program so.
+pub record EndsSo (files : Contents) (left rest held holds : Option (List ℕ)) (end : Result (Unit {0}) Fault) : Type 0 where
+  pub ended : Ended
+  pub ran : Runs files left rest held holds ended
+  pub ends : end ≡ end_by ended.fault
+
+-- the status of a command line that is bad, or that could not be read
+abbrev pub status_of_words : OptionsError → ℕ
+status_of_words (Words message) = 2
+status_of_words (NotUtf8 place) = 2
+status_of_words (Unread error) = 1
+status_of_words (Memory error) = 1
+
+-- The status: 0 at the end of the input, and where the help was written; 2 after a bad command line, and else 1.
+abbrev pub status_of : Result (Unit {0}) Fault → ℕ
+status_of (Ok u) = 0
+status_of (Err (CommandLine error)) = status_of_words error
+status_of (Err (Files error)) = 1
+status_of (Err (Commands fault)) = 1
+status_of (Err (Output error)) = 1

@@ -1,0 +1,81 @@
+// How the program ends.
+ghost use Rattle.std.specs.Prelude.{◌≡◌};
+ghost use Rattle.std.specs.Process.{exit_status};
+ghost use Rattle.relnode.specs.Ending.{EndsSo, status_of, status_of_words};
+
+use crate::files::Files;
+use crate::options::OptionsError;
+use crate::run::run;
+use crate::tree::TreeError;
+use std::alloc::Global;
+use std::io;
+use std::io::{Read, Write};
+use std::process::ExitCode;
+use thiserror::Error;
+
+/// Why the program ends with a status other than 0.
+#[derive(Debug, Drop, Error)]
+pub enum Fault {
+    /// The command line is bad.
+    #[error(transparent)]
+    CommandLine(#[from] OptionsError),
+    /// The files cannot be read.
+    #[error(transparent)]
+    Files(#[from] TreeError),
+    /// The commands could not all be read, or their answers not all be written.
+    #[error(transparent)]
+    Commands(#[from] line_server::Fault),
+    /// The text of `--help` or `--version` cannot be written.
+    #[error("cannot write the output: {0}")]
+    Output(#[from] io::Error),
+}
+
+/// Runs the commands of a reader over files, and ends as the run ended.
+///
+/// # Errors
+///
+/// `Commands` with the fault of the run, where it had one.
+pub fn run_to_end<R: Read, W: Write>(
+    alloc: Global,
+    files: Files,
+    vsn: &str,
+    reader: &mut R,
+    writer: &mut W,
+) -> Result<(), Fault>
+    ensures { EndsSo files (R.remaining reader.old) (R.remaining reader.new)
+        (W.contents writer.old) (W.contents writer.new) result }
+{
+    let ended = run(alloc, files, vsn, reader, writer);
+    match ended.fault {
+        None => Ok(()),
+        Some(fault) => Err(Fault::Commands(fault)),
+    }
+}
+
+/// The exit code of the program: 0 at the end of the input, 2 after a bad command line, and else 1.
+pub fn exit_code(end: &Result<(), Fault>) -> ExitCode
+    ensures { exit_status result ≡ status_of end.now }
+{
+    ExitCode::from(status(end))
+}
+
+/// The status that the program ends with.
+fn status(end: &Result<(), Fault>) -> u8
+    ensures { result ≡ status_of end.now }
+{
+    match end {
+        Ok(()) => 0,
+        Err(Fault::CommandLine(fault)) => status_of_words(fault),
+        Err(Fault::Files(_) | Fault::Commands(_) | Fault::Output(_)) => 1,
+    }
+}
+
+/// The status after a bad command line: 2 for bad words, and else 1.
+fn status_of_words(fault: &OptionsError) -> u8
+    ensures { result ≡ status_of_words fault.now }
+{
+    match fault {
+        OptionsError::Words(_) | OptionsError::NotUtf8(_) => 2,
+        OptionsError::Unread(_) | OptionsError::Memory(_) => 1,
+    }
+}
