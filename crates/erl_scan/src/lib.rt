@@ -10,8 +10,9 @@
 //!
 //! - [`Scanner::new`] stands at the start of the text.
 //! - [`Scanner::next_token`] gives the token that comes next behind blanks and comments, with its place, and stands
-//!   right behind it; it gives none exactly at the end. An error other than `Memory` is the fault that comes next, at
-//!   its place: a token's own fault at the token's first character, but a bad escape at its backslash.
+//!   right behind it; it gives none exactly at the end, and stands there. An error other than `Memory` is the fault
+//!   that comes next, at its place: a token's own fault at the token's first character, but a bad escape at its
+//!   backslash.
 //! - [`tokens_read_one_way`]: one thing comes next in a text, so that what `next_token` answers is fixed by the text,
 //!   want of memory aside, and as many tokens of a text are read in one way.
 //! - [`marks_are_longest`]: of the marks that a text begins with, the longest is read.
