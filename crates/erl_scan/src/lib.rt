@@ -1,10 +1,11 @@
 //! Tokens of Erlang texts (Erlang Reference Manual; after `erl_scan` of OTP 25).
 //!
 //! A [`Scanner`] stands in a text and gives its tokens one after the other, each as a [`Spot`]: the [`Token`], and the
-//! byte at which it begins. Contracts see what is left of the text as a list of code points, `left`. A number has no
-//! sign, and a float no value. What Erlang has and this scanner does not read, such as a string between three double
-//! quotes, is told as `Unsupported`. `erl_scan` differs in little: it has tokens for ``& @ \ ^ ` ~`` and 127, which here
-//! begin none, and it does not take U+FFFE and U+FFFF.
+//! byte at which it begins. Contracts see what is left of the text as a list of code points, `left`. An integer has no
+//! sign, and `2^64 - 1` stands for all from there on: which integers there are is for the reader of tokens to judge. A
+//! float has no value. What Erlang has and this scanner does not read, such as a string between three double quotes, is
+//! told as `Unsupported`. `erl_scan` differs in little: it has tokens for ``& @ \ ^ ` ~`` and 127, which here begin none,
+//! and it does not take U+FFFE and U+FFFF.
 //!
 //! # What is proved
 //!

@@ -131,7 +131,7 @@ none-string (at_tuple at fs ∷ os) = refl
 none-string (at_list at fs ∷ os) = refl
 none-string (at_tail at bar_at fs f ∷ os) = refl
 
-pub none-place : (os : List Bracketed) (at : ℕ) → end_place (end_at none_last os) at ≡ at
+none-place : (os : List Bracketed) (at : ℕ) → end_place (end_at none_last os) at ≡ at
 none-place [] at = refl
 none-place (at_tuple place fs ∷ os) at = refl
 none-place (at_list place fs ∷ os) at = refl

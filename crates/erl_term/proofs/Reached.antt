@@ -151,7 +151,7 @@ tells-string (Some b) string_end t = ap is_string t.1
 tells-string (Some b) (bar_end place) t = ap is_string t.0
 tells-string (Some b) other_end t = t.1.1.0
 
-pub tells-place : (o : Option Spot) (e : End) (at : ℕ) → Tells o e → range_place_by o at ≡ end_place e at
+tells-place : (o : Option Spot) (e : End) (at : ℕ) → Tells o e → range_place_by o at ≡ end_place e at
 tells-place None start_end at t = refl
 tells-place None (sign_end m place) at t = absurd t
 tells-place None string_end at t = absurd t

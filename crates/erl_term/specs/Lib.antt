@@ -6,7 +6,6 @@ pub mod OrderLaws
 pub mod Readable
 pub mod Reader
 pub mod Readers
-pub mod Reading
 pub mod Steps
 pub mod Strings
 pub mod Term

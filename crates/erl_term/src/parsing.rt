@@ -1,19 +1,15 @@
 // Reading texts of terms.
 ghost use Rattle.std.specs.Prelude.{◌≡◌, ◌⊎◌, ℕ, List, MatchResult};
 ghost use Rattle.std.specs.Str.{chars};
-ghost use Rattle.erl_chars.specs.Gaps.{after_gap};
 ghost use Rattle.erl_chars.specs.declared.error.Fault.TheVariants.{Memory as refused};
-ghost use Rattle.erl_scan.specs.Scanner.{left, total};
 ghost use Rattle.erl_term.specs.Faults.{FaultsFirst, IsRefused, IsTextOf, OneReading};
 ghost use Rattle.erl_term.specs.Readable.{PrintedReads};
-ghost use Rattle.erl_term.specs.Reader.{seen};
-ghost use Rattle.erl_term.specs.Reading.{NextScanned};
 ghost use Rattle.erl_term.specs.Term.{trees};
 
 mod reader;
 
 use crate::term::Term;
-use erl_scan::{Fault, ReadError, Scanner, Spot};
+use erl_scan::{Fault, ReadError, Scanner};
 use reader::Reader;
 use std::alloc::Global;
 use std::str;
@@ -45,21 +41,10 @@ fn read_text(alloc: Global, text: &str) -> Result<Vec<Term>, ReadError>
 {
     let mut scanner = Scanner::new(alloc, text);
     let mut reader = Reader::new(alloc);
-    while let Some(spot) = next_spot(&mut scanner, &reader)? {
+    while let Some(spot) = scanner.next_token()? {
         reader.take(spot)?;
     }
     reader.finish(text.len())
-}
-
-/// The next token, or its own fault where it is told.
-fn next_spot(scanner: &mut Scanner, reader: &Reader) -> Result<Option<Spot>, ReadError>
-    ensures scanned { NextScanned (total scanner.old) (after_gap (left scanner.old)) (left scanner.new) (seen reader.now) result }
-    ensures total { total scanner.new ≡ total scanner.old }
-{
-    match scanner.next_token() {
-        Ok(found) => Ok(found),
-        Err(error) => Err(reader.placed(error)),
-    }
 }
 
 /// A law: all bytes are a text of one list of terms, or refused for one reason at one byte, and never both.
