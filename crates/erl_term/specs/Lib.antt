@@ -1,5 +1,6 @@
 pub mod Ascii
 pub mod Faults
+pub mod FirstFault
 pub mod Grammar
 pub mod Order
 pub mod OrderLaws

@@ -3,6 +3,7 @@ ghost use Rattle.std.specs.Prelude.{◌≡◌, ◌⊎◌, ℕ, List, MatchResult
 ghost use Rattle.std.specs.Str.{chars};
 ghost use Rattle.erl_chars.specs.declared.error.Fault.TheVariants.{Memory as refused};
 ghost use Rattle.erl_term.specs.Faults.{FaultsFirst, IsRefused, IsTextOf, OneReading};
+ghost use Rattle.erl_term.specs.FirstFault.{FirstFault};
 ghost use Rattle.erl_term.specs.Readable.{PrintedReads};
 ghost use Rattle.erl_term.specs.Term.{trees};
 
@@ -53,6 +54,13 @@ pub fn texts_read_one_way()
 {
     erl_scan::tokens_read_one_way();
 }
+
+/// A law: the fault that a text is refused for is its first. Behind the tokens before it no text within the limits has
+/// the token that is told, and some text has those, but where a bar stands last and as many brackets are open as may
+/// be. There no text goes on.
+pub fn first_fault_is_first()
+    ensures { FirstFault }
+{}
 
 /// A law: what [`print`](crate::print) writes of a readable term, with a dot and a newline behind it, is the text of
 /// that term alone. [`Term::is_readable`] says which terms are.
