@@ -5,10 +5,10 @@ use Rattle.std.specs.Char.{digit_value}
 use Rattle.std.specs.Str.Parse.{digits_value_after}
 use Rattle.std.proofs.lemmas.Bool.{cases_Bool, cases_lt, lt-leb, le-leb, and_from, and_right}
 use Rattle.erl_chars.specs.Cursor.{first_of, after_first}
-use Rattle.erl_chars.specs.declared.error.Fault.TheVariants.{IntegerRange, Syntax}
+use Rattle.erl_chars.specs.declared.error.Fault.TheVariants.{Syntax}
 use Rattle.erl_scan.specs.declared.token.Token.TheVariants.{Integer}
-use Rattle.erl_scan.specs.Numbers.{Number, whole, real, no_base, begins_with_digit, number_by}
-use Rattle.erl_scan.specs.Saturated.{saturated, saturated_number}
+use Rattle.erl_scan.specs.Numbers.{Number, whole, real, no_base, begins_with_digit, number_by, saturated}
+use Rattle.erl_scan.specs.Saturated.{saturated_number}
 use Rattle.erl_scan.specs.Tokens.{token, fault, number_next}
 
 pub saturated_below : (n : ℕ) → n < 2 ^ 64 → saturated n ≡ n
@@ -26,14 +26,6 @@ saturated-saturated n = omega arith
 saturated_above : (n : ℕ) → 36 < n → 36 < saturated n
 unfolding saturated
 saturated_above n above = omega arith
-
-saturated-le : (n : ℕ) → saturated n ≤ 2 ^ 63 → saturated n ≡ n
-unfolding saturated
-saturated-le n le = omega arith
-
-le-saturated : (n : ℕ) → n ≤ 2 ^ 63 → saturated n ≡ n
-unfolding saturated
-le-saturated n le = omega arith
 
 -- a product by a base is no less
 product : (n base : ℕ) → 1 ≤ base → n ≤ n * base
@@ -93,23 +85,13 @@ number_by-saturated n (c ∷ cs) =
 
 -- what a number that was read is as a token
 
-pub integer_next : (v : ℕ) (number : Number) (here rest : List ℕ) → whole v rest ≡ saturated_number number → v ≤ 2 ^ 63 → number_next here number ≡ token (Integer v) rest
-integer_next v (whole n more) here rest e le =
+pub integer_next : (v : ℕ) (number : Number) (here rest : List ℕ) → whole v rest ≡ saturated_number number → number_next here number ≡ token (Integer v) rest
+integer_next v (whole n more) here rest e =
     let value : v ≡ saturated n = cc in
     let same : rest ≡ more = cc in
-    let exact : saturated n ≡ n = saturated-le n (omega arith) in
-    let low : nat_le n (2 ^ 63) ≡ true = le-leb n (2 ^ 63) (omega arith) in
-    rw low (rw (same, value, exact) refl)
-integer_next v (real more) here rest e le = cc
-integer_next v no_base here rest e le = cc
-
-pub too_great_next : (v : ℕ) (number : Number) (here rest : List ℕ) → whole v rest ≡ saturated_number number → 2 ^ 63 < v → number_next here number ≡ fault IntegerRange here
-too_great_next v (whole n more) here rest e above =
-    let value : v ≡ saturated n = cc in
-    let high : 2 ^ 63 < n = elim (cases_lt (2 ^ 63) n) [ inl h ↦ h | inr h ↦ let q = le-saturated n h in omega arith ] in
-    rw (lt-leb n (2 ^ 63) high) refl
-too_great_next v (real more) here rest e above = cc
-too_great_next v no_base here rest e above = cc
+    rw (same, value) refl
+integer_next v (real more) here rest e = cc
+integer_next v no_base here rest e = cc
 
 pub no_base_next : (number : Number) (here : List ℕ) → no_base ≡ saturated_number number → number_next here number ≡ fault Syntax here
 no_base_next (whole n more) here e = cc

@@ -1,5 +1,5 @@
 -- Numbers without a sign (Erlang Reference Manual, Numbers), by what is left of the text at their first character.
-use Rattle.std.specs.Prelude.{ℕ, ◌^◌, nat_le, ◌==◌, Bool, false, ◌&&◌, ◌||◌, if◌then◌else◌, List, [], ◌∷◌}
+use Rattle.std.specs.Prelude.{ℕ, ◌-◌, ◌^◌, min, nat_le, ◌==◌, Bool, false, ◌&&◌, ◌||◌, if◌then◌else◌, List, [], ◌∷◌}
 use Rattle.std.specs.Str.Parse.{digits_value}
 use Rattle.erl_chars.specs.Chars.{is_digit}
 
@@ -54,6 +54,6 @@ number_by n (c ∷ cs) =
 abbrev pub number_in : List ℕ → Number
 number_in cs = number_by (value_in 10 cs) (after_digits 10 cs)
 
--- the greatest integer that is read without a sign: that of the least negative one
-abbrev pub greatest_magnitude : ℕ
-greatest_magnitude = 2 ^ 63
+-- a number in 64 bits, where the greatest stands for all that are greater
+unfoldable pub saturated : ℕ → ℕ
+saturated n = min n (2 ^ 64 - 1)

@@ -1,12 +1,9 @@
--- Numbers in 64 bits, where the greatest stands for all that are greater.
-use Rattle.std.specs.Prelude.{◌≡◌, ℕ, ◌-◌, ◌^◌, min, List, [], ◌∷◌, Option, Some, None}
+-- Numbers as they are read, in 64 bits.
+use Rattle.std.specs.Prelude.{◌≡◌, ℕ, List, [], ◌∷◌, Option, Some, None}
 use Rattle.std.specs.Char.{digit_value}
 use Rattle.erl_scan.specs.declared.numbers.Number.{Number as Read}
 use Rattle.erl_scan.specs.declared.numbers.Number.TheVariants.{Integer, Float, NoBase}
-use Rattle.erl_scan.specs.Numbers.{Number, whole, real, no_base, digits_on, after_digits}
-
-unfoldable pub saturated : ℕ → ℕ
-saturated n = min n (2 ^ 64 - 1)
+use Rattle.erl_scan.specs.Numbers.{Number, whole, real, no_base, digits_on, after_digits, saturated}
 
 -- a number that was read, and what is left behind it
 abbrev pub number_of : Read → List ℕ → Number

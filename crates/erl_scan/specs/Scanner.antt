@@ -1,5 +1,5 @@
 -- A scanner as contracts see it, and what its answers say.
-use Rattle.std.specs.Prelude.{◌≡◌, ℕ, List, Option, Some, None, Result, Ok, Err}
+use Rattle.std.specs.Prelude.{◌≡◌, ℕ, List, [], Option, Some, None, Result, Ok, Err}
 use Rattle.erl_chars.specs.declared.error.Fault.TheVariants.{Memory}
 use Rattle.erl_chars.specs.declared.error.ReadError.{ReadError}
 use Rattle.erl_chars.specs.Cursor.{place, left as left_of, total as total_of}
@@ -21,6 +21,6 @@ pub data IsFault (whole : ℕ) (here : List ℕ) (error : ReadError) : Type 0 wh
 
 -- what an answer says of what is left, of a text of so many bytes, and of what is left after it
 abbrev pub Scans : ℕ → List ℕ → List ℕ → Result (Option Spot) ReadError → Type 0
-Scans whole here rest (Ok None) = Comes here ends
+Scans whole here rest (Ok None) = Comes here ends × (rest ≡ [])
 Scans whole here rest (Ok (Some s)) = Comes here (token s.what rest) × (s.at ≡ place whole here)
 Scans whole here rest (Err e) = IsFault whole here e

@@ -1,8 +1,8 @@
 -- Tokens (Erlang Reference Manual; after `erl_scan` of OTP 25, which differs in little): what a text begins with, and a
 -- text as a list of tokens.
-use Rattle.std.specs.Prelude.{◌≡◌, ℕ, nat_le, nat_lt, ◌==◌, Bool, true, false, ◌&&◌, ◌||◌, if◌then◌else◌, List, [], ◌∷◌, length, Option, Some, None}
+use Rattle.std.specs.Prelude.{◌≡◌, ℕ, nat_lt, ◌==◌, Bool, true, false, ◌&&◌, ◌||◌, if◌then◌else◌, List, [], ◌∷◌, length, Option, Some, None}
 use Rattle.erl_chars.specs.declared.error.Fault.{Fault}
-use Rattle.erl_chars.specs.declared.error.Fault.TheVariants.{BadChar, Unclosed, BadEscape, IntegerRange, Unsupported, AtomTooLong, Syntax}
+use Rattle.erl_chars.specs.declared.error.Fault.TheVariants.{BadChar, Unclosed, BadEscape, Unsupported, AtomTooLong, Syntax}
 use Rattle.erl_chars.specs.Chars.{is_blank, is_digit, is_small, is_name_char, begins_variable, front, after_front}
 use Rattle.erl_chars.specs.Cursor.{byte_count, place}
 use Rattle.erl_chars.specs.Gaps.{after_gap}
@@ -13,7 +13,7 @@ use Rattle.erl_scan.specs.declared.token.Spot.{Spot}
 use Rattle.erl_scan.specs.declared.word.Word.{Word}
 use Rattle.erl_scan.specs.Words.{word_of}
 use Rattle.erl_scan.specs.Marks.{Marked, mark_in}
-use Rattle.erl_scan.specs.Numbers.{Number, whole, real, no_base, number_in, greatest_magnitude}
+use Rattle.erl_scan.specs.Numbers.{Number, whole, real, no_base, number_in, saturated}
 
 -- what comes next in a text, where no blank or comment comes
 pub data Next : Type 0 where
@@ -26,12 +26,9 @@ pub data Next : Type 0 where
 
 -- Numbers
 
--- an integer without a sign, which is told at its first character where it is too great for any
-abbrev pub integer : List ℕ → ℕ → List ℕ → Next
-integer here n rest = if nat_le n greatest_magnitude then token (Integer n) rest else fault IntegerRange here
-
+-- an integer without a sign, whatever its size
 abbrev pub number_next : List ℕ → Number → Next
-number_next here (whole n rest) = integer here n rest
+number_next here (whole n rest) = token (Integer (saturated n)) rest
 number_next here (real rest) = token Float rest
 number_next here no_base = fault Syntax here
 

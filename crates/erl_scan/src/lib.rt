@@ -1,17 +1,19 @@
 //! Tokens of Erlang texts (Erlang Reference Manual; after `erl_scan` of OTP 25).
 //!
 //! A [`Scanner`] stands in a text and gives its tokens one after the other, each as a [`Spot`]: the [`Token`], and the
-//! byte at which it begins. Contracts see what is left of the text as a list of code points, `left`. A number has no
-//! sign, and a float no value. What Erlang has and this scanner does not read, such as a string between three double
-//! quotes, is told as `Unsupported`. `erl_scan` differs in little: it has tokens for ``& @ \ ^ ` ~`` and 127, which here
-//! begin none, and it does not take U+FFFE and U+FFFF.
+//! byte at which it begins. Contracts see what is left of the text as a list of code points, `left`. An integer has no
+//! sign, and `2^64 - 1` stands for all from there on: which integers there are is for the reader of tokens to judge. A
+//! float has no value. What Erlang has and this scanner does not read, such as a string between three double quotes, is
+//! told as `Unsupported`. `erl_scan` differs in little: it has tokens for ``& @ \ ^ ` ~`` and 127, which here begin none,
+//! and it does not take U+FFFE and U+FFFF.
 //!
 //! # What is proved
 //!
 //! - [`Scanner::new`] stands at the start of the text.
 //! - [`Scanner::next_token`] gives the token that comes next behind blanks and comments, with its place, and stands
-//!   right behind it; it gives none exactly at the end. An error other than `Memory` is the fault that comes next, at
-//!   its place: a token's own fault at the token's first character, but a bad escape at its backslash.
+//!   right behind it; it gives none exactly at the end, and stands there. An error other than `Memory` is the fault
+//!   that comes next, at its place: a token's own fault at the token's first character, but a bad escape at its
+//!   backslash.
 //! - [`tokens_read_one_way`]: one thing comes next in a text, so that what `next_token` answers is fixed by the text,
 //!   want of memory aside, and as many tokens of a text are read in one way.
 //! - [`marks_are_longest`]: of the marks that a text begins with, the longest is read.

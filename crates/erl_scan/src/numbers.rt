@@ -3,16 +3,13 @@ ghost use Rattle.std.specs.Prelude.{◌≡◌, ◌*◌, ◌+◌, ◌≤◌, Some
 ghost use Rattle.erl_chars.specs.Cursor.{left as left_of, first_of};
 ghost use Rattle.erl_scan.specs.Scanner.{left, total};
 ghost use Rattle.erl_scan.specs.Answers.{Answers};
-ghost use Rattle.erl_scan.specs.Numbers.{begins_with_digit, value_in, after_digits, after_exponent, number_in, number_by};
-ghost use Rattle.erl_scan.specs.Saturated.{saturated, saturated_number, number_of, GoesOn};
+ghost use Rattle.erl_scan.specs.Numbers.{begins_with_digit, value_in, after_digits, after_exponent, number_in, number_by, saturated};
+ghost use Rattle.erl_scan.specs.Saturated.{saturated_number, number_of, GoesOn};
 ghost use Rattle.erl_scan.specs.Tokens.{number_next};
 
 use crate::scanner::Scanner;
 use crate::token::Token;
 use erl_chars::{Cursor, Fault, ReadError};
-
-/// The greatest integer without a sign: that of the least negative one.
-const GREATEST_MAGNITUDE: u64 = 1 << 63;
 
 /// A number without a sign.
 #[derive(Clone, Copy)]
@@ -26,22 +23,14 @@ pub(crate) enum Number {
 }
 
 impl<'a> Scanner<'a> {
-    /// Reads a number, and judges whether there is such an integer.
+    /// Reads a number.
     pub(crate) fn number_token(&mut self) -> Result<Token, ReadError>
         ensures answers { Answers (total self.old) (number_next (left self.old) (number_in (left self.old))) result (left self.new) }
         ensures total { total self.new ≡ total self.old }
     {
         let at = self.cursor.place();
         match self.number() {
-            Number::Integer(value) => {
-                if value > GREATEST_MAGNITUDE {
-                    return Err(ReadError {
-                        kind: Fault::IntegerRange,
-                        at,
-                    });
-                }
-                Ok(Token::Integer(value))
-            }
+            Number::Integer(value) => Ok(Token::Integer(value)),
             Number::Float => Ok(Token::Float),
             Number::NoBase => Err(ReadError {
                 kind: Fault::Syntax,

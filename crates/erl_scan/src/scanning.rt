@@ -27,8 +27,8 @@ impl<'a> Scanner<'a> {
         }
     }
 
-    /// The next token, behind blanks and comments, or none at the end of the text. After an error the scanner stands
-    /// somewhere behind the token before.
+    /// The next token, behind blanks and comments, or none at the end of the text, where the scanner then stands. After
+    /// an error it stands somewhere behind the token before.
     ///
     /// # Errors
     ///

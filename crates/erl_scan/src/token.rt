@@ -6,7 +6,8 @@ use erl_chars::{Name, Text};
 /// A token of an Erlang text (Erlang Reference Manual; after `erl_scan`).
 #[derive(Drop)]
 pub enum Token {
-    /// An integer, at most 2^63: in decimal, in another base, or a character behind `$`. It has no sign.
+    /// An integer without a sign, in decimal or in another base, or a character behind `$`. `u64::MAX` stands for all
+    /// that are greater.
     Integer(u64),
     /// A float. Its value is not read.
     Float,

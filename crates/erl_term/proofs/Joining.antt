@@ -1,10 +1,10 @@
 -- Reading a text: the tokens that were scanned and taken so far, and each way in which it ends.
 use Rattle.std.proofs.Common.{◌≡◌, ℕ, Bool, true, false, cond, List, [], ◌∷◌, ◌++◌, length, Some, None, Ok, Err, refl, ap, sym, subst, ◌∙◌, true≢false, ◌⊎◌, inl, inr, eqb, ◌&&◌}
-use Rattle.std.specs.Prelude.{Option, nat_le, nat_lt, Result, MatchResult}
+use Rattle.std.specs.Prelude.{Option, nat_lt, Result, MatchResult}
 use Rattle.std.specs.Str.{chars, IsUtf8}
 use Rattle.std.proofs.lemmas.Str.{encodes-chars}
 use Rattle.erl_chars.specs.declared.error.Fault.{Fault}
-use Rattle.erl_chars.specs.declared.error.Fault.TheVariants.{NotUtf8, BadChar, Unclosed, BadEscape, IntegerRange, Unsupported, MissingDot, TooDeep, AtomTooLong, Syntax, Memory}
+use Rattle.erl_chars.specs.declared.error.Fault.TheVariants.{Unsupported, AtomTooLong, Memory}
 use Rattle.erl_chars.specs.declared.error.ReadError.{ReadError}
 use Rattle.erl_chars.specs.Cursor.{byte_count, place}
 use Rattle.erl_chars.specs.Gaps.{after_gap}
@@ -16,17 +16,15 @@ use Rattle.erl_scan.specs.declared.word.Word.{Word}
 use Rattle.erl_scan.specs.declared.token.Token.TheVariants.{Integer, Atom}
 use Rattle.erl_scan.specs.Words.{word_of}
 use Rattle.erl_scan.specs.Marks.{Marked, mark_in}
-use Rattle.erl_scan.specs.Numbers.{Number, whole, real, no_base, number_in, greatest_magnitude}
+use Rattle.erl_scan.specs.Numbers.{Number, whole, real, no_base, number_in}
 use Rattle.erl_scan.specs.Tokens.{Next, ends, token, fault, Comes, NextBy, Reads, atom_next, string_next, number_next, escaped_next, character_next, name_next, mark_next, plain_next, ends_form, begins_two_quotes}
 use Rattle.erl_scan.specs.Scanner.{IsFault, memory, faulty}
 use Rattle.erl_term.specs.Tree.{Trees}
-use Rattle.erl_term.specs.Reading.{IsPlaced}
-use Rattle.erl_term.specs.Grammar.{Forms, start}
-use Rattle.erl_term.specs.Faults.{spot_part, last_of, own_place, NoneFaults, IsFaulty, FaultsFirst, IsTextOf}
-use Rattle.erl_term.specs.Steps.{Seen, nothing_seen, goes, fails, take_part, done, cut_short, end_of, told_by}
-use Rattle.erl_term.proofs.Judging.{Bracketed, Lasting, none_last, sign_last, form_last, strings_last, show, show_last, end_at}
-use Rattle.erl_term.proofs.Judges.{none-place}
-use Rattle.erl_term.proofs.Reached.{Stands, stands-none, stands-next, tells-place, same_goes, goes-fails}
+use Rattle.erl_term.specs.Grammar.{start}
+use Rattle.erl_term.specs.Faults.{spot_part, NoneFaults, IsFaulty, FaultsFirst, IsTextOf}
+use Rattle.erl_term.specs.Steps.{Seen, nothing_seen, goes, fails, take_part, done, cut_short, end_of}
+use Rattle.erl_term.proofs.Judging.{none_last, show}
+use Rattle.erl_term.proofs.Reached.{stands-none, stands-next, same_goes, goes-fails}
 use Rattle.erl_term.proofs.Ends.{Somewhere, Goes, it_goes, it_fails, goes_or_fails, faulty-from_fails, sound-from_taken, cut-from_end, text-from_end}
 
 -- These tokens were scanned, and taken one by one: so much of the text's characters is left, and the reader holds this.
@@ -80,36 +78,15 @@ fault-from_taking cs left rest held s k told so comes at took = record {
   first = sound so.before so.here;
 }
 
--- where the fault of a token by itself is told
-told-own : (k : Fault) (before : List Spot) (w : Forms) (os : List Bracketed) (r : Lasting) (at : ℕ) → Stands before w os r → told_by k (show_last r) at ≡ own_place k before at
-told-own NotUtf8 before w os r at holds = refl
-told-own BadChar before w os r at holds = refl
-told-own Unclosed before w os r at holds = refl
-told-own BadEscape before w os r at holds = refl
-told-own IntegerRange before w os none_last at holds =
-    sym (tells-place (last_of before) (end_at none_last os) at holds.tells ∙ none-place os at)
-told-own IntegerRange before w os (sign_last m at1) at holds =
-    sym (tells-place (last_of before) (end_at (sign_last m at1) os) at holds.tells)
-told-own IntegerRange before w os (form_last f) at holds =
-    sym (tells-place (last_of before) (end_at (form_last f) os) at holds.tells)
-told-own IntegerRange before w os (strings_last cs others) at holds =
-    sym (tells-place (last_of before) (end_at (strings_last cs others) os) at holds.tells)
-told-own Unsupported before w os r at holds = refl
-told-own MissingDot before w os r at holds = refl
-told-own TooDeep before w os r at holds = refl
-told-own AtomTooLong before w os r at holds = refl
-told-own Syntax before w os r at holds = refl
-told-own Memory before w os r at holds = refl
-
 -- a token that is faulty by itself, or want of memory
-pub fault-from_scanning : (cs left : List ℕ) (held : Seen) (e : ReadError) (told : ℕ) → SoFar cs left held → IsFault (byte_count cs) (after_gap left) e → told ≡ told_by e.kind held.last e.at → (e.kind ≡ Memory) ⊎ FaultsFirst cs e.kind told
-fault-from_scanning cs left held e told so (memory is) told_is = inl is
-fault-from_scanning cs left held e told so (faulty at comes e_at) told_is = inr (record {
+pub fault-from_scanning : (cs left : List ℕ) (held : Seen) (e : ReadError) → SoFar cs left held → IsFault (byte_count cs) (after_gap left) e → (e.kind ≡ Memory) ⊎ FaultsFirst cs e.kind e.at
+fault-from_scanning cs left held e so (memory is) = inl is
+fault-from_scanning cs left held e so (faulty at comes e_at) = inr (record {
   before = so.before;
   here = after_gap left;
   next = fault e.kind at;
   reached = record { left = left; read = so.read; gap = refl; comes = comes };
-  faults = (refl, told_is ∙ (ap (λ h. told_by e.kind h.last e.at) so.holds ∙ (told-own e.kind so.before so.here.whole so.here.brackets so.here.last e.at so.here.stands ∙ ap (own_place e.kind so.before) e_at)));
+  faults = (refl, e_at);
   first = sound so.before so.here;
 })
 
@@ -146,8 +123,7 @@ string-comes here unclosed = refl
 string-comes here (bad_escape at) = refl
 
 number-comes : (here : List ℕ) (n : Number) → is_end (number_next here n) ≡ false
-number-comes here (whole n rest) =
-    either (nat_le n greatest_magnitude) (token (Integer n) rest) (fault IntegerRange here) refl refl
+number-comes here (whole n rest) = refl
 number-comes here (real rest) = refl
 number-comes here no_base = refl
 
@@ -212,9 +188,9 @@ start-reads text left total held utf8 left_is total_is held_is = record {
 }
 
 -- the next token's own fault
-pub scan-fault : (text left : List ℕ) (total : ℕ) (held : Seen) (e : ReadError) → Joined text left total held → IsPlaced total (after_gap left) held e → (e.kind ≡ Memory) ⊎ FaultsFirst (chars text) e.kind e.at
-scan-fault text left total held e joined placed =
-    subst (λ k. (k ≡ Memory) ⊎ FaultsFirst (chars text) k e.at) (sym placed.kind) (fault-from_scanning (chars text) left held placed.scanned e.at joined.so_far (subst (λ n. IsFault n (after_gap left) placed.scanned) joined.total_is placed.is) placed.told)
+pub scan-fault : (text left : List ℕ) (total : ℕ) (held : Seen) (e : ReadError) → Joined text left total held → IsFault total (after_gap left) e → (e.kind ≡ Memory) ⊎ FaultsFirst (chars text) e.kind e.at
+scan-fault text left total held e joined is =
+    fault-from_scanning (chars text) left held e joined.so_far (subst (λ n. IsFault n (after_gap left) e) joined.total_is is)
 
 -- one token more
 pub take-more : (text left rest : List ℕ) (total after : ℕ) (held new : Seen) (s : Spot) → Joined text left total held → Comes (after_gap left) (token s.what rest) × (s.at ≡ place total (after_gap left)) → take_part held (spot_part s) s.at ≡ goes new → after ≡ total → Joined text rest after new

@@ -12,7 +12,7 @@ use Rattle.erl_scan.specs.declared.token.Token.{Token}
 use Rattle.erl_scan.specs.declared.token.Spot.{Spot}
 use Rattle.erl_scan.specs.Tokens.{Next, ends, token, fault, Comes}
 use Rattle.erl_scan.proofs.OneWay.{comes_some}
-use Rattle.erl_term.specs.Faults.{spot_part, not_utf8, faults, own_place, FaultsFirst, IsJudged, is_text, is_refused}
+use Rattle.erl_term.specs.Faults.{spot_part, not_utf8, faults, FaultsFirst, IsJudged, is_text, is_refused}
 use Rattle.erl_term.specs.Steps.{Seen, nothing_seen, Outcome, goes, fails, take_part, Ending, done, cut_short, end_of}
 use Rattle.erl_term.proofs.Joining.{SoFar, so_far-none, so_far-more, sound, fault-from_taking, fault-from_end, text-from_so_far}
 use Rattle.erl_term.proofs.Shorter.{token-less}
@@ -20,7 +20,7 @@ use Rattle.erl_term.proofs.Shorter.{token-less}
 -- Characters
 
 -- a token that is faulty by itself
-fault-by_itself : (cs left : List ℕ) (held : Seen) (k : Fault) (at : List ℕ) → (so : SoFar cs left held) → Comes (after_gap left) (fault k at) → FaultsFirst cs k (own_place k so.before (place (byte_count cs) at))
+fault-by_itself : (cs left : List ℕ) (held : Seen) (k : Fault) (at : List ℕ) → (so : SoFar cs left held) → Comes (after_gap left) (fault k at) → FaultsFirst cs k (place (byte_count cs) at)
 fault-by_itself cs left held k at so comes = record {
   before = so.before;
   here = after_gap left;
@@ -56,7 +56,7 @@ judged-by_next bytes left held (token t rest) utf8 so behind comes =
     let s = spot_at t (place (byte_count (chars bytes)) (after_gap left)) in
     judged-by_token bytes left held s rest (take_part held (spot_part s) s.at) utf8 so behind comes refl refl
 judged-by_next bytes left held (fault k at) utf8 so behind comes =
-    is_refused k (own_place k so.before (place (byte_count (chars bytes)) at)) (faults utf8 (fault-by_itself (chars bytes) left held k at so comes))
+    is_refused k (place (byte_count (chars bytes)) at) (faults utf8 (fault-by_itself (chars bytes) left held k at so comes))
 
 judged-within : (n : ℕ) (bytes left : List ℕ) (held : Seen) → length left < n → IsUtf8 bytes → SoFar (chars bytes) left held → IsJudged bytes
 judged-within zero bytes left held less utf8 so = absurd (omega (arith, less))

@@ -16,23 +16,23 @@ use Rattle.erl_term.proofs.Truth.{never, and-true}
 
 -- Forms within the limits
 
-fine-then : (d : ℕ) (fs : Forms) (f : Form) → FineForms d fs → FineForm d f → FineForms d (then fs f)
+pub fine-then : (d : ℕ) (fs : Forms) (f : Form) → FineForms d fs → FineForm d f → FineForms d (then fs f)
 fine-then d fs f (fit, (tails, nested)) (fit1, (tails1, nested1)) =
     (and-true (all_fit fs) (fits f) fit fit1, (and-true (have_list_tails fs) (has_list_tails f) tails tails1, omega (arith, nested, nested1)))
 
-fine-tuple : (d : ℕ) (fs : Forms) (f : Form) → FineForms (suc d) fs → FineForm (suc d) f → FineForm d (some_tuple fs f)
+pub fine-tuple : (d : ℕ) (fs : Forms) (f : Form) → FineForms (suc d) fs → FineForm (suc d) f → FineForm d (some_tuple fs f)
 fine-tuple d fs f (fit, (tails, nested)) (fit1, (tails1, nested1)) =
     (and-true (all_fit fs) (fits f) fit fit1, (and-true (have_list_tails fs) (has_list_tails f) tails tails1, omega (arith, nested, nested1)))
 
-fine-list : (d : ℕ) (fs : Forms) (f : Form) → FineForms (suc d) fs → FineForm (suc d) f → FineForm d (some_list fs f)
+pub fine-list : (d : ℕ) (fs : Forms) (f : Form) → FineForms (suc d) fs → FineForm (suc d) f → FineForm d (some_list fs f)
 fine-list d fs f (fit, (tails, nested)) (fit1, (tails1, nested1)) =
     (and-true (all_fit fs) (fits f) fit fit1, (and-true (have_list_tails fs) (has_list_tails f) tails tails1, omega (arith, nested, nested1)))
 
-fine-tailed : (d : ℕ) (fs : Forms) (f g : Form) → FineForms (suc d) fs → FineForm (suc d) f → FineForm (suc d) g → is_list g ≡ true → FineForm d (tailed_list fs f g)
+pub fine-tailed : (d : ℕ) (fs : Forms) (f g : Form) → FineForms (suc d) fs → FineForm (suc d) f → FineForm (suc d) g → is_list g ≡ true → FineForm d (tailed_list fs f g)
 fine-tailed d fs f g (fit, (tails, nested)) (fit1, (tails1, nested1)) (fit2, (tails2, nested2)) is =
     (and-true (all_fit fs) (fits f && fits g) fit (and-true (fits f) (fits g) fit1 fit2), (and-true (have_list_tails fs) (has_list_tails f && (is_list g && has_list_tails g)) tails (and-true (has_list_tails f) (is_list g && has_list_tails g) tails1 (and-true (is_list g) (has_list_tails g) is tails2)), omega (arith, nested, nested1, nested2)))
 
-fine-strings : (d : ℕ) (cs : List ℕ) (others : List (List ℕ)) → suc d ≤ deepest → FineForm d (strings cs others)
+pub fine-strings : (d : ℕ) (cs : List ℕ) (others : List (List ℕ)) → suc d ≤ deepest → FineForm d (strings cs others)
 fine-strings d cs others le = (refl, (refl, omega (arith, le)))
 
 -- the same, at another number for the depth
@@ -115,7 +115,7 @@ depth_one d (at_tuple at fs) f = omega (arith, f.1.1)
 depth_one d (at_list at fs) f = omega (arith, f.1.1)
 depth_one d (at_tail at bar_at fs g) f = omega (arith, f.0.1.1)
 
-depth : (os : List Bracketed) → FineAll os → length os ≤ deepest
+pub depth : (os : List Bracketed) → FineAll os → length os ≤ deepest
 depth [] f = omega arith
 depth (o ∷ os) f = omega (arith, depth_one (suc (length os)) o f.0)
 
@@ -131,7 +131,7 @@ none-string (at_tuple at fs ∷ os) = refl
 none-string (at_list at fs ∷ os) = refl
 none-string (at_tail at bar_at fs f ∷ os) = refl
 
-pub none-place : (os : List Bracketed) (at : ℕ) → end_place (end_at none_last os) at ≡ at
+none-place : (os : List Bracketed) (at : ℕ) → end_place (end_at none_last os) at ≡ at
 none-place [] at = refl
 none-place (at_tuple place fs ∷ os) at = refl
 none-place (at_list place fs ∷ os) at = refl
@@ -269,11 +269,11 @@ closed-next w o os r p at place g fine sound no_tail plain opens_not closes_it t
     is_next sound no_tail (λ e. never (sym (plain (end_string (end_at r (o ∷ os)))) ∙ e)) w os (form_last g) (record { stepped = stepped; took = took; tells = tells; moves = one_less opens_not closes_it (place_of o) refl; fine = record { whole = fine.whole; brackets = fine.brackets.1.1; last = (fine_g, is) } })
 
 -- a bracket in a tail's place is no tuple's
-no_tuple : (os : List Bracketed) → is_tail os && true ≡ false → is_tail os ≡ true → {A : Type 0} → A
+pub no_tuple : (os : List Bracketed) → is_tail os && true ≡ false → is_tail os ≡ true → {A : Type 0} → A
 no_tuple os kept is = never (sym kept ∙ ap (λ b. b && true) is)
 
 -- the last element of a row that ends
-last-form : (o : Bracketed) (os : List Bracketed) (f : Form) → FineForm (length (o ∷ os)) f → FineForm (suc (length os)) f
+pub last-form : (o : Bracketed) (os : List Bracketed) (f : Form) → FineForm (length (o ∷ os)) f → FineForm (suc (length os)) f
 last-form o os f fine = at_depth (length (o ∷ os)) (suc (length os)) f (suc-length o os) fine
 
 last-strings : (o : Bracketed) (os : List Bracketed) (cs : List ℕ) (others : List (List ℕ)) → suc (length (o ∷ os)) ≤ deepest → FineForm (suc (length os)) (strings cs others)

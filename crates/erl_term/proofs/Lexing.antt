@@ -1,12 +1,12 @@
 -- Printed pieces of terms as tokens: what comes first in a text that begins with one.
-use Rattle.std.proofs.Common.{◌≡◌, ℕ, ◌/◌, ◌%◌, ◌<◌, ◌≤◌, Bool, true, false, cond, not, ◌&&◌, ◌||◌, List, [], ◌∷◌, ◌++◌, length, map, Some, None, refl, ap, ap₂, sym, subst, ◌∙◌, append_assoc, arith, true≢false, eqb, ne_eqb}
+use Rattle.std.proofs.Common.{◌≡◌, ℕ, ◌/◌, ◌%◌, ◌<◌, ◌^◌, ◌≤◌, Bool, true, false, cond, not, ◌&&◌, ◌||◌, List, [], ◌∷◌, ◌++◌, length, map, Some, None, refl, ap, ap₂, sym, subst, ◌∙◌, append_assoc, arith, true≢false, eqb, ne_eqb}
 use Rattle.std.specs.Prelude.{nat_le, nat_lt, codes}
 use Rattle.std.specs.List.{flat_map, list_any, list_all}
 use Rattle.std.specs.Str.{bytes_eq}
 use Rattle.std.specs.Str.Parse.{digits_value, AllDigits}
 use Rattle.std.specs.Char.{digit_value, digit_char}
 use Rattle.std.specs.Fmt.{decimal}
-use Rattle.std.proofs.lemmas.Bool.{cond-true, cond-false, eqb-true, leb-true, le-leb, lt-ltb}
+use Rattle.std.proofs.lemmas.Bool.{cond-true, cond-false, eqb-true, leb-true, lt-ltb}
 use Rattle.std.proofs.lemmas.Str.{digit_value-digit_char}
 use Rattle.std.proofs.lemmas.Str.Parse.{digit_from_value}
 use Rattle.std.proofs.lemmas.Fmt.{decimal_is_IsNumeral}
@@ -23,7 +23,8 @@ use Rattle.erl_scan.specs.declared.token.Token.TheVariants.{Integer, Atom, Strin
 use Rattle.erl_scan.specs.declared.mark.Mark.TheVariants.{OpenBrace, CloseBrace, OpenBracket, CloseBracket, Comma, Minus}
 use Rattle.erl_scan.specs.Words.{word_text, all_words, word_among, word_of}
 use Rattle.erl_scan.specs.Marks.{mark_in}
-use Rattle.erl_scan.specs.Numbers.{digits_on, after_digits, whole, number_by, number_in, greatest_magnitude}
+use Rattle.erl_scan.proofs.Digits.{saturated_below}
+use Rattle.erl_scan.specs.Numbers.{digits_on, after_digits, whole, number_by, number_in}
 use Rattle.erl_scan.specs.Tokens.{Next, token, fault, Comes, NextBy, begins_two_quotes, number_next, name_next, mark_next, plain_next}
 use Rattle.erl_term.specs.Text.{is_lower, is_name_char, is_quoted_word, is_plain, hex_digit, hex, quoted_char, atom_text, string_char}
 use Rattle.erl_term.proofs.Truth.{not_true, and_left, and_right, or_true}
@@ -90,16 +91,16 @@ digits-past [] rest all ends = ends
 digits-past (d ∷ ds) rest all ends =
     cond-true (is_digit 10 d) _ _ (lt-ltb (digit_value d) 10 all.0) ∙ digits-past ds rest all.1 ends
 
-numeral-comes : (ds rest : List ℕ) (n : ℕ) → 0 < length ds → AllDigits 10 ds → digits_value 10 ds ≡ n → n ≤ greatest_magnitude → Ends rest → Comes (ds ++ rest) (token (Integer n) rest)
+numeral-comes : (ds rest : List ℕ) (n : ℕ) → 0 < length ds → AllDigits 10 ds → digits_value 10 ds ≡ n → n ≤ 2 ^ 63 → Ends rest → Comes (ds ++ rest) (token (Integer n) rest)
 numeral-comes [] rest n some all value le ends = absurd (omega (arith, some))
 numeral-comes (d ∷ ds) rest n some all value le ends =
-    plain d (ds ++ rest) (token (Integer n) rest) (ne_eqb d 39 (λ e. omega (arith, e, digit_from_value d all.0))) (ne_eqb d 34 (λ e. omega (arith, e, digit_from_value d all.0))) (sym (cond-true (is_digit 10 d) _ _ (lt-ltb (digit_value d) 10 all.0) ∙ (ap (number_next (d ∷ (ds ++ rest))) number ∙ cond-true (nat_le n greatest_magnitude) _ _ (le-leb n greatest_magnitude le))))
+    plain d (ds ++ rest) (token (Integer n) rest) (ne_eqb d 39 (λ e. omega (arith, e, digit_from_value d all.0))) (ne_eqb d 34 (λ e. omega (arith, e, digit_from_value d all.0))) (sym (cond-true (is_digit 10 d) _ _ (lt-ltb (digit_value d) 10 all.0) ∙ (ap (number_next (d ∷ (ds ++ rest))) number ∙ ap (λ m. token (Integer m) rest) (saturated_below n (omega (arith, le))))))
   where
     number : number_in (d ∷ (ds ++ rest)) ≡ whole n rest
     number =
         ap₂ (λ xs ys. number_by (digits_value 10 xs) ys) (digits-all (d ∷ ds) rest all ends.digits) (digits-past (d ∷ ds) rest all ends.no_digits) ∙ (ap (λ m. number_by m rest) value ∙ ends.number n)
 
-pub comes-decimal : (n : ℕ) (rest : List ℕ) → n ≤ greatest_magnitude → Ends rest → Comes (decimal n ++ rest) (token (Integer n) rest)
+pub comes-decimal : (n : ℕ) (rest : List ℕ) → n ≤ 2 ^ 63 → Ends rest → Comes (decimal n ++ rest) (token (Integer n) rest)
 comes-decimal n rest le ends =
     let numeral = decimal_is_IsNumeral n (omega (arith, le)) in
     numeral-comes (decimal n) rest n numeral.0.0 numeral.0.1 numeral.1 le ends
@@ -126,7 +127,7 @@ numeral-minus (d ∷ ds) rest some all =
     let range = digit_from_value d all.0 in
     sym (ap (mark_next (45 ∷ d ∷ (ds ++ rest))) (mark-minus d (ds ++ rest) (ne_eqb 62 d (λ e. omega (arith, e, range.1))) (ne_eqb 45 d (λ e. omega (arith, e, range.0)))))
 
-pub comes-minus : (n : ℕ) (rest : List ℕ) → n ≤ greatest_magnitude → Comes (45 ∷ (decimal n ++ rest)) (token (MarkOf Minus) (decimal n ++ rest))
+pub comes-minus : (n : ℕ) (rest : List ℕ) → n ≤ 2 ^ 63 → Comes (45 ∷ (decimal n ++ rest)) (token (MarkOf Minus) (decimal n ++ rest))
 comes-minus n rest le =
     let numeral = decimal_is_IsNumeral n (omega (arith, le)) in
     numeral-minus (decimal n) rest numeral.0.0 numeral.0.1
@@ -136,7 +137,7 @@ numeral-gap : (ds rest : List ℕ) → 0 < length ds → AllDigits 10 ds → aft
 numeral-gap [] rest some all = absurd (omega (arith, some))
 numeral-gap (d ∷ ds) rest some all = starts_digit d ds (ds ++ rest) all.0
 
-pub gap-decimal : (n : ℕ) (rest : List ℕ) → n ≤ greatest_magnitude → after_gap (decimal n ++ rest) ≡ decimal n ++ rest
+pub gap-decimal : (n : ℕ) (rest : List ℕ) → n ≤ 2 ^ 63 → after_gap (decimal n ++ rest) ≡ decimal n ++ rest
 gap-decimal n rest le =
     let numeral = decimal_is_IsNumeral n (omega (arith, le)) in
     numeral-gap (decimal n) rest numeral.0.0 numeral.0.1

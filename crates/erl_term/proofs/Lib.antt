@@ -1,6 +1,7 @@
 pub mod Ascii
 pub mod Bounds
 pub mod Ends
+pub mod FirstFault
 pub mod Joining
 pub mod Judged
 pub mod Judges

@@ -127,7 +127,7 @@ tells-minus (Some b) string_end t = ap is_minus t.1
 tells-minus (Some b) (bar_end place) t = ap is_minus t.0
 tells-minus (Some b) other_end t = minus-from_sign (spot_part b) t.0
 
-tells-bar : (o : Option Spot) (e : End) → Tells o e → last_is is_bar o ≡ end_bar e
+pub tells-bar : (o : Option Spot) (e : End) → Tells o e → last_is is_bar o ≡ end_bar e
 tells-bar None start_end t = refl
 tells-bar None (sign_end m place) t = absurd t
 tells-bar None string_end t = absurd t
@@ -151,7 +151,7 @@ tells-string (Some b) string_end t = ap is_string t.1
 tells-string (Some b) (bar_end place) t = ap is_string t.0
 tells-string (Some b) other_end t = t.1.1.0
 
-pub tells-place : (o : Option Spot) (e : End) (at : ℕ) → Tells o e → range_place_by o at ≡ end_place e at
+tells-place : (o : Option Spot) (e : End) (at : ℕ) → Tells o e → range_place_by o at ≡ end_place e at
 tells-place None start_end at t = refl
 tells-place None (sign_end m place) at t = absurd t
 tells-place None string_end at t = absurd t

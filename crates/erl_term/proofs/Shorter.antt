@@ -5,7 +5,7 @@ use Rattle.std.specs.List.{list_all}
 use Rattle.std.specs.Str.Parse.{digits_value}
 use Rattle.std.proofs.lemmas.Option.{none-some, same_Some}
 use lib.Utf8.{scalar}
-use Rattle.erl_chars.specs.declared.error.Fault.TheVariants.{AtomTooLong, IntegerRange, Unsupported}
+use Rattle.erl_chars.specs.declared.error.Fault.TheVariants.{AtomTooLong, Unsupported}
 use Rattle.erl_chars.specs.Chars.{is_digit, is_small, is_name_char, begins_variable, after_front, front}
 use Rattle.erl_chars.specs.Gaps.{past_gap, after_gap}
 use Rattle.erl_chars.specs.Chars.{is_blank}
@@ -17,7 +17,7 @@ use Rattle.erl_scan.specs.declared.token.Token.{Token}
 use Rattle.erl_scan.specs.declared.token.Token.TheVariants.{Integer, Atom, Variable, Dot}
 use Rattle.erl_scan.specs.Words.{word_of}
 use Rattle.erl_scan.specs.Marks.{Marked, mark_text, all_marks, behind, or_else, mark_among, mark_in}
-use Rattle.erl_scan.specs.Numbers.{Number, whole, real, no_base, begins_with_digit, after_digits, value_in, after_sign, after_exponent, number_by, number_in, greatest_magnitude}
+use Rattle.erl_scan.specs.Numbers.{Number, whole, real, no_base, begins_with_digit, after_digits, value_in, after_sign, after_exponent, number_by, number_in}
 use Rattle.erl_scan.specs.Tokens.{Next, ends, token, fault, Comes, NextBy, atom_next, string_next, begins_two_quotes, number_next, escaped_next, character_next, name_next, mark_next, plain_next, ends_form}
 use Rattle.erl_term.proofs.Truth.{and_left, and_right}
 
@@ -91,7 +91,7 @@ number_by-le n (c ∷ cs) =
     either_number (eqb c 46 && begins_with_digit 10 cs) (real (after_exponent (after_digits 10 cs))) _ (length (c ∷ cs)) (omega (arith, after_exponent-le (after_digits 10 cs), after_digits-le 10 cs)) (either_number (eqb c 35) _ (whole n (c ∷ cs)) (length (c ∷ cs)) (either_number (nat_le 2 n && nat_le n 36) _ no_base (length (c ∷ cs)) (either_number (begins_with_digit n cs) (whole (value_in n cs) (after_digits n cs)) (whole n (c ∷ cs)) (length (c ∷ cs)) (omega (arith, after_digits-le n cs)) (omega arith)) (omega arith)) (omega arith))
 
 number_next-le : (here : List ℕ) (number : Number) (n : ℕ) → left_of number ≤ n → left_by (number_next here number) ≤ n
-number_next-le here (whole m rest) n le = either_next (nat_le m greatest_magnitude) (token (Integer m) rest) (fault IntegerRange here) n le (omega arith)
+number_next-le here (whole m rest) n le = le
 number_next-le here (real rest) n le = le
 number_next-le here no_base n le = omega arith
 

@@ -263,7 +263,7 @@ spell-fresh w os (sign_read m) s p t is e = absurd (none-some t e)
 spell-fresh w os (form_read f) s p t is e = absurd (none-some t e)
 spell-fresh w os (strings_read cs others) s p t is e = absurd (none-some t e)
 
-signed-parts : (m : Bool) (n : ℕ) → form_parts (signed m n) ≡ sign_part m ∷ number n ∷ []
+pub signed-parts : (m : Bool) (n : ℕ) → form_parts (signed m n) ≡ sign_part m ∷ number n ∷ []
 signed-parts true n = refl
 signed-parts false n = refl
 
@@ -396,18 +396,28 @@ spell-run (p ∷ ps) s t e = spell-on p ps s t (step s p) (λ u. spell-run ps u 
 
 -- Each state is a start
 
--- the brackets are closed behind a form, and a dot ends it
-complete : (os : List Standing) (w : Forms) (f : Form) → (others : List Part) × ((fs : Forms) × (text_parts w ++ (open_parts os ++ (form_parts f ++ others)) ≡ text_parts fs))
-complete [] w f = (dot ∷ [], (then w f, refl))
+-- what closes the brackets behind a form, and the dot that ends it
+abbrev pub closers : List Standing → List Part
+closers [] = dot ∷ []
+closers (in_tuple fs ∷ os) = close_tuple ∷ closers os
+closers (in_list fs ∷ os) = close_list ∷ closers os
+closers (in_tail fs g ∷ os) = close_list ∷ closers os
+
+-- the forms of the text that it is then
+abbrev pub closed_up : List Standing → Forms → Form → Forms
+closed_up [] w f = then w f
+closed_up (in_tuple fs ∷ os) w f = closed_up os w (some_tuple fs f)
+closed_up (in_list fs ∷ os) w f = closed_up os w (some_list fs f)
+closed_up (in_tail fs g ∷ os) w f = closed_up os w (tailed_list fs g f)
+
+complete : (os : List Standing) (w : Forms) (f : Form) → text_parts w ++ (open_parts os ++ (form_parts f ++ closers os)) ≡ text_parts (closed_up os w f)
+complete [] w f = refl
 complete (in_tuple fs ∷ os) w f =
-    let c = complete os w (some_tuple fs f) in
-    (close_tuple ∷ c.0, (c.1.0, ap (λ x. text_parts w ++ x) (append_assoc (open_parts os) (open_tuple ∷ with_commas fs) (form_parts f ++ (close_tuple ∷ c.0)) ∙ ap (λ x. open_parts os ++ (open_tuple ∷ x)) (sym (three (with_commas fs) (form_parts f) (close_tuple ∷ []) c.0))) ∙ c.1.1))
+    ap (λ x. text_parts w ++ x) (append_assoc (open_parts os) (open_tuple ∷ with_commas fs) (form_parts f ++ (close_tuple ∷ closers os)) ∙ ap (λ x. open_parts os ++ (open_tuple ∷ x)) (sym (three (with_commas fs) (form_parts f) (close_tuple ∷ []) (closers os)))) ∙ complete os w (some_tuple fs f)
 complete (in_list fs ∷ os) w f =
-    let c = complete os w (some_list fs f) in
-    (close_list ∷ c.0, (c.1.0, ap (λ x. text_parts w ++ x) (append_assoc (open_parts os) (open_list ∷ with_commas fs) (form_parts f ++ (close_list ∷ c.0)) ∙ ap (λ x. open_parts os ++ (open_list ∷ x)) (sym (three (with_commas fs) (form_parts f) (close_list ∷ []) c.0))) ∙ c.1.1))
+    ap (λ x. text_parts w ++ x) (append_assoc (open_parts os) (open_list ∷ with_commas fs) (form_parts f ++ (close_list ∷ closers os)) ∙ ap (λ x. open_parts os ++ (open_list ∷ x)) (sym (three (with_commas fs) (form_parts f) (close_list ∷ []) (closers os)))) ∙ complete os w (some_list fs f)
 complete (in_tail fs g ∷ os) w f =
-    let c = complete os w (tailed_list fs g f) in
-    (close_list ∷ c.0, (c.1.0, ap (λ x. text_parts w ++ x) (append_assoc (open_parts os) (open_list ∷ (with_commas fs ++ (form_parts g ++ bar ∷ []))) (form_parts f ++ (close_list ∷ c.0)) ∙ ap (λ x. open_parts os ++ (open_list ∷ x)) (three (with_commas fs) (form_parts g) (bar ∷ []) (form_parts f ++ (close_list ∷ c.0)) ∙ sym (tail-in (with_commas fs) (form_parts g) (form_parts f) c.0))) ∙ c.1.1))
+    ap (λ x. text_parts w ++ x) (append_assoc (open_parts os) (open_list ∷ (with_commas fs ++ (form_parts g ++ bar ∷ []))) (form_parts f ++ (close_list ∷ closers os)) ∙ ap (λ x. open_parts os ++ (open_list ∷ x)) (three (with_commas fs) (form_parts g) (bar ∷ []) (form_parts f ++ (close_list ∷ closers os)) ∙ sym (tail-in (with_commas fs) (form_parts g) (form_parts f) (closers os)))) ∙ complete os w (tailed_list fs g f)
   where
     tail-in : (a b d e : List Part) → (a ++ (b ++ (bar ∷ (d ++ close_list ∷ [])))) ++ e ≡ a ++ (b ++ (bar ∷ (d ++ (close_list ∷ e))))
     tail-in a b d e = three a b (bar ∷ (d ++ close_list ∷ [])) e ∙ ap (λ x. a ++ (b ++ (bar ∷ x))) (append_assoc d (close_list ∷ []) e)
@@ -419,15 +429,15 @@ complete_read (sign_read m) = (number 0 ∷ [], (signed m 0, sym (signed-parts m
 complete_read (form_read f) = ([], (f, append-nil (form_parts f)))
 complete_read (strings_read cs others) = ([], (strings cs others, append-nil (form_parts (strings cs others))))
 
+-- and with it the text
+pub spells-on : (w : Forms) (os : List Standing) (r : Read) (more : List Part) (f : Form) → read_parts r ++ more ≡ form_parts f → spells (state w os r) ++ (more ++ closers os) ≡ text_parts (closed_up os w f)
+spells-on w os r more f is =
+    three (text_parts w) (open_parts os) (read_parts r) (more ++ closers os) ∙ (ap (λ x. text_parts w ++ (open_parts os ++ x)) (sym (append_assoc (read_parts r) more (closers os)) ∙ ap (λ x. x ++ closers os) is) ∙ complete os w f)
+
 spells-start : (s : State) → IsStart (spells s)
 spells-start (state w os r) =
     let rest = complete_read r in
-    let c = complete os w rest.1.0 in
-    record {
-      others = rest.0 ++ c.0;
-      forms = c.1.0;
-      written = three (text_parts w) (open_parts os) (read_parts r) (rest.0 ++ c.0) ∙ (ap (λ x. text_parts w ++ (open_parts os ++ x)) (sym (append_assoc (read_parts r) rest.0 c.0) ∙ ap (λ x. x ++ c.0) rest.1.1) ∙ c.1.1);
-    }
+    record { others = rest.0 ++ closers os; forms = closed_up os w rest.1.0; written = spells-on w os r rest.0 rest.1.0 rest.1.1 }
 
 -- what is taken is a start
 pub start-from_run : (ps : List Part) (s : State) → run beginning ps ≡ Some s → IsStart ps

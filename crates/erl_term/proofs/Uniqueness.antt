@@ -137,7 +137,7 @@ first_fault comes reads cs k l told place' f g =
 
 -- Texts
 
-taken : (spots : List Spot) (ts : Trees) → IsText (parts spots) ts → take_all nothing_seen spots ≡ goes (record { whole = ts; open_ones = []; last = nothing })
+pub taken : (spots : List Spot) (ts : Trees) → IsText (parts spots) ts → take_all nothing_seen spots ≡ goes (record { whole = ts; open_ones = []; last = nothing })
 taken spots ts is =
     take_text is.forms spots is.written is.fit is.tails is.nested ∙ ap (λ us. goes (record { whole = us; open_ones = []; last = nothing })) (sym is.meaning)
 

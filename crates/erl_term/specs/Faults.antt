@@ -140,16 +140,11 @@ pub data IsCutShort (before : List Spot) (total : ℕ) (kind : Fault) (told : �
   -- behind a whole term
   behind_term : opened before ≡ closed before → (s : Spot) → last_of before ≡ Some s → is_sign (spot_part s) ≡ false → is_dot (spot_part s) ≡ false → kind ≡ MissingDot → told ≡ total → IsCutShort before total kind told
 
--- where a fault of a token by itself is told: an integer that is too great for any is told at its sign
-abbrev pub own_place : Fault → List Spot → ℕ → ℕ
-own_place IntegerRange before at = range_place before at
-own_place kind before at = at
-
 -- what comes next is a fault: a token that is faulty by itself, one that is faulty where it stands, or the end
 abbrev pub NextFaults : List ℕ → List Spot → List ℕ → Next → Fault → ℕ → Type 0
 NextFaults cs before here ends kind told = IsCutShort before (byte_count cs) kind told
 NextFaults cs before here (token t rest) kind told = IsFaulty before (part_of t) (place (byte_count cs) here) kind told
-NextFaults cs before here (fault k at) kind told = (kind ≡ k) × (told ≡ own_place k before (place (byte_count cs) at))
+NextFaults cs before here (fault k at) kind told = (kind ≡ k) × (told ≡ place (byte_count cs) at)
 
 -- none of these tokens is faulty where it stands
 abbrev pub NoneFaults : List Spot → Type 0

@@ -1,12 +1,12 @@
 pub mod Ascii
 pub mod Faults
+pub mod FirstFault
 pub mod Grammar
 pub mod Order
 pub mod OrderLaws
 pub mod Readable
 pub mod Reader
 pub mod Readers
-pub mod Reading
 pub mod Steps
 pub mod Strings
 pub mod Term

@@ -231,11 +231,3 @@ end_by whole [] (text ts) total = cut_short MissingDot total
 
 abbrev pub end_of : Seen → ℕ → Ending
 end_of s total = end_by s.whole s.open_ones s.last total
-
--- where a fault of a token by itself is told: an integer that is too great for any is told at its sign
-abbrev pub told_by : Fault → Last → ℕ → ℕ
-told_by IntegerRange nothing at = at
-told_by IntegerRange (sign m place) at = place
-told_by IntegerRange (term t) at = at
-told_by IntegerRange (text ts) at = at
-told_by kind last at = at

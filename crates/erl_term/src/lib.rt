@@ -17,7 +17,9 @@
 //!   place, want of memory aside. The grammar is one of whole token lists (`IsText`), and the first fault is that of
 //!   the first token that is faulty by itself or that no text has behind the tokens before it, or the end
 //!   (`IsRefused`). [`texts_read_one_way`]: all bytes are a text of one list of terms, or refused for one reason at one
-//!   byte, and never both.
+//!   byte, and never both. [`first_fault_is_first`]: no text within the limits has a faulty token behind the tokens
+//!   before it, and these are those of some text, as far as they go, but in one case: where the last is a bar, and as
+//!   many brackets are open as may be, no text goes on from them.
 //! - [`printed_terms_are_read`]: what `print` writes of a term, with a dot and a newline behind it, is the text of that
 //!   term alone, where no process identifier stands in it and it is nested at most 256 deep
 //!   ([`Term::is_readable`]).
@@ -43,7 +45,7 @@ mod tests;
 
 pub use atom::{Atom, AtomError};
 pub use erl_scan::{Fault, ReadError};
-pub use parsing::{printed_terms_are_read, read_terms, texts_read_one_way};
+pub use parsing::{first_fault_is_first, printed_terms_are_read, read_terms, texts_read_one_way};
 pub use printing::{print, print_atom};
 pub use readers::{character, eight, first, five, four, one, seven, six, string, three, two};
 pub use term::{Term, Terms};

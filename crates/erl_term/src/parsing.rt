@@ -1,19 +1,16 @@
 // Reading texts of terms.
 ghost use Rattle.std.specs.Prelude.{◌≡◌, ◌⊎◌, ℕ, List, MatchResult};
 ghost use Rattle.std.specs.Str.{chars};
-ghost use Rattle.erl_chars.specs.Gaps.{after_gap};
 ghost use Rattle.erl_chars.specs.declared.error.Fault.TheVariants.{Memory as refused};
-ghost use Rattle.erl_scan.specs.Scanner.{left, total};
 ghost use Rattle.erl_term.specs.Faults.{FaultsFirst, IsRefused, IsTextOf, OneReading};
+ghost use Rattle.erl_term.specs.FirstFault.{FirstFault};
 ghost use Rattle.erl_term.specs.Readable.{PrintedReads};
-ghost use Rattle.erl_term.specs.Reader.{seen};
-ghost use Rattle.erl_term.specs.Reading.{NextScanned};
 ghost use Rattle.erl_term.specs.Term.{trees};
 
 mod reader;
 
 use crate::term::Term;
-use erl_scan::{Fault, ReadError, Scanner, Spot};
+use erl_scan::{Fault, ReadError, Scanner};
 use reader::Reader;
 use std::alloc::Global;
 use std::str;
@@ -45,21 +42,10 @@ fn read_text(alloc: Global, text: &str) -> Result<Vec<Term>, ReadError>
 {
     let mut scanner = Scanner::new(alloc, text);
     let mut reader = Reader::new(alloc);
-    while let Some(spot) = next_spot(&mut scanner, &reader)? {
+    while let Some(spot) = scanner.next_token()? {
         reader.take(spot)?;
     }
     reader.finish(text.len())
-}
-
-/// The next token, or its own fault where it is told.
-fn next_spot(scanner: &mut Scanner, reader: &Reader) -> Result<Option<Spot>, ReadError>
-    ensures scanned { NextScanned (total scanner.old) (after_gap (left scanner.old)) (left scanner.new) (seen reader.now) result }
-    ensures total { total scanner.new ≡ total scanner.old }
-{
-    match scanner.next_token() {
-        Ok(found) => Ok(found),
-        Err(error) => Err(reader.placed(error)),
-    }
 }
 
 /// A law: all bytes are a text of one list of terms, or refused for one reason at one byte, and never both.
@@ -68,6 +54,13 @@ pub fn texts_read_one_way()
 {
     erl_scan::tokens_read_one_way();
 }
+
+/// A law: the fault that a text is refused for is its first. Behind the tokens before it no text within the limits has
+/// the token that is told, and some text has those, but where a bar stands last and as many brackets are open as may
+/// be. There no text goes on.
+pub fn first_fault_is_first()
+    ensures { FirstFault }
+{}
 
 /// A law: what [`print`](crate::print) writes of a readable term, with a dot and a newline behind it, is the text of
 /// that term alone. [`Term::is_readable`] says which terms are.

@@ -2,7 +2,7 @@
 ghost use Rattle.std.specs.Prelude.{◌≡◌, MatchResult};
 ghost use Rattle.erl_term.specs.Grammar.{part_of, part_of_mark, part_of_word};
 ghost use Rattle.erl_term.specs.Reader.{seen, Gives};
-ghost use Rattle.erl_term.specs.Steps.{Seen, nothing_seen, done, cut_short, fails, take_part, end_of, told_by};
+ghost use Rattle.erl_term.specs.Steps.{Seen, nothing_seen, done, cut_short, fails, take_part, end_of};
 ghost use Rattle.erl_term.specs.Term.{trees};
 
 mod brackets;
@@ -128,20 +128,6 @@ impl Reader {
                 kind: Fault::MissingDot,
                 at: total,
             }),
-        }
-    }
-
-    /// A fault of the next token by itself where it is told: an integer out of range at the sign before it.
-    pub(crate) fn placed(&self, error: ReadError) -> ReadError
-        ensures kind { result.kind ≡ error.kind }
-        ensures place { result.at ≡ told_by error.kind (seen self.now).last error.at }
-    {
-        match (&self.last, error.kind) {
-            (Last::Sign { at, .. }, Fault::IntegerRange) => ReadError {
-                kind: Fault::IntegerRange,
-                at: *at,
-            },
-            _ => error,
         }
     }
 

@@ -1,6 +1,6 @@
 -- A sum is saturated once, where its parts are.
 use Rattle.std.proofs.Common.{◌≡◌, ℕ, ◌+◌, ◌-◌, ◌*◌, ◌^◌, min, arith, rules}
-use Rattle.erl_scan.specs.Saturated.{saturated}
+use Rattle.erl_scan.specs.Numbers.{saturated}
 use Rattle.erl_scan.proofs.numbers.with_digit.Goals as goal
 
 again : (n d m r : ℕ) → m ≡ min n (2 ^ 64 - 1) → r ≡ min (m + d) (2 ^ 64 - 1) → r ≡ saturated (n + d)

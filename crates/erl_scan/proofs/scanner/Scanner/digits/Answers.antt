@@ -1,7 +1,7 @@
 -- One digit more, or none.
 use Rattle.std.proofs.Common.{◌∙◌, refl, sym, ap}
 use Rattle.std.specs.Str.Parse.{digits_value_after}
-use Rattle.erl_scan.specs.Saturated.{saturated}
+use Rattle.erl_scan.specs.Numbers.{saturated}
 use Rattle.erl_scan.proofs.Digits.{digits_step, saturated-zero, saturated-saturated}
 use Rattle.erl_scan.proofs.scanner.Scanner.digits.Goals as goal
 

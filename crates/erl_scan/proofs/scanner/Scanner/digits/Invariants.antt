@@ -1,8 +1,7 @@
 -- The digits to come, behind the value so far, give the value.
 use Rattle.std.proofs.Common.{◌≡◌, length}
 use Rattle.std.specs.Str.Parse.{digits_value_after}
-use Rattle.erl_scan.specs.Numbers.{digits_on, after_digits, value_in}
-use Rattle.erl_scan.specs.Saturated.{saturated}
+use Rattle.erl_scan.specs.Numbers.{digits_on, after_digits, value_in, saturated}
 use Rattle.erl_scan.specs.Scanner.{left, total}
 use Rattle.erl_scan.proofs.scanner.Scanner.digits.Given as goal
 
