@@ -1,12 +1,21 @@
 # make test: the merge gate. Its last line is 'N passed, M failed'.
+# make check: proves the crates alone, over what earlier checks kept, and tries no edit and no test: for the working day.
+# make edits: sees that the prover refuses each must-fail edit, those of edits/ too, many in one check (tools/edits);
+#   make edits CRATE=name tries one crate's. Its last line is 'N passed, M failed'.
 # make relnode: proves and builds the program, and leaves it at crates/relnode/out/relnode.
 # make demo: the program on the example tree.
 RT ?= rt
 
-.PHONY: test demo relnode
+.PHONY: test check edits demo relnode
 
 test:
 	@$(RT) ci
+
+check:
+	@$(RT) all check
+
+edits:
+	@tools/edits $(CRATE)
 
 relnode:
 	@cd crates/relnode && $(RT) run -- data/tree Z < /dev/null > /dev/null
