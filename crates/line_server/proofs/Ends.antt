@@ -11,25 +11,25 @@ use Rattle.line_server.specs.declared.ended.Ended.{Ended}
 use Rattle.line_server.specs.declared.pending.Pending.{Pending}
 use Rattle.line_server.specs.Lines.{whole_lines, rest_of, last_line, lines_of, longest_line}
 use Rattle.line_server.specs.Session.{Turns, Fates, MayBefallEach, text_of}
-use Rattle.line_server.specs.Serving.{IsToldWhole, IsToldInPart, Tells, Serves}
+use Rattle.line_server.specs.Serving.{IsWholeText, IsFrontOfText, Writes, Serves}
 use Rattle.line_server.specs.Progress.{SoFar, IsOfWriting, GoesOn, StopsIn, Finishes, fault_of}
 use Rattle.line_server.proofs.Telling.{text_of-whole, MayBefallEach-more}
 
 -- Some chunks are served: the reader gave bytes, the text of their whole lines is written, and no answer waits.
 pub record Served {S F : Type 0} (turn : Turns S F) (may_befall : Fates S F) (start now : S) (left rest held holds : Option (List ℕ)) (pending : Pending) : Type 0 where
   pub bytes : List ℕ
-  pub told : List ℕ
+  pub output : List ℕ
   pub consumed : Consumes left rest bytes
-  pub written : Appends held holds told
-  pub so_far : SoFar turn may_befall start bytes told now pending
+  pub written : Appends held holds output
+  pub so_far : SoFar turn may_befall start bytes output now pending
   pub none_left : pending.answers.text.items ≡ []
 
-Tells-part : {S F : Type 0} (turn : Turns S F) (fates : List (Option F)) (start new : S) (bytes told : List ℕ) (fault : Fault) → IsOfWriting fault → IsToldInPart turn fates start (lines_of bytes) told → Tells (Some fault) turn fates start new bytes told
-Tells-part turn fates start new bytes told (Read e) writing part = absurd writing
-Tells-part turn fates start new bytes told Endless writing part = absurd writing
-Tells-part turn fates start new bytes told (Write e) writing part = part
-Tells-part turn fates start new bytes told WriteZero writing part = part
-Tells-part turn fates start new bytes told Memory writing part = part
+Writes-part : {S F : Type 0} (turn : Turns S F) (fates : List (Option F)) (start new : S) (bytes output : List ℕ) (fault : Fault) → IsOfWriting fault → IsFrontOfText turn fates start (lines_of bytes) output → Writes (Some fault) turn fates start new bytes output
+Writes-part turn fates start new bytes output (Read e) writing part = absurd writing
+Writes-part turn fates start new bytes output Endless writing part = absurd writing
+Writes-part turn fates start new bytes output (Write e) writing part = part
+Writes-part turn fates start new bytes output WriteZero writing part = part
+Writes-part turn fates start new bytes output Memory writing part = part
 
 no_fault : (fault : Fault) (P : Type 0) → Some fault ≡ None → P
 no_fault fault P is = absurd (let never : ⊥ = cc in never)
@@ -39,7 +39,7 @@ module _ {S F : Type 0} (turn : Turns S F) (may_befall : Fates S F) (start : S) 
   pub Served-none : (left held : Option (List ℕ)) (pending : Pending) → pending.line.bytes.items ≡ [] → pending.answers.text.items ≡ [] → pending.answers.is_refused ≡ false → Served turn may_befall start start left left held held pending
   Served-none left held pending line text unrefused = record {
     bytes = [];
-    told = [];
+    output = [];
     consumed = Consumes-nil left;
     written = Appends-nil held;
     so_far = record {
@@ -59,10 +59,10 @@ module _ {S F : Type 0} (turn : Turns S F) (may_befall : Fates S F) (start : S) 
   pub Served-chunk : (chunk : List ℕ) (old new : S) (left rest resting held holds holding : Option (List ℕ)) (before after : Pending) → Served turn may_befall start old left rest held holds before → Consumes rest resting chunk → GoesOn turn may_befall chunk old new holds holding before after → after.answers.text.items ≡ [] → Served turn may_befall start new left resting held holding after
   Served-chunk chunk old new left rest resting held holds holding before after served read on none = record {
     bytes = served.bytes ++ chunk;
-    told = served.told ++ on.taken;
+    output = served.output ++ on.taken;
     consumed = Consumes-trans left rest resting served.bytes chunk served.consumed read;
-    written = Appends-trans held holds holding served.told on.taken served.written on.appended;
-    so_far = on.goes start served.bytes served.told served.so_far;
+    written = Appends-trans held holds holding served.output on.taken served.written on.appended;
+    so_far = on.goes start served.bytes served.output served.so_far;
     none_left = none;
   }
 
@@ -70,7 +70,7 @@ module _ {S F : Type 0} (turn : Turns S F) (may_befall : Fates S F) (start : S) 
   pub Served-kept : (now : S) (left rest resting held holds : Option (List ℕ)) (pending : Pending) → Served turn may_befall start now left rest held holds pending → Keeps rest resting → Served turn may_befall start now left resting held holds pending
   Served-kept now left rest resting held holds pending served kept = record {
     bytes = served.bytes;
-    told = served.told;
+    output = served.output;
     consumed = Consumes-kept left rest resting served.bytes served.consumed kept;
     written = served.written;
     so_far = served.so_far;
@@ -78,11 +78,11 @@ module _ {S F : Type 0} (turn : Turns S F) (may_befall : Fates S F) (start : S) 
   }
 
   -- the text of the whole lines is written
-  told_whole : (now : S) (left rest held holds : Option (List ℕ)) (pending : Pending) (served : Served turn may_befall start now left rest held holds pending) → IsToldWhole turn served.so_far.fates start now (whole_lines served.bytes) served.told
-  told_whole now left rest held holds pending served =
+  whole_text : (now : S) (left rest held holds : Option (List ℕ)) (pending : Pending) (served : Served turn may_befall start now left rest held holds pending) → IsWholeText turn served.so_far.fates start now (whole_lines served.bytes) served.output
+  whole_text now left rest held holds pending served =
       let so = served.so_far in
       record {
-        text = sym (so.text ∙ ap (λ l. served.told ++ l) served.none_left ∙ append-nil served.told);
+        text = sym (so.text ∙ ap (λ l. served.output ++ l) served.none_left ∙ append-nil served.output);
         stands = so.stands;
       }
 
@@ -96,10 +96,10 @@ module _ {S F : Type 0} (turn : Turns S F) (may_befall : Fates S F) (start : S) 
   Serves-read e now left rest resting held holds pending served kept = record {
     bytes = served.bytes;
     fates = served.so_far.fates;
-    told = served.told;
+    output = served.output;
     consumed = Consumes-kept left rest resting served.bytes served.consumed kept;
     written = served.written;
-    tells = told_whole now left rest held holds pending served;
+    writes = whole_text now left rest held holds pending served;
     at_end = no_fault (Read e) (IsAtEnd resting);
     befell = befell_lines served.so_far.fates served.bytes served.so_far.answered served.so_far.befell;
     unrefused = served.so_far.unrefused;
@@ -110,10 +110,10 @@ module _ {S F : Type 0} (turn : Turns S F) (may_befall : Fates S F) (start : S) 
   Serves-endless now left rest held holds pending served = record {
     bytes = served.bytes;
     fates = served.so_far.fates;
-    told = served.told;
+    output = served.output;
     consumed = served.consumed;
     written = served.written;
-    tells = told_whole now left rest held holds pending served;
+    writes = whole_text now left rest held holds pending served;
     at_end = no_fault Endless (IsAtEnd rest);
     befell = befell_lines served.so_far.fates served.bytes served.so_far.answered served.so_far.befell;
     unrefused = served.so_far.unrefused;
@@ -124,14 +124,14 @@ module _ {S F : Type 0} (turn : Turns S F) (may_befall : Fates S F) (start : S) 
   pub Serves-stopped : (chunk : List ℕ) (old new : S) (left rest resting held holds holding : Option (List ℕ)) (before after : Pending) (fault : Fault) → Served turn may_befall start old left rest held holds before → Consumes rest resting chunk → StopsIn turn may_befall chunk old holds holding before after fault → Serves turn may_befall start new left resting held holding record { fault = Some fault; is_refused = after.answers.is_refused }
   Serves-stopped chunk old new left rest resting held holds holding before after fault served read stops =
       let bytes = served.bytes ++ chunk in
-      let part = stops.part start served.bytes served.told served.so_far in
+      let part = stops.part start served.bytes served.output served.so_far in
       record {
         bytes = bytes;
         fates = part.fates;
-        told = served.told ++ stops.taken;
+        output = served.output ++ stops.taken;
         consumed = Consumes-trans left rest resting served.bytes chunk served.consumed read;
-        written = Appends-trans held holds holding served.told stops.taken served.written stops.appended;
-        tells = Tells-part turn part.fates start new bytes (served.told ++ stops.taken) fault stops.of_writing part.part;
+        written = Appends-trans held holds holding served.output stops.taken served.written stops.appended;
+        writes = Writes-part turn part.fates start new bytes (served.output ++ stops.taken) fault stops.of_writing part.part;
         at_end = no_fault fault (IsAtEnd resting);
         befell = part.befell;
         unrefused = part.unrefused;
@@ -141,16 +141,16 @@ module _ {S F : Type 0} (turn : Turns S F) (may_befall : Fates S F) (start : S) 
   -- the reader is at its end
   Serves-finished : (old new : S) (left rest resting held holds holding : Option (List ℕ)) (before after : Pending) → Served turn may_befall start old left rest held holds before → Consumes rest resting [] → IsAtEnd resting → Finishes turn may_befall old new holds holding before after → after.answers.text.items ≡ [] → Serves turn may_befall start new left resting held holding record { fault = None; is_refused = after.answers.is_refused }
   Serves-finished old new left rest resting held holds holding before after served read end finishes none =
-      let told = served.told ++ finishes.taken in
-      let all = finishes.goes start served.bytes served.told served.so_far in
+      let output = served.output ++ finishes.taken in
+      let all = finishes.goes start served.bytes served.output served.so_far in
       record {
         bytes = served.bytes;
         fates = all.fates;
-        told = told;
+        output = output;
         consumed = subst (Consumes left resting) (append-nil served.bytes) (Consumes-trans left rest resting served.bytes [] served.consumed read);
-        written = Appends-trans held holds holding served.told finishes.taken served.written finishes.appended;
-        tells = record {
-          text = sym (all.text ∙ ap (λ l. told ++ l) none ∙ append-nil told);
+        written = Appends-trans held holds holding served.output finishes.taken served.written finishes.appended;
+        writes = record {
+          text = sym (all.text ∙ ap (λ l. output ++ l) none ∙ append-nil output);
           stands = all.stands;
         };
         at_end = λ is. end;
@@ -168,16 +168,16 @@ module _ {S F : Type 0} (turn : Turns S F) (may_befall : Fates S F) (start : S) 
   -- without a fault and want of memory, the text of all lines is written behind what the writer held
   pub whole-from_Serves : (new : S) (left rest held holds : Option (List ℕ)) (ended : Ended) (input before : List ℕ) → Serves turn may_befall start new left rest held holds ended → left ≡ Some input → held ≡ Some before → ended.fault ≡ None → ended.is_refused ≡ false → holds ≡ Some (before ++ text_of turn [] start (lines_of input))
   whole-from_Serves new left rest held holds ended input before serves gave had none unrefused =
-      let tells = subst (λ fault. Tells fault turn serves.fates start new serves.bytes serves.told) none serves.tells in
+      let writes = subst (λ fault. Writes fault turn serves.fates start new serves.bytes serves.output) none serves.writes in
       let all = all_read rest (subst (λ o. Consumes o rest serves.bytes) gave serves.consumed) (serves.at_end none) in
-      let told = tells.text ∙ text_of-whole turn serves.fates start (lines_of serves.bytes) (serves.unrefused unrefused) ∙ ap (λ bytes. text_of turn [] start (lines_of bytes)) (sym all) in
-      all_written holds (subst (λ o. Appends o holds serves.told) had serves.written) ∙ ap (λ l. Some (before ++ l)) told
+      let output = writes.text ∙ text_of-whole turn serves.fates start (lines_of serves.bytes) (serves.unrefused unrefused) ∙ ap (λ bytes. text_of turn [] start (lines_of bytes)) (sym all) in
+      all_written holds (subst (λ o. Appends o holds serves.output) had serves.written) ∙ ap (λ l. Some (before ++ l)) output
     where
       all_read : (end : Option (List ℕ)) → Consumes (Some input) end serves.bytes → IsAtEnd end → input ≡ serves.bytes
       all_read None read end = absurd read
       all_read (Some ys) read end = read ∙ ap (λ l. serves.bytes ++ l) end ∙ append-nil serves.bytes
 
-      all_written : (after : Option (List ℕ)) → Appends (Some before) after serves.told → after ≡ Some (before ++ serves.told)
+      all_written : (after : Option (List ℕ)) → Appends (Some before) after serves.output → after ≡ Some (before ++ serves.output)
       all_written None written = absurd written
       all_written (Some ys) written = ap (λ l. Some l) written
 
@@ -195,10 +195,10 @@ pub Serves-memory : {S F : Type 0} (turn : Turns S F) (may_befall : Fates S F) (
 Serves-memory turn may_befall start left held = record {
   bytes = [];
   fates = [];
-  told = [];
+  output = [];
   consumed = Consumes-nil left;
   written = Appends-nil held;
-  tells = ([], refl);
+  writes = ([], refl);
   at_end = no_fault Memory (IsAtEnd left);
   befell = tt;
   unrefused = λ r. All-nil (λ fate. fate ≡ None);

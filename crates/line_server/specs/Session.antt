@@ -17,8 +17,8 @@ abbrev pub Fates : Type 0 → Type 0 → Type 1
 Fates S F = F → S → Option (List ℕ) → Type 0
 
 -- a line was answered so: the session is the one after it, and its text is appended
-abbrev pub Says : {S : Type 0} → Turn S → S → List ℕ → List ℕ → Type 0
-Says t session old new = (session ≡ t.after) × (new ≡ old ++ t.text)
+abbrev pub IsTurn : {S : Type 0} → Turn S → S → List ℕ → List ℕ → Type 0
+IsTurn t session old new = (session ≡ t.after) × (new ≡ old ++ t.text)
 
 -- The fate of the first of the lines that are left, and the fates of the others. No memory was refused at a line that
 -- has none.

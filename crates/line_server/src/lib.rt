@@ -10,7 +10,7 @@
 //! look at both.
 #![tactic(auto)]
 
-mod answers;
+mod waiting;
 mod ended;
 mod line_start;
 mod lines;

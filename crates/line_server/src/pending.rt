@@ -4,7 +4,7 @@ ghost use Rattle.std.specs.Io.KnownBytes.{Appends};
 ghost use Rattle.line_server.specs.Lines.{lines_of, has_newline};
 ghost use Rattle.line_server.specs.Progress.{SoFar, IsAnswered, GoesOn, StopsIn, Finishes, Stays};
 
-use crate::answers::Answers;
+use crate::waiting::Waiting;
 use crate::ended::Fault;
 use crate::line_start::LineStart;
 use crate::session::Session;
@@ -16,7 +16,7 @@ use std::io::Write;
 #[derive(Drop)]
 pub(crate) struct Pending {
     pub(crate) line: LineStart,
-    pub(crate) answers: Answers,
+    pub(crate) answers: Waiting,
 }
 
 impl Pending {
@@ -28,15 +28,15 @@ impl Pending {
     {
         Ok(Pending {
             line: LineStart::new(alloc)?,
-            answers: Answers::new(alloc),
+            answers: Waiting::new(alloc),
         })
     }
 
     /// Answers the line that ends with these bytes. It is not copied where it begins with them too.
     fn end_line<S: Session>(&mut self, session: &mut S, end: &[u8]) -> Result<(), AllocError>
         requires { has_newline end.now ≡ false }
-        ensures ok { OnOk result ((start : S) (had told : List ℕ) → SoFar S.turn S.may_befall start had told session.old self.old
-            → SoFar S.turn S.may_befall start (had ++ (end.now ++ 10 ∷ [])) told session.new self.new) }
+        ensures ok { OnOk result ((start : S) (had output : List ℕ) → SoFar S.turn S.may_befall start had output session.old self.old
+            → SoFar S.turn S.may_befall start (had ++ (end.now ++ 10 ∷ [])) output session.new self.new) }
         ensures err { OnErr result (Stays self.old.answers self.new.answers) }
     {
         if self.line.is_empty() {
@@ -57,8 +57,8 @@ impl Pending {
         requires { 0 < length chunk.now }
         ensures shorter { IfOk result (λ rest. length rest.now < length chunk.now) }
         ensures ok { IfOk result (λ rest. (piece : List ℕ) × (chunk.now ≡ piece ++ rest.now)
-            × ((start : S) (had told : List ℕ) → SoFar S.turn S.may_befall start had told session.old self.old
-            → SoFar S.turn S.may_befall start (had ++ piece) told session.new self.new)) }
+            × ((start : S) (had output : List ℕ) → SoFar S.turn S.may_befall start had output session.old self.old
+            → SoFar S.turn S.may_befall start (had ++ piece) output session.new self.new)) }
         ensures err { OnErr result (Stays self.old.answers self.new.answers) }
     {
         match memchr(b'\n', chunk) {
@@ -99,8 +99,8 @@ impl Pending {
 
     /// Answers the rest behind the last newline, where there is one.
     fn end_input<S: Session>(&mut self, session: &mut S) -> Result<(), AllocError>
-        ensures ok { OnOk result ((start : S) (had told : List ℕ) → SoFar S.turn S.may_befall start had told session.old self.old
-            → IsAnswered S.turn S.may_befall start (lines_of had) told session.new self.new.answers) }
+        ensures ok { OnOk result ((start : S) (had output : List ℕ) → SoFar S.turn S.may_befall start had output session.old self.old
+            → IsAnswered S.turn S.may_befall start (lines_of had) output session.new self.new.answers) }
         ensures err { OnErr result (Stays self.old.answers self.new.answers) }
     {
         if self.line.is_empty() {

@@ -1,6 +1,6 @@
 // What answers lines.
 ghost use Rattle.std.specs.Prelude.{◌≡◌, ℕ, List, Option, None, Some, IfOk, OnErr};
-ghost use Rattle.line_server.specs.Session.{Turn, Says, MayBe};
+ghost use Rattle.line_server.specs.Session.{Turn, IsTurn, MayBe};
 
 use std::alloc::AllocError;
 
@@ -25,7 +25,7 @@ pub trait Session: Drop {
     /// session is not used again.
     fn line(&mut self, line: &[u8], out: &mut Vec<u8>) -> Result<Option<Self::Fate>, AllocError>
         ensures answered { IfOk result
-            (λ fate. Says (turn fate self.old (Some line.now)) self.new out.old.items out.new.items) }
+            (λ fate. IsTurn (turn fate self.old (Some line.now)) self.new out.old.items out.new.items) }
         ensures befell { IfOk result (λ fate. MayBe may_befall fate self.old (Some line.now)) }
         ensures err { OnErr result (out.new.items ≡ out.old.items) };
 
@@ -36,7 +36,7 @@ pub trait Session: Drop {
     /// As [`Session::line`].
     fn too_long(&mut self, out: &mut Vec<u8>) -> Result<Option<Self::Fate>, AllocError>
         ensures answered { IfOk result
-            (λ fate. Says (turn fate self.old None) self.new out.old.items out.new.items) }
+            (λ fate. IsTurn (turn fate self.old None) self.new out.old.items out.new.items) }
         ensures befell { IfOk result (λ fate. MayBe may_befall fate self.old None) }
         ensures err { OnErr result (out.new.items ≡ out.old.items) };
 }

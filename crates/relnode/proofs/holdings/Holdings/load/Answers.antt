@@ -9,5 +9,5 @@ use Rattle.relnode.proofs.holdings.Holdings.load.Goals as goal
 pub returns-in-Err-clause-met : goal.returns-in-Err-clause-met
 returns-in-Err-clause-met c =
     let name = chars c.args.name.text.now in
-    let found = sym c.in-Some.ensures ∙ ap (λ (s : ShellState). file_of c.args.path.now s.files) c.self.view_is in
+    let found = sym (ap (λ (s : ShellState). file_of c.args.path.now s.files) c.self.view_is) ∙ sym c.in-Some.ensures in
     IfOk-then c.miss_load.result _ _ c.miss_load.ensures.met (λ fate met. Meets-load c.args.self.now name c.args.path.now c.in-Some.code.now fate found (met name c.in-Some.code.now))

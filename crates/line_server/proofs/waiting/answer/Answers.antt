@@ -1,7 +1,7 @@
 -- The session hears of a line what `heard` says.
 use Rattle.line_server.specs.Lines.{longest_line}
 use Rattle.line_server.proofs.Telling.{heard-short, heard-long}
-use Rattle.line_server.proofs.answers.answer.Goals as goal
+use Rattle.line_server.proofs.waiting.answer.Goals as goal
 
 pub returns-then-line-le-LONGEST_LINE-clause-answered :
     goal.returns-then-line-le-LONGEST_LINE-clause-answered

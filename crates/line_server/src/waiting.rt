@@ -3,7 +3,7 @@ ghost use Rattle.std.specs.Prelude.{◌≡◌, ◌↔◌, [], false, IfErr, IfOk
 ghost use Rattle.std.specs.Io.KnownBytes.{Appends};
 ghost use Rattle.line_server.specs.declared.ended.Fault.TheVariants.{Memory};
 ghost use Rattle.line_server.specs.Lines.{heard};
-ghost use Rattle.line_server.specs.Session.{Says, MayBe};
+ghost use Rattle.line_server.specs.Session.{IsTurn, MayBe};
 ghost use Rattle.line_server.specs.Progress.{Hears, Stays, Moves, TakesFront, IsOfWriting};
 
 use crate::ended::Fault;
@@ -18,19 +18,19 @@ const MOST_WAITING: usize = 65_536;
 
 /// Answers that are not yet written.
 #[derive(Drop)]
-pub(crate) struct Answers {
+pub(crate) struct Waiting {
     pub(crate) text: Vec<u8>,
     /// Whether the session met want of memory at some line.
     pub(crate) is_refused: bool,
 }
 
-impl Answers {
+impl Waiting {
     /// No answers.
-    pub(crate) fn new(alloc: Global) -> Answers
+    pub(crate) fn new(alloc: Global) -> Waiting
         ensures text { result.text.items ≡ [] }
         ensures unrefused { result.is_refused ≡ false }
     {
-        Answers {
+        Waiting {
             text: Vec::new(alloc),
             is_refused: false,
         }
@@ -97,7 +97,7 @@ fn answer<S: Session>(
     text: &mut Vec<u8>,
 ) -> Result<Option<S::Fate>, AllocError>
     ensures answered { IfOk result
-        (λ fate. Says (S.turn fate session.old (heard line.now)) session.new text.old.items text.new.items) }
+        (λ fate. IsTurn (S.turn fate session.old (heard line.now)) session.new text.old.items text.new.items) }
     ensures befell { IfOk result (λ fate. MayBe S.may_befall fate session.old (heard line.now)) }
     ensures err { OnErr result (text.new.items ≡ text.old.items) }
 {
