@@ -10,7 +10,6 @@
 //! look at both.
 #![tactic(auto)]
 
-mod waiting;
 mod ended;
 mod line_start;
 mod lines;
@@ -19,6 +18,7 @@ mod serving;
 mod session;
 #[cfg(test)]
 mod tests;
+mod waiting;
 mod writing;
 
 pub use ended::{Ended, Fault};

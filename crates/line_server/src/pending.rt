@@ -4,10 +4,10 @@ ghost use Rattle.std.specs.Io.KnownBytes.{Appends};
 ghost use Rattle.line_server.specs.Lines.{lines_of, has_newline};
 ghost use Rattle.line_server.specs.Progress.{SoFar, IsAnswered, GoesOn, StopsIn, Finishes, Stays};
 
-use crate::waiting::Waiting;
 use crate::ended::Fault;
 use crate::line_start::LineStart;
 use crate::session::Session;
+use crate::waiting::Waiting;
 use memchr::memchr;
 use std::alloc::{AllocError, Global};
 use std::io::Write;

@@ -1,5 +1,5 @@
 -- Whatever lines the shell is given, its journal is the timeline of the commands that they carried out.
-use Rattle.std.proofs.Common.{◌≡◌, ℕ, ◌≤◌, Bool, true, false, ◌==◌, ◌-◌, ◌^◌, cond, List, [], ◌∷◌, ◌++◌, Option, None, Some, IfSome, option_to_list, unwrap_or, Ok, Err, refl, sym, ap, subst, ◌∙◌}
+use Rattle.std.proofs.Common.{◌≡◌, ℕ, Bool, true, false, ◌==◌, ◌-◌, ◌^◌, cond, List, [], ◌∷◌, ◌++◌, Option, None, Some, IfSome, option_to_list, unwrap_or, Ok, Err, refl, sym, ap, subst, ◌∙◌}
 use Rattle.erl_term.specs.Tree.{Tree}
 use Rattle.code_server.specs.Modules.{empty_table}
 use Rattle.undo_journal.specs.declared.history.Command.{Command}

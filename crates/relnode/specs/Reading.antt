@@ -1,5 +1,4 @@
 -- What the values that a line is read as stand for.
-use Rattle.std.specs.Prelude.{ℕ, List, Option, None, Some}
 use Rattle.std.specs.Str.{chars}
 use Rattle.relnode.specs.declared.request.Request.{Request as Read}
 use Rattle.relnode.specs.declared.request.Request.TheVariants.{Ask, Load, Alter, Undo}

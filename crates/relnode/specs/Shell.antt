@@ -1,5 +1,5 @@
 -- What the shell makes of a line: its answer, and the shell after it.
-use Rattle.std.specs.Prelude.{◌≡◌, ◌≢◌, ℕ, ◌-◌, ◌^◌, ◌≤◌, ◌==◌, if◌then◌else◌, List, [], ◌++◌, Option, None, Some, IsSome, Ok, Err}
+use Rattle.std.specs.Prelude.{◌≡◌, ◌≢◌, ℕ, ◌-◌, ◌^◌, ◌≤◌, ◌==◌, if◌then◌else◌, List, [], Option, None, Some, IsSome, Ok, Err}
 use Rattle.std.specs.Option.{option_map}
 use Rattle.erl_term.specs.Tree.{Tree, list}
 use Rattle.code_server.specs.Modules.{empty_table}
@@ -10,7 +10,6 @@ use Rattle.line_server.specs.Session.{Turn}
 use Rattle.relnode.specs.declared.event.Event.{Event}
 use Rattle.relnode.specs.declared.event.Event.TheVariants.{Load}
 use Rattle.relnode.specs.declared.event.Note.{Note}
-use Rattle.relnode.specs.declared.request.Change.{Change}
 use Rattle.relnode.specs.declared.request.Question.{Question}
 use Rattle.relnode.specs.declared.request.Question.TheVariants.{Modules, Mark}
 use Rattle.relnode.specs.declared.fate.Fate.{Fate}

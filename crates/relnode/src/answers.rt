@@ -12,8 +12,8 @@ use crate::event::{Answer, Code, Note};
 use code_server::{CodeError, Instance, Modules, Slots};
 use erl_term::{Atom, Term, Terms, print, print_atom};
 use itoa::Buffer;
-use undo_journal::Report;
 use std::alloc::{AllocError, Global};
+use undo_journal::Report;
 
 /// The answers that have nothing in them but their words.
 #[derive(Clone, Copy)]
