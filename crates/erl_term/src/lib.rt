@@ -38,8 +38,6 @@ mod parsing;
 mod printing;
 mod readers;
 mod term;
-#[cfg(test)]
-mod tests;
 
 pub use atom::{Atom, AtomError};
 pub use erl_scan::{Fault, ReadError};
