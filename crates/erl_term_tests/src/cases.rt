@@ -44,7 +44,7 @@ pub(crate) fn outcome(alloc: Global, text: &[u8]) -> Result<String, Fail> {
 }
 
 /// The texts of terms, with a space between them.
-fn printed_row(alloc: Global, terms: &[Term]) -> Result<String, Fail> {
+pub(crate) fn printed_row(alloc: Global, terms: &[Term]) -> Result<String, Fail> {
     let mut out = Vec::new(alloc);
     for (i, term) in terms.iter().enumerate() {
         if i > 0 {
