@@ -40,8 +40,6 @@ mod parsing;
 mod printing;
 mod readers;
 mod term;
-#[cfg(test)]
-mod tests;
 
 pub use atom::{Atom, AtomError};
 pub use erl_scan::{Fault, ReadError};

@@ -35,8 +35,6 @@ mod rel;
 mod release_name;
 mod relup;
 mod script;
-#[cfg(test)]
-mod tests;
 mod words;
 
 pub use app::{AppSpec, StartModule, read_app};

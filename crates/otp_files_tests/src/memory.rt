@@ -1,7 +1,7 @@
 // Memory: what is refused is told as such, and a large file is read.
-use super::tree::RELUP_B;
-use crate::{FileError, print_relup, read_app, read_appup, read_rel, read_relup, relup_term};
-use std::alloc::Global;
+use crate::relups::RELUP_B;
+use otp_files::{FileError, print_relup, read_app, read_appup, read_rel, read_relup, relup_term};
+use std::alloc::{AllocError, Global};
 use std::process::Abort;
 use std::test::Fail;
 use values::{Duplicate, Same};
@@ -26,6 +26,14 @@ fn large(alloc: Global, count: usize) -> Result<String, Fail> {
         "point_of_no_return]}],[]}.\n",
     ]
     .concat(alloc)?)
+}
+
+/// The answer of a call that fails for memory alone.
+fn or_memory<T: Drop>(answer: Result<T, AllocError>) -> Result<T, FileError> {
+    match answer {
+        Ok(value) => Ok(value),
+        Err(AllocError) => Err(FileError::Memory),
+    }
 }
 
 /// What is answered where memory was refused once at most: one of two answers, and they are equal if both are there.
@@ -53,30 +61,27 @@ fn settled<T: Same + Drop>(
 
 /// Sees that a value has a copy that is equal, where memory was refused once at most.
 fn expect_copy<T: Same + Duplicate>(rt: &impl Abort, alloc: Global, value: &T) {
-    let first = value.copy(alloc).map_err(|_| FileError::Memory);
-    let second = value.copy(alloc).map_err(|_| FileError::Memory);
+    let first = or_memory(value.copy(alloc));
+    let second = or_memory(value.copy(alloc));
     assert!(rt; settled(rt, first, second).same(value));
 }
 
-/// Sees that this fault is told, where memory was refused once at most.
-fn expect_fault<T: Drop>(
+/// Sees that this fault is told twice, where memory was refused once at most.
+fn expect_fault(
     rt: &impl Abort,
-    first: Result<T, FileError>,
-    second: Result<T, FileError>,
+    first: Option<FileError>,
+    second: Option<FileError>,
     fault: FileError,
 ) {
-    match (first.err(), second.err()) {
-        (Some(FileError::Memory), again) => assert_eq!(rt; again, Some(fault)),
-        (told, Some(FileError::Memory)) => assert_eq!(rt; told, Some(fault)),
-        (told, again) => {
-            assert_eq!(rt; told, Some(fault));
-            assert_eq!(rt; again, Some(fault));
-        }
-    }
+    let refused = Some(FileError::Memory);
+    let told = if first == refused { second } else { first };
+    assert_eq!(rt; told, Some(fault));
+    let again = if second == refused { first } else { second };
+    assert_eq!(rt; again, Some(fault));
 }
 
 /// Files with a fault of each kind that comes behind the text.
-const WRONG: [(&[u8], FileError); 5] = [
+const WRONG: [(&[u8], FileError); 6] = [
     (b"", FileError::NoTerm),
     (b"a. b.", FileError::ManyTerms),
     (
@@ -91,24 +96,41 @@ const WRONG: [(&[u8], FileError); 5] = [
         br##"{"2",[{"1",[{load_module,m,[a]}]}],[{"1",[{sync_nodes,a}]}]}."##,
         FileError::OutOfProfile(1),
     ),
+    (br##"{"2",[{<<"1">>,[]}],[]}."##, FileError::PatternVersion),
 ];
 
-/// Each call answers as ever, or that memory is refused, and then the next call answers as ever. (Run by hand with each
-/// allocation refused in turn.)
+// Each call answers as ever, or that memory is refused, and then the next call answers as ever. (Run by hand with each
+// allocation refused in turn.)
+
 #[test]
-fn refused_memory_is_told(rt: HostRuntime) {
+fn app_under_refused_memory(rt: HostRuntime) {
     let alloc = rt.alloc();
     let app = settled(&rt, read_app(alloc, APP), read_app(alloc, APP));
     expect_copy(&rt, alloc, &app);
+}
+
+#[test]
+fn rel_under_refused_memory(rt: HostRuntime) {
+    let alloc = rt.alloc();
     let rel = settled(&rt, read_rel(alloc, REL), read_rel(alloc, REL));
     expect_copy(&rt, alloc, &rel);
+}
+
+#[test]
+fn appup_under_refused_memory(rt: HostRuntime) {
+    let alloc = rt.alloc();
     let appup = settled(&rt, read_appup(alloc, APPUP), read_appup(alloc, APPUP));
     expect_copy(&rt, alloc, &appup);
+}
+
+#[test]
+fn relup_under_refused_memory(rt: HostRuntime) {
+    let alloc = rt.alloc();
     let text = RELUP_B.as_bytes();
     let relup = settled(&rt, read_relup(alloc, text), read_relup(alloc, text));
     expect_copy(&rt, alloc, &relup);
-    let first = relup_term(alloc, &relup).map_err(|_| FileError::Memory);
-    let second = relup_term(alloc, &relup).map_err(|_| FileError::Memory);
+    let first = or_memory(relup_term(alloc, &relup));
+    let second = or_memory(relup_term(alloc, &relup));
     assert_eq!(rt; settled(&rt, first, second).depth(), 8);
     let mut out = Vec::new(alloc);
     if print_relup(&relup, &mut out).is_err() {
@@ -116,25 +138,23 @@ fn refused_memory_is_told(rt: HostRuntime) {
         assert!(rt; print_relup(&relup, &mut out).is_ok());
     }
     assert!(rt; out.as_slice() == text);
+}
+
+#[test]
+fn faults_under_refused_memory(rt: HostRuntime) {
     for (text, fault) in WRONG {
-        expect_fault(&rt, read_appup(alloc, text), read_appup(alloc, text), fault);
+        let first = read_appup(rt.alloc(), text).err();
+        let second = read_appup(rt.alloc(), text).err();
+        expect_fault(&rt, first, second, fault);
     }
-    let twice = br##"{application,a,[{vsn,"1"},{mod,{m,[1]}},{modules,[m]},{mod,[]}]}."##;
-    let found = read_app(alloc, twice.as_slice());
-    expect_fault(
-        &rt,
-        found,
-        read_app(alloc, twice.as_slice()),
-        FileError::DuplicateKey,
-    );
-    let pattern = br##"{"2",[{<<"1">>,[]}],[]}."##;
-    let found = read_appup(alloc, pattern.as_slice());
-    expect_fault(
-        &rt,
-        found,
-        read_appup(alloc, pattern.as_slice()),
-        FileError::PatternVersion,
-    );
+}
+
+#[test]
+fn keys_that_stand_twice_under_refused_memory(rt: HostRuntime) {
+    let text = br##"{application,a,[{vsn,"1"},{mod,{m,[1]}},{modules,[m]},{mod,[]}]}."##;
+    let first = read_app(rt.alloc(), text.as_slice()).err();
+    let second = read_app(rt.alloc(), text.as_slice()).err();
+    expect_fault(&rt, first, second, FileError::DuplicateKey);
 }
 
 /// A file of 300 kB is read, and its last instruction is told by its number.

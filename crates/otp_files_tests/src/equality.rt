@@ -1,10 +1,11 @@
 // Copies and equality of each type: values that differ in one thing each.
-use super::{term_of, version};
-use crate::{
-    AppSpec, Appup, Change, Direction, High, Instruction, Low, Milliseconds, ModuleType, Purge,
-    RelSpec, ReleaseName, Relup, StartType, Timeout, read_app, read_appup, read_rel, read_relup,
-};
+use crate::relups::term_of;
 use high_instructions::read_instruction;
+use otp_files::{
+    AppSpec, Appup, Change, Direction, High, Instruction, Low, Milliseconds, ModuleType, Purge,
+    RelSpec, ReleaseName, Relup, StartType, Timeout, Version, read_app, read_appup, read_rel,
+    read_relup,
+};
 use std::alloc::Global;
 use std::process::Abort;
 use std::test::Fail;
@@ -142,11 +143,12 @@ fn expect_distinct<T: Same + Duplicate>(
 fn read_instructions(
     rt: &impl Abort,
     alloc: Global,
-    table: &'static str,
+    table: &str,
 ) -> Result<Vec<Instruction>, Fail> {
     let mut instructions = Vec::new(alloc);
     for line in table.lines() {
-        match read_instruction(alloc, &term_of(alloc, line)?)? {
+        let term = term_of(alloc, line)?;
+        match read_instruction(alloc, &term)? {
             Ok(instruction) => instructions.push(instruction)?,
             Err(fault) => panic!(rt; "{line}: {fault}"),
         }
@@ -154,23 +156,43 @@ fn read_instructions(
     Ok(instructions)
 }
 
-#[test]
-fn low_level_instructions(rt: HostRuntime) -> Result<(), Fail> {
-    let alloc = rt.alloc();
-    let instructions = read_instructions(&rt, alloc, LOWS)?;
-    expect_distinct(&rt, alloc, instructions.as_slice())?;
-    let mut lows: Vec<Low> = Vec::new(alloc);
+/// The low-level ones of instructions.
+fn lows_of(alloc: Global, instructions: Vec<Instruction>) -> Result<Vec<Low>, Fail> {
+    let mut lows = Vec::new(alloc);
     for instruction in instructions {
-        match instruction {
-            Instruction::Low(low) => lows.push(low)?,
-            Instruction::High(_) => panic!(rt; "a high-level one"),
+        if let Instruction::Low(low) = instruction {
+            lows.push(low)?;
         }
     }
-    expect_distinct(&rt, alloc, lows.as_slice())?;
-    for low in lows.as_slice() {
+    Ok(lows)
+}
+
+/// The high-level ones of instructions.
+fn highs_of(alloc: Global, instructions: Vec<Instruction>) -> Result<Vec<High>, Fail> {
+    let mut highs = Vec::new(alloc);
+    for instruction in instructions {
+        if let Instruction::High(high) = instruction {
+            highs.push(high)?;
+        }
+    }
+    Ok(highs)
+}
+
+#[test]
+fn instructions(rt: HostRuntime) -> Result<(), Fail> {
+    for table in [LOWS, HIGHS] {
+        let instructions = read_instructions(&rt, rt.alloc(), table)?;
+        expect_distinct(&rt, rt.alloc(), instructions.as_slice())?;
+    }
+    Ok(())
+}
+
+/// Sees this of the rows that stand in low-level instructions.
+fn expect_distinct_rows(rt: &impl Abort, alloc: Global, lows: &[Low]) -> Result<(), Fail> {
+    for low in lows {
         match low {
-            Low::Suspend { modules } => expect_distinct(&rt, alloc, modules.as_slice())?,
-            Low::CodeChange { changes, .. } => expect_distinct(&rt, alloc, changes.as_slice())?,
+            Low::Suspend { modules } => expect_distinct(rt, alloc, modules.as_slice())?,
+            Low::CodeChange { changes, .. } => expect_distinct(rt, alloc, changes.as_slice())?,
             _ => {}
         }
     }
@@ -178,30 +200,32 @@ fn low_level_instructions(rt: HostRuntime) -> Result<(), Fail> {
 }
 
 #[test]
+fn low_level_instructions(rt: HostRuntime) -> Result<(), Fail> {
+    let lows = lows_of(rt.alloc(), read_instructions(&rt, rt.alloc(), LOWS)?)?;
+    assert_eq!(rt; lows.len(), 37);
+    expect_distinct(&rt, rt.alloc(), lows.as_slice())?;
+    expect_distinct_rows(&rt, rt.alloc(), lows.as_slice())
+}
+
+#[test]
 fn high_level_instructions(rt: HostRuntime) -> Result<(), Fail> {
-    let alloc = rt.alloc();
-    let instructions = read_instructions(&rt, alloc, HIGHS)?;
-    expect_distinct(&rt, alloc, instructions.as_slice())?;
-    let mut highs: Vec<High> = Vec::new(alloc);
-    for instruction in instructions {
-        match instruction {
-            Instruction::High(high) => highs.push(high)?,
-            Instruction::Low(_) => panic!(rt; "a low-level one"),
-        }
-    }
-    expect_distinct(&rt, alloc, highs.as_slice())
+    let highs = highs_of(rt.alloc(), read_instructions(&rt, rt.alloc(), HIGHS)?)?;
+    assert_eq!(rt; highs.len(), 29);
+    expect_distinct(&rt, rt.alloc(), highs.as_slice())
 }
 
 #[test]
 fn words(rt: HostRuntime) -> Result<(), Fail> {
-    let alloc = rt.alloc();
-    expect_distinct(&rt, alloc, [Direction::Up, Direction::Down].as_slice())?;
-    expect_distinct(&rt, alloc, [Purge::Soft, Purge::Brutal].as_slice())?;
-    expect_distinct(
-        &rt,
-        alloc,
-        [ModuleType::Static, ModuleType::Dynamic].as_slice(),
-    )?;
+    let directions = [Direction::Up, Direction::Down];
+    expect_distinct(&rt, rt.alloc(), directions.as_slice())?;
+    let purges = [Purge::Soft, Purge::Brutal];
+    expect_distinct(&rt, rt.alloc(), purges.as_slice())?;
+    let module_types = [ModuleType::Static, ModuleType::Dynamic];
+    expect_distinct(&rt, rt.alloc(), module_types.as_slice())
+}
+
+#[test]
+fn start_types(rt: HostRuntime) -> Result<(), Fail> {
     let types = [
         StartType::Permanent,
         StartType::Transient,
@@ -209,73 +233,140 @@ fn words(rt: HostRuntime) -> Result<(), Fail> {
         StartType::Load,
         StartType::None,
     ];
-    expect_distinct(&rt, alloc, types.as_slice())?;
-    let one = Milliseconds::new(1).ok_or("none")?;
-    let two = Milliseconds::new(2).ok_or("none")?;
-    expect_distinct(&rt, alloc, [one.copy(alloc)?, two.copy(alloc)?].as_slice())?;
-    let timeouts = [
-        Timeout::Default,
-        Timeout::Infinity,
-        Timeout::Finite(one),
-        Timeout::Finite(two),
-    ];
-    expect_distinct(&rt, alloc, timeouts.as_slice())?;
-    let x = Change::Advanced(term_of(alloc, "x")?);
-    let y = Change::Advanced(term_of(alloc, "y")?);
-    expect_distinct(&rt, alloc, [Change::Soft, x, y].as_slice())?;
-    let versions = [
-        version(alloc, "1")?,
-        version(alloc, "1.")?,
-        version(alloc, "2")?,
-    ];
-    expect_distinct(&rt, alloc, versions.as_slice())?;
-    let names = [
-        ReleaseName::new(alloc, "")?,
-        ReleaseName::new(alloc, "r")?,
-        ReleaseName::new(alloc, "R")?,
-    ];
-    expect_distinct(&rt, alloc, names.as_slice())
+    expect_distinct(&rt, rt.alloc(), types.as_slice())
+}
+
+/// The timeouts of a table of words.
+fn timeouts_of(alloc: Global, words: &str) -> Result<Vec<Timeout>, Fail> {
+    let mut timeouts = Vec::new(alloc);
+    for word in words.split_whitespace() {
+        let term = term_of(alloc, word)?;
+        timeouts.push(Timeout::from_term(&term).ok_or("no timeout")?)?;
+    }
+    Ok(timeouts)
 }
 
 #[test]
-fn applications_and_releases(rt: HostRuntime) -> Result<(), Fail> {
-    let alloc = rt.alloc();
-    let mut apps: Vec<AppSpec> = Vec::new(alloc);
-    let mut starts = Vec::new(alloc);
-    for text in APPS.lines() {
-        apps.push(read_app(alloc, text.as_bytes())?)?;
+fn timeouts(rt: HostRuntime) -> Result<(), Fail> {
+    let timeouts = timeouts_of(rt.alloc(), "default infinity 1 2")?;
+    expect_distinct(&rt, rt.alloc(), timeouts.as_slice())
+}
+
+#[test]
+fn milliseconds(rt: HostRuntime) -> Result<(), Fail> {
+    let one = Milliseconds::new(1).ok_or("none")?;
+    let two = Milliseconds::new(2).ok_or("none")?;
+    expect_distinct(&rt, rt.alloc(), [one, two].as_slice())
+}
+
+/// The changes of a table of words.
+fn changes_of(alloc: Global, words: &str) -> Result<Vec<Change>, Fail> {
+    let mut changes = Vec::new(alloc);
+    for word in words.split_whitespace() {
+        let term = term_of(alloc, word)?;
+        changes.push(Change::from_term(alloc, &term)?.ok_or("no change")?)?;
     }
+    Ok(changes)
+}
+
+#[test]
+fn changes(rt: HostRuntime) -> Result<(), Fail> {
+    let changes = changes_of(rt.alloc(), "soft {advanced,x} {advanced,y}")?;
+    expect_distinct(&rt, rt.alloc(), changes.as_slice())
+}
+
+/// The versions of these characters, with blanks between them.
+fn versions_of(alloc: Global, words: &str) -> Result<Vec<Version>, Fail> {
+    let mut versions = Vec::new(alloc);
+    for word in words.split_whitespace() {
+        versions.push(Version::new(alloc, word)?)?;
+    }
+    Ok(versions)
+}
+
+#[test]
+fn versions(rt: HostRuntime) -> Result<(), Fail> {
+    let versions = versions_of(rt.alloc(), "1 1. 2")?;
+    expect_distinct(&rt, rt.alloc(), versions.as_slice())
+}
+
+/// The names of these characters, a line each.
+fn names_of(alloc: Global, lines: &str) -> Result<Vec<ReleaseName>, Fail> {
+    let mut names = Vec::new(alloc);
+    for line in lines.split(' ') {
+        names.push(ReleaseName::new(alloc, line)?)?;
+    }
+    Ok(names)
+}
+
+#[test]
+fn release_names(rt: HostRuntime) -> Result<(), Fail> {
+    let names = names_of(rt.alloc(), " r R")?;
+    assert_eq!(rt; names.len(), 3);
+    expect_distinct(&rt, rt.alloc(), names.as_slice())
+}
+
+/// The application resource files of a table.
+fn apps_of(alloc: Global, table: &str) -> Result<Vec<AppSpec>, Fail> {
+    let mut apps = Vec::new(alloc);
+    for line in table.lines() {
+        apps.push(read_app(alloc, line.as_bytes())?)?;
+    }
+    Ok(apps)
+}
+
+#[test]
+fn applications(rt: HostRuntime) -> Result<(), Fail> {
+    let alloc = rt.alloc();
+    let apps = apps_of(alloc, APPS)?;
+    expect_distinct(&rt, alloc, apps.as_slice())?;
+    let mut starts = Vec::new(alloc);
     for app in apps.as_slice().iter().skip(5) {
         starts.push(app.start.copy(alloc)?)?;
     }
-    expect_distinct(&rt, alloc, apps.as_slice())?;
-    expect_distinct(&rt, alloc, starts.as_slice())?;
-    let mut rels: Vec<RelSpec> = Vec::new(alloc);
-    let mut applications = Vec::new(alloc);
-    for text in RELS.lines() {
-        rels.push(read_rel(alloc, text.as_bytes())?)?;
+    expect_distinct(&rt, alloc, starts.as_slice())
+}
+
+/// The release resource files of a table.
+fn rels_of(alloc: Global, table: &str) -> Result<Vec<RelSpec>, Fail> {
+    let mut rels = Vec::new(alloc);
+    for line in table.lines() {
+        rels.push(read_rel(alloc, line.as_bytes())?)?;
     }
+    Ok(rels)
+}
+
+#[test]
+fn releases(rt: HostRuntime) -> Result<(), Fail> {
+    let alloc = rt.alloc();
+    let rels = rels_of(alloc, RELS)?;
+    expect_distinct(&rt, alloc, rels.as_slice())?;
+    let mut applications = Vec::new(alloc);
     for rel in rels.as_slice().iter().skip(3) {
         expect_distinct(&rt, alloc, rel.apps.as_slice())?;
         applications.push(rel.apps.copy(alloc)?)?;
     }
-    expect_distinct(&rt, alloc, rels.as_slice())?;
     expect_distinct(&rt, alloc, applications.as_slice())
 }
 
 #[test]
-fn upgrades(rt: HostRuntime) -> Result<(), Fail> {
+fn application_upgrades(rt: HostRuntime) -> Result<(), Fail> {
     let alloc = rt.alloc();
     let mut appups: Vec<Appup> = Vec::new(alloc);
-    for text in APPUPS.lines() {
-        let appup = read_appup(alloc, text.as_bytes())?;
+    for line in APPUPS.lines() {
+        let appup = read_appup(alloc, line.as_bytes())?;
         expect_distinct(&rt, alloc, appup.up.as_slice())?;
         appups.push(appup)?;
     }
-    expect_distinct(&rt, alloc, appups.as_slice())?;
+    expect_distinct(&rt, alloc, appups.as_slice())
+}
+
+#[test]
+fn release_upgrades(rt: HostRuntime) -> Result<(), Fail> {
+    let alloc = rt.alloc();
     let mut relups: Vec<Relup> = Vec::new(alloc);
-    for text in RELUPS.lines() {
-        let relup = read_relup(alloc, text.as_bytes())?;
+    for line in RELUPS.lines() {
+        let relup = read_relup(alloc, line.as_bytes())?;
         expect_distinct(&rt, alloc, relup.up.as_slice())?;
         relups.push(relup)?;
     }

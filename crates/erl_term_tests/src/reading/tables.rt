@@ -1,10 +1,13 @@
 // Texts with what they hold or where they fault, a line each, by the rules of Erlang's notation.
 //
 // A line is a text, an arrow, and the terms that the text holds, as they print with a space between them; or a cross, the
-// fault and the byte of it. In a text `␤` is a newline.
+// fault and the byte of it.
+
+use super::depths::{FAULTS_AT_THE_GREATEST_DEPTH, GREATEST_DEPTH, LENGTHS_OF_ATOMS, TOO_DEEP};
+use super::escapes::{ESCAPES_BEHIND_DOLLARS, ESCAPES_IN_ATOMS, ESCAPES_IN_STRINGS};
 
 /// The tables, each by its topic.
-pub(super) const TABLES: [&str; 21] = [
+pub(super) const TABLES: [&str; 31] = [
     WORKED_TEXTS,
     CHARACTERS_BEHIND_ESCAPES,
     BASES,
@@ -26,6 +29,16 @@ pub(super) const TABLES: [&str; 21] = [
     SEVERAL_TERMS,
     CHARACTERS,
     WRONG_ESCAPES_TABLE,
+    GREATEST_AND_LEAST_INTEGERS,
+    CHARACTERS_NOT_SEEN,
+    SEVERAL_TAILS,
+    ESCAPES_BEHIND_DOLLARS,
+    ESCAPES_IN_STRINGS,
+    ESCAPES_IN_ATOMS,
+    GREATEST_DEPTH,
+    TOO_DEEP,
+    FAULTS_AT_THE_GREATEST_DEPTH,
+    LENGTHS_OF_ATOMS,
 ];
 
 const WORKED_TEXTS: &str = r##"'a b'. ⟶ 'a b'
@@ -574,3 +587,101 @@ a. & b. X ⟶ ✗ BadChar 3
 X &  ⟶ ✗ Syntax 0
 a. b c. d ⟶ ✗ Syntax 5
 a. {b. c. ⟶ ✗ Syntax 5"##;
+
+const GREATEST_AND_LEAST_INTEGERS: &str = "\
+9223372036854775807. ⟶ 9223372036854775807
++9223372036854775807. ⟶ 9223372036854775807
++ %c␤9223372036854775807. ⟶ 9223372036854775807
+-9223372036854775807. ⟶ -9223372036854775807
+-9223372036854775808. ⟶ -9223372036854775808
+- %c␤9223372036854775808. ⟶ -9223372036854775808
+9_223_372_036_854_775_807. ⟶ 9223372036854775807
+-9_223_372_036_854_775_808. ⟶ -9223372036854775808
+0000000000000000000000009223372036854775807. ⟶ 9223372036854775807
+10#9223372036854775807. ⟶ 9223372036854775807
+16#7fffffffffffffff. ⟶ 9223372036854775807
+16#0007FFF_ffff_ffff_ffff. ⟶ 9223372036854775807
+-16#8000000000000000. ⟶ -9223372036854775808
+36#1y2p0ij32e8e7. ⟶ 9223372036854775807
+-36#1Y2P0IJ32E8E8. ⟶ -9223372036854775808
+2#111111111111111111111111111111111111111111111111111111111111111. ⟶ 9223372036854775807
+9223372036854775808 ⟶ ✗ IntegerRange 0
+ 9223372036854775808. ⟶ ✗ IntegerRange 1
++9223372036854775808. ⟶ ✗ IntegerRange 0
++ 9223372036854775808. ⟶ ✗ IntegerRange 0
+-9223372036854775809. ⟶ ✗ IntegerRange 0
+- 9223372036854775809. ⟶ ✗ IntegerRange 0
+ -␤ 9223372036854775809. ⟶ ✗ IntegerRange 1
+a. + %c␤99999999999999999999. ⟶ ✗ IntegerRange 3
+9223372036854775809. ⟶ ✗ IntegerRange 0
+9_223_372_036_854_775_808. ⟶ ✗ IntegerRange 0
+18446744073709551616. ⟶ ✗ IntegerRange 0
+18446744073709551617. ⟶ ✗ IntegerRange 0
+-18446744073709551616. ⟶ ✗ IntegerRange 0
+-18446744073709551617. ⟶ ✗ IntegerRange 0
+340282366920938463463374607431768211457. ⟶ ✗ IntegerRange 0
+10#9223372036854775808. ⟶ ✗ IntegerRange 0
+16#8000000000000000. ⟶ ✗ IntegerRange 0
++16#8000000000000000. ⟶ ✗ IntegerRange 0
+-16#8000000000000001. ⟶ ✗ IntegerRange 0
+16#10000000000000000. ⟶ ✗ IntegerRange 0
+16#10000000000000001. ⟶ ✗ IntegerRange 0
+36#1y2p0ij32e8e8. ⟶ ✗ IntegerRange 0
+-36#1y2p0ij32e8e9. ⟶ ✗ IntegerRange 0
+{9223372036854775808}. ⟶ ✗ IntegerRange 1
+[1,-9223372036854775809] ⟶ ✗ IntegerRange 3";
+
+const CHARACTERS_NOT_SEEN: &str = "\
++\t1. ⟶ 1
+-\u{85}1. ⟶ -1
+'\0'. ⟶ '\\x{0}'
+\"a\"␤\t\"b\". ⟶ \"ab\"
+\"a\"\u{a0}%␤%␤\"b\". ⟶ \"ab\"
+a.\u{80}b.\u{a0} ⟶ a b
+ ␤\t\r␤ ⟶ 
+%a\rb. ⟶ 
+%a\u{85}b. ⟶ 
+%a\u{2028}b. ⟶ 
+$\0. ⟶ 0
+$\u{7f}. ⟶ 127
+$\u{a0}. ⟶ 160
+'\u{7f}\u{80}߿ࠀ\u{d7ff}\u{e000}\u{fffe}\u{ffff}𐀀\u{10ffff}'. ⟶ '\\x{7f}\u{80}߿ࠀ\u{d7ff}\u{e000}\u{fffe}\u{ffff}𐀀\u{10ffff}'
+a.\u{7f} ⟶ ✗ Syntax 1";
+
+const SEVERAL_TAILS: &str = "\
+[a|[b|c]]. ⟶ ✗ Unsupported 5
+[[a|b],c]. ⟶ ✗ Unsupported 3
+[a|[{[b|c]}]]. ⟶ ✗ Unsupported 7";
+
+/// Bytes in hexadecimal that are no text in UTF-8.
+pub(super) const NOT_UTF8: &str = "\
+80 ⟶ ✗ NotUtf8 0
+61 bf 2e ⟶ ✗ NotUtf8 1
+c0 80 ⟶ ✗ NotUtf8 0
+61 2e c1 bf ⟶ ✗ NotUtf8 2
+27 e0 80 80 27 2e ⟶ ✗ NotUtf8 1
+27 e0 9f bf 27 2e ⟶ ✗ NotUtf8 1
+22 f0 80 80 80 22 2e ⟶ ✗ NotUtf8 1
+27 f0 8f bf bf 27 2e ⟶ ✗ NotUtf8 1
+27 ed a0 80 27 2e ⟶ ✗ NotUtf8 1
+27 ed bf bf 27 2e ⟶ ✗ NotUtf8 1
+27 f4 90 80 80 27 2e ⟶ ✗ NotUtf8 1
+27 f5 80 80 80 27 2e ⟶ ✗ NotUtf8 1
+27 fe 27 2e ⟶ ✗ NotUtf8 1
+27 ff 27 2e ⟶ ✗ NotUtf8 1
+c3 ⟶ ✗ NotUtf8 0
+61 2e 20 c3 ⟶ ✗ NotUtf8 3
+61 2e e2 82 ⟶ ✗ NotUtf8 2
+61 2e f0 9f 98 ⟶ ✗ NotUtf8 2
+27 61 e2 28 a1 27 2e ⟶ ✗ NotUtf8 2
+27 61 f0 9f 28 27 2e ⟶ ✗ NotUtf8 2
+27 c3 a9 c3 27 2e ⟶ ✗ NotUtf8 3
+25 ff 0a 61 2e ⟶ ✗ NotUtf8 1
+61 2e 20 25 e9 ⟶ ✗ NotUtf8 4
+26 20 ff ⟶ ✗ NotUtf8 2
+7b 61 20 ff ⟶ ✗ NotUtf8 3
+27 61 20 ff ⟶ ✗ NotUtf8 3
+61 20 62 20 80 ⟶ ✗ NotUtf8 4
+39 39 39 39 39 39 39 39 39 39 39 39 39 39 39 39 39 39 39 39 20 ff ⟶ ✗ NotUtf8 21
+24 ff 2e ⟶ ✗ NotUtf8 1
+ef bb bf ff ⟶ ✗ NotUtf8 3";
