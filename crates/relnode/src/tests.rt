@@ -5,6 +5,7 @@ use crate::files::Files;
 use crate::run::run;
 use line_server::Fault;
 use std::alloc::{AllocError, Global};
+use std::process::Abort;
 use std::test::Fail;
 use streams::{Sink, Source};
 
@@ -72,101 +73,85 @@ const MODULE_TABLE: &str =
     "load m a/m.erl\nmark\nload m a/m.erl\nload m a/m.erl\nmodules\nundo 1\nmodules\n\
     delete m\ndelete m\npurge m\nmodules\nsoft_purge m\nload m a/n.erl\n";
 
-#[test]
-fn commands_are_answered(rt: HostRuntime) -> Result<(), Fail> {
-    let alloc = rt.alloc();
-    for (input, want) in [
-        ("", ""),
-        (
-            "load m a/m.erl\nmark\nload m a/m.erl\nmodules\nundo 1\nmodules\n",
-            "{module,m}\n{mark,1}\n{module,m}\n[{m,2,1}]\n{undone,1,[],[]}\n[{m,1,none}]\n",
-        ),
-        (
-            MODULE_TABLE,
-            "{module,m}\n{mark,1}\n{module,m}\n{module,m}\n[{m,3,2}]\n{undone,2,[],[]}\n[{m,1,none}]\n\
-             true\nfalse\nfalse\n[]\ntrue\n{error,{file,\"a/n.erl\",missing}}\n",
-        ),
-        (
-            "mark\nload m a/m.erl\nmark\nundo 0\nload m a/m.erl\nundo 1\nmark\nmodules\nundo 1x\n",
-            "{mark,0}\n{module,m}\n{mark,1}\n{undone,1,[],[]}\n{module,m}\n{error,dead_mark}\n{mark,2}\n\
-             [{m,1,none}]\n{error,bad_command}\n",
-        ),
-        (
-            "load a a/m.erl\nload b a/m.erl\nload c a/m.erl\ndelete b\npurge b\nmodules\nundo 4\nmodules\n",
-            "{module,a}\n{module,b}\n{module,c}\ntrue\nfalse\n[{a,1,none},{c,3,none}]\n{undone,1,[],[]}\n\
-             [{a,1,none},{b,none,2},{c,3,none}]\n",
-        ),
-        (
-            "load a a/m.erl\nload b a/m.erl\ndelete a\nload a a/m.erl\nmodules\nundo 3\nmodules\nundo 0\nmodules\n",
-            "{module,a}\n{module,b}\ntrue\n{module,a}\n[{b,2,none},{a,3,none}]\n{undone,1,[],[]}\n\
-             [{a,none,1},{b,2,none}]\n{undone,3,[],[]}\n[]\n",
-        ),
-    ] {
-        for most in [1, 5, usize::MAX] {
-            let case = Case {
-                reads: most,
-                writes: most,
-                ..plain(input.as_bytes())
-            };
-            let (fault, written) = answers(alloc, &case)?;
-            assert_eq!(rt; fault, "none", "{input}");
-            assert_eq!(rt; written.as_slice(), want.as_bytes(), "{input}");
-        }
+/// Sessions: the commands, an arrow, and what is answered. `␤` is a newline.
+const SESSIONS: &str = "⟶
+load m a/m.erl␤mark␤load m a/m.erl␤modules␤undo 1␤modules␤⟶{module,m}␤{mark,1}␤{module,m}␤[{m,2,1}]␤{undone,1,[],[]}␤[{m,1,none}]␤
+load m a/m.erl␤mark␤load m a/m.erl␤load m a/m.erl␤modules␤undo 1␤modules␤delete m␤delete m␤purge m␤modules␤soft_purge m␤load m a/n.erl␤⟶{module,m}␤{mark,1}␤{module,m}␤{module,m}␤[{m,3,2}]␤{undone,2,[],[]}␤[{m,1,none}]␤true␤false␤false␤[]␤true␤{error,{file,\"a/n.erl\",missing}}␤
+mark␤load m a/m.erl␤mark␤undo 0␤load m a/m.erl␤undo 1␤mark␤modules␤undo 1x␤⟶{mark,0}␤{module,m}␤{mark,1}␤{undone,1,[],[]}␤{module,m}␤{error,dead_mark}␤{mark,2}␤[{m,1,none}]␤{error,bad_command}␤
+load a a/m.erl␤load b a/m.erl␤load c a/m.erl␤delete b␤purge b␤modules␤undo 4␤modules␤⟶{module,a}␤{module,b}␤{module,c}␤true␤false␤[{a,1,none},{c,3,none}]␤{undone,1,[],[]}␤[{a,1,none},{b,none,2},{c,3,none}]␤
+load a a/m.erl␤load b a/m.erl␤delete a␤load a a/m.erl␤modules␤undo 3␤modules␤undo 0␤modules␤⟶{module,a}␤{module,b}␤true␤{module,a}␤[{b,2,none},{a,3,none}]␤{undone,1,[],[]}␤[{a,none,1},{b,2,none}]␤{undone,3,[],[]}␤[]␤";
+
+/// Sees of each line of a table that its commands are answered so, where so many bytes are read and written at a time.
+fn expect_table(rt: &impl Abort, alloc: Global, table: &str, most: usize) -> Result<(), Fail> {
+    for line in table.lines() {
+        let (input, want) = line.split_once("⟶").ok_or("no arrow")?;
+        let input = input.replace(alloc, "␤", "\n")?;
+        let want = want.replace(alloc, "␤", "\n")?;
+        let case = Case {
+            reads: most,
+            writes: most,
+            ..plain(input.as_str().as_bytes())
+        };
+        let (fault, written) = answers(alloc, &case)?;
+        assert_eq!(rt; fault, "none", "{line}");
+        assert_eq!(rt; written.as_slice(), want.as_str().as_bytes(), "{line}");
     }
     Ok(())
 }
 
 #[test]
-fn lines_are_read(rt: HostRuntime) -> Result<(), Fail> {
-    let alloc = rt.alloc();
-    let bad = "{error,bad_command}\n";
-    for (line, want) in [
-        ("", ""),
-        ("   ", ""),
-        ("%", ""),
-        ("% mark", ""),
-        ("mark", "{mark,0}\n"),
-        ("  mark  ", "{mark,0}\n"),
-        (" % mark", bad),
-        ("mark\t", bad),
-        ("mark\r", bad),
-        ("mark 0", bad),
-        ("Mark", bad),
-        ("install B", bad),
-        ("modules m", bad),
-        ("load", bad),
-        ("load m", bad),
-        ("load m a/m.erl b", bad),
-        ("  load   m   a/m.erl ", "{module,m}\n"),
-        ("load Mod a/m.erl", "{module,'Mod'}\n"),
-        ("load \u{e9}' a/m.erl", "{module,'\u{e9}\\''}\n"),
-        ("load receive a/m.erl", "{module,'receive'}\n"),
-        ("load m a/n.erl", "{error,{file,\"a/n.erl\",missing}}\n"),
-        ("load m a\"\\", "{error,{file,\"a\\\"\\\\\",missing}}\n"),
-        ("load m \u{e9}", "{error,{file,[233],missing}}\n"),
-        ("delete m", "false\n"),
-        ("delete", bad),
-        ("purge m", "false\n"),
-        ("purge m n", bad),
-        ("soft_purge m", "true\n"),
-        ("soft_purge", bad),
-        ("undo 0", "{undone,0,[],[]}\n"),
-        ("undo 00", "{undone,0,[],[]}\n"),
-        ("undo 1", "{error,dead_mark}\n"),
-        ("undo 18446744073709551615", "{error,dead_mark}\n"),
-        ("undo 18446744073709551616", bad),
-        ("undo 99999999999999999999999", bad),
-        ("undo +0", bad),
-        ("undo -0", bad),
-        ("undo 1x", bad),
-        ("undo", bad),
-        ("undo 0 0", bad),
-    ] {
-        let (fault, written) = answers(alloc, &plain(line.as_bytes()))?;
-        assert_eq!(rt; fault, "none", "{line}");
-        assert_eq!(rt; written.as_slice(), want.as_bytes(), "{line}");
+fn commands_are_answered(rt: HostRuntime) -> Result<(), Fail> {
+    for most in [1, 5, usize::MAX] {
+        expect_table(&rt, rt.alloc(), SESSIONS, most)?;
     }
     Ok(())
+}
+
+/// Lines, each with its answer.
+const LINES: &str = "⟶
+   ⟶
+%⟶
+% mark⟶
+mark⟶{mark,0}␤
+  mark  ⟶{mark,0}␤
+ % mark⟶{error,bad_command}␤
+mark\t⟶{error,bad_command}␤
+mark\r⟶{error,bad_command}␤
+mark 0⟶{error,bad_command}␤
+Mark⟶{error,bad_command}␤
+install B⟶{error,bad_command}␤
+modules m⟶{error,bad_command}␤
+load⟶{error,bad_command}␤
+load m⟶{error,bad_command}␤
+load m a/m.erl b⟶{error,bad_command}␤
+  load   m   a/m.erl ⟶{module,m}␤
+load Mod a/m.erl⟶{module,'Mod'}␤
+load \u{e9}' a/m.erl⟶{module,'\u{e9}\\''}␤
+load receive a/m.erl⟶{module,'receive'}␤
+load m a/n.erl⟶{error,{file,\"a/n.erl\",missing}}␤
+load m a\"\\⟶{error,{file,\"a\\\"\\\\\",missing}}␤
+load m \u{e9}⟶{error,{file,[233],missing}}␤
+delete m⟶false␤
+delete⟶{error,bad_command}␤
+purge m⟶false␤
+purge m n⟶{error,bad_command}␤
+soft_purge m⟶true␤
+soft_purge⟶{error,bad_command}␤
+undo 0⟶{undone,0,[],[]}␤
+undo 00⟶{undone,0,[],[]}␤
+undo 1⟶{error,dead_mark}␤
+undo 18446744073709551615⟶{error,dead_mark}␤
+undo 18446744073709551616⟶{error,bad_command}␤
+undo 99999999999999999999999⟶{error,bad_command}␤
+undo +0⟶{error,bad_command}␤
+undo -0⟶{error,bad_command}␤
+undo 1x⟶{error,bad_command}␤
+undo⟶{error,bad_command}␤
+undo 0 0⟶{error,bad_command}␤";
+
+#[test]
+fn lines_are_read(rt: HostRuntime) -> Result<(), Fail> {
+    expect_table(&rt, rt.alloc(), LINES, usize::MAX)
 }
 
 /// A first text, a text so many times, and a last text.
