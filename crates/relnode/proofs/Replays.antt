@@ -18,7 +18,7 @@ use Rattle.relnode.specs.Files.{Contents, file_of}
 use Rattle.relnode.specs.Node.{Outcome, rule, event_of}
 use Rattle.relnode.specs.Replay.{IsReplayed, IsHeadline, MarksName, carried_out, first_deed, timeline_behind}
 use Rattle.relnode.specs.Request.{Request, ask, load, change, undo, Spoken, too_long, silent, unknown, asks, spoken}
-use Rattle.relnode.specs.Shell.{NodeTimeline, ShellState, Deed, opened_shell, shell_turn, deed, request_deed, load_deed, undo_deed, stopped_at, undone_to, event_deed, performed, ruled, answered, told_of}
+use Rattle.relnode.specs.Shell.{NodeTimeline, ShellState, Deed, opened_shell, shell_turn, deed, request_deed, load_deed, undo_deed, stopped_at, undone_to, event_deed, performed, ruled, answered, shown}
 
 -- the journal after a line is what the line's command leaves
 IsLed : ShellState → Deed → Type 0
@@ -71,7 +71,7 @@ module _ (s : ShellState) where
   undo_led (Some (StoppedAt reached)) mark (Some end) is = stopped_led reached (cut_to reached s.timeline) refl
 
   request_led : (fate : Option Fate) (request : Request) → IsLed s (request_deed fate s request)
-  request_led fate (ask question) = same (told_of s question)
+  request_led fate (ask question) = same (shown s question)
   request_led fate (load name path) = load_led fate name path (file_of path s.files)
   request_led fate (change kind name) = event_led fate (event_of kind name)
   request_led fate (undo mark) = undo_led fate mark (cut_to mark s.timeline) refl

@@ -89,13 +89,13 @@ undo_deed (Some Refused) s mark (Some end) = undone_to s mark end
 undo_deed (Some (StoppedAt reached)) s mark (Some end) = stopped_at s reached (cut_to reached s.timeline)
 
 -- Questions.
-abbrev pub told_of : ShellState → Question → Tree
-told_of s Modules = list (modules_of (here s.timeline).node.entries)
-told_of s Mark = mark_at (here s.timeline).serial
+abbrev pub shown : ShellState → Question → Tree
+shown s Modules = list (modules_of (here s.timeline).node.entries)
+shown s Mark = mark_at (here s.timeline).serial
 
 -- a request, by what became of it for want of memory
 abbrev pub request_deed : Option Fate → ShellState → Request → Deed
-request_deed fate s (ask question) = answered s (told_of s question)
+request_deed fate s (ask question) = answered s (shown s question)
 request_deed fate s (load name path) = load_deed fate s name path (file_of path s.files)
 request_deed fate s (change kind name) = event_deed fate s (event_of kind name)
 request_deed fate s (undo mark) = undo_deed fate s mark (cut_to mark s.timeline)

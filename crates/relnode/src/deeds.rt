@@ -7,7 +7,7 @@ ghost use Rattle.relnode.specs.Deeds.{IsDone, Meets, MeetsEvent, MeetsLine, Miss
 ghost use Rattle.relnode.specs.Node.{event_of};
 ghost use Rattle.relnode.specs.Reading.{meant, said};
 ghost use Rattle.relnode.specs.Request.{load, undo};
-ghost use Rattle.relnode.specs.Shell.{deed, event_deed, request_deed, told_of};
+ghost use Rattle.relnode.specs.Shell.{deed, event_deed, request_deed, shown};
 
 use crate::answers::{
     Fixed, fixed_of, write_answer, write_mark, write_missing, write_modules, write_stopped,
@@ -58,7 +58,7 @@ impl Holdings {
     /// Tells what is asked.
     fn tell(&self, question: Question, out: &mut Vec<u8>) -> Said
         ensures { IfOk result (λ fate. (fate ≡ None)
-            × (out.new.items ≡ out.old.items ++ line_of (told_of self.now question))) }
+            × (out.new.items ≡ out.old.items ++ line_of (shown self.now question))) }
     {
         match question {
             Question::Modules => write_modules(self.journal.state().modules(), out)?,
