@@ -3,6 +3,7 @@ use Rattle.std.proofs.Common.{◌≡◌, ℕ, ◌+◌, ◌^◌, ◌<◌, ◌≤�
 use Rattle.std.proofs.lemmas.List.{map-append}
 use Rattle.std.proofs.lemmas.List.Elements.{All-from_recursion, All-map, All-push, All-weaker}
 use Rattle.std.proofs.lemmas.List.Folds.{list_any_none}
+use Rattle.std.proofs.lemmas.List.Sums.{sum_by_push}
 use Rattle.std.proofs.lemmas.Map.{none_passes_from_lookup}
 use Rattle.std.proofs.lemmas.Map.Keys.{IsDistinct-push}
 use Rattle.std.specs.Cmp.Lexicographic.{nat_list_eq_equiv}
@@ -12,15 +13,12 @@ use Rattle.std.specs.Str.{bytes_eq}
 use Rattle.values.proofs.Edits.{All-changed_at, All-remove, All-slice_get, IsDistinct-remove, map-remove}
 use Rattle.code_server.specs.declared.modules.Instance.{Instance}
 use Rattle.code_server.specs.declared.modules.Slots.{Slots}
-use Rattle.code_server.specs.Modules.{Entry, Table, HasCode, IsGiven, IsSound, with_slots, stacked, retired, purged_slots}
+use Rattle.code_server.specs.Modules.{Entry, Table, HasCode, IsGiven, IsSound, in_slot, in_entry, in_entries, with_slots, stacked, retired, purged_slots}
 use Rattle.code_server.specs.Places.{current_at}
+use Rattle.code_server.proofs.Serials.{AreGiven, in_entries-at_most, in_entries-remove, once_with}
 use Rattle.code_server.proofs.Standing.{keys-with_slots}
 
 module _ {C : Type 0} where
-  -- both instances of an entry were given
-  abbrev pub AreGiven : ℕ → Entry C → Type 0
-  AreGiven next entry = IsGiven next entry.1.current × IsGiven next entry.1.former
-
   pub IsGiven-later : (n m : ℕ) (o : Option (Instance C)) → n ≤ m → IsGiven n o → IsGiven m o
   IsGiven-later n m None later given = tt
   IsGiven-later n m (Some instance) later given = (given.0, omega (arith, given.1))
@@ -29,22 +27,24 @@ module _ {C : Type 0} where
   AreGiven-later n m es later given =
       All-weaker (AreGiven n) (AreGiven m) (λ e g. (IsGiven-later n m e.1.current later g.0, IsGiven-later n m e.1.former later g.1)) es given
 
-  -- the instances of one module change
-  pub IsSound-with_slots : (f : Slots C → Slots C) (t : Table C) (place next : ℕ) → IsSound t → t.next ≤ next → next ≤ 2 ^ 64 → ((e : Entry C) → slice_get t.entries place ≡ Some e → HasCode (e.0, f e.1) × AreGiven next (e.0, f e.1)) → IsSound (record { entries = with_slots f t.entries place; next = next })
-  IsSound-with_slots f t place next sound later end at = record {
+  -- the instances of one module change, and `new` is the one that comes in, if any
+  pub IsSound-with_slots : (f : Slots C → Slots C) (t : Table C) (place next : ℕ) (new : Option (Instance C)) → IsSound t → t.next ≤ next → next ≤ 2 ^ 64 → ((n : ℕ) → in_entries n t.entries + in_slot n new ≤ 1) → ((e : Entry C) → slice_get t.entries place ≡ Some e → HasCode (e.0, f e.1) × AreGiven next (e.0, f e.1) × ((n : ℕ) → in_entry n (e.0, f e.1) ≤ in_entry n e + in_slot n new)) → IsSound (record { entries = with_slots f t.entries place; next = next })
+  IsSound-with_slots f t place next new sound later end room at = record {
     distinct = subst (IsDistinct bytes_eq) (sym (keys-with_slots f t.entries place)) sound.distinct;
     with_code = All-changed_at (λ e. HasCode e) (λ e. (e.0, f e.1)) t.entries place sound.with_code (λ e is. (at e is).0);
     given = All-changed_at (AreGiven next) (λ e. (e.0, f e.1)) t.entries place (AreGiven-later t.next next t.entries later sound.given) (λ e is. (at e is).1);
+    once = λ n. omega (arith, room n, in_entries-at_most n (in_slot n new) (λ e. (e.0, f e.1)) t.entries place (λ e is. (at e is).2 n));
     counted = (omega (arith, sound.counted.0), end);
   }
 
   -- a load of a module that is there
   pub IsSound-stacked : (t : Table C) (place : ℕ) (instance : Instance C) → IsSound t → instance.serial ≡ t.next → t.next < 2 ^ 64 → IsSound (record { entries = with_slots (stacked instance) t.entries place; next = t.next + 1 })
   IsSound-stacked t place instance sound is below =
-      IsSound-with_slots (stacked instance) t place (t.next + 1) sound (omega arith) (omega arith) (λ e at.
+      IsSound-with_slots (stacked instance) t place (t.next + 1) (Some instance) sound (omega arith) (omega arith) (once_with t instance sound is) (λ e at.
       let given = All-slice_get (AreGiven t.next) t.entries place e sound.given at in (
         refl,
         ((omega (arith, sound.counted.0, is), omega (arith, is)), IsGiven-later t.next (t.next + 1) e.1.current (omega arith) given.0),
+        λ n. omega arith,
       ))
 
   current_at_some : (es : List (Entry C)) (place : ℕ) (e : Entry C) → slice_get es place ≡ Some e → is_some (current_at es place) ≡ true → is_some e.1.current ≡ true
@@ -54,16 +54,16 @@ module _ {C : Type 0} where
   -- a delete
   pub IsSound-retired : (t : Table C) (place : ℕ) → IsSound t → is_some (current_at t.entries place) ≡ true → IsSound (record { entries = with_slots retired t.entries place; next = t.next })
   IsSound-retired t place sound there =
-      IsSound-with_slots retired t place t.next sound (omega arith) sound.counted.1 (λ e at.
+      IsSound-with_slots retired t place t.next None sound (omega arith) sound.counted.1 (λ n. omega (arith, sound.once n)) (λ e at.
       let given = All-slice_get (AreGiven t.next) t.entries place e sound.given at in
-      (current_at_some t.entries place e at there, (tt, given.0)))
+      (current_at_some t.entries place e at there, (tt, given.0), λ n. omega arith))
 
   -- a purge of a module with current code
   pub IsSound-purged_slots : (t : Table C) (place : ℕ) → IsSound t → is_some (current_at t.entries place) ≡ true → IsSound (record { entries = with_slots purged_slots t.entries place; next = t.next })
   IsSound-purged_slots t place sound there =
-      IsSound-with_slots purged_slots t place t.next sound (omega arith) sound.counted.1 (λ e at.
+      IsSound-with_slots purged_slots t place t.next None sound (omega arith) sound.counted.1 (λ n. omega (arith, sound.once n)) (λ e at.
       let given = All-slice_get (AreGiven t.next) t.entries place e sound.given at in
-      (ap (λ b. b || false) (current_at_some t.entries place e at there), (given.0, tt)))
+      (ap (λ b. b || false) (current_at_some t.entries place e at there), (given.0, tt), λ n. omega arith))
 
   -- a purge of a module with old code alone
   pub IsSound-removed : (t : Table C) (place : ℕ) → IsSound t → IsSound (record { entries = remove t.entries place; next = t.next })
@@ -71,6 +71,7 @@ module _ {C : Type 0} where
     distinct = subst (IsDistinct bytes_eq) (sym (map-remove (λ e. e.0) t.entries place)) (IsDistinct-remove bytes_eq (keys_of t.entries) place sound.distinct);
     with_code = All-remove (λ e. HasCode e) t.entries place sound.with_code;
     given = All-remove (AreGiven t.next) t.entries place sound.given;
+    once = λ n. omega (arith, sound.once n, in_entries-remove n t.entries place);
     counted = sound.counted;
   }
 
@@ -86,5 +87,6 @@ module _ {C : Type 0} where
         distinct = subst (IsDistinct bytes_eq) (sym (map-append (λ e. e.0) t.entries ((name, slots) ∷ []))) (IsDistinct-push nat_list_eq_equiv (keys_of t.entries) name sound.distinct (absent_from_keys t.entries (bytes_eq name) absent));
         with_code = All-push (λ e. HasCode e) t.entries (name, slots) sound.with_code refl;
         given = All-push (AreGiven (t.next + 1)) t.entries (name, slots) (AreGiven-later t.next (t.next + 1) t.entries (omega arith) sound.given) ((omega (arith, sound.counted.0, is), omega (arith, is)), tt);
+        once = λ n. omega (arith, once_with t instance sound is n, sum_by_push (in_entry n) t.entries (name, slots));
         counted = (omega arith, omega arith);
       }

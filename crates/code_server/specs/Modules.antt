@@ -1,7 +1,7 @@
 -- The code server's table: a module has one or two instances of code, the current one and the old one
 -- (Erlang Reference Manual, Compilation and Code Loading, Code Replacement; code(3)).
 use Rattle.std.specs.Prelude.{◌≡◌, ℕ, ◌+◌, ◌^◌, ◌<◌, ◌≤◌, ◌==◌, Bool, ◌&&◌, ◌||◌, if◌then◌else◌, IsTrue, List, [], ◌∷◌, ◌++◌, All, remove, position, Option, None, Some, is_some, option_and_then}
-use Rattle.std.specs.List.{IsDistinct}
+use Rattle.std.specs.List.{IsDistinct, sum_by}
 use Rattle.std.specs.Map.{keys_of, lookup}
 use Rattle.std.specs.Str.{bytes_eq}
 use Rattle.values.specs.Edits.{changed_at}
@@ -120,8 +120,23 @@ abbrev pub IsGiven : {C : Type 0} → ℕ → Option (Instance C) → Type 0
 IsGiven next None = Unit {0}
 IsGiven next (Some instance) = (1 ≤ instance.serial) × (instance.serial < next)
 
+-- how often a serial stands in a slot, in an entry and in the table
+
+abbrev pub in_slot : {C : Type 0} → ℕ → Option (Instance C) → ℕ
+in_slot serial None = 0
+in_slot serial (Some instance) = if instance.serial == serial then 1 else 0
+
+abbrev pub in_entry : {C : Type 0} → ℕ → Entry C → ℕ
+in_entry serial entry = in_slot serial entry.1.current + in_slot serial entry.1.former
+
+abbrev pub in_entries : {C : Type 0} → ℕ → List (Entry C) → ℕ
+in_entries serial entries = sum_by (in_entry serial) entries
+
+-- Modules differ in name, and each has code; the instances' serials were given by loads, and no two instances have
+-- one serial; the next serial is one that a load can give, or one past the last.
 pub record IsSound {C : Type 0} (t : Table C) : Type 0 where
   pub distinct : IsDistinct bytes_eq (keys_of t.entries)
   pub with_code : All HasCode t.entries
   pub given : All (λ entry. IsGiven t.next entry.1.current × IsGiven t.next entry.1.former) t.entries
+  pub once : (serial : ℕ) → in_entries serial t.entries ≤ 1
   pub counted : (1 ≤ t.next) × (t.next ≤ 2 ^ 64)
