@@ -1,5 +1,5 @@
 -- Whatever lines the shell is given, its journal is the timeline of the commands that they carried out.
-use Rattle.std.proofs.Common.{◌≡◌, ℕ, Bool, true, false, ◌==◌, ◌-◌, ◌^◌, cond, List, [], ◌∷◌, ◌++◌, Option, None, Some, IfSome, option_to_list, unwrap_or, Ok, Err, refl, sym, ap, subst, ◌∙◌}
+use Rattle.std.proofs.Common.{◌≡◌, ℕ, Bool, true, false, ◌==◌, ◌-◌, ◌^◌, cond, List, [], ◌∷◌, ◌++◌, Option, None, Some, IfSome, option_map, option_to_list, unwrap_or, Ok, Err, refl, sym, ap, subst, ◌∙◌}
 use Rattle.erl_term.specs.Tree.{Tree}
 use Rattle.code_server.specs.Modules.{empty_table}
 use Rattle.undo_journal.specs.declared.history.Command.{Command}
@@ -16,7 +16,7 @@ use Rattle.relnode.specs.declared.answers.Fixed.TheVariants.{BadCommand, LineToo
 use Rattle.relnode.specs.Answers.{fixed, missing_file}
 use Rattle.relnode.specs.Files.{Contents, file_of}
 use Rattle.relnode.specs.Node.{Outcome, rule, event_of}
-use Rattle.relnode.specs.Replay.{IsReplayed, IsHeadline, MarksName, carried_out, first_deed, timeline_behind}
+use Rattle.relnode.specs.Replay.{IsReplayed, IsHeadline, MarksName, Undoes, fates_behind, carried_out, first_deed, timeline_behind}
 use Rattle.relnode.specs.Request.{Request, ask, load, change, undo, Spoken, too_long, silent, unknown, asks, spoken}
 use Rattle.relnode.specs.Shell.{NodeTimeline, ShellState, Deed, opened_shell, shell_turn, deed, request_deed, load_deed, undo_deed, stopped_at, undone_to, event_deed, performed, ruled, answered, shown}
 
@@ -104,13 +104,7 @@ lines-replayed files fates lines =
       fold = ap (λ (u : NodeTimeline). (here u).node) all ∙ fold_of-live rule empty_table commands;
     }
 
--- the fates that are left behind some lines
-fates_behind : List (Option Fate) → List (List ℕ) → List (Option Fate)
-fates_behind fates [] = fates
-fates_behind fates (line ∷ lines) = fates_behind (later_fates fates) lines
-
 session-more : (fates : List (Option Fate)) (s : ShellState) (lines more : List (List ℕ)) → session_after shell_turn fates s (lines ++ more) ≡ session_after shell_turn (fates_behind fates lines) (session_after shell_turn fates s lines) more
-unfolding fates_behind
 session-more fates s [] more = refl
 session-more fates s (line ∷ lines) more = session-more (later_fates fates) (first_deed fates s line).after lines more
 
@@ -130,9 +124,22 @@ marks-named files fates lines more mark given =
     let behind : timeline_behind files fates (lines ++ more) ≡ timeline_after rule commands t = ap (λ (u : ShellState). u.timeline) (session-more fates start lines more) ∙ after-lines rest s more in
     if_alive (node_at mark (timeline_behind files fates (lines ++ more))) (node_at mark t) (λ n alive. node_at-after rule mark commands t n ordered given (ap (λ u. node_at mark u) (sym behind) ∙ alive))
 
+undo-undoes : (files : Contents) (fates : List (Option Fate)) (front : List (List ℕ)) (line : List ℕ) (mark : ℕ) (end : NodeTimeline) → first_fate (fates_behind fates front) ≡ None → spoken (heard line) ≡ asks (undo mark) → cut_to mark (timeline_behind files fates front) ≡ Some end → Undoes files fates front line mark end
+undo-undoes files fates front line mark end whole says is =
+    let start = opened_shell files in
+    let s = session_after shell_turn fates start front in
+    let done : deed None s (spoken (heard line)) ≡ undone_to s mark end = ap (λ l. deed None s l) says ∙ ap (λ o. undo_deed None s mark o) is in
+    let first : (first_deed (fates_behind fates front) s line).after.timeline ≡ end = ap (λ f. (deed f s (spoken (heard line))).after.timeline) whole ∙ ap (λ (d : Deed). d.after.timeline) done in
+    record {
+      leads = ap (λ (u : ShellState). u.timeline) (session-more fates start front (line ∷ [])) ∙ first;
+      node = ap (λ o. option_map (λ (u : NodeTimeline). (here u).node) o) is;
+      answer = ap (λ (d : Deed). d.text) done;
+    }
+
 -- the headline of the shell
 pub lines-headline : (files : Contents) (fates : List (Option Fate)) (lines : List (List ℕ)) → IsHeadline files fates lines
 lines-headline files fates lines = record {
   replayed = λ front others is. lines-replayed files fates front;
   marks = λ front more others is. marks-named files fates front more;
+  undos = λ front others line mark end is. undo-undoes files fates front line mark end;
 }
