@@ -1,5 +1,5 @@
 -- A module at its place: what a write there is, and what a look-up by its name finds.
-use Rattle.std.proofs.Common.{◌≡◌, ℕ, zero, suc, ◌+◌, ◌-◌, ◌<◌, ◌≤◌, true, cond, List, [], ◌∷◌, ◌++◌, length, length-take-le, insert, remove, take, slice_get, None, Some, option_map, inl, inr, refl, sym, ap, ◌∙◌, arith}
+use Rattle.std.proofs.Common.{◌≡◌, ℕ, zero, suc, ◌+◌, ◌-◌, ◌<◌, ◌≤◌, true, cond, List, [], ◌∷◌, ◌++◌, length, length-take-le, insert, remove, take, slice_get, Option, None, Some, option_and_then, option_map, inl, inr, refl, sym, ap, ◌∙◌, arith}
 use Rattle.std.proofs.lemmas.List.{take_all, take_more}
 use Rattle.std.proofs.lemmas.List.Quantifiers.{position-Some}
 use Rattle.std.proofs.lemmas.Map.{lookup-remove_entry}
@@ -17,7 +17,7 @@ use Rattle.values.proofs.Edits.{changed_at-insert, map-changed_at}
 use Rattle.code_server.specs.declared.modules.Instance.{Instance}
 use Rattle.code_server.specs.declared.modules.Slots.{Slots}
 use Rattle.code_server.specs.Modules.{Entry, place_of, with_slots}
-use Rattle.code_server.specs.Places.{current_at, former_at, old_alone}
+use Rattle.code_server.specs.Places.{old_alone}
 use Rattle.code_server.specs.Undo.{moved_back}
 
 module _ {C : Type 0} where
@@ -30,15 +30,10 @@ module _ {C : Type 0} where
       ap (λ rest. e ∷ rest) (with_slots_from_write f es i v w at is)
 
   -- what the map lent at a place
-  pub current_at_lent : (es : List (Entry C)) (i : ℕ) (v : Slots C) → slice_get (values_of es) i ≡ Some v → v.current ≡ current_at es i
-  current_at_lent [] i v at = absurd (none-some v at)
-  current_at_lent (e ∷ es) zero v at = ap (λ s. s.current) (sym (same_Some e.1 v at))
-  current_at_lent (e ∷ es) (suc i) v at = current_at_lent es i v at
-
-  pub former_at_lent : (es : List (Entry C)) (i : ℕ) (v : Slots C) → slice_get (values_of es) i ≡ Some v → v.former ≡ former_at es i
-  former_at_lent [] i v at = absurd (none-some v at)
-  former_at_lent (e ∷ es) zero v at = ap (λ s. s.former) (sym (same_Some e.1 v at))
-  former_at_lent (e ∷ es) (suc i) v at = former_at_lent es i v at
+  pub at_lent : (h : Slots C → Option (Instance C)) (es : List (Entry C)) (i : ℕ) (v : Slots C) → slice_get (values_of es) i ≡ Some v → h v ≡ option_and_then (λ entry. h entry.1) (slice_get es i)
+  at_lent h [] i v at = absurd (none-some v at)
+  at_lent h (e ∷ es) zero v at = ap h (sym (same_Some e.1 v at))
+  at_lent h (e ∷ es) (suc i) v at = at_lent h es i v at
 
   -- a module that is not there, put at a place
   pub insert_from_shift : {S : Type 0} (m : IndexMap (List ℕ) (Slots C) S) (name : List ℕ) (slots : Slots C) (place : ℕ) → place ≤ length m.entries → lookup (bytes_eq name) m.entries ≡ None → move_index (insert_entry bytes_eq m.entries name slots) (insert_index bytes_eq m name) place ≡ insert m.entries place (name, slots)

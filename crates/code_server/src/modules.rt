@@ -6,8 +6,7 @@ ghost use Rattle.std.specs.Option.{option_map, option_copied};
 
 use crate::error::CodeError;
 use crate::places::{
-    add, has_current, move_back, purge_at, put_back, restore_at, retire_at, stack_at, stack_last,
-    swap_back_at, take_out, unpurge_at,
+    SlotChange, add, change_at, has_current, move_back, put_back, stack_last, take_out,
 };
 use crate::undo::Undo;
 use erl_term::Atom;
@@ -177,7 +176,7 @@ impl<C: Drop> Modules<C> {
         let instance = Instance { serial, code };
         match self.table.get_index_of(&name) {
             Some(place) => {
-                let _ = stack_at(&mut self.table, place, instance);
+                let _ = change_at(&mut self.table, place, SlotChange::Stack(Some(instance)));
                 self.last = serial;
                 Ok(Undo::Stacked(place))
             }
@@ -217,7 +216,8 @@ impl<C: Drop> Modules<C> {
         };
         self.last = serial;
         if has_current(&self.table, place) {
-            let Some(former) = stack_at(&mut self.table, place, instance) else {
+            let change = SlotChange::Stack(Some(instance));
+            let Some(former) = change_at(&mut self.table, place, change) else {
                 return Ok(Undo::Stacked(place));
             };
             return Ok(Undo::Replaced(place, former));
@@ -246,7 +246,7 @@ impl<C: Drop> Modules<C> {
         }
         match self.table.get_index_of(name) {
             Some(place) => {
-                retire_at(&mut self.table, place);
+                let _ = change_at(&mut self.table, place, SlotChange::Stack(None));
                 Ok(Undo::Retired(place))
             }
             None => Err(CodeError::NotLoaded),
@@ -263,7 +263,8 @@ impl<C: Drop> Modules<C> {
             return Undo::Nothing;
         };
         if has_current(&self.table, place) {
-            let Some(former) = purge_at(&mut self.table, place) else {
+            let change = SlotChange::ReplaceOld(None);
+            let Some(former) = change_at(&mut self.table, place, change) else {
                 return Undo::Nothing;
             };
             return Undo::Purged(place, former);
@@ -312,12 +313,12 @@ impl<C: Drop> Modules<C> {
                 Ok(())
             }
             Undo::Stacked(place) => {
-                restore_at(&mut self.table, place);
+                let _ = change_at(&mut self.table, place, SlotChange::Unstack(None));
                 self.last -= 1;
                 Ok(())
             }
             Undo::Replaced(place, instance) => {
-                swap_back_at(&mut self.table, place, instance);
+                let _ = change_at(&mut self.table, place, SlotChange::Unstack(Some(instance)));
                 self.last -= 1;
                 Ok(())
             }
@@ -327,11 +328,12 @@ impl<C: Drop> Modules<C> {
                 Ok(())
             }
             Undo::Retired(place) => {
-                restore_at(&mut self.table, place);
+                let _ = change_at(&mut self.table, place, SlotChange::Unstack(None));
                 Ok(())
             }
             Undo::Purged(place, instance) => {
-                unpurge_at(&mut self.table, place, instance);
+                let change = SlotChange::ReplaceOld(Some(instance));
+                let _ = change_at(&mut self.table, place, change);
                 Ok(())
             }
             Undo::Removed(place, name, instance) => {

@@ -3,9 +3,9 @@ ghost use Rattle.std.specs.Prelude.{◌≡◌, ◌-◌, ◌<◌, ◌≤◌, ◌+
 ghost use Rattle.std.specs.Map.{lookup};
 ghost use Rattle.std.specs.Str.{bytes_eq};
 ghost use Rattle.indexmap.specs.IndexMap.{move_index};
-ghost use Rattle.code_server.specs.Modules.{with_slots, stacked, retired, purged_slots};
-ghost use Rattle.code_server.specs.Places.{current_at, former_at, old_alone};
-ghost use Rattle.code_server.specs.Undo.{moved_back, restored, unpurged, swapped_back};
+ghost use Rattle.code_server.specs.Modules.{with_slots, stacked};
+ghost use Rattle.code_server.specs.Places.{changed_slots, current_at, former_at, gone_slot};
+ghost use Rattle.code_server.specs.Undo.{moved_back};
 
 use crate::error::CodeError;
 use crate::modules::{Instance, Slots};
@@ -43,26 +43,39 @@ pub(crate) fn add<C: Drop>(
     }
 }
 
-/// Puts an instance on top of what a module has, and gives its old code.
-fn stack<C>(slots: &mut Slots<C>, instance: Instance<C>) -> Option<Instance<C>>
-    ensures stacked { slots.new ≡ stacked instance slots.old }
-    ensures former { result ≡ slots.old.former }
-{
-    let current = slots.current.replace(instance);
-    mem::replace(&mut slots.former, current)
+/// What is done to the instances of a module, with the instance that comes in, or none. Each takes another back: `Stack`
+/// and `Unstack` one another, and `ReplaceOld` itself, with the instance that went.
+pub(crate) enum SlotChange<C> {
+    /// What comes in is current, what was current is old, and what was old goes.
+    Stack(Option<Instance<C>>),
+    /// What was old is current, what comes in is old, and what was current goes.
+    Unstack(Option<Instance<C>>),
+    /// What comes in is old, and what was old goes.
+    ReplaceOld(Option<Instance<C>>),
 }
 
-/// Puts an instance on top of what the module at a place has, and gives its old code.
-pub(crate) fn stack_at<C>(
+/// Changes the instances of the module at a place, and gives the one that went.
+pub(crate) fn change_at<C>(
     table: &mut IndexMap<Atom, Slots<C>>,
     place: usize,
-    instance: Instance<C>,
+    change: SlotChange<C>,
 ) -> Option<Instance<C>>
     requires { place < length table.old.entries }
-    ensures stacked { table.new.entries ≡ with_slots (stacked instance) table.old.entries place }
-    ensures former { result ≡ former_at table.old.entries place }
+    ensures changed { table.new.entries ≡ with_slots (changed_slots change) table.old.entries place }
+    ensures gone { result ≡ option_and_then (λ entry. gone_slot change entry.1) (slice_get table.old.entries place) }
 {
-    stack(&mut table[place], instance)
+    let slots = &mut table[place];
+    match change {
+        SlotChange::Stack(instance) => {
+            let current = mem::replace(&mut slots.current, instance);
+            mem::replace(&mut slots.former, current)
+        }
+        SlotChange::Unstack(instance) => {
+            let former = mem::replace(&mut slots.former, instance);
+            mem::replace(&mut slots.current, former)
+        }
+        SlotChange::ReplaceOld(instance) => mem::replace(&mut slots.former, instance),
+    }
 }
 
 /// Moves the module at a place to the end, puts an instance on top of what it has, and gives its old
@@ -78,102 +91,7 @@ pub(crate) fn stack_last<C>(
 {
     let last = table.len() - 1;
     table.move_index(place, last);
-    stack_at(table, last, instance)
-}
-
-/// Makes current code old.
-fn retire<C: Drop>(slots: &mut Slots<C>)
-    ensures { slots.new ≡ retired slots.old }
-{
-    slots.former = slots.current.take();
-}
-
-/// Makes the current code of the module at a place old.
-pub(crate) fn retire_at<C: Drop>(table: &mut IndexMap<Atom, Slots<C>>, place: usize)
-    requires { place < length table.old.entries }
-    ensures { table.new.entries ≡ with_slots retired table.old.entries place }
-{
-    retire(&mut table[place]);
-}
-
-/// Takes the old code of a module.
-fn purge<C>(slots: &mut Slots<C>) -> Option<Instance<C>>
-    ensures purged { slots.new ≡ purged_slots slots.old }
-    ensures former { result ≡ slots.old.former }
-{
-    slots.former.take()
-}
-
-/// Takes the old code of the module at a place.
-pub(crate) fn purge_at<C>(table: &mut IndexMap<Atom, Slots<C>>, place: usize) -> Option<Instance<C>>
-    requires { place < length table.old.entries }
-    ensures purged { table.new.entries ≡ with_slots purged_slots table.old.entries place }
-    ensures former { result ≡ former_at table.old.entries place }
-{
-    purge(&mut table[place])
-}
-
-/// Makes old code current again.
-fn restore<C: Drop>(slots: &mut Slots<C>)
-    ensures { slots.new ≡ restored slots.old }
-{
-    slots.current = slots.former.take();
-}
-
-/// Makes the old code of the module at a place current again.
-pub(crate) fn restore_at<C: Drop>(table: &mut IndexMap<Atom, Slots<C>>, place: usize)
-    requires { place < length table.old.entries }
-    ensures { table.new.entries ≡ with_slots restored table.old.entries place }
-{
-    restore(&mut table[place]);
-}
-
-/// Makes old code current again, and a purged instance old again.
-fn swap_back<C: Drop>(slots: &mut Slots<C>, instance: Instance<C>)
-    ensures { slots.new ≡ swapped_back instance slots.old }
-{
-    slots.current = slots.former.replace(instance);
-}
-
-/// Makes the old code of the module at a place current again, and a purged instance old again.
-pub(crate) fn swap_back_at<C: Drop>(
-    table: &mut IndexMap<Atom, Slots<C>>,
-    place: usize,
-    instance: Instance<C>,
-)
-    requires { place < length table.old.entries }
-    ensures { table.new.entries ≡ with_slots (swapped_back instance) table.old.entries place }
-{
-    swap_back(&mut table[place], instance);
-}
-
-/// Makes a purged instance old again.
-fn unpurge<C: Drop>(slots: &mut Slots<C>, instance: Instance<C>)
-    ensures { slots.new ≡ unpurged instance slots.old }
-{
-    slots.former = Some(instance);
-}
-
-/// Makes a purged instance old again, of the module at a place.
-pub(crate) fn unpurge_at<C: Drop>(
-    table: &mut IndexMap<Atom, Slots<C>>,
-    place: usize,
-    instance: Instance<C>,
-)
-    requires { place < length table.old.entries }
-    ensures { table.new.entries ≡ with_slots (unpurged instance) table.old.entries place }
-{
-    unpurge(&mut table[place], instance);
-}
-
-/// Leaves a module with this old code alone.
-fn leave_old<C: Drop>(slots: &mut Slots<C>, instance: Instance<C>)
-    ensures { slots.new ≡ old_alone instance slots.old }
-{
-    *slots = Slots {
-        current: None,
-        former: Some(instance),
-    };
+    change_at(table, last, SlotChange::Stack(Some(instance)))
 }
 
 /// Moves the last module to a place, and leaves it with this old code alone.
@@ -187,7 +105,10 @@ pub(crate) fn move_back<C: Drop>(
 {
     let last = table.len() - 1;
     table.move_index(last, place);
-    leave_old(&mut table[place], instance);
+    table[place] = Slots {
+        current: None,
+        former: Some(instance),
+    };
 }
 
 /// Takes the module at a place out of the table, with its old code, where it has no other.

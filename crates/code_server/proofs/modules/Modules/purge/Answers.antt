@@ -9,29 +9,29 @@ use Rattle.code_server.proofs.modules.Modules.purge.Goals as goal
 pub invariant_of-self : goal.invariant_of-self
 invariant_of-self g c =
     let t : Table g.row.C.Denot = record { entries = c.self.inside.table.entries; next = c.self.inside.last + 1 } in
-    rw c.purge_at.ensures.purged (IsSound-purged_slots t c.in-Some.place c.self.invariant (sym c.has_current.ensures ∙ c.if-has_current.true))
+    rw c.change_at.ensures.changed (IsSound-purged_slots t c.in-Some.place c.self.invariant (sym c.has_current.ensures ∙ c.if-has_current.true))
 
-pub returns-in_default-purge_at-clause-purged : goal.returns-in_default-purge_at-clause-purged
-returns-in_default-purge_at-clause-purged g c =
+pub returns-in_default-change_at-clause-purged : goal.returns-in_default-change_at-clause-purged
+returns-in_default-change_at-clause-purged g c =
     let t : Table g.row.C.Denot = record { entries = c.self.inside.table.entries; next = c.self.inside.last + 1 } in
     let place = c.in-Some.place in
     let found = sym c.get_index_of.ensures.index ∙ c.in-Some.is in
     let at = Stands-place c.args.name.now t.entries place found in
     let there = current_of-at c.args.name.now t place true at (sym c.has_current.ensures ∙ c.if-has_current.true) in
-    ap (λ es. record { entries = es; next = t.next }) c.purge_at.ensures.purged ∙ sym (purged-kept c.args.name.now t place found there) ∙ ap (purged c.args.name.now) c.self.view_is
+    ap (λ es. record { entries = es; next = t.next }) c.change_at.ensures.changed ∙ sym (purged-kept c.args.name.now t place found there) ∙ ap (purged c.args.name.now) c.self.view_is
 
-pub returns-in_default-purge_at-clause-inverse : goal.returns-in_default-purge_at-clause-inverse
-returns-in_default-purge_at-clause-inverse g c =
+pub returns-in_default-change_at-clause-inverse : goal.returns-in_default-change_at-clause-inverse
+returns-in_default-change_at-clause-inverse g c =
     let t : Table g.row.C.Denot = record { entries = c.self.inside.table.entries; next = c.self.inside.last + 1 } in
     let place = c.in-Some.place in
     let at = Stands-place c.args.name.now t.entries place (sym c.get_index_of.ensures.index ∙ c.in-Some.is) in
-    let none = former-taken c.args.name.now t.entries place at c.purge_at.result None c.purge_at.ensures.former (none_unless c.purge_at.result c.in_default-purge_at.not-Some) in
-    Nothing-back c.args.name.now t c.args.self.now place c.purge_at.new.table.entries at none c.purge_at.ensures.purged c.self.invariant c.self.view_is
+    let none = former-taken c.args.name.now t.entries place at c.change_at.result None c.change_at.ensures.gone (none_unless c.change_at.result c.in_default-change_at.not-Some) in
+    Nothing-back c.args.name.now t c.args.self.now place c.change_at.new.table.entries at none c.change_at.ensures.changed c.self.invariant c.self.view_is
 
 pub invariant_of-self-then-has_current : goal.invariant_of-self-then-has_current
 invariant_of-self-then-has_current g c =
     let t : Table g.row.C.Denot = record { entries = c.self.inside.table.entries; next = c.self.inside.last + 1 } in
-    rw c.purge_at.ensures.purged (IsSound-purged_slots t c.in-Some.place c.self.invariant (sym c.has_current.ensures ∙ c.if-has_current.true))
+    rw c.change_at.ensures.changed (IsSound-purged_slots t c.in-Some.place c.self.invariant (sym c.has_current.ensures ∙ c.if-has_current.true))
 
 pub returns-then-has_current-clause-purged : goal.returns-then-has_current-clause-purged
 returns-then-has_current-clause-purged g c =
@@ -40,15 +40,15 @@ returns-then-has_current-clause-purged g c =
     let found = sym c.get_index_of.ensures.index ∙ c.in-Some.is in
     let at = Stands-place c.args.name.now t.entries place found in
     let there = current_of-at c.args.name.now t place true at (sym c.has_current.ensures ∙ c.if-has_current.true) in
-    ap (λ es. record { entries = es; next = t.next }) c.purge_at.ensures.purged ∙ sym (purged-kept c.args.name.now t place found there) ∙ ap (purged c.args.name.now) c.self.view_is
+    ap (λ es. record { entries = es; next = t.next }) c.change_at.ensures.changed ∙ sym (purged-kept c.args.name.now t place found there) ∙ ap (purged c.args.name.now) c.self.view_is
 
 pub returns-then-has_current-clause-inverse : goal.returns-then-has_current-clause-inverse
 returns-then-has_current-clause-inverse g c =
     let t : Table g.row.C.Denot = record { entries = c.self.inside.table.entries; next = c.self.inside.last + 1 } in
     let place = c.in-Some.place in
     let at = Stands-place c.args.name.now t.entries place (sym c.get_index_of.ensures.index ∙ c.in-Some.is) in
-    let some = former-taken c.args.name.now t.entries place at c.purge_at.result (Some c.in-Some-purge_at.former) c.purge_at.ensures.former c.in-Some-purge_at.is in
-    Purged-back c.args.name.now t c.args.self.now place c.purge_at.new.table.entries c.in-Some-purge_at.former at some c.purge_at.ensures.purged c.self.invariant c.self.view_is
+    let some = former-taken c.args.name.now t.entries place at c.change_at.result (Some c.in-Some-change_at.former) c.change_at.ensures.gone c.in-Some-change_at.is in
+    Purged-back c.args.name.now t c.args.self.now place c.change_at.new.table.entries c.in-Some-change_at.former at some c.change_at.ensures.changed c.self.invariant c.self.view_is
 
 pub unreachable-requires : goal.unreachable-requires
 unreachable-requires g c =

@@ -24,41 +24,41 @@ returns-in_default-clause-inverse g c =
     let t : Table g.row.C.Denot = record { entries = c.self.inside.table.entries; next = c.self.inside.last + 1 } in
     Added-back t c.args.self.now _ c.add.new.table.entries c.in_ok-add.ensures.added c.self.invariant c.self.view_is
 
-pub invariant_of-self-in_default-stack_at : goal.invariant_of-self-in_default-stack_at
-invariant_of-self-in_default-stack_at g c =
+pub invariant_of-self-in_default-change_at : goal.invariant_of-self-in_default-change_at
+invariant_of-self-in_default-change_at g c =
     let t : Table g.row.C.Denot = record { entries = c.self.inside.table.entries; next = c.self.inside.last + 1 } in
     let below : c.self.inside.last + 1 < 2 ^ 64 = omega (arith, c.self.invariant.counted.1, c.if-self.false) in
-    rw c.stack_at.ensures.stacked (IsSound-stacked t c.in-Some.place _ c.self.invariant refl below)
+    rw c.change_at.ensures.changed (IsSound-stacked t c.in-Some.place _ c.self.invariant refl below)
 
-pub returns-in_default-stack_at-clause-ok : goal.returns-in_default-stack_at-clause-ok
-returns-in_default-stack_at-clause-ok g c =
+pub returns-in_default-change_at-clause-ok : goal.returns-in_default-change_at-clause-ok
+returns-in_default-change_at-clause-ok g c =
     let t : Table g.row.C.Denot = record { entries = c.self.inside.table.entries; next = c.self.inside.last + 1 } in
     let below : c.self.inside.last + 1 < 2 ^ 64 = omega (arith, c.self.invariant.counted.1, c.if-self.false) in
     refused-never c.args.name t c.args.self.now c.self.invariant below c.self.view_is
 
-pub returns-in_default-stack_at-clause-loaded : goal.returns-in_default-stack_at-clause-loaded
-returns-in_default-stack_at-clause-loaded g c =
+pub returns-in_default-change_at-clause-loaded : goal.returns-in_default-change_at-clause-loaded
+returns-in_default-change_at-clause-loaded g c =
     let t : Table g.row.C.Denot = record { entries = c.self.inside.table.entries; next = c.self.inside.last + 1 } in
     let place = c.in-Some.place in
     let found = sym c.get_index_of.ensures.index ∙ c.in-Some.is in
     let at = Stands-place c.args.name t.entries place found in
     let has = current_of-at c.args.name t place true at (sym c.has_current.ensures ∙ c.if-has_current.true) in
-    ap (λ es. record { entries = es; next = t.next + 1 }) c.stack_at.ensures.stacked ∙ sym (loaded-kept c.args.name c.args.code t place found has) ∙ ap (λ u. loaded c.args.name c.args.code (purged c.args.name u)) c.self.view_is
+    ap (λ es. record { entries = es; next = t.next + 1 }) c.change_at.ensures.changed ∙ sym (loaded-kept c.args.name c.args.code t place found has) ∙ ap (λ u. loaded c.args.name c.args.code (purged c.args.name u)) c.self.view_is
 
-pub returns-in_default-stack_at-clause-inverse : goal.returns-in_default-stack_at-clause-inverse
-returns-in_default-stack_at-clause-inverse g c =
+pub returns-in_default-change_at-clause-inverse : goal.returns-in_default-change_at-clause-inverse
+returns-in_default-change_at-clause-inverse g c =
     let t : Table g.row.C.Denot = record { entries = c.self.inside.table.entries; next = c.self.inside.last + 1 } in
     let place = c.in-Some.place in
     let found = sym c.get_index_of.ensures.index ∙ c.in-Some.is in
     let at = Stands-place c.args.name t.entries place found in
-    let former = former-taken c.args.name t.entries place at c.stack_at.result None c.stack_at.ensures.former (none_unless c.stack_at.result c.in_default-stack_at.not-Some) in
-    Stacked-back c.args.name t c.args.self.now place c.stack_at.new.table.entries _ at former c.stack_at.ensures.stacked c.self.invariant c.self.view_is
+    let former = former-taken c.args.name t.entries place at c.change_at.result None c.change_at.ensures.gone (none_unless c.change_at.result c.in_default-change_at.not-Some) in
+    Stacked-back c.args.name t c.args.self.now place c.change_at.new.table.entries _ at former c.change_at.ensures.changed c.self.invariant c.self.view_is
 
 pub invariant_of-self-then-has_current : goal.invariant_of-self-then-has_current
 invariant_of-self-then-has_current g c =
     let t : Table g.row.C.Denot = record { entries = c.self.inside.table.entries; next = c.self.inside.last + 1 } in
     let below : c.self.inside.last + 1 < 2 ^ 64 = omega (arith, c.self.invariant.counted.1, c.if-self.false) in
-    rw c.stack_at.ensures.stacked (IsSound-stacked t c.in-Some.place _ c.self.invariant refl below)
+    rw c.change_at.ensures.changed (IsSound-stacked t c.in-Some.place _ c.self.invariant refl below)
 
 pub returns-then-has_current-clause-ok : goal.returns-then-has_current-clause-ok
 returns-then-has_current-clause-ok g c =
@@ -73,7 +73,7 @@ returns-then-has_current-clause-loaded g c =
     let found = sym c.get_index_of.ensures.index ∙ c.in-Some.is in
     let at = Stands-place c.args.name t.entries place found in
     let has = current_of-at c.args.name t place true at (sym c.has_current.ensures ∙ c.if-has_current.true) in
-    ap (λ es. record { entries = es; next = t.next + 1 }) c.stack_at.ensures.stacked ∙ sym (loaded-kept c.args.name c.args.code t place found has) ∙ ap (λ u. loaded c.args.name c.args.code (purged c.args.name u)) c.self.view_is
+    ap (λ es. record { entries = es; next = t.next + 1 }) c.change_at.ensures.changed ∙ sym (loaded-kept c.args.name c.args.code t place found has) ∙ ap (λ u. loaded c.args.name c.args.code (purged c.args.name u)) c.self.view_is
 
 pub returns-then-has_current-clause-inverse : goal.returns-then-has_current-clause-inverse
 returns-then-has_current-clause-inverse g c =
@@ -81,8 +81,8 @@ returns-then-has_current-clause-inverse g c =
     let place = c.in-Some.place in
     let found = sym c.get_index_of.ensures.index ∙ c.in-Some.is in
     let at = Stands-place c.args.name t.entries place found in
-    let former = former-taken c.args.name t.entries place at c.stack_at.result (Some c.in-Some-stack_at.former) c.stack_at.ensures.former c.in-Some-stack_at.is in
-    Replaced-back c.args.name t c.args.self.now place c.stack_at.new.table.entries _ c.in-Some-stack_at.former at former c.stack_at.ensures.stacked c.self.invariant c.self.view_is
+    let former = former-taken c.args.name t.entries place at c.change_at.result (Some c.in-Some-change_at.former) c.change_at.ensures.gone c.in-Some-change_at.is in
+    Replaced-back c.args.name t c.args.self.now place c.change_at.new.table.entries _ c.in-Some-change_at.former at former c.change_at.ensures.changed c.self.invariant c.self.view_is
 
 pub unreachable-requires : goal.unreachable-requires
 unreachable-requires g c =
