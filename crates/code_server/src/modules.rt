@@ -35,6 +35,7 @@ pub struct Slots<C> {
 /// The modules and their code, first loaded first.
 #[derive(Drop)]
 pub struct Modules<C> {
+    alloc: Global,
     table: IndexMap<Atom, Slots<C>>,
     last: u64,
 }
@@ -59,6 +60,7 @@ impl<C: Drop> Modules<C> {
         ensures { result ≡ empty_table }
     {
         Modules {
+            alloc,
             table: IndexMap::new(alloc),
             last: 0,
         }
@@ -155,33 +157,33 @@ impl<C: Drop> Modules<C> {
     }
 
     /// Loads code: it becomes current under the next serial, and the current code becomes old. A module
-    /// that is not in the table goes last, and only then is memory asked for.
+    /// that is not in the table goes last, under a copy of the name, and only then is memory asked for.
     ///
     /// # Errors
     ///
     /// In this order: `NotPurged` where there is old code, `CounterEnd` where the last serial was given,
-    /// `Memory`. The table is then as it was; name and code are dropped.
-    pub fn load(&mut self, name: Atom, code: C) -> Result<Undo<C>, CodeError>
-        ensures ok { OnOk result (load_refusal name self.old ≡ None) }
-        ensures loaded { OnOk result (self.new ≡ loaded name code self.old) }
+    /// `Memory`. The table is then as it was; the code is dropped.
+    pub fn load(&mut self, name: &Atom, code: C) -> Result<Undo<C>, CodeError>
+        ensures ok { OnOk result (load_refusal name.now self.old ≡ None) }
+        ensures loaded { OnOk result (self.new ≡ loaded name.now code self.old) }
         ensures inverse { IfOk result (λ undo. Fits undo self.new × (undone undo self.new ≡ self.old)) }
-        ensures refused { IfErr result (λ e. Tells e (load_refusal name self.old)) }
-        ensures memory { IfErr result (λ e. e ≡ CodeError.Memory → slots_of name self.old ≡ None) }
+        ensures refused { IfErr result (λ e. Tells e (load_refusal name.now self.old)) }
+        ensures memory { IfErr result (λ e. e ≡ CodeError.Memory → slots_of name.now self.old ≡ None) }
         ensures err { OnErr result (self.new ≡ self.old) }
     {
-        if let Some(refusal) = self.load_refusal(&name) {
+        if let Some(refusal) = self.load_refusal(name) {
             return Err(refusal);
         }
         let serial = self.last + 1;
         let instance = Instance { serial, code };
-        match self.table.get_index_of(&name) {
+        match self.table.get_index_of(name) {
             Some(place) => {
                 let _ = change_at(&mut self.table, place, SlotChange::Stack(Some(instance)));
                 self.last = serial;
                 Ok(Undo::Stacked(place))
             }
             None => {
-                add(&mut self.table, name, instance)?;
+                add(&mut self.table, self.alloc, name, instance)?;
                 self.last = serial;
                 Ok(Undo::Added)
             }
@@ -194,14 +196,14 @@ impl<C: Drop> Modules<C> {
     ///
     /// # Errors
     ///
-    /// `CounterEnd` where the last serial was given, and else `Memory`. The table is then as it was; name
-    /// and code are dropped.
-    pub fn purge_and_load(&mut self, name: Atom, code: C) -> Result<Undo<C>, CodeError>
-        ensures ok { OnOk result (load_refusal name (purged name self.old) ≡ None) }
-        ensures loaded { OnOk result (self.new ≡ loaded name code (purged name self.old)) }
+    /// `CounterEnd` where the last serial was given, and else `Memory`. The table is then as it was; the code
+    /// is dropped.
+    pub fn purge_and_load(&mut self, name: &Atom, code: C) -> Result<Undo<C>, CodeError>
+        ensures ok { OnOk result (load_refusal name.now (purged name.now self.old) ≡ None) }
+        ensures loaded { OnOk result (self.new ≡ loaded name.now code (purged name.now self.old)) }
         ensures inverse { IfOk result (λ undo. Fits undo self.new × (undone undo self.new ≡ self.old)) }
-        ensures refused { IfErr result (λ e. Tells e (load_refusal name (purged name self.old))) }
-        ensures memory { IfErr result (λ e. e ≡ CodeError.Memory → slots_of name self.old ≡ None) }
+        ensures refused { IfErr result (λ e. Tells e (load_refusal name.now (purged name.now self.old))) }
+        ensures memory { IfErr result (λ e. e ≡ CodeError.Memory → slots_of name.now self.old ≡ None) }
         ensures err { OnErr result (self.new ≡ self.old) }
     {
         if self.last == u64::MAX {
@@ -209,8 +211,8 @@ impl<C: Drop> Modules<C> {
         }
         let serial = self.last + 1;
         let instance = Instance { serial, code };
-        let Some(place) = self.table.get_index_of(&name) else {
-            add(&mut self.table, name, instance)?;
+        let Some(place) = self.table.get_index_of(name) else {
+            add(&mut self.table, self.alloc, name, instance)?;
             self.last = serial;
             return Ok(Undo::Added);
         };

@@ -11,7 +11,9 @@ use crate::error::CodeError;
 use crate::modules::{Instance, Slots};
 use erl_term::Atom;
 use indexmap::IndexMap;
+use std::alloc::Global;
 use std::mem;
+use values::Duplicate;
 
 /// Whether the module at a place has current code.
 pub(crate) fn has_current<C>(table: &IndexMap<Atom, Slots<C>>, place: usize) -> bool
@@ -22,20 +24,24 @@ pub(crate) fn has_current<C>(table: &IndexMap<Atom, Slots<C>>, place: usize) -> 
     slots.current.is_some()
 }
 
-/// Puts a module last, with this instance as its current code.
+/// Puts a module last, under a copy of its name, with this instance as its current code.
 pub(crate) fn add<C: Drop>(
     table: &mut IndexMap<Atom, Slots<C>>,
-    name: Atom,
+    alloc: Global,
+    name: &Atom,
     instance: Instance<C>,
 ) -> Result<(), CodeError>
-    requires { lookup (bytes_eq name) table.old.entries ≡ None }
-    ensures added { OnOk result (table.new.entries ≡ table.old.entries ++ (name, record { current = Some instance; former = None }) ∷ []) }
+    requires { lookup (bytes_eq name.now) table.old.entries ≡ None }
+    ensures added { OnOk result (table.new.entries ≡ table.old.entries ++ (name.now, record { current = Some instance; former = None }) ∷ []) }
     ensures memory { IfErr result (λ e. e ≡ CodeError.Memory) }
     ensures err { OnErr result (table.new.entries ≡ table.old.entries) }
 {
     let slots = Slots {
         current: Some(instance),
         former: None,
+    };
+    let Ok(name) = name.copy(alloc) else {
+        return Err(CodeError::Memory);
     };
     match table.insert(name, slots) {
         Ok(_) => Ok(()),

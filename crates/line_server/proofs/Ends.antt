@@ -9,11 +9,11 @@ use Rattle.line_server.specs.declared.ended.Fault.{Fault}
 use Rattle.line_server.specs.declared.ended.Fault.TheVariants.{Read, Endless, Write, WriteZero, Memory}
 use Rattle.line_server.specs.declared.ended.Ended.{Ended}
 use Rattle.line_server.specs.declared.pending.Pending.{Pending}
-use Rattle.line_server.specs.Lines.{whole_lines, rest_of, last_line, lines_of, longest_line}
+use Rattle.line_server.specs.Lines.{whole_lines, lines_of, longest_line}
 use Rattle.line_server.specs.Session.{Turns, Fates, MayBefallEach, text_of}
-use Rattle.line_server.specs.Serving.{IsWholeText, IsFrontOfText, Writes, Serves}
+use Rattle.line_server.specs.Serving.{IsWholeText, IsFrontOfText, answered_lines, Writes, Serves}
 use Rattle.line_server.specs.Progress.{SoFar, IsOfWriting, GoesOn, StopsIn, Finishes, fault_of}
-use Rattle.line_server.proofs.Telling.{text_of-whole, MayBefallEach-more}
+use Rattle.line_server.proofs.Telling.{text_of-whole}
 
 -- Some chunks are served: the reader gave bytes, the text of their whole lines is written, and no answer waits.
 pub record Served {S F : Type 0} (turn : Turns S F) (may_befall : Fates S F) (start now : S) (left rest held holds : Option (List ℕ)) (pending : Pending) : Type 0 where
@@ -30,6 +30,13 @@ Writes-part turn fates start new bytes output Endless writing part = absurd writ
 Writes-part turn fates start new bytes output (Write e) writing part = part
 Writes-part turn fates start new bytes output WriteZero writing part = part
 Writes-part turn fates start new bytes output Memory writing part = part
+
+befell-part : {S F : Type 0} (turn : Turns S F) (may_befall : Fates S F) (fates : List (Option F)) (start : S) (bytes : List ℕ) (fault : Fault) → IsOfWriting fault → MayBefallEach turn may_befall fates start (lines_of bytes) → MayBefallEach turn may_befall fates start (answered_lines (Some fault) bytes)
+befell-part turn may_befall fates start bytes (Read e) writing each = absurd writing
+befell-part turn may_befall fates start bytes Endless writing each = absurd writing
+befell-part turn may_befall fates start bytes (Write e) writing each = each
+befell-part turn may_befall fates start bytes WriteZero writing each = each
+befell-part turn may_befall fates start bytes Memory writing each = each
 
 no_fault : (fault : Fault) (P : Type 0) → Some fault ≡ None → P
 no_fault fault P is = absurd (let never : ⊥ = cc in never)
@@ -86,11 +93,6 @@ module _ {S F : Type 0} (turn : Turns S F) (may_befall : Fates S F) (start : S) 
         stands = so.stands;
       }
 
-  -- the rest has no fate
-  befell_lines : (fates : List (Option F)) (bytes : List ℕ) → length fates ≡ length (whole_lines bytes) → MayBefallEach turn may_befall fates start (whole_lines bytes) → MayBefallEach turn may_befall fates start (lines_of bytes)
-  befell_lines fates bytes each befell =
-      subst (λ fs. MayBefallEach turn may_befall fs start (lines_of bytes)) (append-nil fates) (MayBefallEach-more turn may_befall fates [] start (whole_lines bytes) (last_line (rest_of bytes)) each befell tt)
-
   -- the reader failed, or has no end
   pub Serves-read : (e : _) (now : S) (left rest resting held holds : Option (List ℕ)) (pending : Pending) → Served turn may_befall start now left rest held holds pending → Keeps rest resting → Serves turn may_befall start now left resting held holds record { fault = Some (Read e); is_refused = pending.answers.is_refused }
   Serves-read e now left rest resting held holds pending served kept = record {
@@ -101,7 +103,7 @@ module _ {S F : Type 0} (turn : Turns S F) (may_befall : Fates S F) (start : S) 
     written = served.written;
     writes = whole_text now left rest held holds pending served;
     at_end = no_fault (Read e) (IsAtEnd resting);
-    befell = befell_lines served.so_far.fates served.bytes served.so_far.answered served.so_far.befell;
+    befell = served.so_far.befell;
     unrefused = served.so_far.unrefused;
     refused = served.so_far.refused;
   }
@@ -115,7 +117,7 @@ module _ {S F : Type 0} (turn : Turns S F) (may_befall : Fates S F) (start : S) 
     written = served.written;
     writes = whole_text now left rest held holds pending served;
     at_end = no_fault Endless (IsAtEnd rest);
-    befell = befell_lines served.so_far.fates served.bytes served.so_far.answered served.so_far.befell;
+    befell = served.so_far.befell;
     unrefused = served.so_far.unrefused;
     refused = served.so_far.refused;
   }
@@ -133,7 +135,7 @@ module _ {S F : Type 0} (turn : Turns S F) (may_befall : Fates S F) (start : S) 
         written = Appends-trans held holds holding served.output stops.taken served.written stops.appended;
         writes = Writes-part turn part.fates start new bytes (served.output ++ stops.taken) fault stops.of_writing part.part;
         at_end = no_fault fault (IsAtEnd resting);
-        befell = part.befell;
+        befell = befell-part turn may_befall part.fates start bytes fault stops.of_writing part.befell;
         unrefused = part.unrefused;
         refused = part.refused;
       }

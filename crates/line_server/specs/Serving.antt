@@ -48,6 +48,6 @@ pub record Serves {S F : Type 0} (turn : Turns S F) (may_befall : Fates S F) (st
   pub written : Appends held holds output
   pub writes : Writes ended.fault turn fates start new bytes output
   pub at_end : ended.fault ≡ None → IsAtEnd rest
-  pub befell : MayBefallEach turn may_befall fates start (lines_of bytes)
+  pub befell : MayBefallEach turn may_befall fates start (answered_lines ended.fault bytes)
   pub unrefused : ended.is_refused ≡ false → All (λ fate. fate ≡ None) fates
   pub refused : All (λ fate. fate ≡ None) fates → ended.is_refused ≡ false

@@ -6,8 +6,8 @@ use Rattle.relnode.specs.declared.ending.Fault.{Fault}
 use Rattle.relnode.specs.declared.ending.Fault.TheVariants.{CommandLine, Files, Commands, Output}
 use Rattle.relnode.specs.declared.options.OptionsError.{OptionsError}
 use Rattle.relnode.specs.declared.options.OptionsError.TheVariants.{Words, NotUtf8, Unread, Memory}
-use Rattle.relnode.specs.Files.{Contents}
-use Rattle.relnode.specs.Run.{Runs}
+use Rattle.node_shell.specs.Files.{Contents}
+use Rattle.node_shell.specs.Run.{Runs}
 
 -- the end of the program that the end of its run is
 abbrev pub end_by : Option CommandsFault → Result (Unit {0}) Fault

@@ -3,10 +3,9 @@ ghost use Rattle.std.specs.Prelude.{◌≡◌};
 ghost use Rattle.std.specs.Process.{exit_status};
 ghost use Rattle.relnode.specs.Ending.{EndsSo, status_of, status_of_words};
 
-use crate::files::Files;
 use crate::options::OptionsError;
-use crate::run::run;
 use crate::tree::TreeError;
+use node_shell::{Files, run};
 use std::alloc::Global;
 use std::io;
 use std::io::{Read, Write};

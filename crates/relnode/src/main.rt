@@ -3,28 +3,14 @@
 //! `relnode ROOT VSN` reads the files below ROOT, and then commands from its standard input, one a line; the
 //! answers go to its standard output. docs/COMMANDS.md is the manual page of the commands.
 //!
-//! What is proved of it is the contract of [`run::run`], that the program ends as the run ended ([`ending::run_to_end`]), and
+//! What is proved of it is the contract of [`node_shell::run`], that the program ends as the run ended ([`ending::run_to_end`]), and
 //! the status of each end ([`ending::exit_code`]). The rest of this file, the command line and the reading of the files
 //! are proved safe and to return, and are tested by hand.
 #![tactic(auto)]
 
-mod answers;
-mod deeds;
 mod ending;
-mod event;
-mod fate;
-mod files;
-mod holdings;
-mod name;
-mod node;
 mod options;
-mod request;
-mod run;
-mod shell;
-#[cfg(test)]
-mod tests;
 mod tree;
-mod words;
 
 use ending::{Fault, exit_code, run_to_end};
 use options::{Invocation, Options};

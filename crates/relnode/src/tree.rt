@@ -1,7 +1,7 @@
 // The files below a folder.
 ghost use Rattle.std.specs.Prelude.{◌≡◌, ◌+◌, ◌≤◌, length, IfOk, OnOk, IsSorted, string_cmp};
 
-use crate::files::Files;
+use node_shell::Files;
 use std::alloc::{AllocError, Global};
 use std::fs::{DirEntry, FileType};
 use std::rt::Files as FileSystem;

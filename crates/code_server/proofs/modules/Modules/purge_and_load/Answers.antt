@@ -10,14 +10,14 @@ use Rattle.code_server.proofs.modules.Modules.purge_and_load.Goals as goal
 pub returns-then-self-clause-refused : goal.returns-then-self-clause-refused
 returns-then-self-clause-refused g c =
     let t : Table g.row.C.Denot = record { entries = c.self.inside.table.entries; next = c.self.inside.last + 1 } in
-    refused-end c.args.name t c.args.self.now c.self.invariant (omega (arith, c.if-self.true)) c.self.view_is
+    refused-end c.args.name.now t c.args.self.now c.self.invariant (omega (arith, c.if-self.true)) c.self.view_is
 
 pub invariant_of-self-in_default : goal.invariant_of-self-in_default
 invariant_of-self-in_default g c =
     let t : Table g.row.C.Denot = record { entries = c.self.inside.table.entries; next = c.self.inside.last + 1 } in
     let below : c.self.inside.last + 1 < 2 ^ 64 = omega (arith, c.self.invariant.counted.1, c.if-self.false) in
-    let absent = absent_from_place c.args.name t.entries (sym c.get_index_of.ensures.index ∙ none_unless c.get_index_of.result c.in_default.not-Some) in
-    rw c.in_ok-add.ensures.added (IsSound-added t c.args.name _ c.self.invariant absent refl below)
+    let absent = absent_from_place c.args.name.now t.entries (sym c.get_index_of.ensures.index ∙ none_unless c.get_index_of.result c.in_default.not-Some) in
+    rw c.in_ok-add.ensures.added (IsSound-added t c.args.name.now _ c.self.invariant absent refl below)
 
 pub returns-in_default-clause-inverse : goal.returns-in_default-clause-inverse
 returns-in_default-clause-inverse g c =
@@ -34,25 +34,25 @@ pub returns-in_default-change_at-clause-ok : goal.returns-in_default-change_at-c
 returns-in_default-change_at-clause-ok g c =
     let t : Table g.row.C.Denot = record { entries = c.self.inside.table.entries; next = c.self.inside.last + 1 } in
     let below : c.self.inside.last + 1 < 2 ^ 64 = omega (arith, c.self.invariant.counted.1, c.if-self.false) in
-    refused-never c.args.name t c.args.self.now c.self.invariant below c.self.view_is
+    refused-never c.args.name.now t c.args.self.now c.self.invariant below c.self.view_is
 
 pub returns-in_default-change_at-clause-loaded : goal.returns-in_default-change_at-clause-loaded
 returns-in_default-change_at-clause-loaded g c =
     let t : Table g.row.C.Denot = record { entries = c.self.inside.table.entries; next = c.self.inside.last + 1 } in
     let place = c.in-Some.place in
     let found = sym c.get_index_of.ensures.index ∙ c.in-Some.is in
-    let at = Stands-place c.args.name t.entries place found in
-    let has = current_of-at c.args.name t place true at (sym c.has_current.ensures ∙ c.if-has_current.true) in
-    ap (λ es. record { entries = es; next = t.next + 1 }) c.change_at.ensures.changed ∙ sym (loaded-kept c.args.name c.args.code t place found has) ∙ ap (λ u. loaded c.args.name c.args.code (purged c.args.name u)) c.self.view_is
+    let at = Stands-place c.args.name.now t.entries place found in
+    let has = current_of-at c.args.name.now t place true at (sym c.has_current.ensures ∙ c.if-has_current.true) in
+    ap (λ es. record { entries = es; next = t.next + 1 }) c.change_at.ensures.changed ∙ sym (loaded-kept c.args.name.now c.args.code t place found has) ∙ ap (λ u. loaded c.args.name.now c.args.code (purged c.args.name.now u)) c.self.view_is
 
 pub returns-in_default-change_at-clause-inverse : goal.returns-in_default-change_at-clause-inverse
 returns-in_default-change_at-clause-inverse g c =
     let t : Table g.row.C.Denot = record { entries = c.self.inside.table.entries; next = c.self.inside.last + 1 } in
     let place = c.in-Some.place in
     let found = sym c.get_index_of.ensures.index ∙ c.in-Some.is in
-    let at = Stands-place c.args.name t.entries place found in
-    let former = former-taken c.args.name t.entries place at c.change_at.result None c.change_at.ensures.gone (none_unless c.change_at.result c.in_default-change_at.not-Some) in
-    Stacked-back c.args.name t c.args.self.now place c.change_at.new.table.entries _ at former c.change_at.ensures.changed c.self.invariant c.self.view_is
+    let at = Stands-place c.args.name.now t.entries place found in
+    let former = former-taken c.args.name.now t.entries place at c.change_at.result None c.change_at.ensures.gone (none_unless c.change_at.result c.in_default-change_at.not-Some) in
+    Stacked-back c.args.name.now t c.args.self.now place c.change_at.new.table.entries _ at former c.change_at.ensures.changed c.self.invariant c.self.view_is
 
 pub invariant_of-self-then-has_current : goal.invariant_of-self-then-has_current
 invariant_of-self-then-has_current g c =
@@ -64,34 +64,34 @@ pub returns-then-has_current-clause-ok : goal.returns-then-has_current-clause-ok
 returns-then-has_current-clause-ok g c =
     let t : Table g.row.C.Denot = record { entries = c.self.inside.table.entries; next = c.self.inside.last + 1 } in
     let below : c.self.inside.last + 1 < 2 ^ 64 = omega (arith, c.self.invariant.counted.1, c.if-self.false) in
-    refused-never c.args.name t c.args.self.now c.self.invariant below c.self.view_is
+    refused-never c.args.name.now t c.args.self.now c.self.invariant below c.self.view_is
 
 pub returns-then-has_current-clause-loaded : goal.returns-then-has_current-clause-loaded
 returns-then-has_current-clause-loaded g c =
     let t : Table g.row.C.Denot = record { entries = c.self.inside.table.entries; next = c.self.inside.last + 1 } in
     let place = c.in-Some.place in
     let found = sym c.get_index_of.ensures.index ∙ c.in-Some.is in
-    let at = Stands-place c.args.name t.entries place found in
-    let has = current_of-at c.args.name t place true at (sym c.has_current.ensures ∙ c.if-has_current.true) in
-    ap (λ es. record { entries = es; next = t.next + 1 }) c.change_at.ensures.changed ∙ sym (loaded-kept c.args.name c.args.code t place found has) ∙ ap (λ u. loaded c.args.name c.args.code (purged c.args.name u)) c.self.view_is
+    let at = Stands-place c.args.name.now t.entries place found in
+    let has = current_of-at c.args.name.now t place true at (sym c.has_current.ensures ∙ c.if-has_current.true) in
+    ap (λ es. record { entries = es; next = t.next + 1 }) c.change_at.ensures.changed ∙ sym (loaded-kept c.args.name.now c.args.code t place found has) ∙ ap (λ u. loaded c.args.name.now c.args.code (purged c.args.name.now u)) c.self.view_is
 
 pub returns-then-has_current-clause-inverse : goal.returns-then-has_current-clause-inverse
 returns-then-has_current-clause-inverse g c =
     let t : Table g.row.C.Denot = record { entries = c.self.inside.table.entries; next = c.self.inside.last + 1 } in
     let place = c.in-Some.place in
     let found = sym c.get_index_of.ensures.index ∙ c.in-Some.is in
-    let at = Stands-place c.args.name t.entries place found in
-    let former = former-taken c.args.name t.entries place at c.change_at.result (Some c.in-Some-change_at.former) c.change_at.ensures.gone c.in-Some-change_at.is in
-    Replaced-back c.args.name t c.args.self.now place c.change_at.new.table.entries _ c.in-Some-change_at.former at former c.change_at.ensures.changed c.self.invariant c.self.view_is
+    let at = Stands-place c.args.name.now t.entries place found in
+    let former = former-taken c.args.name.now t.entries place at c.change_at.result (Some c.in-Some-change_at.former) c.change_at.ensures.gone c.in-Some-change_at.is in
+    Replaced-back c.args.name.now t c.args.self.now place c.change_at.new.table.entries _ c.in-Some-change_at.former at former c.change_at.ensures.changed c.self.invariant c.self.view_is
 
 pub unreachable-requires : goal.unreachable-requires
 unreachable-requires g c =
     let t : Table g.row.C.Denot = record { entries = c.self.inside.table.entries; next = c.self.inside.last + 1 } in
     let place = c.in-Some.place in
     let found = sym c.get_index_of.ensures.index ∙ c.in-Some.is in
-    let at = Stands-place c.args.name t.entries place found in
-    let none = no_current c.args.name t.entries place at (sym c.has_current.ensures ∙ c.if-has_current.false) in
-    codeless c.args.name t place at c.self.invariant none (sym (former-last c.args.name t.entries place at) ∙ sym c.stack_last.ensures.former ∙ c.in-None.is)
+    let at = Stands-place c.args.name.now t.entries place found in
+    let none = no_current c.args.name.now t.entries place at (sym c.has_current.ensures ∙ c.if-has_current.false) in
+    codeless c.args.name.now t place at c.self.invariant none (sym (former-last c.args.name.now t.entries place at) ∙ sym c.stack_last.ensures.former ∙ c.in-None.is)
 
 pub invariant_of-self-2 : goal.invariant_of-self-2
 invariant_of-self-2 g c =
@@ -99,34 +99,34 @@ invariant_of-self-2 g c =
     let below : c.self.inside.last + 1 < 2 ^ 64 = omega (arith, c.self.invariant.counted.1, c.if-self.false) in
     let place = c.in-Some.place in
     let found = sym c.get_index_of.ensures.index ∙ c.in-Some.is in
-    let at = Stands-place c.args.name t.entries place found in
-    let none = no_current c.args.name t.entries place at (sym c.has_current.ensures ∙ c.if-has_current.false) in
-    rw (c.stack_last.ensures.stacked ∙ stacked-last c.args.name t.entries place _ at none) (IsSound-reloaded c.args.name t place _ c.self.invariant at refl below)
+    let at = Stands-place c.args.name.now t.entries place found in
+    let none = no_current c.args.name.now t.entries place at (sym c.has_current.ensures ∙ c.if-has_current.false) in
+    rw (c.stack_last.ensures.stacked ∙ stacked-last c.args.name.now t.entries place _ at none) (IsSound-reloaded c.args.name.now t place _ c.self.invariant at refl below)
 
 pub returns-clause-ok : goal.returns-clause-ok
 returns-clause-ok g c =
     let t : Table g.row.C.Denot = record { entries = c.self.inside.table.entries; next = c.self.inside.last + 1 } in
     let below : c.self.inside.last + 1 < 2 ^ 64 = omega (arith, c.self.invariant.counted.1, c.if-self.false) in
-    refused-never c.args.name t c.args.self.now c.self.invariant below c.self.view_is
+    refused-never c.args.name.now t c.args.self.now c.self.invariant below c.self.view_is
 
 pub returns-clause-loaded : goal.returns-clause-loaded
 returns-clause-loaded g c =
     let t : Table g.row.C.Denot = record { entries = c.self.inside.table.entries; next = c.self.inside.last + 1 } in
     let place = c.in-Some.place in
     let found = sym c.get_index_of.ensures.index ∙ c.in-Some.is in
-    let at = Stands-place c.args.name t.entries place found in
-    let has = current_of-at c.args.name t place false at (sym c.has_current.ensures ∙ c.if-has_current.false) in
-    let none = no_current c.args.name t.entries place at (sym c.has_current.ensures ∙ c.if-has_current.false) in
-    let entries = c.stack_last.ensures.stacked ∙ stacked-last c.args.name t.entries place _ at none in
-    ap (λ es. record { entries = es; next = t.next + 1 }) entries ∙ sym (loaded-gone c.args.name c.args.code t place c.self.invariant found has) ∙ ap (λ u. loaded c.args.name c.args.code (purged c.args.name u)) c.self.view_is
+    let at = Stands-place c.args.name.now t.entries place found in
+    let has = current_of-at c.args.name.now t place false at (sym c.has_current.ensures ∙ c.if-has_current.false) in
+    let none = no_current c.args.name.now t.entries place at (sym c.has_current.ensures ∙ c.if-has_current.false) in
+    let entries = c.stack_last.ensures.stacked ∙ stacked-last c.args.name.now t.entries place _ at none in
+    ap (λ es. record { entries = es; next = t.next + 1 }) entries ∙ sym (loaded-gone c.args.name.now c.args.code t place c.self.invariant found has) ∙ ap (λ u. loaded c.args.name.now c.args.code (purged c.args.name.now u)) c.self.view_is
 
 pub returns-clause-inverse : goal.returns-clause-inverse
 returns-clause-inverse g c =
     let t : Table g.row.C.Denot = record { entries = c.self.inside.table.entries; next = c.self.inside.last + 1 } in
     let place = c.in-Some.place in
     let found = sym c.get_index_of.ensures.index ∙ c.in-Some.is in
-    let at = Stands-place c.args.name t.entries place found in
-    let none = no_current c.args.name t.entries place at (sym c.has_current.ensures ∙ c.if-has_current.false) in
-    let former = sym (former-last c.args.name t.entries place at) ∙ sym c.stack_last.ensures.former ∙ c.in-Some-stack_last.is in
-    let entries = c.stack_last.ensures.stacked ∙ stacked-last c.args.name t.entries place _ at none in
-    Moved-back c.args.name t c.args.self.now place c.stack_last.new.table.entries _ c.in-Some-stack_last.former at none former entries c.self.invariant c.self.view_is
+    let at = Stands-place c.args.name.now t.entries place found in
+    let none = no_current c.args.name.now t.entries place at (sym c.has_current.ensures ∙ c.if-has_current.false) in
+    let former = sym (former-last c.args.name.now t.entries place at) ∙ sym c.stack_last.ensures.former ∙ c.in-Some-stack_last.is in
+    let entries = c.stack_last.ensures.stacked ∙ stacked-last c.args.name.now t.entries place _ at none in
+    Moved-back c.args.name.now t c.args.self.now place c.stack_last.new.table.entries _ c.in-Some-stack_last.former at none former entries c.self.invariant c.self.view_is
