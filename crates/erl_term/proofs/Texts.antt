@@ -1,8 +1,8 @@
 -- Lemmas on the texts of terms, and on their bytes.
-use Rattle.std.proofs.Common.{◌≡◌, ℕ, ℤ, ◌+◌, ◌/◌, ◌%◌, ◌^◌, ◌<◌, ◌≤◌, Bool, true, false, not, ◌&&◌, cond, nat_le, List, [], ◌∷◌, ◌++◌, length, get_or, take, length-take, subst, ◌⊎◌, inl, inr, codes, Result, Ok, Err, Option, Some, None, OnOk, is_ok, option_map, append_assoc, sym, ap, ◌∙◌, refl, arith}
+use Rattle.std.proofs.Common.{true≢false, ◌≡◌, ℕ, ℤ, ◌+◌, ◌/◌, ◌%◌, ◌^◌, ◌<◌, ◌≤◌, Bool, true, false, not, ◌&&◌, ◌||◌, cond, nat_le, List, [], ◌∷◌, ◌++◌, length, get_or, take, length-take, subst, ◌⊎◌, inl, inr, codes, Result, Ok, Err, Option, Some, None, OnOk, is_ok, option_map, append_assoc, sym, ap, ◌∙◌, refl, arith}
 use Rattle.std.specs.Option.{option_and_then, option_to_list}
-use Rattle.std.specs.List.{list_all, flat_map}
-use Rattle.std.specs.Str.{IsUtf8, IsAscii, chars}
+use Rattle.std.specs.List.{list_all, list_any, flat_map}
+use Rattle.std.specs.Str.{IsUtf8, IsAscii, chars, bytes_eq}
 use Rattle.std.specs.Fmt.{decimal, signed_decimal, digits, digit_glyph}
 use Rattle.std.proofs.lemmas.List.{append-nil, take_more, flat_map_more}
 use Rattle.std.proofs.lemmas.List.Concat.{flat_map-append}
@@ -10,14 +10,15 @@ use Rattle.std.proofs.lemmas.Str.{encodes-append, encodes-IsAscii, encodes-chars
 use Rattle.std.proofs.lemmas.Str.Ascii.{IsAscii-nil, IsAscii-cons}
 use Rattle.std.proofs.lemmas.Fmt.{IsAscii-decimal, IsAscii-signed, hex_one_digit, hex_two_digits}
 use Rattle.std.proofs.lemmas.Bool.{cond-true, cond-false}
+use Rattle.std.proofs.lemmas.Slice.Eq.{bytes_eq-Decides}
 use Rattle.std.proofs.lemmas.Bool.Decides.{nat_tests, leb_tells}
 use lib.Signed.{mag}
 use lib.Utf8.{encode}
 use Rattle.erl_term.specs.declared.term.Term.{Term}
 use Rattle.erl_term.specs.Tree.{Trees, list, none, more}
 use Rattle.erl_term.specs.Term.{tree, trees}
-use Rattle.erl_term.specs.Text.{utf8, atom_text, hex, hex_digit, quoted_char, begins_lower, is_name_char, is_quoted_word, is_plain, printable_char, printable, string_char, string_text, list_text, text, elements_text, others_text}
-use Rattle.erl_term.specs.Strings.{printable_chars, has_chars}
+use Rattle.erl_term.specs.Text.{utf8, atom_text, hex, hex_digit, quoted_char, begins_lower, is_name_char, quoted_words, is_quoted_word, is_plain, printable_char, printable, string_char, string_text, list_text, text, elements_text, others_text}
+use Rattle.erl_term.specs.Strings.{printable_chars, has_chars, is_like_word}
 
 -- Bytes
 
@@ -144,6 +145,24 @@ names-bytes bs whole all =
 pub plain-by_words : (cs bs : List ℕ) (r : Bool) → begins_lower cs ≡ true → list_all is_name_char cs ≡ true → cs ≡ bs → r ≡ is_quoted_word bs → not r ≡ is_plain cs
 plain-by_words cs bs r begins all same is =
     sym (ap (λ b. b && (list_all is_name_char cs && not (is_quoted_word cs))) begins ∙ ap (λ b. b && not (is_quoted_word cs)) all ∙ ap (λ ds. not (is_quoted_word ds)) same ∙ ap not (sym is))
+
+-- the words that get quotes are short, and of lower-case letters alone
+quoted_words-alike : list_all is_like_word quoted_words ≡ true
+quoted_words-alike = refl
+
+word-alike : (ws : List (List ℕ)) (bs : List ℕ) → list_all is_like_word ws ≡ true → is_like_word bs ≡ false → list_any (λ w. bytes_eq w bs) ws ≡ false
+word-alike [] bs all other = refl
+word-alike (w ∷ ws) bs all other =
+    let both = and_parts (is_like_word w) (list_all is_like_word ws) all in
+    by (bytes_eq w bs) refl (word-alike ws bs both.1 other) both.0
+  where
+    by : (b : Bool) → bytes_eq w bs ≡ b → list_any (λ v. bytes_eq v bs) ws ≡ false → is_like_word w ≡ true → b || list_any (λ v. bytes_eq v bs) ws ≡ false
+    by true is rest alike = absurd (true≢false (sym alike ∙ ap is_like_word ((bytes_eq-Decides w bs).0 is) ∙ other))
+    by false is rest alike = rest
+
+pub other-unquoted : (bs : List ℕ) → is_like_word bs ≡ false → is_quoted_word bs ≡ false
+unfolding is_quoted_word
+other-unquoted bs other = word-alike quoted_words bs quoted_words-alike other
 
 -- Elements
 

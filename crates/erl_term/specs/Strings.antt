@@ -1,8 +1,9 @@
--- The characters of a list that is a string, one by one: words for the steps of printing, which no public
--- clause cites.
-use Rattle.std.specs.Prelude.{ℕ, Bool, true, false, List, [], ◌∷◌, ◌++◌, Option, Some, None, option_to_list}
+-- Words for the steps of printing, which no public clause cites: the characters of a list that is a string, one by one,
+-- and what all words that get quotes are like.
+use Rattle.std.specs.Prelude.{ℕ, nat_le, ◌&&◌, Bool, true, false, length, List, [], ◌∷◌, ◌++◌, Option, Some, None, option_to_list}
 use Rattle.erl_term.specs.Tree.{Trees, none, more}
-use Rattle.erl_term.specs.Text.{printable_char}
+use Rattle.std.specs.List.{list_all}
+use Rattle.erl_term.specs.Text.{printable_char, is_lower}
 
 -- the characters of those integers of a row that have one
 abbrev pub printable_chars : Trees → List ℕ
@@ -14,3 +15,7 @@ abbrev pub has_chars : Option (List ℕ) → Bool
 has_chars None = false
 has_chars (Some []) = false
 has_chars (Some (c ∷ cs)) = true
+
+-- whether a text is as short as the words that get quotes, and of lower-case letters alone
+abbrev pub is_like_word : List ℕ → Bool
+is_like_word bs = nat_le (length bs) 7 && list_all is_lower bs

@@ -4,7 +4,8 @@ ghost use Rattle.std.specs.Str.{chars};
 ghost use Rattle.std.specs.Fmt.{decimal, signed_decimal};
 ghost use Rattle.std.specs.List.{flat_map, list_all};
 ghost use Rattle.erl_term.specs.Term.{tree};
-ghost use Rattle.erl_term.specs.Text.{utf8, text, atom_text, begins_lower, is_name_char, is_plain, is_quoted_word, quoted_char};
+ghost use Rattle.erl_term.specs.Text.{utf8, text, atom_text, begins_lower, is_lower, is_name_char, is_plain, is_quoted_word, quoted_char};
+ghost use Rattle.erl_term.specs.Strings.{is_like_word};
 
 use crate::atom::Atom;
 use crate::term::Term;
@@ -140,5 +141,19 @@ fn is_name_char(c: char) -> bool
 fn is_quoted_word(name: &str) -> bool
     ensures { result ≡ is_quoted_word name.now }
 {
-    QUOTED_WORDS.iter().any(|word| *word == name)
+    is_like_word(name) && QUOTED_WORDS.iter().any(|word| *word == name)
+}
+
+/// Whether the text is as short as those words, and of lower-case letters alone, as they are.
+fn is_like_word(name: &str) -> bool
+    ensures { result ≡ is_like_word name.now }
+{
+    name.len() <= 7 && has_lower_alone(name.as_bytes())
+}
+
+/// Whether all bytes are lower-case letters.
+fn has_lower_alone(bytes: &[u8]) -> bool
+    ensures { result ≡ list_all is_lower bytes.now }
+{
+    bytes.iter().all(|byte| byte.is_ascii_lowercase())
 }

@@ -20,8 +20,6 @@ mod node;
 mod request;
 mod running;
 mod shell;
-#[cfg(test)]
-mod tests;
 mod words;
 
 pub use event::Code;

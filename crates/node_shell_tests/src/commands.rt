@@ -1,9 +1,8 @@
 // Commands and their answers, over readers and writers that take their time, or fail.
 mod streams;
 
-use crate::files::Files;
-use crate::running::run;
 use line_server::Fault;
+use node_shell::{Files, run};
 use std::alloc::{AllocError, Global};
 use std::process::Abort;
 use std::test::Fail;
