@@ -78,7 +78,7 @@ impl Duplicate for Added {
 }
 
 /// The sum would not fit.
-#[derive(Clone, Copy, Debug, PartialEq)]
+#[derive(Clone, Copy)]
 pub(super) struct Overflow;
 
 /// A number to which amounts are added.

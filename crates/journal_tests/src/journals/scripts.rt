@@ -1,7 +1,7 @@
 // Commands to a journal as texts, and as a text what is answered and where the journal stands then.
 //
 // `perform EVENT N` and `undo MARK N` are commands, and N is how often an answer is told. Each value that is told of a step is
-// its answer and its note, as `12:7`, and each report of an undo is how many steps it cut, with their notes, as `2:7,9`. A
+// its answer and its note, as `12:7`, and each report of an undo is how many steps it cut, with their notes, as `2:7:9`. A
 // refusal has its name, and `Memory` the mark that it names and its reports. Behind `@` stand the journal's mark and its
 // machine.
 use crate::cases::head;
@@ -41,12 +41,11 @@ fn told_text<S: Scripted>(
     Ok(text)
 }
 
-/// Notes with commas between them.
-fn notes_text<S: Scripted>(alloc: Global, notes: &[S::Note]) -> Result<String, Fail> {
-    let mut text = String::new(alloc);
-    for note in notes {
-        let comma = if text.is_empty() { "" } else { "," };
-        let word = format!(in alloc; "{comma}{}", S::noted(note))?;
+/// A report of an undo.
+fn report_text<S: Scripted>(alloc: Global, report: &Report<S::Note>) -> Result<String, Fail> {
+    let mut text = format!(in alloc; "{}", report.cut)?;
+    for note in report.notes.as_slice() {
+        let word = format!(in alloc; ":{}", S::noted(note))?;
         text.push_str(word.as_str())?;
     }
     Ok(text)
@@ -56,9 +55,8 @@ fn notes_text<S: Scripted>(alloc: Global, notes: &[S::Note]) -> Result<String, F
 fn reports_text<S: Scripted>(alloc: Global, reports: &[Report<S::Note>]) -> Result<String, Fail> {
     let mut text = String::new(alloc);
     for report in reports {
-        let notes = notes_text::<S>(alloc, report.notes.as_slice())?;
-        let word = format!(in alloc; "{}:{notes} ", report.cut)?;
-        text.push_str(word.as_str())?;
+        text.push_str(report_text::<S>(alloc, report)?.as_str())?;
+        text.push(' ')?;
     }
     Ok(text)
 }

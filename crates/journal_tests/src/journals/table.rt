@@ -28,7 +28,7 @@ pub(super) enum Back {
 }
 
 /// There is no item at the place.
-#[derive(Clone, Copy, Debug, PartialEq)]
+#[derive(Clone, Copy)]
 pub(super) struct OutOfRange;
 
 /// A table of numbers.
@@ -52,12 +52,6 @@ impl Table {
             alloc,
             items: Vec::new(alloc),
         }
-    }
-
-    pub(super) fn items(&self) -> &[u64]
-        ensures { result.now ≡ self.now }
-    {
-        self.items.as_slice()
     }
 }
 
