@@ -15,8 +15,6 @@
 mod error;
 mod modules;
 mod places;
-#[cfg(test)]
-mod tests;
 mod undo;
 
 pub use error::CodeError;

@@ -6,8 +6,8 @@
 //!
 //! A line may have 65,536 bytes without its newline. Of a longer one the session hears that it is too long.
 //!
-//! No contract can say that a fault is a real one, nor that answers are written before the next read: the tests
-//! look at both.
+//! No contract can say that a fault is a real one, nor that answers are written before the next read: `server_tests`
+//! looks at both.
 #![tactic(auto)]
 
 mod ended;
@@ -16,8 +16,6 @@ mod lines;
 mod pending;
 mod serving;
 mod session;
-#[cfg(test)]
-mod tests;
 mod waiting;
 mod writing;
 

@@ -39,8 +39,6 @@ mod journal;
 mod past;
 mod report;
 mod reversible;
-#[cfg(test)]
-mod tests;
 
 pub use error::JournalError;
 pub use history::{Command, Replayed, marks_name_nodes, replay};

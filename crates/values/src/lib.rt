@@ -16,8 +16,6 @@ mod plain;
 mod row;
 mod same;
 mod shared;
-#[cfg(test)]
-mod tests;
 
 pub use duplicate::{Duplicate, copied_slice};
 pub use row::Row;

@@ -2,7 +2,7 @@
 ghost use Rattle.std.specs.Prelude.{◌≡◌, ◌+◌, ◌%◌, ◌^◌, ◌++◌, ◌∷◌, [], ℕ, List, length, Option, None, Some, IsSome};
 ghost use Rattle.std.specs.Fmt.{decimal};
 
-use crate::session::Session;
+use line_server::Session;
 use std::alloc::{AllocError, Global};
 
 /// Answers its N-th line by `N:LENGTH`, or by `N:long`. The line after `refused` lines has no answer,

@@ -11,7 +11,7 @@ pub(super) struct Source<'a> {
     pub(super) most: usize,
     pub(super) fails: bool,
     /// How many calls are still interrupted.
-    pub(super) interruptions: u8,
+    pub(super) interruptions: usize,
 }
 
 impl Read for Source<'_> {
@@ -39,7 +39,7 @@ pub(super) struct Sink {
     pub(super) most: usize,
     pub(super) room: usize,
     /// How many calls are still interrupted.
-    pub(super) interruptions: u8,
+    pub(super) interruptions: usize,
 }
 
 impl Write for Sink {

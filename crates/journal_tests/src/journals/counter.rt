@@ -1,11 +1,13 @@
 // A counter, whose record is the amount that was added, and whose memory can be refused.
 ghost use Rattle.std.specs.Prelude.{◌≡◌, ◌+◌, ◌-◌, ◌^◌, ℕ, nat_lt, if◌then◌else◌, IfOk, None, Some, Ok, Err, replicate};
 
-use crate::reversible::{Reversible, StepError, Stepped, Told};
+use super::scripts::Scripted;
 use std::alloc::{AllocError, Global};
 use std::cell::Cell;
 use std::marker::Model;
 use std::rc::Rc;
+use std::test::Fail;
+use undo_journal::{Reversible, StepError, Stepped, Told};
 use values::Duplicate;
 
 /// How often memory is still given, before it is refused once.
@@ -76,7 +78,7 @@ impl Duplicate for Added {
 }
 
 /// The sum would not fit.
-#[derive(Clone, Copy, Debug, PartialEq)]
+#[derive(Clone, Copy)]
 pub(super) struct Overflow;
 
 /// A number to which amounts are added.
@@ -188,4 +190,26 @@ fn equal_told(
         told.push(Told { answer, note })?;
     }
     Ok(told)
+}
+
+impl Scripted for Counter {
+    fn event(word: &str) -> Result<u64, Fail> {
+        Ok(word.parse::<u64>()?)
+    }
+
+    fn answered(answer: &u64) -> u64 {
+        *answer
+    }
+
+    fn noted(note: &Added) -> u64 {
+        note.amount()
+    }
+
+    fn refused(_refusal: &Overflow) -> &'static str {
+        "Overflow"
+    }
+
+    fn shown(&self, alloc: Global) -> Result<String, Fail> {
+        Ok(format!(in alloc; "{}", self.value)?)
+    }
 }

@@ -1,11 +1,13 @@
 // A table, whose record of a removal is what was removed and where.
 ghost use Rattle.std.specs.Prelude.{◌≡◌, ◌+◌, ◌-◌, ◌<◌, ◌≤◌, ◌++◌, [], ◌∷◌, ℕ, List, length, nat_lt, if◌then◌else◌, slice_index, insert, remove, take, None, Some, Ok, Err, IfOk, replicate};
-ghost use Rattle.undo_journal.specs.declared.tests.table.Change.TheVariants.{Push, Remove};
-ghost use Rattle.undo_journal.specs.declared.tests.table.Back.TheVariants.{Pushed, Removed};
+ghost use Rattle.journal_tests.specs.declared.journals.table.Change.TheVariants.{Push, Remove};
+ghost use Rattle.journal_tests.specs.declared.journals.table.Back.TheVariants.{Pushed, Removed};
 
-use crate::reversible::{Reversible, StepError, Stepped, Told};
+use super::scripts::Scripted;
 use std::alloc::{AllocError, Global};
 use std::marker::Model;
+use std::test::Fail;
+use undo_journal::{Reversible, StepError, Stepped, Told};
 
 /// A change of the table.
 #[derive(Drop)]
@@ -26,7 +28,7 @@ pub(super) enum Back {
 }
 
 /// There is no item at the place.
-#[derive(Clone, Copy, Debug, PartialEq)]
+#[derive(Clone, Copy)]
 pub(super) struct OutOfRange;
 
 /// A table of numbers.
@@ -50,12 +52,6 @@ impl Table {
             alloc,
             items: Vec::new(alloc),
         }
-    }
-
-    pub(super) fn items(&self) -> &[u64]
-        ensures { result.now ≡ self.now }
-    {
-        self.items.as_slice()
     }
 }
 
@@ -153,4 +149,35 @@ fn equal_told(
         told.push(Told { answer, note })?;
     }
     Ok(told)
+}
+
+impl Scripted for Table {
+    fn event(word: &str) -> Result<Change, Fail> {
+        let (name, number) = word.split_once(':').ok_or("no number")?;
+        match name {
+            "push" => Ok(Change::Push(number.parse::<u64>()?)),
+            _ => Ok(Change::Remove(number.parse::<usize>()?)),
+        }
+    }
+
+    fn answered(answer: &usize) -> u64 {
+        *answer as u64
+    }
+
+    fn noted(note: &u64) -> u64 {
+        *note
+    }
+
+    fn refused(_refusal: &OutOfRange) -> &'static str {
+        "OutOfRange"
+    }
+
+    fn shown(&self, alloc: Global) -> Result<String, Fail> {
+        let mut text = String::new(alloc);
+        for item in &self.items {
+            let word = format!(in alloc; "{item},")?;
+            text.push_str(word.as_str())?;
+        }
+        Ok(text)
+    }
 }
