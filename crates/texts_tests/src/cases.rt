@@ -3,7 +3,7 @@
 // In a line `␤` stands for a newline. Pieces of a line stand between `⋅`, and a number and `⨯` before a piece say how often
 // it is written: `3⨯[⋅a⋅2⨯]` is `[[[a]]`.
 use crate::{chars, printing, reading, scan, terms};
-use std::alloc::Global;
+use std::alloc::{AllocError, Global};
 use std::process::Abort;
 use std::test::Fail;
 
@@ -78,15 +78,35 @@ fn outcome(alloc: Global, reading: Reading, text: &str) -> Result<String, Fail> 
     }
 }
 
+/// Appends a text, between two others.
+pub(crate) fn push_between(
+    out: &mut String,
+    before: &str,
+    text: &str,
+    behind: &str,
+) -> Result<(), AllocError> {
+    out.push_str(before)?;
+    out.push_str(text)?;
+    out.push_str(behind)
+}
+
 /// A line's text, and what is wanted of it.
 fn halves(line: &str) -> Result<(&str, &str), Fail> {
     Ok(line.split_once(" ⟶ ").ok_or("no arrow")?)
 }
 
+/// A text so many times, where the count is written in decimal.
+fn repeated(alloc: Global, count: &str, unit: &str) -> Result<String, Fail> {
+    let count = count.parse::<usize>()?;
+    Ok(unit.repeat(alloc, count)?)
+}
+
 /// What a piece of a line stands for.
 fn unfolded_piece(alloc: Global, piece: &str) -> Result<String, Fail> {
-    let (count, unit) = piece.split_once('⨯').unwrap_or(("1", piece));
-    Ok(unit.repeat(alloc, count.parse::<usize>()?)?)
+    match piece.split_once('⨯') {
+        Some((count, unit)) => repeated(alloc, count, unit),
+        None => Ok(String::from_str(alloc, piece)?),
+    }
 }
 
 /// What a line, or a half of it, stands for.

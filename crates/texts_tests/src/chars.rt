@@ -1,7 +1,7 @@
 // Escapes, gaps, quotes and names, by values from the rules of Erlang's notation.
 mod tables;
 
-use crate::cases::{Reading, expect_inside, expect_table};
+use crate::cases::{Reading, expect_inside, expect_table, push_between};
 use erl_chars::{Cursor, Fault, Name, NameError, QuoteError, ReadError, Text, quotes_read_one_way};
 use std::alloc::Global;
 use std::process::Abort;
@@ -43,10 +43,15 @@ pub(crate) fn characters(alloc: Global, text: &str) -> Result<String, Fail> {
 
 /// The characters up to a quote, between strokes, and where the cursor stands then.
 fn quoted(alloc: Global, mut cursor: Cursor, quote: char) -> Result<String, Fail> {
+    let mut out = String::new(alloc);
     match cursor.quoted(alloc, quote) {
-        Ok(text) => Ok(format!(in alloc; "|{}| {}", text.as_str(), cursor.place())?),
-        Err(e) => Ok(format!(in alloc; "✗ {e:?}")?),
+        Ok(text) => {
+            push_between(&mut out, "|", text.as_str(), "| ")?;
+            write!(out, "{}", cursor.place())?;
+        }
+        Err(e) => write!(out, "✗ {e:?}")?,
     }
+    Ok(out)
 }
 
 /// The characters behind an opening quote.
@@ -63,13 +68,14 @@ pub(crate) fn from_quote(alloc: Global, text: &str, quote: char) -> Result<Strin
 
 /// The characters of a name, shown and then kept.
 pub(crate) fn name(alloc: Global, text: &str) -> Result<String, Fail> {
-    let name = match Name::from_text(Text::new(alloc, text)?) {
-        Ok(name) => name,
-        Err(e) => return Ok(format!(in alloc; "✗ {e:?}")?),
-    };
-    let mut out = String::from_str(alloc, name.as_str())?;
-    out.push('|')?;
-    out.push_str(name.into_string().as_str())?;
+    let mut out = String::new(alloc);
+    match Name::from_text(Text::new(alloc, text)?) {
+        Ok(name) => {
+            push_between(&mut out, "", name.as_str(), "|")?;
+            out.push_str(name.into_string().as_str())?;
+        }
+        Err(e) => write!(out, "✗ {e:?}")?,
+    }
     Ok(out)
 }
 

@@ -1,7 +1,7 @@
 // Tokens and faults with their places, by texts and values from the rules of Erlang's notation.
 mod tables;
 
-use crate::cases::{Reading, expect_table};
+use crate::cases::{Reading, expect_table, push_between};
 use erl_scan::{ReadError, Scanner, Spot, Token, marks_are_longest, tokens_read_one_way};
 use std::alloc::{AllocError, Global};
 use std::test::Fail;
@@ -10,25 +10,15 @@ use tables::{
     MARKS, NAMES, QUOTED, RESERVED,
 };
 
-/// Writes characters, between these.
-fn show_between(
-    out: &mut String,
-    before: &str,
-    text: &str,
-    behind: &str,
-) -> Result<(), AllocError> {
-    write!(out, "{before}{text}{behind}")
-}
-
 /// Writes a token: atoms in single quotes, strings in double ones, `?` behind a variable.
 fn show(out: &mut String, token: &Token) -> Result<(), AllocError> {
     match token {
         Token::Integer(value) => write!(out, "{value}"),
         Token::Float => out.push_str("float"),
-        Token::Atom(name) => show_between(out, "'", name.as_str(), "'"),
+        Token::Atom(name) => push_between(out, "'", name.as_str(), "'"),
         Token::Word(word) => write!(out, "{word:?}"),
-        Token::Variable(name) => show_between(out, "", name.as_str(), "?"),
-        Token::String(text) => show_between(out, "\"", text.as_str(), "\""),
+        Token::Variable(name) => push_between(out, "", name.as_str(), "?"),
+        Token::String(text) => push_between(out, "\"", text.as_str(), "\""),
         Token::Mark(mark) => write!(out, "{mark:?}"),
         Token::Dot => out.push_str("."),
     }

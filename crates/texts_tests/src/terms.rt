@@ -1,7 +1,7 @@
 // Terms as values: how they are ordered, copied, measured and taken apart, by the rules for terms.
 mod tables;
 
-use crate::cases::{Reading, expect_each, expect_table, unfolded};
+use crate::cases::{Reading, expect_each, expect_table, push_between, unfolded};
 use crate::texts::{integers, printed, term_of, terms_of};
 use erl_term::*;
 use std::alloc::{AllocError, Global};
@@ -52,12 +52,18 @@ fn rising(alloc: Global, place: usize, length: usize) -> Result<String, AllocErr
     Ok(out)
 }
 
+/// Sees how the term at this place of a rising row of 26 stands to each of the row.
+fn expect_signs(rt: &impl Abort, alloc: Global, row: &[Term], place: usize) -> Result<(), Fail> {
+    let term = row.get(place).ok_or("no term")?;
+    assert_eq!(rt; signs(alloc, row, term)?, rising(alloc, place, 26)?);
+    Ok(())
+}
+
 #[test]
 fn terms_are_ordered(rt: HostRuntime) -> Result<(), Fail> {
     let terms = terms_of(rt.alloc(), RISING)?;
-    for (place, term) in terms.iter().enumerate() {
-        let found = signs(rt.alloc(), terms.as_slice(), term)?;
-        assert_eq!(rt; found, rising(rt.alloc(), place, 26)?, "{place}");
+    for place in 0..26 {
+        expect_signs(&rt, rt.alloc(), terms.as_slice(), place)?;
     }
     Ok(())
 }
@@ -83,9 +89,14 @@ fn copies_are_equal(rt: HostRuntime) -> Result<(), Fail> {
 }
 
 /// The depth and the size of a term.
+fn measures(alloc: Global, term: &Term) -> Result<String, AllocError> {
+    format!(in alloc; "{} {}", term.depth(), term.size())
+}
+
+/// The depth and the size of the term that is written so.
 pub(crate) fn measured(alloc: Global, text: &str) -> Result<String, Fail> {
     let term = term_of(alloc, text)?;
-    Ok(format!(in alloc; "{} {}", term.depth(), term.size())?)
+    Ok(measures(alloc, &term)?)
 }
 
 #[test]
@@ -134,19 +145,21 @@ fn nested(alloc: Global, depth: u32) -> Result<Term, AllocError> {
     Ok(term)
 }
 
-/// The depth and the size of a term, whether it can be read again, and how many bytes its text has.
-fn told(alloc: Global, term: &Term) -> Result<String, Fail> {
-    let (depth, size, len) = (term.depth(), term.size(), printed(alloc, term)?.len());
-    Ok(format!(in alloc; "{depth} {size} {} {len}", term.is_readable())?)
-}
-
 /// Recursion goes as deep as the term.
 #[test]
 fn deep_terms(rt: HostRuntime) -> Result<(), Fail> {
     let deep = nested(rt.alloc(), 1024)?;
-    let found = told(rt.alloc(), &deep)?;
-    assert_eq!(rt; found.as_str(), "1024 1025 false 2049");
+    assert_eq!(rt; measures(rt.alloc(), &deep)?.as_str(), "1024 1025");
+    assert!(rt; !deep.is_readable());
     assert!(rt; !deep.has_pids());
+    Ok(())
+}
+
+#[test]
+fn deep_texts(rt: HostRuntime) -> Result<(), Fail> {
+    let deep = nested(rt.alloc(), 1024)?;
+    let text = printed(rt.alloc(), &deep)?;
+    assert!(rt; text.len() == 2 * 1024 + 1);
     Ok(())
 }
 
@@ -183,8 +196,14 @@ fn atoms(rt: HostRuntime) -> Result<(), Fail> {
 #[test]
 fn words(rt: HostRuntime) -> Result<(), Fail> {
     let word = Atom::word(rt.alloc(), "undefined")?;
-    assert_eq!(rt; word.as_str(), "undefined");
+    assert!(rt; word.as_str() == "undefined");
     assert!(rt; word.is("undefined") && !word.is("undefine") && !word.is("Undefined"));
+    Ok(())
+}
+
+#[test]
+fn copied_words(rt: HostRuntime) -> Result<(), Fail> {
+    let word = Atom::word(rt.alloc(), "undefined")?;
     assert!(rt; word.same(&word.copy(rt.alloc())?));
     Ok(())
 }
@@ -244,11 +263,12 @@ fn terms_of_rows(rt: HostRuntime) -> Result<(), Fail> {
 
 /// The characters of the string that a term is, between strokes; a cross where it is none.
 pub(crate) fn characters_of(alloc: Global, text: &str) -> Result<String, Fail> {
-    let term = term_of(alloc, text)?;
-    match string(alloc, &term)? {
-        Some(text) => Ok(format!(in alloc; "|{}|", text.as_str())?),
-        None => Ok(String::from_str(alloc, "✗")?),
+    let mut out = String::new(alloc);
+    match string(alloc, &term_of(alloc, text)?)? {
+        Some(text) => push_between(&mut out, "|", text.as_str(), "|")?,
+        None => out.push_str("✗")?,
     }
+    Ok(out)
 }
 
 #[test]
