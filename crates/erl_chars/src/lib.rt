@@ -31,8 +31,6 @@ mod error;
 mod escapes;
 mod quotes;
 mod steps;
-#[cfg(test)]
-mod tests;
 mod text;
 
 pub use cursor::Cursor;

@@ -32,8 +32,6 @@ mod numbers;
 mod quoted;
 mod scanner;
 mod scanning;
-#[cfg(test)]
-mod tests;
 mod token;
 mod word;
 

@@ -1,25 +1,29 @@
 // Texts that stand in the place of the `◇` of each line of a table, one after the other.
 
-/// Tables, what stands in their lines, and what stands between one of these and the next.
-pub(super) const FRAMES: [(&str, &str, &str); 8] = [
-    (AROUND_RESERVED, RESERVED, " "),
-    (AROUND_MARKS, MARKS, " "),
-    (AROUND_VARIABLES, VARIABLES, " "),
-    (AROUND_TAILS, NO_LISTS, "\n"),
-    (IN_BRACKETS, FAULTS_IN_BRACKETS, "\n"),
-    (AROUND_WRONG_ESCAPES, WRONG_ESCAPES, "\n"),
-    (AROUND_CUT_ESCAPES, CUT_ESCAPES, "\n"),
-    (AROUND_PRINTED, PRINTED_TERMS, "\n"),
+/// Tables, and what stands in their lines, with a blank between one of these and the next.
+pub(super) const BY_BLANKS: [(&str, &str); 3] = [
+    (AROUND_RESERVED, RESERVED),
+    (AROUND_MARKS, MARKS),
+    (AROUND_VARIABLES, VARIABLES),
 ];
 
-/// Tables, and the code points, in hexadecimal, of the characters that stand in their lines.
-pub(super) const CHARACTERS: [(&str, &str); 6] = [
+/// Tables, and what stands in their lines, a line each.
+pub(super) const BY_LINES: [(&str, &str); 5] = [
+    (AROUND_TAILS, NO_LISTS),
+    (IN_BRACKETS, FAULTS_IN_BRACKETS),
+    (AROUND_WRONG_ESCAPES, WRONG_ESCAPES),
+    (AROUND_CUT_ESCAPES, CUT_ESCAPES),
+    (AROUND_PRINTED, PRINTED_TERMS),
+];
+
+/// Tables, and the characters that stand in their lines, with a stroke between one and the next.
+pub(super) const BY_STROKES: [(&str, &str); 6] = [
     (AROUND_BAD_CHARACTERS, BAD_CHARACTERS),
     (AROUND_SIGNS, SIGNS_OF_LATIN_1),
     (AROUND_UPPER_CASE, UPPER_CASE_OF_LATIN_1),
     (AROUND_LOWER_CASE, LOWER_CASE_OF_LATIN_1),
     (AROUND_BLANKS, BLANKS),
-    (AROUND_NEWLINE, "a"),
+    (AROUND_NEWLINE, "\n"),
 ];
 
 /// The reserved words but `fun`.
@@ -227,7 +231,8 @@ const AROUND_PRINTED: &str = "\
 
 /// Characters that begin no token, wherever they stand.
 const BAD_CHARACTERS: &str = "\
-26 40 5c 5e 60 7e 7f a1 aa b5 ba bf d7 f7 100 3b1 2003 2028 20ac 3000 feff ffff 10ffff";
+\u{26}|\u{40}|\u{5c}|\u{5e}|\u{60}|\u{7e}|\u{7f}|\u{a1}|\u{aa}|\u{b5}|\u{ba}|\u{bf}|\u{d7}|\u{f7}|\u{100}|\
+\u{3b1}|\u{2003}|\u{2028}|\u{20ac}|\u{3000}|\u{feff}|\u{ffff}|\u{10ffff}";
 
 const AROUND_BAD_CHARACTERS: &str = "\
 ◇ ⟶ ✗ BadChar 0
@@ -240,27 +245,35 @@ a. ◇. ⟶ ✗ BadChar 3
 {}◇{ ⟶ ✗ BadChar 2";
 
 const SIGNS_OF_LATIN_1: &str = "\
-a1 a2 a3 a4 a5 a6 a7 a8 a9 aa ab ac ad ae af b0 b1 b2 b3 b4 b5 b6 b7 b8 b9 ba bb bc bd be bf d7 f7";
+\u{a1}|\u{a2}|\u{a3}|\u{a4}|\u{a5}|\u{a6}|\u{a7}|\u{a8}|\u{a9}|\u{aa}|\u{ab}|\u{ac}|\u{ad}|\u{ae}|\u{af}|\
+\u{b0}|\u{b1}|\u{b2}|\u{b3}|\u{b4}|\u{b5}|\u{b6}|\u{b7}|\u{b8}|\u{b9}|\u{ba}|\u{bb}|\u{bc}|\u{bd}|\u{be}|\
+\u{bf}|\u{d7}|\u{f7}";
 
 const AROUND_SIGNS: &str = "\
 ◇. ⟶ ✗ BadChar 0";
 
 const UPPER_CASE_OF_LATIN_1: &str = "\
-c0 c1 c2 c3 c4 c5 c6 c7 c8 c9 ca cb cc cd ce cf d0 d1 d2 d3 d4 d5 d6 d8 d9 da db dc dd de";
+\u{c0}|\u{c1}|\u{c2}|\u{c3}|\u{c4}|\u{c5}|\u{c6}|\u{c7}|\u{c8}|\u{c9}|\u{ca}|\u{cb}|\u{cc}|\u{cd}|\u{ce}|\
+\u{cf}|\u{d0}|\u{d1}|\u{d2}|\u{d3}|\u{d4}|\u{d5}|\u{d6}|\u{d8}|\u{d9}|\u{da}|\u{db}|\u{dc}|\u{dd}|\u{de}";
 
 const AROUND_UPPER_CASE: &str = "\
 ◇. ⟶ ✗ Syntax 0";
 
 const LOWER_CASE_OF_LATIN_1: &str = "\
-df e0 e1 e2 e3 e4 e5 e6 e7 e8 e9 ea eb ec ed ee ef f0 f1 f2 f3 f4 f5 f6 f8 f9 fa fb fc fd fe ff";
+\u{df}|\u{e0}|\u{e1}|\u{e2}|\u{e3}|\u{e4}|\u{e5}|\u{e6}|\u{e7}|\u{e8}|\u{e9}|\u{ea}|\u{eb}|\u{ec}|\u{ed}|\
+\u{ee}|\u{ef}|\u{f0}|\u{f1}|\u{f2}|\u{f3}|\u{f4}|\u{f5}|\u{f6}|\u{f8}|\u{f9}|\u{fa}|\u{fb}|\u{fc}|\u{fd}|\
+\u{fe}|\u{ff}";
 
 const AROUND_LOWER_CASE: &str = "\
 ◇. ⟶ '◇'";
 
 /// The blanks but a newline.
 const BLANKS: &str = "\
-0 1 2 3 4 5 6 7 8 9 b c d e f 10 11 12 13 14 15 16 17 18 19 1a 1b 1c 1d 1e 1f 20 80 81 82 83 84 85 86 87 88 89
-8a 8b 8c 8d 8e 8f 90 91 92 93 94 95 96 97 98 99 9a 9b 9c 9d 9e 9f a0";
+\u{0}|\u{1}|\u{2}|\u{3}|\u{4}|\u{5}|\u{6}|\u{7}|\u{8}|\u{9}|\u{b}|\u{c}|\u{d}|\u{e}|\u{f}|\u{10}|\u{11}|\
+\u{12}|\u{13}|\u{14}|\u{15}|\u{16}|\u{17}|\u{18}|\u{19}|\u{1a}|\u{1b}|\u{1c}|\u{1d}|\u{1e}|\u{1f}|\u{20}|\
+\u{80}|\u{81}|\u{82}|\u{83}|\u{84}|\u{85}|\u{86}|\u{87}|\u{88}|\u{89}|\u{8a}|\u{8b}|\u{8c}|\u{8d}|\u{8e}|\
+\u{8f}|\u{90}|\u{91}|\u{92}|\u{93}|\u{94}|\u{95}|\u{96}|\u{97}|\u{98}|\u{99}|\u{9a}|\u{9b}|\u{9c}|\u{9d}|\
+\u{9e}|\u{9f}|\u{a0}";
 
 const AROUND_BLANKS: &str = "\
 ◇{◇-◇1◇}◇.◇b. ⟶ {-1} b
