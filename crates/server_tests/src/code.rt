@@ -56,8 +56,8 @@ fn change(
     ensures { IfOk result (λ undo. Fits undo modules.new × (undone undo modules.new ≡ modules.old)) }
 {
     match verb {
-        "load" => modules.load(name, code),
-        "purge_and_load" => modules.purge_and_load(name, code),
+        "load" => modules.load(&name, code),
+        "purge_and_load" => modules.purge_and_load(&name, code),
         "delete" => modules.delete(&name),
         "soft_purge" => modules.soft_purge(&name, false),
         "soft_purge_in_use" => modules.soft_purge(&name, true),
