@@ -1,12 +1,10 @@
 // Commands and their answers, over readers and writers that take their time, or fail.
-mod streams;
-
+use crate::streams::{Sink, Source};
 use line_server::Fault;
 use node_shell::{Files, run};
 use std::alloc::{AllocError, Global};
 use std::process::Abort;
 use std::test::Fail;
-use streams::{Sink, Source};
 
 /// The source of a small module.
 const SOURCE: &str = "-module(m).\n-export([a/0]).\na() -> ok.\n";
@@ -50,6 +48,7 @@ fn answers(alloc: Global, case: &Case<'_>) -> Result<(&'static str, Vec<u8>), Al
     };
     let mut writer = Sink {
         taken: Vec::with_capacity(alloc, 4_096)?,
+        published: 0,
         most: case.writes,
         room: case.room,
         interruptions: 0,

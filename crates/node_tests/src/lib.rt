@@ -1,8 +1,8 @@
-//! Tests of [`code_server`] and [`line_server`]: what no contract of theirs says.
+//! Tests of [`code_server`], [`line_server`] and [`node_shell`]: what no contract of theirs says.
 //!
 //! They see that calls succeed, what loads, deletes and purges do to a table of modules, by Erlang's rules, and that each is
-//! taken back (`code`), and what is written for lines that are read and written in pieces, and which fault is told
-//! (`lines`).
+//! taken back (`code`), what is written for lines that are read and written in pieces, and which fault is told
+//! (`lines`), and what the shell's commands are answered, by their manual page (`commands`).
 //!
 //! Most cases are lines of tables: what is done, an arrow, and what is wanted. The values that are wanted come from the rules,
 //! and never from what the program answers.
@@ -13,4 +13,8 @@ mod cases;
 #[cfg(test)]
 mod code;
 #[cfg(test)]
+mod commands;
+#[cfg(test)]
 mod lines;
+#[cfg(test)]
+mod streams;

@@ -6,12 +6,12 @@ use std::rc::Rc;
 
 /// Gives its bytes, `most` at a time, and then fails or ends.
 #[derive(Drop)]
-pub(super) struct Source<'a> {
-    pub(super) bytes: &'a [u8],
-    pub(super) most: usize,
-    pub(super) fails: bool,
+pub(crate) struct Source<'a> {
+    pub(crate) bytes: &'a [u8],
+    pub(crate) most: usize,
+    pub(crate) fails: bool,
     /// How many calls are still interrupted.
-    pub(super) interruptions: usize,
+    pub(crate) interruptions: usize,
 }
 
 impl Read for Source<'_> {
@@ -32,14 +32,14 @@ impl Read for Source<'_> {
 
 /// Takes bytes, `most` at a time, fails once it has `room` of them, and publishes what it has where it is flushed.
 #[derive(Drop)]
-pub(super) struct Sink {
-    pub(super) taken: Vec<u8>,
+pub(crate) struct Sink {
+    pub(crate) taken: Vec<u8>,
     /// How many of the bytes are published.
-    pub(super) published: usize,
-    pub(super) most: usize,
-    pub(super) room: usize,
+    pub(crate) published: usize,
+    pub(crate) most: usize,
+    pub(crate) room: usize,
     /// How many calls are still interrupted.
-    pub(super) interruptions: usize,
+    pub(crate) interruptions: usize,
 }
 
 impl Write for Sink {
@@ -69,9 +69,9 @@ impl Write for Sink {
 
 /// Counts the bytes that it takes, and publishes the count where it is flushed.
 #[derive(Drop)]
-pub(super) struct Tally {
-    pub(super) taken: u64,
-    pub(super) published: Rc<Cell<u64>>,
+pub(crate) struct Tally {
+    pub(crate) taken: u64,
+    pub(crate) published: Rc<Cell<u64>>,
 }
 
 impl Write for Tally {
@@ -89,9 +89,9 @@ impl Write for Tally {
 /// Gives a line of two bytes three times, and fails where the answers to those before, of four bytes
 /// each, aren't published yet.
 #[derive(Drop)]
-pub(super) struct Asking {
-    pub(super) lines: u64,
-    pub(super) published: Rc<Cell<u64>>,
+pub(crate) struct Asking {
+    pub(crate) lines: u64,
+    pub(crate) published: Rc<Cell<u64>>,
 }
 
 impl Read for Asking {

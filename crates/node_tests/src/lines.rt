@@ -1,9 +1,9 @@
 // A session that counts lines, over readers and writers that take their time, or fail: what is written, and which fault is
 // told. The values that are wanted come from what the session answers.
 mod counting;
-mod streams;
 
 use crate::cases::{expect, halves, unfolded};
+use crate::streams::{Asking, Sink, Source, Tally};
 use counting::Counting;
 use line_server::{Fault, serve};
 use std::alloc::Global;
@@ -12,7 +12,6 @@ use std::process::Abort;
 use std::rc::Rc;
 use std::str;
 use std::test::Fail;
-use streams::{Asking, Sink, Source, Tally};
 
 /// How much is read or written at a time, how much at all, and what fails.
 #[derive(Clone, Copy)]
