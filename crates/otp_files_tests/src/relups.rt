@@ -12,19 +12,30 @@ pub(crate) const RELUP_B: &str =
     r##"{"B",[{"A",[],[{load_object_code,{ctr_app,"2",[ctr]}},point_of_no_return,{suspend,[ctr]},{load,{ctr,brutal_purge,brutal_purge}},{code_change,up,[{ctr,[]}]},{resume,[ctr]}]}],[{"A",[],[{load_object_code,{ctr_app,"1",[ctr]}},point_of_no_return,{suspend,[ctr]},{code_change,down,[{ctr,[]}]},{load,{ctr,brutal_purge,brutal_purge}},{resume,[ctr]}]}]}.
 "##;
 
+/// What is printed goes behind what was written before.
 #[test]
-fn a_relup_is_printed_and_read_back(rt: HostRuntime) -> Result<(), Fail> {
-    let alloc = rt.alloc();
-    let relup = read_relup(alloc, RELUP_B.as_bytes())?;
-    let mut out = Vec::from_slice(alloc, b">")?;
+fn a_relup_is_printed(rt: HostRuntime) -> Result<(), Fail> {
+    let relup = read_relup(rt.alloc(), RELUP_B.as_bytes())?;
+    let mut out = Vec::from_slice(rt.alloc(), b">")?;
     print_relup(&relup, &mut out)?;
-    let text = out
-        .as_slice()
-        .strip_prefix(b">".as_slice())
-        .ok_or("no front")?;
-    assert!(rt; text == RELUP_B.as_bytes());
-    assert!(rt; read_relup(alloc, text)?.same(&relup));
+    let wanted = [">", RELUP_B].concat(rt.alloc())?;
+    assert_eq!(rt; out.as_slice(), wanted.as_bytes());
     Ok(())
+}
+
+/// Sees that what is printed of a relup is read back as the same one.
+fn expect_read_back(rt: &impl Abort, alloc: Global, relup: &Relup) -> Result<(), Fail> {
+    let mut out = Vec::new(alloc);
+    print_relup(relup, &mut out)?;
+    let read = read_relup(alloc, out.as_slice())?;
+    assert!(rt; read.same(relup));
+    Ok(())
+}
+
+#[test]
+fn a_printed_relup_is_read_back(rt: HostRuntime) -> Result<(), Fail> {
+    let relup = read_relup(rt.alloc(), RELUP_B.as_bytes())?;
+    expect_read_back(&rt, rt.alloc(), &relup)
 }
 
 #[test]
@@ -100,10 +111,7 @@ fn a_process_identifier_is_printed(rt: HostRuntime) -> Result<(), Fail> {
 #[test]
 fn the_deepest_relup_is_read_back(rt: HostRuntime) -> Result<(), Fail> {
     let deepest = described(rt.alloc(), nested(rt.alloc(), 253)?)?;
-    let mut out = Vec::new(rt.alloc());
-    print_relup(&deepest, &mut out)?;
-    assert!(rt; read_relup(rt.alloc(), out.as_slice())?.same(&deepest));
-    Ok(())
+    expect_read_back(&rt, rt.alloc(), &deepest)
 }
 
 /// Whether the front of the relup with so many bytes is read, or no text.
