@@ -14,8 +14,6 @@ mod high;
 mod instruction;
 mod reading;
 mod table;
-#[cfg(test)]
-mod tests;
 mod words;
 
 pub use high::High;

@@ -16,8 +16,6 @@ mod low;
 mod purge;
 mod reading;
 mod table;
-#[cfg(test)]
-mod tests;
 mod timeout;
 mod version;
 mod words;

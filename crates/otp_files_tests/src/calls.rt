@@ -1,5 +1,6 @@
 // Each public call that no other test runs.
-use crate::told::{put_rel_apps, text_of};
+use crate::cases::{halves, text_of};
+use crate::told::{put, put_rel_apps};
 use erl_term::Atom;
 use otp_files::{
     Applications, RelApp, ReleaseName, StartType, Version, files_are_read_one_way,
@@ -41,8 +42,8 @@ fn apps_of(alloc: Global, row: &str) -> Result<Vec<RelApp>, Fail> {
 fn release_of(alloc: Global, row: &str) -> Result<String, Fail> {
     let mut out = Vec::new(alloc);
     match Applications::new(alloc, apps_of(alloc, row)?)? {
-        Some(apps) => put_rel_apps(&mut out, apps.as_slice())?,
-        None => out.extend_from_slice(b"twice")?,
+        Some(apps) => put_rel_apps(&mut out, "", apps.as_slice())?,
+        None => put(&mut out, "twice")?,
     }
     text_of(alloc, out.as_slice())
 }
@@ -50,7 +51,7 @@ fn release_of(alloc: Global, row: &str) -> Result<String, Fail> {
 #[test]
 fn applications_of_a_release(rt: HostRuntime) -> Result<(), Fail> {
     for line in APPLICATIONS.lines() {
-        let (row, wanted) = line.split_once(" ⟶ ").ok_or("no arrow")?;
+        let (row, wanted) = halves(line)?;
         let found = release_of(rt.alloc(), row)?;
         assert_eq!(rt; found.as_str(), wanted, "{row}");
     }

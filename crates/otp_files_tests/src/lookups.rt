@@ -1,7 +1,6 @@
 // Which entry of an upgrade file counts for a version.
-use crate::instructions::{put, put_instructions};
-use crate::told::text_of;
-use erl_term::print;
+use crate::cases::{halves, text_of};
+use crate::told::{put, put_instructions, put_term};
 use otp_files::{Appup, AppupEntry, Relup, RelupEntry, Version, read_appup, read_relup};
 use std::alloc::{AllocError, Global};
 use std::test::Fail;
@@ -33,19 +32,29 @@ const DESCRIPTIONS: &str = "\
 11 ⟶ - -
 ! ⟶ - -";
 
+/// Writes a stroke.
+fn put_none(out: &mut Vec<u8>, front: &str) -> Result<(), AllocError> {
+    put(out, front)?;
+    put(out, "-")
+}
+
 /// Writes the instructions of an entry of an appup, or a stroke where there is none.
-fn put_entry(out: &mut Vec<u8>, entry: Option<&AppupEntry>) -> Result<(), AllocError> {
+fn put_entry(out: &mut Vec<u8>, front: &str, entry: Option<&AppupEntry>) -> Result<(), Fail> {
     match entry {
-        Some(entry) => put_instructions(out, entry.instructions.as_slice()),
-        None => put(out, "-"),
+        Some(entry) => put_instructions(out, front, entry.instructions.as_slice()),
+        None => Ok(put_none(out, front)?),
     }
 }
 
 /// Writes the description of an entry of a relup, or a stroke where there is none.
-fn put_description(out: &mut Vec<u8>, entry: Option<&RelupEntry>) -> Result<(), AllocError> {
+fn put_description(
+    out: &mut Vec<u8>,
+    front: &str,
+    entry: Option<&RelupEntry>,
+) -> Result<(), AllocError> {
     match entry {
-        Some(entry) => print(&entry.description, out),
-        None => put(out, "-"),
+        Some(entry) => put_term(out, front, &entry.description),
+        None => put_none(out, front),
     }
 }
 
@@ -53,9 +62,8 @@ fn put_description(out: &mut Vec<u8>, entry: Option<&RelupEntry>) -> Result<(), 
 fn in_appup(alloc: Global, appup: &Appup, number: &str) -> Result<String, Fail> {
     let version = Version::new(alloc, number)?;
     let mut out = Vec::new(alloc);
-    put_entry(&mut out, appup.up_from(&version))?;
-    out.push(b' ')?;
-    put_entry(&mut out, appup.down_to(&version))?;
+    put_entry(&mut out, "", appup.up_from(&version))?;
+    put_entry(&mut out, " ", appup.down_to(&version))?;
     text_of(alloc, out.as_slice())
 }
 
@@ -63,9 +71,8 @@ fn in_appup(alloc: Global, appup: &Appup, number: &str) -> Result<String, Fail> 
 fn in_relup(alloc: Global, relup: &Relup, number: &str) -> Result<String, Fail> {
     let version = Version::new(alloc, number)?;
     let mut out = Vec::new(alloc);
-    put_description(&mut out, relup.up_from(&version))?;
-    out.push(b' ')?;
-    put_description(&mut out, relup.down_to(&version))?;
+    put_description(&mut out, "", relup.up_from(&version))?;
+    put_description(&mut out, " ", relup.down_to(&version))?;
     text_of(alloc, out.as_slice())
 }
 
@@ -75,7 +82,7 @@ fn first_entry_of_an_appup_counts(rt: HostRuntime) -> Result<(), Fail> {
     let counts = (appup.up.as_slice().len(), appup.down.as_slice().len());
     assert_eq!(rt; counts, (4, 3));
     for line in INSTRUCTIONS.lines() {
-        let (number, wanted) = line.split_once(" ⟶ ").ok_or("no arrow")?;
+        let (number, wanted) = halves(line)?;
         let found = in_appup(rt.alloc(), &appup, number)?;
         assert_eq!(rt; found.as_str(), wanted, "{number}");
     }
@@ -88,7 +95,7 @@ fn first_entry_of_a_relup_counts(rt: HostRuntime) -> Result<(), Fail> {
     let counts = (relup.up.as_slice().len(), relup.down.as_slice().len());
     assert_eq!(rt; counts, (4, 3));
     for line in DESCRIPTIONS.lines() {
-        let (number, wanted) = line.split_once(" ⟶ ").ok_or("no arrow")?;
+        let (number, wanted) = halves(line)?;
         let found = in_relup(rt.alloc(), &relup, number)?;
         assert_eq!(rt; found.as_str(), wanted, "{number}");
     }

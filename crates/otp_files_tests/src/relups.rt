@@ -1,11 +1,7 @@
 // Relups that are printed, and read back where they can be.
-use crate::told::text_of;
-use erl_term::{Fault, ReadError, Term, Terms, print, read_terms};
-use high_instructions::read_instruction;
-use otp_files::{
-    FileError, Instruction, Relup, RelupEntry, Version, low_term, print_relup, read_relup,
-    relup_term,
-};
+use crate::cases::printed;
+use erl_term::{Fault, ReadError, Term, Terms};
+use otp_files::{FileError, Relup, RelupEntry, Version, print_relup, read_relup, relup_term};
 use std::alloc::Global;
 use std::process::Abort;
 use std::test::Fail;
@@ -16,33 +12,30 @@ pub(crate) const RELUP_B: &str =
     r##"{"B",[{"A",[],[{load_object_code,{ctr_app,"2",[ctr]}},point_of_no_return,{suspend,[ctr]},{load,{ctr,brutal_purge,brutal_purge}},{code_change,up,[{ctr,[]}]},{resume,[ctr]}]}],[{"A",[],[{load_object_code,{ctr_app,"1",[ctr]}},point_of_no_return,{suspend,[ctr]},{code_change,down,[{ctr,[]}]},{load,{ctr,brutal_purge,brutal_purge}},{resume,[ctr]}]}]}.
 "##;
 
-/// A term as it is printed.
-fn printed(alloc: Global, term: &Term) -> Result<String, Fail> {
-    let mut out = Vec::new(alloc);
-    print(term, &mut out)?;
-    text_of(alloc, out.as_slice())
+/// What is printed goes behind what was written before.
+#[test]
+fn a_relup_is_printed(rt: HostRuntime) -> Result<(), Fail> {
+    let relup = read_relup(rt.alloc(), RELUP_B.as_bytes())?;
+    let mut out = Vec::from_slice(rt.alloc(), b">")?;
+    print_relup(&relup, &mut out)?;
+    let wanted = [">", RELUP_B].concat(rt.alloc())?;
+    assert_eq!(rt; out.as_slice(), wanted.as_bytes());
+    Ok(())
 }
 
-/// The one term of a text, which lacks its dot.
-pub(crate) fn term_of(alloc: Global, text: &str) -> Result<Term, Fail> {
-    let text = [text, "."].concat(alloc)?;
-    let mut terms = read_terms(alloc, text.as_bytes())?;
-    Ok(terms.pop().ok_or("no term")?)
+/// Sees that what is printed of a relup is read back as the same one.
+fn expect_read_back(rt: &impl Abort, alloc: Global, relup: &Relup) -> Result<(), Fail> {
+    let mut out = Vec::new(alloc);
+    print_relup(relup, &mut out)?;
+    let read = read_relup(alloc, out.as_slice())?;
+    assert!(rt; read.same(relup));
+    Ok(())
 }
 
 #[test]
-fn a_relup_is_printed_and_read_back(rt: HostRuntime) -> Result<(), Fail> {
-    let alloc = rt.alloc();
-    let relup = read_relup(alloc, RELUP_B.as_bytes())?;
-    let mut out = Vec::from_slice(alloc, b">")?;
-    print_relup(&relup, &mut out)?;
-    let text = out
-        .as_slice()
-        .strip_prefix(b">".as_slice())
-        .ok_or("no front")?;
-    assert!(rt; text == RELUP_B.as_bytes());
-    assert!(rt; read_relup(alloc, text)?.same(&relup));
-    Ok(())
+fn a_printed_relup_is_read_back(rt: HostRuntime) -> Result<(), Fail> {
+    let relup = read_relup(rt.alloc(), RELUP_B.as_bytes())?;
+    expect_read_back(&rt, rt.alloc(), &relup)
 }
 
 #[test]
@@ -50,25 +43,6 @@ fn the_term_of_a_relup_is_printed(rt: HostRuntime) -> Result<(), Fail> {
     let relup = read_relup(rt.alloc(), RELUP_B.as_bytes())?;
     let term = printed(rt.alloc(), &relup_term(rt.alloc(), &relup)?)?;
     assert_eq!(rt; Some(term.as_str()), RELUP_B.strip_suffix(".\n"));
-    Ok(())
-}
-
-/// Low-level instructions as they are printed.
-const LOWS: &str = r##"{load_object_code,{ctr_app,"2",[ctr]}}
-point_of_no_return
-{suspend,[ctr]}
-{code_change,up,[{ctr,[]}]}"##;
-
-#[test]
-fn low_level_instructions_are_printed(rt: HostRuntime) -> Result<(), Fail> {
-    for line in LOWS.lines() {
-        let term = term_of(rt.alloc(), line)?;
-        let Ok(Instruction::Low(low)) = read_instruction(rt.alloc(), &term)? else {
-            panic!(rt; "{line}")
-        };
-        let found = printed(rt.alloc(), &low_term(rt.alloc(), &low)?)?;
-        assert_eq!(rt; found.as_str(), line);
-    }
     Ok(())
 }
 
@@ -137,10 +111,7 @@ fn a_process_identifier_is_printed(rt: HostRuntime) -> Result<(), Fail> {
 #[test]
 fn the_deepest_relup_is_read_back(rt: HostRuntime) -> Result<(), Fail> {
     let deepest = described(rt.alloc(), nested(rt.alloc(), 253)?)?;
-    let mut out = Vec::new(rt.alloc());
-    print_relup(&deepest, &mut out)?;
-    assert!(rt; read_relup(rt.alloc(), out.as_slice())?.same(&deepest));
-    Ok(())
+    expect_read_back(&rt, rt.alloc(), &deepest)
 }
 
 /// Whether the front of the relup with so many bytes is read, or no text.

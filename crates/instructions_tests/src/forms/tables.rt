@@ -5,6 +5,7 @@
 /// Low-level instructions.
 pub(super) const LOW_FORMS: &str =
     r##"{load_object_code,{a,"1",[m,n]}} ⟶ {load_object_code,{a,"1",[m,n]}}
+{load_object_code,{ctr_app,"2",[ctr]}} ⟶ {load_object_code,{ctr_app,"2",[ctr]}}
 {load_object_code,{a,"1",[]}} ⟶ {load_object_code,{a,"1",[]}}
 {load_object_code,{a,"1",[m,m]}} ⟶ {load_object_code,{a,"1",[m,m]}}
 {load_object_code,{a,[49,46,50],""}} ⟶ {load_object_code,{a,"1.2",[]}}
@@ -24,6 +25,8 @@ point_of_no_return ⟶ point_of_no_return
 {purge,[m|[n]]} ⟶ {purge,[m,n]}
 {suspend,[m]} ⟶ {suspend,[m]}
 {suspend,[]} ⟶ {suspend,[]}
+{suspend,[{m,default},{n,5}]} ⟶ {suspend,[m,{n,5}]}
+{suspend,[ctr]} ⟶ {suspend,[ctr]}
 {suspend,[m,{n,infinity},{o,5000}]} ⟶ {suspend,[m,{n,infinity},{o,5000}]}
 {suspend,[{m,default}]} ⟶ {suspend,[m]}
 {suspend,[{m,infinity},{n,default},o]} ⟶ {suspend,[{m,infinity},n,o]}
@@ -36,6 +39,7 @@ point_of_no_return ⟶ point_of_no_return
 {code_change,""} ⟶ {code_change,up,[]}
 {code_change,[{up,down}]} ⟶ {code_change,up,[{up,down}]}
 {code_change,up,[{m,{any,"term",[-1]}}]} ⟶ {code_change,up,[{m,{any,"term",[-1]}}]}
+{code_change,up,[{ctr,[]}]} ⟶ {code_change,up,[{ctr,[]}]}
 {code_change,up,[]} ⟶ {code_change,up,[]}
 {code_change,down,[{m,[]},{n,1}]} ⟶ {code_change,down,[{m,[]},{n,1}]}
 {code_change,down,[]} ⟶ {code_change,down,[]}
@@ -44,6 +48,7 @@ point_of_no_return ⟶ point_of_no_return
 {start,[m,n]} ⟶ {start,[m,n]}
 {start,[]} ⟶ {start,[]}
 {apply,{m,f,[]}} ⟶ {apply,{m,f,[]}}
+{apply,{m,f,[1]}} ⟶ {apply,{m,f,[1]}}
 {apply,{m,f,[1,{a,b},"s"]}} ⟶ {apply,{m,f,[1,{a,b},"s"]}}
 {apply,{m,f,"abc"}} ⟶ {apply,{m,f,"abc"}}
 {apply,{application,start,[a,permanent]}} ⟶ {apply,{application,start,[a,permanent]}}"##;

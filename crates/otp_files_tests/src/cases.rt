@@ -1,0 +1,29 @@
+// Tables of cases: a line each, which is a text, an arrow, and what is wanted of the text.
+use erl_term::{Term, print, read_terms};
+use std::alloc::Global;
+use std::str;
+use std::test::Fail;
+
+/// A line's text, and what is wanted of it.
+pub(crate) fn halves(line: &str) -> Result<(&str, &str), Fail> {
+    Ok(line.split_once(" ⟶ ").ok_or("no arrow")?)
+}
+
+/// A text of these bytes.
+pub(crate) fn text_of(alloc: Global, bytes: &[u8]) -> Result<String, Fail> {
+    Ok(String::from_str(alloc, str::from_utf8(bytes)?)?)
+}
+
+/// A term as it is printed.
+pub(crate) fn printed(alloc: Global, term: &Term) -> Result<String, Fail> {
+    let mut out = Vec::new(alloc);
+    print(term, &mut out)?;
+    text_of(alloc, out.as_slice())
+}
+
+/// The one term of a text, which lacks its dot.
+pub(crate) fn term_of(alloc: Global, text: &str) -> Result<Term, Fail> {
+    let text = [text, "."].concat(alloc)?;
+    let mut terms = read_terms(alloc, text.as_bytes())?;
+    Ok(terms.pop().ok_or("no term")?)
+}
