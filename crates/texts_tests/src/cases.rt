@@ -92,10 +92,18 @@ fn halves(line: &str) -> Result<(&str, &str), Fail> {
     Ok(line.split_once(" ⟶ ").ok_or("no arrow")?)
 }
 
+/// The number that is written in decimal.
+fn count_of(text: &str) -> Result<usize, Fail> {
+    Ok(text.parse::<usize>().ok().ok_or("no number")?)
+}
+
 /// A text so many times, where the count is written in decimal.
 fn repeated(alloc: Global, count: &str, unit: &str) -> Result<String, Fail> {
-    let count = count.parse::<usize>().ok().ok_or("no number")?;
-    Ok(unit.repeat(alloc, count)?)
+    let mut text = String::new(alloc);
+    for _ in 0..count_of(count)? {
+        text.push_str(unit)?;
+    }
+    Ok(text)
 }
 
 /// What a piece of a line stands for.
