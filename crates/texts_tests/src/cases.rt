@@ -3,7 +3,7 @@
 // In a line `␤` stands for a newline. Pieces of a line stand between `⋅`, and a number and `⨯` before a piece say how often
 // it is written: `3⨯[⋅a⋅2⨯]` is `[[[a]]`.
 use crate::{chars, printing, reading, scan, terms};
-use std::alloc::{AllocError, Global};
+use std::alloc::Global;
 use std::process::Abort;
 use std::test::Fail;
 
@@ -50,6 +50,12 @@ pub(crate) enum Reading {
     String,
     /// The integers of a row.
     Row,
+    /// How deep a list nests.
+    Nesting,
+    /// A term that prints behind a text.
+    Behind,
+    /// A term among others.
+    Inside,
 }
 
 /// What is told of a text.
@@ -74,20 +80,11 @@ fn outcome(alloc: Global, reading: Reading, text: &str) -> Result<String, Fail> 
         Reading::Measured => terms::measured(alloc, text),
         Reading::Kind => terms::kind(alloc, text),
         Reading::String => terms::characters_of(alloc, text),
+        Reading::Nesting => terms::nesting(alloc, text),
+        Reading::Behind => printing::behind(alloc, text),
+        Reading::Inside => printing::inside(alloc, text),
         Reading::Row => terms::row(alloc, text),
     }
-}
-
-/// Appends a text, between two others.
-pub(crate) fn push_between(
-    out: &mut String,
-    before: &str,
-    text: &str,
-    behind: &str,
-) -> Result<(), AllocError> {
-    out.push_str(before)?;
-    out.push_str(text)?;
-    out.push_str(behind)
 }
 
 /// A line's text, and what is wanted of it.
@@ -95,10 +92,18 @@ fn halves(line: &str) -> Result<(&str, &str), Fail> {
     Ok(line.split_once(" ⟶ ").ok_or("no arrow")?)
 }
 
+/// The number that is written in decimal.
+fn count_of(text: &str) -> Result<usize, Fail> {
+    Ok(text.parse::<usize>().ok().ok_or("no number")?)
+}
+
 /// A text so many times, where the count is written in decimal.
 fn repeated(alloc: Global, count: &str, unit: &str) -> Result<String, Fail> {
-    let count = count.parse::<usize>()?;
-    Ok(unit.repeat(alloc, count)?)
+    let mut text = String::new(alloc);
+    for _ in 0..count_of(count)? {
+        text.push_str(unit)?;
+    }
+    Ok(text)
 }
 
 /// What a piece of a line stands for.

@@ -1,9 +1,9 @@
 // Escapes, gaps, quotes and names, by values from the rules of Erlang's notation.
 mod tables;
 
-use crate::cases::{Reading, expect_inside, expect_table, push_between};
+use crate::cases::{Reading, expect_inside, expect_table};
 use erl_chars::{Cursor, Fault, Name, NameError, QuoteError, ReadError, Text, quotes_read_one_way};
-use std::alloc::Global;
+use std::alloc::{AllocError, Global};
 use std::process::Abort;
 use std::test::Fail;
 use tables::{
@@ -33,25 +33,20 @@ pub(crate) fn characters(alloc: Global, text: &str) -> Result<String, Fail> {
     let mut out = String::new(alloc);
     for _ in 0..100 {
         let Some(c) = cursor.peek() else { break };
-        write!(out, "{c}{} ", cursor.place())?;
+        out.push_str(format!(in alloc; "{c}{} ", cursor.place())?.as_str())?;
         cursor.advance();
     }
     cursor.advance();
-    write!(out, "{}", cursor.place())?;
+    out.push_str(format!(in alloc; "{}", cursor.place())?.as_str())?;
     Ok(out)
 }
 
 /// The characters up to a quote, between strokes, and where the cursor stands then.
 fn quoted(alloc: Global, mut cursor: Cursor, quote: char) -> Result<String, Fail> {
-    let mut out = String::new(alloc);
     match cursor.quoted(alloc, quote) {
-        Ok(text) => {
-            push_between(&mut out, "|", text.as_str(), "| ")?;
-            write!(out, "{}", cursor.place())?;
-        }
-        Err(e) => write!(out, "✗ {e:?}")?,
+        Ok(text) => Ok(format!(in alloc; "|{}| {}", text.as_str(), cursor.place())?),
+        Err(e) => Ok(format!(in alloc; "✗ {e:?}")?),
     }
-    Ok(out)
 }
 
 /// The characters behind an opening quote.
@@ -67,16 +62,19 @@ pub(crate) fn from_quote(alloc: Global, text: &str, quote: char) -> Result<Strin
 }
 
 /// The characters of a name, shown and then kept.
-pub(crate) fn name(alloc: Global, text: &str) -> Result<String, Fail> {
-    let mut out = String::new(alloc);
-    match Name::from_text(Text::new(alloc, text)?) {
-        Ok(name) => {
-            push_between(&mut out, "", name.as_str(), "|")?;
-            out.push_str(name.into_string().as_str())?;
-        }
-        Err(e) => write!(out, "✗ {e:?}")?,
-    }
+fn shown_and_kept(alloc: Global, name: Name) -> Result<String, AllocError> {
+    let mut out = String::from_str(alloc, name.as_str())?;
+    out.push('|')?;
+    out.push_str(name.into_string().as_str())?;
     Ok(out)
+}
+
+/// The characters of the name that a text is, or a cross and why it is none.
+pub(crate) fn name(alloc: Global, text: &str) -> Result<String, Fail> {
+    match Name::from_text(Text::new(alloc, text)?) {
+        Ok(name) => Ok(shown_and_kept(alloc, name)?),
+        Err(e) => Ok(format!(in alloc; "✗ {e:?}")?),
+    }
 }
 
 /// The characters of a text that is kept.

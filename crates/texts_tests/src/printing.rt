@@ -6,7 +6,7 @@ use crate::texts::{integers, printed, term_of, terms_of, text_of};
 use erl_term::{Atom, Term, Terms, print, print_atom};
 use std::alloc::Global;
 use std::test::Fail;
-use tables::{ATOMS, STRINGS, TERMS};
+use tables::{ATOMS, BEHIND, INSIDE, STRINGS, TERMS};
 
 /// The text of the atom of these characters, alone and then as a term.
 pub(crate) fn atom(alloc: Global, text: &str) -> Result<String, Fail> {
@@ -45,34 +45,36 @@ fn strings(rt: HostRuntime) -> Result<(), Fail> {
     expect_table(&rt, rt.alloc(), Reading::Integers, STRINGS)
 }
 
-#[test]
-fn behind_what_was_written(rt: HostRuntime) -> Result<(), Fail> {
-    let mut out = Vec::from_slice(rt.alloc(), b"X = ")?;
-    print(&Term::Int(1), &mut out)?;
-    assert_eq!(rt; out.as_slice(), b"X = 1".as_slice());
-    Ok(())
+/// The text of the term that is written so, behind what was written before.
+pub(crate) fn behind(alloc: Global, text: &str) -> Result<String, Fail> {
+    let mut out = Vec::from_slice(alloc, b"X = ")?;
+    print(&term_of(alloc, text)?, &mut out)?;
+    text_of(alloc, out.as_slice())
 }
 
-/// A process identifier among other elements.
-fn nested(alloc: Global) -> Result<Term, Fail> {
-    let items = terms_of(alloc, "'end'\n[\"a\",[]]\n<0.97.0>")?;
+#[test]
+fn terms_behind_what_was_written(rt: HostRuntime) -> Result<(), Fail> {
+    expect_table(&rt, rt.alloc(), Reading::Behind, BEHIND)
+}
+
+/// The terms of these lines as a tuple, and an atom behind it in a list.
+fn nested(alloc: Global, lines: &str) -> Result<Term, Fail> {
+    let items = terms_of(alloc, lines)?;
     let mut row = Vec::new(alloc);
     row.push(Term::Tuple(Terms::new(items)))?;
     row.push(term_of(alloc, "ok")?)?;
     Ok(Term::List(Terms::new(row)))
 }
 
-#[test]
-fn nested_terms(rt: HostRuntime) -> Result<(), Fail> {
-    let found = printed(rt.alloc(), &nested(rt.alloc())?)?;
-    assert_eq!(rt; found.as_str(), r#"[{'end',["a",[]],<0.97.0>},ok]"#);
-    Ok(())
+/// The text of a term in which these lines' terms stand, whether it has process identifiers and whether it can be read.
+pub(crate) fn inside(alloc: Global, lines: &str) -> Result<String, Fail> {
+    let term = nested(alloc, lines)?;
+    let text = printed(alloc, &term)?;
+    let (has_pids, is_readable) = (term.has_pids(), term.is_readable());
+    Ok(format!(in alloc; "{} {has_pids} {is_readable}", text.as_str())?)
 }
 
 #[test]
-fn nested_process_identifiers(rt: HostRuntime) -> Result<(), Fail> {
-    let term = nested(rt.alloc())?;
-    assert!(rt; term.has_pids());
-    assert!(rt; !term.is_readable());
-    Ok(())
+fn terms_inside_terms(rt: HostRuntime) -> Result<(), Fail> {
+    expect_table(&rt, rt.alloc(), Reading::Inside, INSIDE)
 }

@@ -1,7 +1,7 @@
 // Tokens and faults with their places, by texts and values from the rules of Erlang's notation.
 mod tables;
 
-use crate::cases::{Reading, expect_table, push_between};
+use crate::cases::{Reading, expect_table};
 use erl_scan::{ReadError, Scanner, Spot, Token, marks_are_longest, tokens_read_one_way};
 use std::alloc::{AllocError, Global};
 use std::test::Fail;
@@ -10,36 +10,32 @@ use tables::{
     MARKS, NAMES, QUOTED, RESERVED,
 };
 
-/// Writes a token: atoms in single quotes, strings in double ones, `?` behind a variable.
-fn show(out: &mut String, token: &Token) -> Result<(), AllocError> {
+/// A token: atoms in single quotes, strings in double ones, `?` behind a variable.
+fn shown(alloc: Global, token: &Token) -> Result<String, AllocError> {
     match token {
-        Token::Integer(value) => write!(out, "{value}"),
-        Token::Float => out.push_str("float"),
-        Token::Atom(name) => push_between(out, "'", name.as_str(), "'"),
-        Token::Word(word) => write!(out, "{word:?}"),
-        Token::Variable(name) => push_between(out, "", name.as_str(), "?"),
-        Token::String(text) => push_between(out, "\"", text.as_str(), "\""),
-        Token::Mark(mark) => write!(out, "{mark:?}"),
-        Token::Dot => out.push_str("."),
+        Token::Integer(value) => format!(in alloc; "{value}"),
+        Token::Float => String::from_str(alloc, "float"),
+        Token::Atom(name) => format!(in alloc; "'{}'", name.as_str()),
+        Token::Word(word) => format!(in alloc; "{word:?}"),
+        Token::Variable(name) => format!(in alloc; "{}?", name.as_str()),
+        Token::String(text) => format!(in alloc; "\"{}\"", text.as_str()),
+        Token::Mark(mark) => format!(in alloc; "{mark:?}"),
+        Token::Dot => String::from_str(alloc, "."),
     }
 }
 
-/// Writes the next token and its place, or how the text ends; and says whether more may come.
-fn show_next(out: &mut String, scanner: &mut Scanner) -> Result<bool, AllocError> {
+/// A token and its place, with a blank behind them.
+fn shown_spot(alloc: Global, spot: &Spot) -> Result<String, AllocError> {
+    let token = shown(alloc, &spot.what)?;
+    format!(in alloc; "{}@{} ", token.as_str(), spot.at)
+}
+
+/// The next token and its place, or how the text ends; and whether more may come.
+fn shown_next(alloc: Global, scanner: &mut Scanner) -> Result<(String, bool), AllocError> {
     match scanner.next_token() {
-        Ok(Some(Spot { what, at })) => {
-            show(out, &what)?;
-            write!(out, "@{at} ")?;
-            Ok(true)
-        }
-        Ok(None) => {
-            out.push_str("end")?;
-            Ok(false)
-        }
-        Err(ReadError { kind, at }) => {
-            write!(out, "{kind:?}@{at}")?;
-            Ok(false)
-        }
+        Ok(Some(spot)) => Ok((shown_spot(alloc, &spot)?, true)),
+        Ok(None) => Ok((String::from_str(alloc, "end")?, false)),
+        Err(ReadError { kind, at }) => Ok((format!(in alloc; "{kind:?}@{at}")?, false)),
     }
 }
 
@@ -48,7 +44,9 @@ pub(crate) fn tokens(alloc: Global, text: &str) -> Result<String, Fail> {
     let mut scanner = Scanner::new(alloc, text);
     let mut out = String::new(alloc);
     for _ in 0..100 {
-        if !show_next(&mut out, &mut scanner)? {
+        let (text, goes_on) = shown_next(alloc, &mut scanner)?;
+        out.push_str(text.as_str())?;
+        if !goes_on {
             break;
         }
     }

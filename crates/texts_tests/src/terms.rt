@@ -1,14 +1,14 @@
 // Terms as values: how they are ordered, copied, measured and taken apart, by the rules for terms.
 mod tables;
 
-use crate::cases::{Reading, expect_each, expect_table, push_between, unfolded};
+use crate::cases::{Reading, expect_each, expect_table, unfolded};
 use crate::texts::{integers, printed, term_of, terms_of};
 use erl_term::*;
 use std::alloc::{AllocError, Global};
 use std::cmp::Ordering;
 use std::process::Abort;
 use std::test::Fail;
-use tables::{ATOMS, KINDS, MEASURES, RISING, ROWS, STRINGS};
+use tables::{ATOMS, KINDS, MEASURES, NESTINGS, RISING, ROWS, STRINGS};
 use values::{Duplicate, Same};
 
 /// How a term stands to another: `<`, `=` or `>`, or `?` where it is told otherwise in another way.
@@ -145,30 +145,24 @@ fn nested(alloc: Global, depth: u32) -> Result<Term, AllocError> {
     Ok(term)
 }
 
+/// Of a list that nests as deep as the text says: its depth and its size, how it stands to its copy, whether it can be
+/// read and has process identifiers, and how many bytes its text has.
+pub(crate) fn nesting(alloc: Global, text: &str) -> Result<String, Fail> {
+    let term = nested(alloc, text.parse::<u32>()?)?;
+    let measures = measures(alloc, &term)?;
+    let sign = sign(&term, &term.copy(alloc)?);
+    let (is_readable, has_pids) = (term.is_readable(), term.has_pids());
+    let len = printed(alloc, &term)?.len();
+    Ok(format!(in alloc;
+        "{} {sign} {is_readable} {has_pids} {len}",
+        measures.as_str()
+    )?)
+}
+
 /// Recursion goes as deep as the term.
 #[test]
 fn deep_terms(rt: HostRuntime) -> Result<(), Fail> {
-    let deep = nested(rt.alloc(), 1024)?;
-    assert_eq!(rt; measures(rt.alloc(), &deep)?.as_str(), "1024 1025");
-    assert!(rt; !deep.is_readable());
-    assert!(rt; !deep.has_pids());
-    Ok(())
-}
-
-#[test]
-fn deep_texts(rt: HostRuntime) -> Result<(), Fail> {
-    let deep = nested(rt.alloc(), 1024)?;
-    let text = printed(rt.alloc(), &deep)?;
-    assert!(rt; text.len() == 2 * 1024 + 1);
-    Ok(())
-}
-
-#[test]
-fn deep_copies(rt: HostRuntime) -> Result<(), Fail> {
-    let deep = nested(rt.alloc(), 1024)?;
-    let copy = deep.copy(rt.alloc())?;
-    assert!(rt; sign(&deep, &copy) == '=');
-    Ok(())
+    expect_table(&rt, rt.alloc(), Reading::Nesting, NESTINGS)
 }
 
 /// A text of so many terms goes as fast as it is long.
@@ -229,7 +223,7 @@ pub(crate) fn row(alloc: Global, text: &str) -> Result<String, Fail> {
     let mut out = format!(in alloc; "{} {}", row.len(), row.is_empty())?;
     for count in 0..9 {
         if takes(row.as_slice(), count) {
-            write!(out, " {count}")?;
+            out.push_str(format!(in alloc; " {count}")?.as_str())?;
         }
     }
     Ok(out)
@@ -263,12 +257,10 @@ fn terms_of_rows(rt: HostRuntime) -> Result<(), Fail> {
 
 /// The characters of the string that a term is, between strokes; a cross where it is none.
 pub(crate) fn characters_of(alloc: Global, text: &str) -> Result<String, Fail> {
-    let mut out = String::new(alloc);
     match string(alloc, &term_of(alloc, text)?)? {
-        Some(text) => push_between(&mut out, "|", text.as_str(), "|")?,
-        None => out.push_str("✗")?,
+        Some(text) => Ok(format!(in alloc; "|{}|", text.as_str())?),
+        None => Ok(String::from_str(alloc, "✗")?),
     }
-    Ok(out)
 }
 
 #[test]

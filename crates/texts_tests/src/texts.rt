@@ -6,7 +6,8 @@ use std::test::Fail;
 
 /// A text of these bytes.
 pub(crate) fn text_of(alloc: Global, bytes: &[u8]) -> Result<String, Fail> {
-    Ok(String::from_str(alloc, str::from_utf8(bytes)?)?)
+    let text = str::from_utf8(bytes).ok().ok_or("not UTF-8")?;
+    Ok(String::from_str(alloc, text)?)
 }
 
 /// The text of a term.

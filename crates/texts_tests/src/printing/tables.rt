@@ -99,3 +99,11 @@ pub(super) const STRINGS: &str = r##" ⟶ []
 31 97 ⟶ [31,97]
 -97 ⟶ [-97]
 353 ⟶ [353]"##;
+
+/// A term, and its text behind what was written before.
+pub(super) const BEHIND: &str = "1 ⟶ X = 1";
+
+/// Terms, a process identifier among them, and the text of a term with them in it, whether it has process identifiers
+/// and whether it can be read.
+pub(super) const INSIDE: &str =
+    r##"'end'␤["a",[]]␤<0.97.0> ⟶ [{'end',["a",[]],<0.97.0>},ok] true false"##;

@@ -89,3 +89,7 @@ pub(super) const ROWS: &str = r" ⟶ 0 true 0
 pub(super) const ATOMS: &str = "\
 255⨯é ⟶ 255⨯é
 256⨯a ⟶ ✗ AtomTooLong";
+
+/// Depths of lists in lists, and the depth and the size of the whole, how it stands to its copy, whether it can be read
+/// and has process identifiers, and how many bytes its text has.
+pub(super) const NESTINGS: &str = "1024 ⟶ 1024 1025 = false false 2049";
