@@ -18,3 +18,5 @@ mod commands;
 mod lines;
 #[cfg(test)]
 mod streams;
+#[cfg(test)]
+mod ways;

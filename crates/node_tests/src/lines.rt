@@ -3,71 +3,17 @@
 mod counting;
 
 use crate::cases::{expect, halves, unfolded};
-use crate::streams::{Asking, Sink, Source, Tally};
+use crate::streams::{Asking, Tally};
+use crate::ways::{AT_ONCE, How, ended_text, how_of, reader, writer};
 use counting::Counting;
-use line_server::{Fault, serve};
+use line_server::serve;
 use std::alloc::Global;
 use std::cell::Cell;
 use std::process::Abort;
 use std::rc::Rc;
-use std::str;
 use std::test::Fail;
 
-/// How much is read or written at a time, how much at all, and what fails.
-#[derive(Clone, Copy)]
-struct How {
-    reads: usize,
-    writes: usize,
-    room: usize,
-    fails: bool,
-    interruptions: usize,
-    refused: Option<u64>,
-    failed: Option<u64>,
-}
-
-/// All at once, and nothing fails.
-const AT_ONCE: How = How {
-    reads: usize::MAX,
-    writes: usize::MAX,
-    room: usize::MAX,
-    fails: false,
-    interruptions: 0,
-    refused: None,
-    failed: None,
-};
-
-/// What the words say, which are a name and a number each.
-fn how_of(words: &str) -> Result<How, Fail> {
-    let mut how = AT_ONCE;
-    for word in words.split_whitespace() {
-        let (name, number) = word.split_once(':').ok_or("no number")?;
-        let n = number.parse::<usize>()?;
-        match name {
-            "reads" => how.reads = n,
-            "writes" => how.writes = n,
-            "room" => how.room = n,
-            "fails" => how.fails = n > 0,
-            "interruptions" => how.interruptions = n,
-            "refused" => how.refused = Some(n as u64),
-            _ => how.failed = Some(n as u64),
-        }
-    }
-    Ok(how)
-}
-
-fn fault_text(fault: &Option<Fault>) -> &'static str {
-    match fault {
-        None => " none",
-        Some(Fault::Read(_)) => " read",
-        Some(Fault::Endless) => " endless",
-        Some(Fault::Write(_)) => " write",
-        Some(Fault::WriteZero) => " write zero",
-        Some(Fault::Memory) => " memory",
-    }
-}
-
-/// Serves a session that begins at line 1. Answers what was published, or, where the writer failed, written, and then how the
-/// fault is named, and whether memory was refused.
+/// Serves a session that begins at line 1: what is written, and how it ends.
 fn served(alloc: Global, how: &How, input: &[u8]) -> Result<String, Fail> {
     let mut session = Counting {
         alloc,
@@ -75,32 +21,9 @@ fn served(alloc: Global, how: &How, input: &[u8]) -> Result<String, Fail> {
         refused: how.refused,
         failed: how.failed,
     };
-    let mut reader = Source {
-        bytes: input,
-        most: how.reads,
-        fails: how.fails,
-        interruptions: how.interruptions,
-    };
-    let mut writer = Sink {
-        taken: Vec::new(alloc),
-        published: 0,
-        most: how.writes,
-        room: how.room,
-        interruptions: how.interruptions,
-    };
+    let (mut reader, mut writer) = (reader(how, input), writer(alloc, how));
     let ended = serve(alloc, &mut session, &mut reader, &mut writer);
-    let refusal = if ended.is_refused { " refused" } else { "" };
-    answer(alloc, &writer, fault_text(&ended.fault), refusal)
-}
-
-fn answer(alloc: Global, writer: &Sink, fault: &str, refusal: &str) -> Result<String, Fail> {
-    let taken = writer.taken.as_slice();
-    let bytes = if fault == " write" {
-        taken
-    } else {
-        &taken[..writer.published.min(taken.len())]
-    };
-    Ok([str::from_utf8(bytes)?, fault, refusal].concat(alloc)?)
+    ended_text(alloc, &writer, &ended)
 }
 
 /// Sees what is written for an input, and how it ends: a line of a table.
