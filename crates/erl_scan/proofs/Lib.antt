@@ -5,3 +5,5 @@ pub mod Reading
 pub mod Texts
 pub mod Longest
 pub mod OneWay
+pub mod Shorter
+pub mod WholeTexts

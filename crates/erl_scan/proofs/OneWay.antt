@@ -33,7 +33,7 @@ pub comes_some : (cs : List ℕ) → (next : Next) × Comes cs next
 comes_some [] = (ends, refl)
 comes_some (c ∷ cs) = next_some (nat_eq c 39) (nat_eq c 34) c cs
 
-abbrev spot : Token → ℕ → Spot
+abbrev pub spot : Token → ℕ → Spot
 spot what at = record { what = what; at = at }
 
 pub reads_one : QuotedOne → ReadsOne

@@ -4,5 +4,6 @@ pub mod Lookahead
 pub mod Numbers
 pub mod Saturated
 pub mod Tokens
+pub mod Scan
 pub mod Scanner
 pub mod Answers
