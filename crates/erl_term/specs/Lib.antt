@@ -1,13 +1,9 @@
 pub mod Ascii
-pub mod Faults
-pub mod FirstFault
-pub mod Grammar
 pub mod Order
 pub mod OrderLaws
 pub mod Readable
-pub mod Reader
 pub mod Readers
-pub mod Steps
+pub mod Rows
 pub mod Strings
 pub mod Term
 pub mod TermFalls

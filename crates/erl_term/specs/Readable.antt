@@ -1,10 +1,7 @@
 -- Terms whose text can be read back.
-use Rattle.std.specs.Prelude.{◌≡◌, pos, negsuc, ◌^◌, nat_le, nat_lt, Bool, true, false, not, ◌&&◌, ◌||◌, ◌++◌, length, codes}
+use Rattle.std.specs.Prelude.{ℕ, pos, negsuc, ◌^◌, nat_le, nat_lt, Bool, true, false, not, ◌&&◌, ◌||◌, length}
 use lib.Utf8.{scalars}
 use Rattle.erl_term.specs.Tree.{Tree, Trees, int, atom, pid, tuple, list, none, more, depth}
-use Rattle.erl_term.specs.Text.{utf8, text}
-use Rattle.erl_term.specs.Grammar.{deepest}
-use Rattle.erl_term.specs.Faults.{IsTextOf}
 
 -- whether a process identifier stands in a term: no text has one
 abbrev mutual
@@ -33,11 +30,10 @@ abbrev mutual
   are_bounded none = true
   are_bounded (more t ts) = is_bounded t && are_bounded ts
 
+-- the greatest number of brackets that may be open at once in a text
+abbrev pub deepest : ℕ
+deepest = 256
+
 -- whether a term's text can be read back: it has no process identifiers, and is nested at most 256 deep
 abbrev pub is_readable : Tree → Bool
 is_readable t = not (has_pids t) && nat_le (depth t) deepest
-
--- The law: what a term prints as, with a dot and a newline behind it, is the text of that term alone.
-abbrev pub PrintedReads : Type 0
-PrintedReads =
-    (t : Tree) → is_bounded t ≡ true → is_readable t ≡ true → IsTextOf (utf8 (text t) ++ codes ".\n") (more t none)

@@ -9,7 +9,6 @@ ghost use Rattle.std.proofs.Common.{rules};
 ghost use Rattle.erl_term.specs.Ascii.{is_ascii_text};
 ghost use Rattle.erl_term.specs.Text.{utf8};
 
-use erl_scan::Name;
 use std::alloc::{AllocError, Global};
 use std::hash::{Hash, Hasher};
 use std::marker::Model;
@@ -74,13 +73,12 @@ impl Atom {
         Ok(Atom { text })
     }
 
-    /// The atom of a name. Takes no memory.
-    pub(crate) fn from_name(name: Name) -> Atom
-        ensures { result ≡ name }
+    /// The atom of a text's characters, of which there are at most 255. Takes no memory.
+    pub fn from_string(text: String) -> Atom
+        requires short { length (chars (string_bytes text)) ≤ 255 }
+        ensures { result ≡ chars (string_bytes text) }
     {
-        Atom {
-            text: name.into_string(),
-        }
+        Self { text }
     }
 
     /// Whether the atom is this ASCII word. Takes no memory.

@@ -1,5 +1,6 @@
 // Tables of cases: a line each, which is a text, an arrow, and what is wanted of the text.
-use erl_term::{Term, print, read_terms};
+use erl_consult::read_terms;
+use erl_term::{Term, print};
 use std::alloc::Global;
 use std::str;
 use std::test::Fail;

@@ -2,7 +2,7 @@
 use Rattle.std.specs.Prelude.{ℕ, pos, nat_le, ◌==◌, Bool, false, not, ◌&&◌, List, [], ◌∷◌, codes}
 use Rattle.std.specs.List.{list_all}
 use Rattle.erl_term.specs.Tree.{Tree, Trees, int, atom, tuple, list, none, more}
-use Rattle.erl_term.specs.Grammar.{integers}
+use Rattle.erl_term.specs.Rows.{integers}
 use Rattle.low_instructions.specs.declared.purge.Purge.{Purge}
 use Rattle.low_instructions.specs.declared.purge.Purge.TheVariants.{Soft, Brutal}
 use Rattle.low_instructions.specs.declared.timeout.Timeout.{Timeout}

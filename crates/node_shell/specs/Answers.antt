@@ -2,7 +2,7 @@
 use Rattle.std.specs.Prelude.{ℕ, pos, ◌==◌, if◌then◌else◌, Bool, true, false, List, [], ◌∷◌, ◌++◌, codes, Option, None, Some}
 use Rattle.std.specs.Str.{chars}
 use Rattle.erl_term.specs.Tree.{Tree, Trees, int, atom, tuple, list, none, more}
-use Rattle.erl_term.specs.Grammar.{append_trees}
+use Rattle.erl_term.specs.Rows.{append_trees}
 use Rattle.erl_term.specs.Text.{utf8, text}
 use Rattle.code_server.specs.declared.error.CodeError.{CodeError}
 use Rattle.code_server.specs.declared.error.CodeError.TheVariants.{NotLoaded, NotPurged, OldInUse, CounterEnd, Memory as NoMemory}

@@ -7,7 +7,7 @@ use Rattle.erl_chars.specs.declared.error.Fault.{Fault}
 use Rattle.erl_chars.specs.declared.error.Fault.TheVariants.{Unsupported}
 use Rattle.erl_chars.specs.declared.error.ReadError.{ReadError}
 use Rattle.erl_term.specs.Tree.{Tree, Trees, none, more, count}
-use Rattle.erl_term.specs.Faults.{IsTextOf, IsRefused, OneReading}
+use Rattle.erl_consult.specs.Faults.{IsTextOf, IsRefused, OneReading}
 use Rattle.low_instructions.specs.declared.fault.InstructionFault.{InstructionFault}
 use Rattle.low_instructions.specs.declared.fault.InstructionFault.TheVariants.{Bad, OutOfProfile as Excluded}
 use Rattle.low_instructions.specs.Reading.{given, low_result, version_of}

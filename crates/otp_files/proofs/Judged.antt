@@ -6,7 +6,7 @@ use Rattle.std.proofs.lemmas.Slice.Eq.{bytes_eq-Decides}
 use Rattle.erl_chars.specs.declared.error.Fault.{Fault}
 use Rattle.erl_chars.specs.declared.error.Fault.TheVariants.{Unsupported}
 use Rattle.erl_term.specs.Tree.{Tree, Trees, none, more}
-use Rattle.erl_term.specs.Faults.{IsTextOf, IsRefused, OneReading, IsJudged, is_text, is_refused}
+use Rattle.erl_consult.specs.Faults.{IsTextOf, IsRefused, OneReading, IsJudged, is_text, is_refused}
 use Rattle.otp_files.specs.declared.error.FileError.{FileError}
 use Rattle.otp_files.specs.declared.error.FileError.TheVariants.{Text, NoTerm, ManyTerms, PatternVersion}
 use Rattle.otp_files.specs.Texts.{IsFaultyFile, IsFileError, IsAppupError, IsJudgedFile, is_file, is_none}

@@ -1,7 +1,7 @@
 -- Texts of more terms than one.
 use Rattle.std.proofs.Common.{ℕ, ◌<◌, List, [], ◌∷◌, length, arith}
 use Rattle.erl_term.specs.declared.term.Term.{Term}
-use Rattle.erl_term.specs.Faults.{IsTextOf}
+use Rattle.erl_consult.specs.Faults.{IsTextOf}
 use Rattle.erl_term.specs.Term.{tree, trees}
 use Rattle.otp_files.specs.Texts.{HasMany}
 

@@ -4,7 +4,7 @@ use Rattle.std.proofs.lemmas.Option.{same_Some}
 use Rattle.erl_chars.specs.declared.error.Fault.TheVariants.{Unsupported}
 use Rattle.erl_chars.specs.declared.error.ReadError.{ReadError}
 use Rattle.erl_term.specs.Tree.{Tree, Trees, none, more}
-use Rattle.erl_term.specs.Faults.{IsTextOf, IsRefused, OneReading}
+use Rattle.erl_consult.specs.Faults.{IsTextOf, IsRefused, OneReading}
 use Rattle.otp_files.specs.declared.error.FileError.{FileError}
 use Rattle.otp_files.specs.declared.error.FileError.TheVariants.{Text, NoTerm, ManyTerms, Shape, DuplicateKey, BadInstruction, PatternVersion, OutOfProfile, Memory}
 use Rattle.otp_files.specs.Laws.{OneOfEach}

@@ -4,7 +4,7 @@ use Rattle.std.specs.Prelude.{codes, map, if◌then◌else◌}
 use Rattle.std.specs.List.{list_all}
 use Rattle.std.proofs.lemmas.Bool.{and_parts}
 use Rattle.std.proofs.lemmas.Option.{same_Some}
-use Rattle.erl_term.specs.Grammar.{integers}
+use Rattle.erl_term.specs.Rows.{integers}
 use Rattle.erl_term.specs.Readers.{atom_of, tuple_of, list_of, first_of, one_of, two_of, four_of, three_of, all_of, char_of, string_of}
 use Rattle.erl_term.specs.Tree.{Tree, Trees, int, atom, pid, tuple, list, more, none}
 use Rattle.low_instructions.specs.Reading.{given, either_of, version_of, names_of}

@@ -1,7 +1,7 @@
 -- Why bytes are not the text of one term: a word for the functions that read one, which no public clause cites.
 use Rattle.std.specs.Prelude.{ℕ, List}
 use Rattle.erl_term.specs.Tree.{none}
-use Rattle.erl_term.specs.Faults.{IsTextOf, IsRefused}
+use Rattle.erl_consult.specs.Faults.{IsTextOf, IsRefused}
 use Rattle.otp_files.specs.declared.error.FileError.{FileError}
 use Rattle.otp_files.specs.declared.error.FileError.TheVariants.{Text, NoTerm, ManyTerms, Shape, DuplicateKey, BadInstruction, PatternVersion, OutOfProfile, Memory}
 use Rattle.otp_files.specs.Texts.{HasMany}

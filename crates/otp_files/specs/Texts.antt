@@ -2,7 +2,7 @@
 use Rattle.std.specs.Prelude.{◌≡◌, ℕ, List, codes, take, drop, Result, Ok, Err}
 use Rattle.erl_chars.specs.declared.error.Fault.TheVariants.{Unsupported}
 use Rattle.erl_term.specs.Tree.{Tree, Trees, none, more}
-use Rattle.erl_term.specs.Faults.{IsTextOf, IsRefused}
+use Rattle.erl_consult.specs.Faults.{IsTextOf, IsRefused}
 use Rattle.otp_files.specs.declared.error.FileError.{FileError}
 use Rattle.otp_files.specs.declared.error.FileError.TheVariants.{Text, NoTerm, ManyTerms, Shape, DuplicateKey, BadInstruction, PatternVersion, OutOfProfile, Memory}
 

@@ -1,5 +1,5 @@
 // Why bytes are no file of a release.
-use erl_term::ReadError;
+use erl_consult::ReadError;
 use thiserror::Error;
 
 /// Why bytes are no file of a release, told in this order: what is wrong with the text, with how many terms there are,

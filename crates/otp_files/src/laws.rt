@@ -23,5 +23,5 @@ pub fn terms_are_refused_for_what_is_wrong_first()
 pub fn files_are_read_one_way()
     ensures { (bytes : List ℕ) → OneOfEach bytes }
 {
-    erl_term::texts_read_one_way();
+    erl_consult::texts_read_one_way();
 }

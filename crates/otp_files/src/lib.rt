@@ -20,9 +20,9 @@
 //!
 //! # What no contract says
 //!
-//! That there is memory, and what a call costs: beside [`erl_term::read_terms`], whose costs are stated there, reading
-//! is linear in the file, but that names of applications are looked up by hashing. The text is held as a term while
-//! the record is made of it, and what the record keeps of the term is copied.
+//! That there is memory, and what a call costs: beside [`erl_consult::read_terms`], whose costs are stated there,
+//! reading is linear in the file, but that names of applications are looked up by hashing. The text is held as a term
+//! while the record is made of it, and what the record keeps of the term is copied.
 #![tactic(auto)]
 
 mod app;

@@ -1,14 +1,15 @@
 // Files that hold one term.
 ghost use Rattle.std.specs.Prelude.{◌≡◌, ◌⊎◌, MatchResult, Ok, Err};
 ghost use Rattle.erl_chars.specs.declared.error.Fault.TheVariants.{Memory as no_memory};
-ghost use Rattle.erl_term.specs.Faults.{IsTextOf};
+ghost use Rattle.erl_consult.specs.Faults.{IsTextOf};
 ghost use Rattle.erl_term.specs.Term.{tree};
 ghost use Rattle.erl_term.specs.Tree.{none, more};
 ghost use Rattle.otp_files.specs.OneTerm.{IsTextError};
 ghost use Rattle.otp_files.specs.declared.error.FileError.TheVariants.{Memory as refused};
 
 use crate::error::FileError;
-use erl_term::{Fault, ReadError, Term, read_terms};
+use erl_consult::{Fault, ReadError, read_terms};
+use erl_term::Term;
 use std::alloc::{AllocError, Global};
 
 /// The one term of a text.

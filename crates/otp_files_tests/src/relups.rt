@@ -1,6 +1,7 @@
 // Relups that are printed, and read back where they can be.
 use crate::cases::printed;
-use erl_term::{Fault, ReadError, Term, Terms};
+use erl_consult::{Fault, ReadError};
+use erl_term::{Term, Terms};
 use otp_files::{FileError, Relup, RelupEntry, Version, print_relup, read_relup, relup_term};
 use std::alloc::Global;
 use std::process::Abort;

@@ -1,4 +1,4 @@
-//! Tests of [`erl_chars`], [`erl_scan`] and [`erl_term`]: what no contract of theirs says.
+//! Tests of [`erl_chars`], [`erl_scan`], [`erl_term`] and [`erl_consult`]: what no contract of theirs says.
 //!
 //! They see that the definitions in those contracts are Erlang's: escapes, gaps, quotes and names are those of Erlang's
 //! notation (`chars`), texts have the tokens (`scan`) and the terms, or the first fault and its byte, that its rules give

@@ -6,7 +6,8 @@ mod tables;
 
 use crate::cases::{Reading, expect_each, expect_table};
 use crate::texts::printed_row;
-use erl_term::{Fault, ReadError, Term, read_terms};
+use erl_consult::{Fault, ReadError, read_terms};
+use erl_term::Term;
 use frames::{BY_BLANKS, BY_LINES, BY_STROKES};
 use std::alloc::Global;
 use std::process::Abort;

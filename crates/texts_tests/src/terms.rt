@@ -3,6 +3,7 @@ mod tables;
 
 use crate::cases::{Reading, expect_each, expect_table, unfolded};
 use crate::texts::{integers, printed, term_of, terms_of};
+use erl_consult::read_terms;
 use erl_term::*;
 use std::alloc::{AllocError, Global};
 use std::cmp::Ordering;
@@ -185,6 +186,14 @@ pub(crate) fn atom(alloc: Global, text: &str) -> Result<String, Fail> {
 #[test]
 fn atoms(rt: HostRuntime) -> Result<(), Fail> {
     expect_table(&rt, rt.alloc(), Reading::AtomName, ATOMS)
+}
+
+#[test]
+fn atoms_of_strings(rt: HostRuntime) -> Result<(), Fail> {
+    let atom = Atom::new(rt.alloc(), "two words")?;
+    let text = String::from_str(rt.alloc(), atom.as_str())?;
+    assert!(rt; Atom::from_string(text).same(&atom));
+    Ok(())
 }
 
 #[test]

@@ -1,5 +1,6 @@
 // Terms of texts, and texts of terms.
-use erl_term::{Term, Terms, print, read_terms};
+use erl_consult::read_terms;
+use erl_term::{Term, Terms, print};
 use std::alloc::Global;
 use std::str;
 use std::test::Fail;

@@ -4,7 +4,7 @@ use Rattle.std.specs.Str.{chars}
 use Rattle.std.proofs.lemmas.List.{map-id}
 use Rattle.std.proofs.lemmas.Iterator.{YieldsList-from_chars}
 use Rattle.std.proofs.lemmas.Iterator.Consumers.{YieldsList-end}
-use Rattle.erl_term.specs.Grammar.{integers}
+use Rattle.erl_term.specs.Rows.{integers}
 use Rattle.erl_term.specs.Term.{trees}
 use Rattle.erl_term.specs.Tree.{list}
 use Rattle.low_instructions.proofs.Rows.{integers_more}

@@ -1,6 +1,6 @@
 -- The terms so far are the characters so far.
 use Rattle.std.proofs.Common.{◌≡◌}
-use Rattle.erl_term.specs.Grammar.{integers}
+use Rattle.erl_term.specs.Rows.{integers}
 use Rattle.erl_term.specs.Term.{trees}
 use Rattle.low_instructions.proofs.version.Version.term.Given as goal
 

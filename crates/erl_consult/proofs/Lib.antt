@@ -1,0 +1,15 @@
+pub mod Ends
+pub mod FirstFault
+pub mod Joining
+pub mod Judged
+pub mod Judges
+pub mod Judging
+pub mod Lexing
+pub mod Nesting
+pub mod Reached
+pub mod Reprinting
+pub mod Spelling
+pub mod Stepping
+pub mod Taking
+pub mod Truth
+pub mod Uniqueness

@@ -1,0 +1,67 @@
+-- What a reader has seen of a text of terms: its fields as the steps of reading have them.
+use Rattle.std.specs.Prelude.{◌≡◌, ℕ, List, [], ◌∷◌, ◌++◌, ℤ, pos, neg_ℤ, ◌^◌, nat_le, nat_lt, Bool, true, false, if◌then◌else◌, Option, Some, None, Result, MatchResult, ◌⊎◌}
+use Rattle.erl_chars.specs.declared.error.Fault.{Fault}
+use Rattle.erl_chars.specs.declared.error.Fault.TheVariants.{Syntax, IntegerRange, Memory as refused}
+use Rattle.erl_chars.specs.declared.error.ReadError.{ReadError}
+use Rattle.erl_term.specs.Term.{tree, trees}
+use Rattle.erl_consult.specs.declared.parsing.reader.Bracket.{Bracket as Kind}
+use Rattle.erl_consult.specs.declared.parsing.reader.Bracket.TheVariants.{Tuple, List as ListOf, Tail}
+use Rattle.erl_consult.specs.declared.parsing.reader.Last.{Last as Held}
+use Rattle.erl_consult.specs.declared.parsing.reader.Last.TheVariants.{Nothing, Sign, Term as TermOf, Text}
+use Rattle.erl_consult.specs.declared.parsing.reader.Open.{Open}
+use Rattle.erl_consult.specs.declared.parsing.reader.Reader.{Reader}
+use Rattle.erl_consult.specs.Steps.{Bracket, of_tuple, of_list, of_tail, Frame, Last, nothing, sign, term, text, Seen, Outcome, goes, fails}
+
+abbrev pub bracket_seen : Kind → Bracket
+bracket_seen Tuple = of_tuple
+bracket_seen ListOf = of_list
+bracket_seen (Tail bar) = of_tail bar
+
+abbrev pub frame_seen : Open → Frame
+frame_seen o = record { bracket = bracket_seen o.bracket; at = o.at; items = trees o.items.items }
+
+-- the innermost first, which a reader has last
+abbrev pub frames : List Open → List Frame
+frames [] = []
+frames (o ∷ os) = frames os ++ frame_seen o ∷ []
+
+abbrev pub last_seen : Held → Last
+last_seen Nothing = nothing
+last_seen (Sign is_minus at) = sign is_minus at
+last_seen (TermOf t) = term (tree t)
+last_seen (Text ts) = text (trees ts.items)
+
+abbrev pub seen : Reader → Seen
+seen r = record { whole = trees r.whole.items; open_ones = frames r.open.items; last = last_seen r.last }
+
+-- the innermost of some brackets
+abbrev pub innermost_frame : List Frame → Option Frame
+innermost_frame [] = None
+innermost_frame (f ∷ fs) = Some f
+
+-- where the bar of a bracket stands, behind it
+abbrev pub bar_of : Bracket → Option ℕ
+bar_of of_tuple = None
+bar_of of_list = None
+bar_of (of_tail at) = Some at
+
+abbrev pub bar_within : List Frame → Option ℕ
+bar_within [] = None
+bar_within (f ∷ fs) = bar_of f.bracket
+
+-- one bracket more
+abbrev pub with_frame : Seen → Frame → Seen
+with_frame s f = record { whole = s.whole; open_ones = f ∷ s.open_ones; last = s.last }
+
+-- a step had this outcome, or memory was refused
+abbrev pub Gives : {A : Type 0} → Outcome → Seen → Result A ReadError → Type 0
+Gives outcome new result = MatchResult result (λ _. outcome ≡ goes new) (λ e. (e.kind ≡ refused) ⊎ (outcome ≡ fails e.kind e.at))
+
+-- the integer behind a sign, if it is in range
+abbrev pub signed_of : Bool → ℕ → Option ℤ
+signed_of true n = if nat_le n (2 ^ 63) then Some (neg_ℤ (pos n)) else None
+signed_of false n = if nat_lt n (2 ^ 63) then Some (pos n) else None
+
+-- why an integer is refused where none may stand
+abbrev pub misplaced_number : ℕ → Fault
+misplaced_number n = if nat_lt n (2 ^ 63) then Syntax else IntegerRange

@@ -1,6 +1,0 @@
--- Token by token.
-use Rattle.erl_term.proofs.Reprinting.{printed_reads}
-use Rattle.erl_term.proofs.parsing.printed_terms_are_read.Goals as goal
-
-pub returns : goal.returns
-returns c = printed_reads

@@ -1,6 +1,0 @@
--- From the law of tokens.
-use Rattle.erl_term.proofs.Uniqueness.{one_reading}
-use Rattle.erl_term.proofs.parsing.texts_read_one_way.Goals as goal
-
-pub returns : goal.returns
-returns c = one_reading c.tokens_read_one_way.ensures.comes c.tokens_read_one_way.ensures.reads
