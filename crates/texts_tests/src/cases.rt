@@ -26,8 +26,10 @@ pub(crate) enum Reading {
     Name,
     /// A text to keep.
     Text,
-    /// Tokens.
+    /// Tokens, one after the other.
     Tokens,
+    /// Tokens of the whole text at once.
+    TokensAtOnce,
     /// Terms.
     Terms,
     /// Bytes in hexadecimal, of terms.
@@ -70,6 +72,7 @@ fn outcome(alloc: Global, reading: Reading, text: &str) -> Result<String, Fail> 
         Reading::Name => chars::name(alloc, text),
         Reading::Text => chars::text(alloc, text),
         Reading::Tokens => scan::tokens(alloc, text),
+        Reading::TokensAtOnce => scan::tokens_at_once(alloc, text),
         Reading::Terms => reading::terms(alloc, text.as_bytes()),
         Reading::Bytes => reading::bytes(alloc, text),
         Reading::Atom => printing::atom(alloc, text),

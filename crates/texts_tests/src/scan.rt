@@ -2,7 +2,10 @@
 mod tables;
 
 use crate::cases::{Reading, expect_table};
-use erl_scan::{ReadError, Scanner, Spot, Token, marks_are_longest, tokens_read_one_way};
+use erl_scan::{
+    ReadError, Scanner, Spot, Token, marks_are_longest, scan, texts_scan_one_way,
+    tokens_read_one_way,
+};
 use std::alloc::{AllocError, Global};
 use std::test::Fail;
 use tables::{
@@ -30,12 +33,20 @@ fn shown_spot(alloc: Global, spot: &Spot) -> Result<String, AllocError> {
     format!(in alloc; "{}@{} ", token.as_str(), spot.at)
 }
 
-/// The next token and its place, or how the text ends; and whether more may come.
+/// How the tokens of a text stop: with its end, or with a fault and its place.
+fn shown_stop(alloc: Global, fault: Option<ReadError>) -> Result<String, AllocError> {
+    match fault {
+        None => String::from_str(alloc, "end"),
+        Some(ReadError { kind, at }) => format!(in alloc; "{kind:?}@{at}"),
+    }
+}
+
+/// The next token and its place, or how the tokens stop; and whether more may come.
 fn shown_next(alloc: Global, scanner: &mut Scanner) -> Result<(String, bool), AllocError> {
     match scanner.next_token() {
         Ok(Some(spot)) => Ok((shown_spot(alloc, &spot)?, true)),
-        Ok(None) => Ok((String::from_str(alloc, "end")?, false)),
-        Err(ReadError { kind, at }) => Ok((format!(in alloc; "{kind:?}@{at}")?, false)),
+        Ok(None) => Ok((shown_stop(alloc, None)?, false)),
+        Err(fault) => Ok((shown_stop(alloc, Some(fault))?, false)),
     }
 }
 
@@ -50,6 +61,17 @@ pub(crate) fn tokens(alloc: Global, text: &str) -> Result<String, Fail> {
             break;
         }
     }
+    Ok(out)
+}
+
+/// The same, where the whole text is read at once.
+pub(crate) fn tokens_at_once(alloc: Global, text: &str) -> Result<String, Fail> {
+    let whole = scan(alloc, text)?;
+    let mut out = String::new(alloc);
+    for spot in whole.tokens.as_slice() {
+        out.push_str(shown_spot(alloc, spot)?.as_str())?;
+    }
+    out.push_str(shown_stop(alloc, whole.fault)?.as_str())?;
     Ok(out)
 }
 
@@ -72,6 +94,7 @@ const TABLES: [&str; 11] = [
 fn tables_of_tokens(rt: HostRuntime) -> Result<(), Fail> {
     for table in TABLES {
         expect_table(&rt, rt.alloc(), Reading::Tokens, table)?;
+        expect_table(&rt, rt.alloc(), Reading::TokensAtOnce, table)?;
     }
     Ok(())
 }
@@ -80,4 +103,5 @@ fn tables_of_tokens(rt: HostRuntime) -> Result<(), Fail> {
 fn laws(_rt: HostRuntime) {
     marks_are_longest();
     tokens_read_one_way();
+    texts_scan_one_way();
 }
