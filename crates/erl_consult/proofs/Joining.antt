@@ -2,7 +2,6 @@
 use Rattle.std.proofs.Common.{◌≡◌, ℕ, Bool, true, false, cond, List, [], ◌∷◌, ◌++◌, length, Some, None, Ok, Err, refl, ap, sym, subst, ◌∙◌, true≢false, ◌⊎◌, inl, inr, eqb, ◌&&◌}
 use Rattle.std.specs.Prelude.{Option, nat_lt, Result, MatchResult}
 use Rattle.std.specs.Str.{chars, IsUtf8}
-use Rattle.std.proofs.lemmas.Str.{encodes-chars}
 use Rattle.erl_chars.specs.declared.error.Fault.{Fault}
 use Rattle.erl_chars.specs.declared.error.Fault.TheVariants.{Unsupported, AtomTooLong, Memory}
 use Rattle.erl_chars.specs.declared.error.ReadError.{ReadError}
@@ -19,6 +18,7 @@ use Rattle.erl_scan.specs.Marks.{Marked, mark_in}
 use Rattle.erl_scan.specs.Numbers.{Number, whole, real, no_base, number_in}
 use Rattle.erl_scan.specs.Tokens.{Next, ends, token, fault, Comes, NextBy, Reads, atom_next, string_next, number_next, escaped_next, character_next, name_next, mark_next, plain_next, ends_form, begins_two_quotes}
 use Rattle.erl_scan.specs.Scanner.{IsFault, memory, faulty}
+use Rattle.erl_scan.proofs.WholeTexts.{reads-more, byte_count-chars}
 use Rattle.erl_term.specs.Tree.{Trees}
 use Rattle.erl_consult.specs.Grammar.{start}
 use Rattle.erl_consult.specs.Faults.{spot_part, NoneFaults, IsFaulty, FaultsFirst, IsTextOf}
@@ -43,12 +43,6 @@ so_far-none cs = record {
 }
 
 -- one token more
-reads-more : (total : ℕ) (cs left rest : List ℕ) (before : List Spot) (s : Spot) → Reads total cs before left → Comes (after_gap left) (token s.what rest) → s.at ≡ place total (after_gap left) → Reads total cs (before ++ s ∷ []) rest
-reads-more total cs left rest [] s read comes at =
-    (rest, subst (λ l. Comes (after_gap l) (token s.what rest)) (sym read) comes, at ∙ ap (λ l. place total (after_gap l)) (sym read), refl)
-reads-more total cs left rest (b ∷ bs) s (more, first, b_at, later) comes at =
-    (more, first, b_at, reads-more total more left rest bs s later comes at)
-
 goes-next : (before : List Spot) (here : Somewhere before) (s : Spot) (new : Seen) → take_part (show here.whole here.brackets here.last) (spot_part s) s.at ≡ goes new → Goes here.whole here.brackets here.last s → (next : Somewhere (before ++ s ∷ [])) × (new ≡ show next.whole next.brackets next.last)
 goes-next before here s new e (it_goes v qs q follows) =
     (record { whole = v; brackets = qs; last = q; stands = stands-next before here.whole v here.brackets qs here.last q s here.stands follows }, same_goes new (show v qs q) (sym e ∙ follows.took))
@@ -176,10 +170,6 @@ text-from_so_far bytes left held ts utf8 so comes e = record {
 pub record Joined (text left : List ℕ) (total : ℕ) (held : Seen) : Type 0 where
   pub so_far : SoFar (chars text) left held
   pub total_is : total ≡ byte_count (chars text)
-
-byte_count-chars : (text : List ℕ) → IsUtf8 text → length text ≡ byte_count (chars text)
-unfolding byte_count
-byte_count-chars text utf8 = sym (ap length (encodes-chars text utf8))
 
 pub start-reads : (text left : List ℕ) (total : ℕ) (held : Seen) → IsUtf8 text → left ≡ chars text → total ≡ length text → held ≡ nothing_seen → Joined text left total held
 start-reads text left total held utf8 left_is total_is held_is = record {

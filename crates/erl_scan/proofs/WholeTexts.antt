@@ -30,7 +30,8 @@ pub record SoFar (text left : List ℕ) (total : ℕ) (tokens : List Spot) : Typ
   pub read : Reads (byte_count (chars text)) (chars text) tokens left
   pub total_is : total ≡ byte_count (chars text)
 
-byte_count-chars : (text : List ℕ) → IsUtf8 text → length text ≡ byte_count (chars text)
+-- the bytes of a text are those of its characters
+pub byte_count-chars : (text : List ℕ) → IsUtf8 text → length text ≡ byte_count (chars text)
 unfolding byte_count
 byte_count-chars text utf8 = sym (ap length (encodes-chars text utf8))
 
