@@ -73,12 +73,16 @@ impl Atom {
         Ok(Atom { text })
     }
 
-    /// The atom of a text's characters, of which there are at most 255. Takes no memory.
-    pub fn from_string(text: String) -> Atom
+    /// The atom of a text's characters, of which there are at most 255. The text is moved, not copied.
+    ///
+    /// # Errors
+    ///
+    /// `AllocError` where memory is refused.
+    pub fn from_string(text: String) -> Result<Atom, AllocError>
         requires short { length (chars (string_bytes text)) ≤ 255 }
-        ensures { result ≡ chars (string_bytes text) }
+        ensures { IfOk result (λ atom. atom ≡ chars (string_bytes text)) }
     {
-        Self { text }
+        Ok(Self { text })
     }
 
     /// Whether the atom is this ASCII word. Takes no memory.

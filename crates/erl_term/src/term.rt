@@ -56,19 +56,27 @@ impl Model for Terms {
 }
 
 impl Terms {
-    /// The row of these terms. Takes no memory.
-    pub fn new(items: Vec<Term>) -> Terms
-        ensures { result ≡ trees items.items }
+    /// The row of these terms.
+    ///
+    /// # Errors
+    ///
+    /// `AllocError` where memory is refused.
+    pub fn new(alloc: Global, items: Vec<Term>) -> Result<Terms, AllocError>
+        ensures { IfOk result (λ it. it ≡ trees items.items) }
     {
-        Self { items }
+        Ok(Self { items })
     }
 
-    /// The terms, in order. Takes no memory.
-    pub fn into_vec(self) -> Vec<Term>
-        ensures { trees result.items ≡ self }
+    /// The terms, in order: moved out where the row has this one owner, and copied where it has more.
+    ///
+    /// # Errors
+    ///
+    /// `AllocError` where memory is refused.
+    pub fn into_vec(self, alloc: Global) -> Result<Vec<Term>, AllocError>
+        ensures { IfOk result (λ items. trees items.items ≡ self) }
     {
         let Terms { items } = self;
-        items
+        Ok(items)
     }
 
     /// How many terms. Takes no memory.
