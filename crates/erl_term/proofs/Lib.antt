@@ -1,5 +1,6 @@
 pub mod Ascii
 pub mod Bounds
+pub mod Parts
 pub mod Reading
 pub mod Rows
 pub mod Texts

@@ -1,5 +1,5 @@
 -- Lemmas on rows of terms: one term more.
-use Rattle.std.proofs.Common.{◌≡◌, ℕ, ◌+◌, ◌-◌, ◌^◌, ◌<◌, ◌≤◌, min, max, Bool, IsTrue, cond, eqb, ltb, List, [], ◌∷◌, ◌++◌, length, get_or, take, drop, ◌⊎◌, inl, inr, nat_cmp, sym, ap, ◌∙◌, refl, arith}
+use Rattle.std.proofs.Common.{◌≡◌, ℕ, ◌+◌, ◌<◌, ◌≤◌, max, Bool, IsTrue, cond, eqb, ltb, List, [], ◌∷◌, ◌++◌, length, get_or, take, drop, ◌⊎◌, inl, inr, nat_cmp, zero, suc, sym, ap, ◌∙◌, subst, refl, arith}
 use Rattle.std.specs.declared.cmp.Ordering.{Ordering}
 use Rattle.std.specs.declared.cmp.Ordering.TheVariants.{Less, Equal, Greater}
 use Rattle.std.specs.Ordering.{ordering_then}
@@ -22,15 +22,15 @@ total_size-push (u ∷ us) t = omega (arith, total_size-push us t)
 pub take_here : (items : List Term) (i : ℕ) (t : Term) → i < length items → t ≡ get_or items i t → take (i + 1) items ≡ take i items ++ t ∷ []
 take_here items i t within is = take_more items i t within ∙ ap (λ u. take i items ++ u ∷ []) (sym is)
 
--- the greater of the depths so far and the next
-pub greatest_depth-more : (items : List Term) (i : ℕ) (t : Term) (greatest d greater : ℕ) → i < length items → t ≡ get_or items i t → greatest ≡ min (greatest_depth (trees (take i items))) (2 ^ 64 - 1) → d ≡ min (depth (tree t)) (2 ^ 64 - 1) → greater ≡ max greatest d → greater ≡ min (greatest_depth (trees (take (i + 1) items))) (2 ^ 64 - 1)
-greatest_depth-more items i t greatest d greater within is so_far here greater_is =
-    rw (take_here items i t within is, greatest_depth-push) (omega (arith, so_far, here, greater_is))
+-- a term is no deeper than the row that it stands in
+depth_at : (items : List Term) (i : ℕ) (t : Term) → i < length items → depth (tree (get_or items i t)) ≤ greatest_depth (trees items)
+depth_at [] i t within = absurd (omega arith)
+depth_at (u ∷ us) zero t within = omega arith
+depth_at (u ∷ us) (suc i) t within = omega (arith, depth_at us i t (omega arith))
 
--- the sum of the sizes so far and the next
-pub total_size-more : (items : List Term) (i : ℕ) (t : Term) (total s : ℕ) → i < length items → t ≡ get_or items i t → total ≡ min (total_size (trees (take i items))) (2 ^ 64 - 1) → s ≡ min (size (tree t)) (2 ^ 64 - 1) → min (total + s) (2 ^ 64 - 1) ≡ min (total_size (trees (take (i + 1) items))) (2 ^ 64 - 1)
-total_size-more items i t total s within is so_far here =
-    rw (take_here items i t within is, total_size-push) (omega (arith, so_far, here))
+pub depth_in : (items : List Term) (i : ℕ) (t : Term) → i < length items → t ≡ get_or items i t → depth (tree t) ≤ greatest_depth (trees items)
+depth_in items i t within is =
+    subst (λ u. depth (tree u) ≤ greatest_depth (trees items)) (sym is) (depth_at items i t within)
 
 -- a row's length
 pub count-trees : (ts : List Term) → count (trees ts) ≡ length ts
@@ -64,16 +64,13 @@ then_unequal Equal p other = absurd (other refl)
 then_unequal Greater p other = refl
 
 -- rows of unequal sizes, as tuples
-pub tuples-unequal : (ts us : List Term) (rows other : Trees) (m n : ℕ) (o : Ordering) → trees ts ≡ rows → trees us ≡ other → m ≡ length ts → n ≡ length us → o ≡ nat_cmp m n → (o ≡ Equal → ⊥) → o ≡ tree_cmp (tuple rows) (tuple other)
-tuples-unequal ts us rows other m n o mine its size sizes is unequal =
-    let sizes_are : nat_cmp (count rows) (count other) ≡ o = ap (λ r. nat_cmp (count r) (count other)) (sym mine) ∙ ap (λ r. nat_cmp (count (trees ts)) (count r)) (sym its) ∙ ap (λ k. nat_cmp k (count (trees us))) (count-trees ts ∙ sym size) ∙ ap (λ k. nat_cmp m k) (count-trees us ∙ sym sizes) ∙ sym is in
-    then_unequal o (trees_cmp rows other) unequal ∙ ap (λ p. ordering_then p (trees_cmp rows other)) (sym sizes_are)
+pub tuples-unequal : (ts us : Trees) (o : Ordering) → o ≡ nat_cmp (count ts) (count us) → (o ≡ Equal → ⊥) → o ≡ tree_cmp (tuple ts) (tuple us)
+tuples-unequal ts us o is unequal =
+    then_unequal o (trees_cmp ts us) unequal ∙ ap (λ p. ordering_then p (trees_cmp ts us)) is
 
 -- and of equal ones
-pub tuples-equal : (ts us : List Term) (rows other : Trees) (m n : ℕ) (r : Ordering) → trees ts ≡ rows → trees us ≡ other → m ≡ length ts → n ≡ length us → Equal ≡ nat_cmp m n → r ≡ trees_cmp (trees ts) (trees us) → r ≡ tree_cmp (tuple rows) (tuple other)
-tuples-equal ts us rows other m n r mine its size sizes is compared =
-    let sizes_are : nat_cmp (count rows) (count other) ≡ Equal = ap (λ r. nat_cmp (count r) (count other)) (sym mine) ∙ ap (λ r. nat_cmp (count (trees ts)) (count r)) (sym its) ∙ ap (λ k. nat_cmp k (count (trees us))) (count-trees ts ∙ sym size) ∙ ap (λ k. nat_cmp m k) (count-trees us ∙ sym sizes) ∙ sym is in
-    compared ∙ ap (λ t. trees_cmp t (trees us)) mine ∙ ap (λ u. trees_cmp rows u) its ∙ ap (λ p. ordering_then p (trees_cmp rows other)) (sym sizes_are)
+pub tuples-equal : (ts us : Trees) (o : Ordering) → Equal ≡ nat_cmp (count ts) (count us) → o ≡ trees_cmp ts us → o ≡ tree_cmp (tuple ts) (tuple us)
+tuples-equal ts us o is compared = compared ∙ ap (λ p. ordering_then p (trees_cmp ts us)) is
 
 none_first : (us : List Term) → 0 < length us → trees_cmp none (trees us) ≡ Less
 none_first [] some = absurd (omega arith)

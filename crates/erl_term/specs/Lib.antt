@@ -1,6 +1,7 @@
 pub mod Ascii
 pub mod Order
 pub mod OrderLaws
+pub mod Parts
 pub mod Readable
 pub mod Readers
 pub mod Rows

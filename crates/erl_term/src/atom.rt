@@ -1,5 +1,6 @@
 // Atoms.
 ghost use Rattle.std.specs.Prelude.{◌≡◌, ◌<◌, ◌≤◌, ◌↔◌, ℕ, List, length, IfOk, IsTrue, Err, string_bytes};
+ghost use Rattle.std.specs.Arc.{arc_str_bytes};
 ghost use Rattle.std.specs.Str.{bytes_eq, chars};
 ghost use Rattle.std.specs.Hash as fed;
 ghost use Rattle.std.specs.Cmp.{partial_equiv_from_equiv};
@@ -12,21 +13,22 @@ ghost use Rattle.erl_term.specs.Text.{utf8};
 use std::alloc::{AllocError, Global};
 use std::hash::{Hash, Hasher};
 use std::marker::Model;
+use std::sync::ArcStr;
 use thiserror::Error;
 use values::{Duplicate, Same};
 
-/// An atom: a name of at most 255 characters, seen by contracts as its code points.
+/// An atom: a name of at most 255 characters, seen by contracts as its code points. Its copies share the name.
 #[derive(Drop)]
 pub struct Atom {
-    text: String,
+    text: ArcStr,
 }
 
 impl Model for Atom {
     ghost Value = { List ℕ };
 
-    ghost view = { λ a. chars (string_bytes a.text) };
+    ghost view = { λ a. chars (arc_str_bytes a.text) };
 
-    ghost invariant = { λ a. length (chars (string_bytes a.text)) ≤ 255 };
+    ghost invariant = { λ a. length (chars (arc_str_bytes a.text)) ≤ 255 };
 }
 
 /// Why there is no atom of a text.
@@ -53,7 +55,7 @@ impl Atom {
         if count(text) > 255 {
             return Err(AtomError::AtomTooLong);
         }
-        match String::from_str(alloc, text) {
+        match ArcStr::from_str(alloc, text) {
             Ok(text) => Ok(Atom { text }),
             Err(AllocError) => Err(AtomError::Memory),
         }
@@ -69,7 +71,7 @@ impl Atom {
         requires short { length word.now ≤ 255 }
         ensures { IfOk result (λ atom. atom ≡ word.now) }
     {
-        let text = String::from_str(alloc, word)?;
+        let text = ArcStr::from_str(alloc, word)?;
         Ok(Atom { text })
     }
 
@@ -82,7 +84,8 @@ impl Atom {
         requires short { length (chars (string_bytes text)) ≤ 255 }
         ensures { IfOk result (λ atom. atom ≡ chars (string_bytes text)) }
     {
-        Ok(Self { text })
+        let text = ArcStr::from_string(text)?;
+        Ok(Atom { text })
     }
 
     /// Whether the atom is this ASCII word. Takes no memory.
@@ -98,13 +101,13 @@ impl Atom {
         ensures chars { chars result.now ≡ self.now }
         ensures kept { length self.now ≤ 255 }
     {
-        String::as_str(&self.text)
+        ArcStr::as_str(&self.text)
     }
 }
 
 impl Duplicate for Atom {
     fn copy(&self, alloc: Global) -> Result<Atom, AllocError> {
-        let text = String::from_str(alloc, self.text.as_str())?;
+        let text = self.text.clone()?;
         Ok(Atom { text })
     }
 }

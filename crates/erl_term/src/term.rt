@@ -1,15 +1,18 @@
 // Terms.
-ghost use Rattle.std.specs.Prelude.{◌≡◌, ◌-◌, ◌^◌, ◌↔◌, min, IsTrue, IfOk};
+ghost use Rattle.std.specs.Prelude.{◌≡◌, ◌-◌, ◌^◌, ◌≤◌, ◌↔◌, min, IsTrue, IfOk};
 ghost use Rattle.erl_term.specs.Term.{tree, trees};
-ghost use Rattle.erl_term.specs.Tree.{none, count, depth, greatest_depth, size, total_size};
+ghost use Rattle.erl_term.specs.Tree.{depth, size};
 
 mod order;
 mod printing;
 mod readable;
+mod rows;
+mod told;
 
 use crate::atom::Atom;
 use std::alloc::{AllocError, Global};
 use std::marker::Model;
+use std::sync::Arc;
 use values::{Duplicate, Same};
 
 /// An Erlang term.
@@ -29,10 +32,30 @@ pub enum Term {
 }
 
 /// Terms in a row: the elements of a tuple or a list.
+///
+/// A row has any number of owners, each of which sees it from a place in it on. So a copy, and the row behind the
+/// first term, take no more time and memory than a count, however many terms there are.
 #[cycle(term)]
 #[derive(Drop)]
 pub struct Terms {
+    row: Arc<Row>,
+    /// The place of the first term that is seen.
+    from: u32,
+    /// The sum of the sizes of the terms before it.
+    hidden: u32,
+}
+
+/// What the owners of a row share: its terms, and what is told of them without a look at each.
+#[cycle(term)]
+#[derive(Drop)]
+struct Row {
     items: Vec<Term>,
+    /// The greatest depth of the terms.
+    depth: u64,
+    /// The place of the last term that has that depth.
+    last: usize,
+    /// The sum of the terms' sizes, at most 2^64 - 1.
+    size: u64,
 }
 
 impl Model for Terms {
@@ -43,68 +66,26 @@ impl Model for Terms {
 
     ghost coded = { trees_coded };
 
+    ghost use Rattle.std.specs.Prelude.{drop};
     ghost use Rattle.erl_term.specs.Term.{trees};
+    ghost use Rattle.erl_term.specs.Parts.{IsPart, hidden_depth};
 
-    ghost view = { λ a. trees a.items.items };
+    ghost view = { λ a. trees (drop a.from a.row.value.items.items) };
+
+    ghost invariant = { λ a. IsPart a.row.value.items.items a.row.value.depth a.row.value.last a.row.value.size a.from a.hidden };
 
     ghost size = { greatest_depth };
 
     ghost use Rattle.std.proofs.Common.{arith};
     ghost use Rattle.erl_term.specs.TermFalls.{most_le-greatest_depth};
 
-    ghost size_decreases = { λ a h. omega (arith, most_le-greatest_depth a.items.items) };
-}
-
-impl Terms {
-    /// The row of these terms.
-    ///
-    /// # Errors
-    ///
-    /// `AllocError` where memory is refused.
-    pub fn new(alloc: Global, items: Vec<Term>) -> Result<Terms, AllocError>
-        ensures { IfOk result (λ it. it ≡ trees items.items) }
-    {
-        Ok(Self { items })
-    }
-
-    /// The terms, in order: moved out where the row has this one owner, and copied where it has more.
-    ///
-    /// # Errors
-    ///
-    /// `AllocError` where memory is refused.
-    pub fn into_vec(self, alloc: Global) -> Result<Vec<Term>, AllocError>
-        ensures { IfOk result (λ items. trees items.items ≡ self) }
-    {
-        let Terms { items } = self;
-        Ok(items)
-    }
-
-    /// How many terms. Takes no memory.
-    pub fn len(&self) -> usize
-        ensures { result ≡ count self.now }
-    {
-        self.items.len()
-    }
-
-    /// Whether there are none. Takes no memory.
-    pub fn is_empty(&self) -> bool
-        ensures { IsTrue result ↔ (self.now ≡ none) }
-    {
-        self.items.is_empty()
-    }
-
-    /// The terms, in order. Takes no memory.
-    pub fn as_slice(&self) -> &[Term]
-        ensures { trees result.now ≡ self.now }
-    {
-        &self.items[..]
-    }
+    ghost size_decreases = { λ a h. omega (arith, most_le-greatest_depth a.row.value.items.items, hidden_depth _ _ _ _ _ _ h) };
 }
 
 impl Term {
     /// How deep the term is: 0 for an integer, an atom or a process identifier, else 1 and the greatest
-    /// depth of the elements (0 where there are none). Past `2^64 - 1` it is `2^64 - 1`. Takes no memory.
-    #[cycle(depth)]
+    /// depth of the elements (0 where there are none). Past `2^64 - 1` it is `2^64 - 1`. Takes no memory, and the same
+    /// time whatever the term.
     pub fn depth(&self) -> u64
         ensures { result ≡ min (depth (tree self.now)) (2 ^ 64 - 1) }
     {
@@ -114,9 +95,8 @@ impl Term {
         }
     }
 
-    /// How large the term is: 1 and the sizes of the elements. Past `2^64 - 1` it is `2^64 - 1`. Takes
-    /// no memory.
-    #[cycle(size)]
+    /// How large the term is: 1 and the sizes of the elements. Past `2^64 - 1` it is `2^64 - 1`. Takes no memory, and
+    /// the same time whatever the term.
     pub fn size(&self) -> u64
         ensures { result ≡ min (size (tree self.now)) (2 ^ 64 - 1) }
     {
@@ -125,37 +105,19 @@ impl Term {
             Term::Tuple(row) | Term::List(row) => row.total_size().saturating_add(1),
         }
     }
-}
 
-impl Terms {
-    #[cycle(depth)]
-    fn greatest_depth(&self) -> u64
-        ensures { result ≡ min (greatest_depth self.now) (2 ^ 64 - 1) }
+    /// Whether the term is at most so deep and at most so large. Takes no memory, and the same time whatever the term.
+    ///
+    /// Terms share what they are made of, so a term can be far larger than the memory that it takes: a tuple of one
+    /// term twice is twice as large. Whoever makes terms of terms asks this of each.
+    pub fn is_within(&self, deepest: u32, largest: u32) -> bool
+        ensures { IsTrue result ↔ ((depth (tree self.now) ≤ deepest) × (size (tree self.now) ≤ largest)) }
     {
-        let mut greatest = 0;
-        for term in &self.items {
-            let depth = term.depth();
-            if greatest < depth {
-                greatest = depth;
-            }
-        }
-        greatest
-    }
-
-    #[cycle(size)]
-    fn total_size(&self) -> u64
-        ensures { result ≡ min (total_size self.now) (2 ^ 64 - 1) }
-    {
-        let mut total: u64 = 0;
-        for term in &self.items {
-            total = total.saturating_add(term.size());
-        }
-        total
+        self.depth() <= u64::from(deepest) && self.size() <= u64::from(largest)
     }
 }
 
 impl Duplicate for Term {
-    #[cycle(copy)]
     fn copy(&self, alloc: Global) -> Result<Term, AllocError>
         ensures { IfOk result (λ it. it ≡ self.now) }
     {
@@ -166,19 +128,6 @@ impl Duplicate for Term {
             Term::Tuple(row) => Ok(Term::Tuple(row.copy(alloc)?)),
             Term::List(row) => Ok(Term::List(row.copy(alloc)?)),
         }
-    }
-}
-
-impl Duplicate for Terms {
-    #[cycle(copy)]
-    fn copy(&self, alloc: Global) -> Result<Terms, AllocError>
-        ensures { IfOk result (λ it. it ≡ self.now) }
-    {
-        let mut items = Vec::with_capacity(alloc, self.len())?;
-        for term in &self.items {
-            items.push(term.copy(alloc)?)?;
-        }
-        Ok(Terms { items })
     }
 }
 
@@ -203,7 +152,7 @@ impl Same for Terms {
     fn same(&self, other: &Terms) -> bool
         ensures { IsTrue result ↔ (self.now ≡ other.now) }
     {
-        same_rows(self.items.as_slice(), other.items.as_slice())
+        same_rows(self.as_slice(), other.as_slice())
     }
 }
 

@@ -88,7 +88,7 @@ impl Terms {
     fn compare(&self, other: &Terms) -> Ordering
         ensures { result ≡ trees_cmp self.now other.now }
     {
-        compare_rows(self.items.as_slice(), other.items.as_slice())
+        compare_rows(self.as_slice(), other.as_slice())
     }
 
     /// By the numbers of elements first, and then element by element.
@@ -96,8 +96,8 @@ impl Terms {
     fn compare_sized(&self, other: &Terms) -> Ordering
         ensures { result ≡ tree_cmp (tuple self.now) (tuple other.now) }
     {
-        match self.items.len().cmp(&other.items.len()) {
-            Ordering::Equal => compare_rows(self.items.as_slice(), other.items.as_slice()),
+        match self.len().cmp(&other.len()) {
+            Ordering::Equal => compare_rows(self.as_slice(), other.as_slice()),
             unequal => unequal,
         }
     }

@@ -1,7 +1,7 @@
 // The text of terms with elements.
 ghost use Rattle.std.specs.Prelude.{◌≡◌, ◌++◌, OnOk, string_bytes};
 ghost use Rattle.std.specs.List.{flat_map};
-ghost use Rattle.erl_term.specs.Term.{tree};
+ghost use Rattle.erl_term.specs.Term.{tree, trees};
 ghost use Rattle.erl_term.specs.Tree.{int, tuple, list};
 ghost use Rattle.erl_term.specs.Text.{utf8, text, elements_text, printable_char, printable, string_char};
 ghost use Rattle.erl_term.specs.Strings.{printable_chars, has_chars};
@@ -54,7 +54,7 @@ impl Terms {
         ensures { OnOk result (string_bytes out.new ≡ string_bytes out.old ++ utf8 (text (tuple self.now))) }
     {
         out.push('{')?;
-        self.append_elements(out)?;
+        append_elements(self.as_slice(), out)?;
         out.push('}')
     }
 
@@ -63,55 +63,55 @@ impl Terms {
     fn append_as_list(&self, out: &mut String) -> Result<(), AllocError>
         ensures { OnOk result (string_bytes out.new ≡ string_bytes out.old ++ utf8 (text (list self.now))) }
     {
-        if self.is_string() {
+        let terms = self.as_slice();
+        if is_string(terms) {
             out.push('"')?;
-            self.append_chars(out)?;
+            append_chars(terms, out)?;
             out.push('"')
         } else {
             out.push('[')?;
-            self.append_elements(out)?;
+            append_elements(terms, out)?;
             out.push(']')
         }
     }
+}
 
-    /// Appends the terms' texts, with commas between them.
-    #[cycle(print)]
-    fn append_elements(&self, out: &mut String) -> Result<(), AllocError>
-        ensures { OnOk result (string_bytes out.new ≡ string_bytes out.old ++ utf8 (elements_text self.now)) }
-    {
-        for (i, term) in self.items.iter().enumerate() {
-            if i > 0 {
-                out.push(',')?;
-            }
-            term.append_text(out)?;
+/// Appends the terms' texts, with commas between them.
+#[cycle(print)]
+fn append_elements(terms: &[Term], out: &mut String) -> Result<(), AllocError>
+    ensures { OnOk result (string_bytes out.new ≡ string_bytes out.old ++ utf8 (elements_text (trees terms.now))) }
+{
+    for (i, term) in terms.iter().enumerate() {
+        if i > 0 {
+            out.push(',')?;
         }
-        Ok(())
+        term.append_text(out)?;
     }
+    Ok(())
+}
 
-    /// Whether there are terms, and each is an integer from 32 to 126.
-    fn is_string(&self) -> bool
-        ensures { result ≡ has_chars (printable self.now) }
-    {
-        for term in &self.items {
-            if term.printable_char().is_none() {
-                return false;
-            }
+/// Whether there are terms, and each is an integer from 32 to 126.
+fn is_string(terms: &[Term]) -> bool
+    ensures { result ≡ has_chars (printable (trees terms.now)) }
+{
+    for term in terms {
+        if term.printable_char().is_none() {
+            return false;
         }
-        !self.items.is_empty()
     }
+    !terms.is_empty()
+}
 
-    /// Appends the characters of those terms that are integers from 32 to 126, as they stand between
-    /// double quotes.
-    fn append_chars(&self, out: &mut String) -> Result<(), AllocError>
-        ensures { OnOk result (string_bytes out.new ≡ string_bytes out.old ++ utf8 (flat_map string_char (printable_chars self.now))) }
-    {
-        for term in &self.items {
-            if let Some(c) = term.printable_char() {
-                append_string_char(c, out)?;
-            }
+/// Appends the characters of those terms that are integers from 32 to 126, as they stand between double quotes.
+fn append_chars(terms: &[Term], out: &mut String) -> Result<(), AllocError>
+    ensures { OnOk result (string_bytes out.new ≡ string_bytes out.old ++ utf8 (flat_map string_char (printable_chars (trees terms.now)))) }
+{
+    for term in terms {
+        if let Some(c) = term.printable_char() {
+            append_string_char(c, out)?;
         }
-        Ok(())
     }
+    Ok(())
 }
 
 /// Appends a character as it stands between double quotes.

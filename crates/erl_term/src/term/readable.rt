@@ -1,10 +1,10 @@
 // Terms whose text can be read back.
 ghost use Rattle.std.specs.Prelude.{◌≡◌, true};
 ghost use Rattle.erl_term.specs.Readable.{are_bounded, has_pids, have_pids, is_bounded, is_readable};
-ghost use Rattle.erl_term.specs.Term.{tree};
+ghost use Rattle.erl_term.specs.Term.{tree, trees};
 ghost use Rattle.erl_term.specs.Tree.{int};
 
-use super::{Term, Terms};
+use super::Term;
 
 /// The greatest number of brackets that may be open at once in a text.
 const DEEPEST: u64 = 256;
@@ -32,7 +32,7 @@ impl Term {
                 false
             }
             Term::Pid(_) => true,
-            Term::Tuple(row) | Term::List(row) => row.have_pids(),
+            Term::Tuple(row) | Term::List(row) => have_pids(row.as_slice()),
         }
     }
 }
@@ -45,16 +45,15 @@ fn integer_has_pids(n: i64) -> bool
     false
 }
 
-impl Terms {
-    #[cycle(pids)]
-    fn have_pids(&self) -> bool
-        ensures pids { result ≡ have_pids self.now }
-        ensures bounded { are_bounded self.now ≡ true }
-    {
-        let mut have = false;
-        for term in &self.items {
-            have |= term.has_pids();
-        }
-        have
+/// Whether a process identifier stands in one of the terms.
+#[cycle(pids)]
+fn have_pids(terms: &[Term]) -> bool
+    ensures pids { result ≡ have_pids (trees terms.now) }
+    ensures bounded { are_bounded (trees terms.now) ≡ true }
+{
+    let mut have = false;
+    for term in terms {
+        have |= term.has_pids();
     }
+    have
 }

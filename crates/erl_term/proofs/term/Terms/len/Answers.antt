@@ -1,7 +1,8 @@
--- A row has as many terms as its vector.
-use Rattle.std.proofs.Common.{arith}
+-- A row has as many terms as its slice.
+use Rattle.std.proofs.Common.{ap, sym, ◌∙◌}
+use Rattle.erl_term.specs.Tree.{count}
 use Rattle.erl_term.proofs.Rows.{count-trees}
 use Rattle.erl_term.proofs.term.Terms.len.Goals as goal
 
 pub returns : goal.returns
-returns c = rw (← c.self.view_is, count-trees) (omega (arith, c.len.ensures, c.self.inside.items.ok.0))
+returns c = sym (count-trees c.as_slice.result.now) ∙ ap count c.as_slice.ensures

@@ -4,8 +4,8 @@ use Rattle.std.specs.List.{flat_map}
 use Rattle.erl_term.specs.Term.{trees}
 use Rattle.erl_term.specs.Text.{utf8, string_char}
 use Rattle.erl_term.specs.Strings.{printable_chars}
-use Rattle.erl_term.proofs.term.Terms.append_chars.Given as goal
+use Rattle.erl_term.proofs.term.printing.append_chars.Given as goal
 
 abbrev pub invariant-loop-term : goal.invariant-loop-term
 invariant-loop-term l =
-    string_bytes l.out ≡ string_bytes l.initial.out ++ utf8 (flat_map string_char (printable_chars (trees (take l.term-index l.term-items))))
+    string_bytes l.out ≡ string_bytes l.initial.out ++ utf8 (flat_map string_char (printable_chars (trees (take l.term-index l.terms))))

@@ -1,5 +1,5 @@
 -- At most one character more in each turn, and all of them at the end.
-use Rattle.std.proofs.Common.{◌≡◌, ◌++◌, take, string_bytes, ap, sym, ◌∙◌}
+use Rattle.std.proofs.Common.{◌≡◌, ◌++◌, string_bytes, ap, sym, ◌∙◌}
 use Rattle.std.specs.Option.{option_to_list}
 use Rattle.std.specs.List.{flat_map}
 use Rattle.std.proofs.lemmas.List.{take_all}
@@ -7,8 +7,8 @@ use Rattle.erl_term.specs.Term.{tree, trees}
 use Rattle.erl_term.specs.Text.{utf8, printable_char, string_char}
 use Rattle.erl_term.specs.Strings.{printable_chars}
 use Rattle.erl_term.proofs.Texts.{nothing-yet, char-added, none-added, chars-more}
-use Rattle.erl_term.proofs.term.Terms.append_chars.Goals as goal
-use Rattle.erl_term.proofs.term.Terms.append_chars.Goals.{in-Some+in_ok-append_string_char, in_default}
+use Rattle.erl_term.proofs.term.printing.append_chars.Goals as goal
+use Rattle.erl_term.proofs.term.printing.append_chars.Goals.{in-Some+in_ok-append_string_char, in_default}
 
 pub loop-term-init : goal.loop-term-init
 loop-term-init c = nothing-yet (string_bytes c.args.out.now)
@@ -24,10 +24,9 @@ loop-term-preserved c =
       | in_default w ↦
           none-added (printable_char (tree term)) out new (sym c.printable_char.ensures ∙ w.in_default.is) (ap string_bytes w.out-is)
     ] in
-    chars-more c.deref-term-items.result.now c.loop-term.term-index term (string_bytes c.args.out.now) out new c.loop-term-test.true c.term-item.is c.loop-term.invariant added
+    chars-more c.args.terms.now c.loop-term.term-index term (string_bytes c.args.out.now) out new c.loop-term-test.true c.term-item.is c.loop-term.invariant added
 
 pub returns : goal.returns
 returns c =
-    let items = c.deref-term-items.result.now in
-    let all : trees (take c.loop-term.term-index items) ≡ c.args.self.now = ap trees (take_all c.loop-term.term-index items c.loop-term-test.false ∙ c.deref-term-items.ensures.value) ∙ c.self.view_is in
-    c.loop-term.invariant ∙ ap (λ ts. string_bytes c.args.out.now ++ utf8 (flat_map string_char (printable_chars ts))) all
+    let items = c.args.terms.now in
+    c.loop-term.invariant ∙ ap (λ ts. string_bytes c.args.out.now ++ utf8 (flat_map string_char (printable_chars (trees ts)))) (take_all c.loop-term.term-index items c.loop-term-test.false)

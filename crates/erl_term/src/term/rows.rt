@@ -1,0 +1,163 @@
+// Rows of terms.
+ghost use Rattle.std.specs.Prelude.{◌≡◌, ◌+◌, ◌-◌, ◌^◌, ◌<◌, ◌≤◌, ◌↔◌, min, IsTrue, IfOk, IfSome, length, drop};
+ghost use Rattle.erl_term.specs.Parts.{behind};
+ghost use Rattle.erl_term.specs.Term.{trees};
+ghost use Rattle.erl_term.specs.Tree.{none, count, greatest_depth, total_size};
+
+use super::told::{Told, told_of};
+use super::{Row, Term, Terms};
+use std::alloc::{AllocError, Global};
+use std::sync::Arc;
+use values::{Duplicate, copied_slice};
+
+impl Terms {
+    /// The row of these terms.
+    ///
+    /// # Errors
+    ///
+    /// `AllocError` where memory is refused.
+    pub fn new(alloc: Global, items: Vec<Term>) -> Result<Terms, AllocError>
+        ensures { IfOk result (λ it. it ≡ trees items.items) }
+    {
+        let Told { depth, last, size } = told_of(items.as_slice());
+        if depth == u64::MAX {
+            return Err(AllocError);
+        }
+        let row = Arc::new(
+            alloc,
+            Row {
+                items,
+                depth,
+                last,
+                size,
+            },
+        )?;
+        Ok(Terms {
+            row,
+            from: 0,
+            hidden: 0,
+        })
+    }
+
+    /// The terms, in order: moved out where the row has this one owner, and copied where it has more.
+    ///
+    /// # Errors
+    ///
+    /// `AllocError` where memory is refused.
+    pub fn into_vec(self, alloc: Global) -> Result<Vec<Term>, AllocError>
+        ensures { IfOk result (λ items. trees items.items ≡ self) }
+    {
+        let from = self.from as usize;
+        let Terms { row, .. } = self;
+        match Arc::try_unwrap(row) {
+            Ok(row) => Ok(from_place(row.items, from)),
+            Err(row) => copied_slice(alloc, seen(row.items.as_slice(), from)),
+        }
+    }
+
+    /// How many terms. Takes no memory.
+    pub fn len(&self) -> usize
+        ensures { result ≡ count self.now }
+    {
+        self.as_slice().len()
+    }
+
+    /// Whether there are none. Takes no memory.
+    pub fn is_empty(&self) -> bool
+        ensures { IsTrue result ↔ (self.now ≡ none) }
+    {
+        self.as_slice().is_empty()
+    }
+
+    /// The terms, in order. Takes no memory.
+    pub fn as_slice(&self) -> &[Term]
+        ensures { trees result.now ≡ self.now }
+    {
+        seen(self.row.items.as_slice(), self.from as usize)
+    }
+
+    /// The row behind the first term, as the BIF `tl/1` gives it of a list; of an empty row an empty row. It shares what
+    /// it holds with this one, and takes no memory, but where the first term is the last that is as deep as it: the
+    /// terms behind are then copied into a row of their own, each by sharing.
+    ///
+    /// # Errors
+    ///
+    /// `AllocError` where memory is refused.
+    pub fn rest(&self, alloc: Global) -> Result<Terms, AllocError>
+        ensures { IfOk result (λ it. it ≡ behind self.now) }
+    {
+        let terms = seen(self.row.items.as_slice(), self.from as usize);
+        let Some((first, others)) = terms.split_first() else {
+            return self.copy(alloc);
+        };
+        let next = next_place(self.from, self.hidden, self.row.last, first.size());
+        match next {
+            Some((from, hidden)) if self.total_size() < u64::MAX => {
+                let row = Arc::try_clone(&self.row)?;
+                Ok(Terms { row, from, hidden })
+            }
+            _ => Terms::new(alloc, copied_slice(alloc, others)?),
+        }
+    }
+
+    /// The greatest depth of the terms, 0 where there are none.
+    pub(super) fn greatest_depth(&self) -> u64
+        ensures { result ≡ min (greatest_depth self.now) (2 ^ 64 - 1) }
+    {
+        self.row.depth
+    }
+
+    /// The sum of the terms' sizes.
+    pub(super) fn total_size(&self) -> u64
+        ensures { result ≡ min (total_size self.now) (2 ^ 64 - 1) }
+    {
+        self.row.size - u64::from(self.hidden)
+    }
+}
+
+impl Duplicate for Terms {
+    fn copy(&self, alloc: Global) -> Result<Terms, AllocError>
+        ensures { IfOk result (λ it. it ≡ self.now) }
+    {
+        let row = Arc::try_clone(&self.row)?;
+        Ok(Terms {
+            row,
+            from: self.from,
+            hidden: self.hidden,
+        })
+    }
+}
+
+/// The terms from a place on.
+fn seen(items: &[Term], from: usize) -> &[Term]
+    requires { from ≤ length items.now }
+    ensures { result.now ≡ drop from items.now }
+{
+    &items[from..]
+}
+
+/// The place behind this one, and what is hidden then, where a term of this size stands here: if it is no later than
+/// the last place that a row may be seen from, and both have room.
+fn next_place(from: u32, hidden: u32, last: usize, size: u64) -> Option<(u32, u32)>
+    ensures { IfSome result (λ p. (p.0 ≡ from + 1) × (p.1 ≡ hidden + size) × (from < last)) }
+{
+    if (from as usize) < last {
+        let hidden = u64::from(hidden).checked_add(size)?;
+        Some((from.checked_add(1)?, u32::try_from(hidden).ok()?))
+    } else {
+        None
+    }
+}
+
+/// The terms from a place on, moved to the front.
+fn from_place(mut items: Vec<Term>, from: usize) -> Vec<Term>
+    requires { from ≤ length items.items }
+    ensures { result.items ≡ drop from items.items }
+{
+    if from > 0 {
+        let left = items.len() - from;
+        items.rotate_left(from);
+        items.truncate(left);
+    }
+    items
+}
