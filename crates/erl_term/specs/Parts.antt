@@ -45,6 +45,7 @@ drop_depth-later (t ∷ ts) (suc m) zero before = omega (arith, before)
 drop_depth-later (t ∷ ts) (suc m) (suc n) before = drop_depth-later ts m n (omega arith)
 
 -- what a row shows is as deep as all of it
-pub hidden_depth : (items : List Term) (depth last size from hidden : ℕ) → IsPart items depth last size from hidden → greatest_depth (trees items) ≤ greatest_depth (trees (drop from items))
+pub hidden_depth : (items : List Term) (depth last size from hidden : ℕ) → IsPart items depth last size from hidden →
+    greatest_depth (trees items) ≤ greatest_depth (trees (drop from items))
 hidden_depth items depth last size from hidden part =
     omega (arith, part.depth_is, part.last_has_it, drop_depth-later items from last part.from_before)

@@ -60,22 +60,6 @@ abbrev pub four_of : Trees → Option (Tree × Tree × Tree × Tree)
 four_of none = None
 four_of (more a ts) = option_map (λ r. (a, r.0, r.1, r.2)) (three_of ts)
 
-abbrev pub five_of : Trees → Option (Tree × Tree × Tree × Tree × Tree)
-five_of none = None
-five_of (more a ts) = option_map (λ r. (a, r.0, r.1, r.2, r.3)) (four_of ts)
-
-abbrev pub six_of : Trees → Option (Tree × Tree × Tree × Tree × Tree × Tree)
-six_of none = None
-six_of (more a ts) = option_map (λ r. (a, r.0, r.1, r.2, r.3, r.4)) (five_of ts)
-
-abbrev pub seven_of : Trees → Option (Tree × Tree × Tree × Tree × Tree × Tree × Tree)
-seven_of none = None
-seven_of (more a ts) = option_map (λ r. (a, r.0, r.1, r.2, r.3, r.4, r.5)) (six_of ts)
-
-abbrev pub eight_of : Trees → Option (Tree × Tree × Tree × Tree × Tree × Tree × Tree × Tree)
-eight_of none = None
-eight_of (more a ts) = option_map (λ r. (a, r.0, r.1, r.2, r.3, r.4, r.5, r.6)) (seven_of ts)
-
 -- all terms of a row, each read by f
 abbrev pub all_of : {A : Type 0} → (Tree → Option A) → Trees → Option (List A)
 all_of f none = Some []

@@ -15,7 +15,7 @@
 //!   is refused; [`print_atom`] does so of an atom.
 //! - [`Term::has_pids`] tells whether a process identifier stands in the term, and [`Term::is_readable`] whether none
 //!   does and the term is nested at most 256 deep: the crate `erl_consult` proves that its text is then read back.
-//! - The readers ([`Term::as_int`] and its neighbours, [`first`], [`one`] to [`eight`], [`string`],
+//! - The readers ([`Term::as_int`] and its neighbours, [`first`], [`one`] to [`four`], [`string`],
 //!   [`character`]) answer exactly where the term is what they read, and with exactly that.
 //!
 //! # What no contract says
@@ -33,5 +33,5 @@ mod term;
 
 pub use atom::{Atom, AtomError};
 pub use printing::{print, print_atom};
-pub use readers::{character, eight, first, five, four, one, seven, six, string, three, two};
+pub use readers::{character, first, four, one, string, three, two};
 pub use term::{Term, Terms};

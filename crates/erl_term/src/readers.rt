@@ -1,7 +1,7 @@
 // Terms as values of one kind, and rows as so many terms: readers for the crates above.
 ghost use Rattle.std.specs.Prelude.{◌≡◌, Some, None, MatchOption, IfOk, string_bytes};
 ghost use Rattle.std.specs.Str.{chars};
-ghost use Rattle.erl_term.specs.Readers.{atom_of, eight_of, first_of, five_of, four_of, int_of, list_of, one_of, pid_of, seven_of, six_of, string_of, char_of, three_of, tuple_of, two_of};
+ghost use Rattle.erl_term.specs.Readers.{atom_of, char_of, first_of, four_of, int_of, list_of, one_of, pid_of, string_of, three_of, tuple_of, two_of};
 ghost use Rattle.erl_term.specs.Term.{tree, trees};
 
 use crate::atom::Atom;
@@ -108,46 +108,6 @@ pub fn four(row: &[Term]) -> Option<(&Term, &Term, &Term, &Term)>
     let (a, rest) = first(row)?;
     let (b, c, d) = three(rest)?;
     Some((a, b, c, d))
-}
-
-/// The terms of a row of five. Takes no memory.
-pub fn five(row: &[Term]) -> Option<(&Term, &Term, &Term, &Term, &Term)>
-    ensures { MatchOption result (five_of (trees row.now) ≡ None)
-        (λ r. five_of (trees row.now) ≡ Some (tree r.0.now, tree r.1.now, tree r.2.now, tree r.3.now, tree r.4.now)) }
-{
-    let (a, rest) = first(row)?;
-    let (b, c, d, e) = four(rest)?;
-    Some((a, b, c, d, e))
-}
-
-/// The terms of a row of six. Takes no memory.
-pub fn six(row: &[Term]) -> Option<(&Term, &Term, &Term, &Term, &Term, &Term)>
-    ensures { MatchOption result (six_of (trees row.now) ≡ None)
-        (λ r. six_of (trees row.now) ≡ Some (tree r.0.now, tree r.1.now, tree r.2.now, tree r.3.now, tree r.4.now, tree r.5.now)) }
-{
-    let (a, rest) = first(row)?;
-    let (b, c, d, e, f) = five(rest)?;
-    Some((a, b, c, d, e, f))
-}
-
-/// The terms of a row of seven. Takes no memory.
-pub fn seven(row: &[Term]) -> Option<(&Term, &Term, &Term, &Term, &Term, &Term, &Term)>
-    ensures { MatchOption result (seven_of (trees row.now) ≡ None)
-        (λ r. seven_of (trees row.now) ≡ Some (tree r.0.now, tree r.1.now, tree r.2.now, tree r.3.now, tree r.4.now, tree r.5.now, tree r.6.now)) }
-{
-    let (a, rest) = first(row)?;
-    let (b, c, d, e, f, g) = six(rest)?;
-    Some((a, b, c, d, e, f, g))
-}
-
-/// The terms of a row of eight. Takes no memory.
-pub fn eight(row: &[Term]) -> Option<(&Term, &Term, &Term, &Term, &Term, &Term, &Term, &Term)>
-    ensures { MatchOption result (eight_of (trees row.now) ≡ None)
-        (λ r. eight_of (trees row.now) ≡ Some (tree r.0.now, tree r.1.now, tree r.2.now, tree r.3.now, tree r.4.now, tree r.5.now, tree r.6.now, tree r.7.now)) }
-{
-    let (a, rest) = first(row)?;
-    let (b, c, d, e, f, g, h) = seven(rest)?;
-    Some((a, b, c, d, e, f, g, h))
 }
 
 /// The characters of a string, if the term is one: a list of integers that are Unicode scalar values.

@@ -11,14 +11,15 @@ use std::sync::Arc;
 use values::{Duplicate, copied_slice};
 
 impl Terms {
-    /// The row of these terms.
+    /// The row of these terms, in no more room than they take.
     ///
     /// # Errors
     ///
     /// `AllocError` where memory is refused.
-    pub fn new(alloc: Global, items: Vec<Term>) -> Result<Terms, AllocError>
+    pub fn new(alloc: Global, mut items: Vec<Term>) -> Result<Terms, AllocError>
         ensures { IfOk result (λ it. it ≡ trees items.items) }
     {
+        items.shrink_to_fit();
         let Told { depth, last, size } = told_of(items.as_slice());
         if depth == u64::MAX {
             return Err(AllocError);
