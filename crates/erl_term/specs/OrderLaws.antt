@@ -48,12 +48,16 @@ row_in (list ts) = row ts
 abbrev cmp_to : ℕ → Tree → Tree → Ordering
 cmp_to zero = λ t u. Equal
 cmp_to (suc n) =
-    then_cmp (on kind nat_cmp) (then_cmp (on int_in int_cmp) (then_cmp (on chars_in (slice_cmp nat_cmp)) (then_cmp (on number_in nat_cmp) (on row_in (slice_cmp (cmp_to n))))))
+    then_cmp (on kind nat_cmp) (then_cmp (on int_in int_cmp)
+    (then_cmp (on chars_in (slice_cmp nat_cmp)) (then_cmp (on number_in nat_cmp) (on row_in (slice_cmp (cmp_to n))))))
 
 cmp_to-total : (n : ℕ) → IsTotalOrder (cmp_to n)
 cmp_to-total zero = record { antisymm = λ x y. refl; trans = λ x y z p q. p; congr = λ x y z p. refl }
 cmp_to-total (suc n) =
-    then_total (on_total kind nat_cmp_total) (then_total (on_total int_in int_cmp_total) (then_total (on_total chars_in nat_list_cmp_total) (then_total (on_total number_in nat_cmp_total) (on_total row_in (lists_total (cmp_to-total n))))))
+    then_total (on_total kind nat_cmp_total)
+    (then_total (on_total int_in int_cmp_total)
+    (then_total (on_total chars_in nat_list_cmp_total)
+    (then_total (on_total number_in nat_cmp_total) (on_total row_in (lists_total (cmp_to-total n))))))
 
 then_equal : (o : Ordering) → ordering_then o Equal ≡ o
 then_equal Less = refl
@@ -61,12 +65,14 @@ then_equal Equal = refl
 then_equal Greater = refl
 
 -- rows agree where their terms do
-rows_agree : (n : ℕ) → ((t u : Tree) → depth t ≤ n → tree_cmp t u ≡ cmp_to (suc n) t u) → (ts us : Trees) → greatest_depth ts ≤ n → trees_cmp ts us ≡ slice_cmp (cmp_to (suc n)) (row ts) (row us)
+rows_agree : (n : ℕ) → ((t u : Tree) → depth t ≤ n → tree_cmp t u ≡ cmp_to (suc n) t u) → (ts us : Trees) →
+    greatest_depth ts ≤ n → trees_cmp ts us ≡ slice_cmp (cmp_to (suc n)) (row ts) (row us)
 rows_agree n agree none none shallow = refl
 rows_agree n agree none (more u us) shallow = refl
 rows_agree n agree (more t ts) none shallow = refl
 rows_agree n agree (more t ts) (more u us) shallow =
-    ap (λ o. ordering_then o (trees_cmp ts us)) (agree t u (omega arith)) ∙ ap (λ o. ordering_then (cmp_to (suc n) t u) o) (rows_agree n agree ts us (omega arith))
+    ap (λ o. ordering_then o (trees_cmp ts us)) (agree t u (omega arith)) ∙
+    ap (λ o. ordering_then (cmp_to (suc n) t u) o) (rows_agree n agree ts us (omega arith))
 
 -- the order is that chain, as far as it has to go
 agree : (k : ℕ) (t u : Tree) → depth t ≤ k → tree_cmp t u ≡ cmp_to (suc k) t u
@@ -89,7 +95,8 @@ agree k (tuple ts) (int n) shallow = refl
 agree k (tuple ts) (atom ds) shallow = refl
 agree k (tuple ts) (pid n) shallow = refl
 agree zero (tuple ts) (tuple us) shallow = absurd (omega arith)
-agree (suc k) (tuple ts) (tuple us) shallow = ap (λ o. ordering_then (nat_cmp (count ts) (count us)) o) (rows_agree k (agree k) ts us (omega arith))
+agree (suc k) (tuple ts) (tuple us) shallow =
+    ap (λ o. ordering_then (nat_cmp (count ts) (count us)) o) (rows_agree k (agree k) ts us (omega arith))
 agree k (tuple ts) (list us) shallow = refl
 agree k (list ts) (int n) shallow = refl
 agree k (list ts) (atom ds) shallow = refl
@@ -108,11 +115,13 @@ tree_cmp-total = record {
   trans =
       λ t u v less lesser.
       let k = depth t + depth u in
-      agree k t v (omega arith) ∙ (cmp_to-total (suc k)).trans t u v (sym (agree k t u (omega arith)) ∙ less) (sym (agree k u v (omega arith)) ∙ lesser);
+      agree k t v (omega arith) ∙ (cmp_to-total (suc k)).trans t u v (sym (agree k t u (omega arith)) ∙ less)
+      (sym (agree k u v (omega arith)) ∙ lesser);
   congr =
       λ t u v tied.
       let k = depth t + depth u in
-      agree k t v (omega arith) ∙ (cmp_to-total (suc k)).congr t u v (sym (agree k t u (omega arith)) ∙ tied) ∙ sym (agree k u v (omega arith));
+      agree k t v (omega arith) ∙ (cmp_to-total (suc k)).congr t u v (sym (agree k t u (omega arith)) ∙ tied) ∙
+      sym (agree k u v (omega arith));
 }
 
 -- Only equal terms are tied.
@@ -142,7 +151,8 @@ mutual
   tree_cmp-same (tuple ts) (int n) e = absurd (let no : ⊥ = cc in no)
   tree_cmp-same (tuple ts) (atom ds) e = absurd (let no : ⊥ = cc in no)
   tree_cmp-same (tuple ts) (pid n) e = absurd (let no : ⊥ = cc in no)
-  tree_cmp-same (tuple ts) (tuple us) e = ap tuple (trees_cmp-same ts us (both_equal (nat_cmp (count ts) (count us)) (trees_cmp ts us) e).1)
+  tree_cmp-same (tuple ts) (tuple us) e = ap tuple
+      (trees_cmp-same ts us (both_equal (nat_cmp (count ts) (count us)) (trees_cmp ts us) e).1)
   tree_cmp-same (tuple ts) (list us) e = absurd (let no : ⊥ = cc in no)
   tree_cmp-same (list ts) (int n) e = absurd (let no : ⊥ = cc in no)
   tree_cmp-same (list ts) (atom ds) e = absurd (let no : ⊥ = cc in no)

@@ -37,7 +37,8 @@ drop_depth (t ∷ ts) zero = omega arith
 drop_depth (t ∷ ts) (suc n) = omega (arith, drop_depth ts n)
 
 -- of two parts of a row, the one that begins later
-pub drop_depth-later : (ts : List Term) (m n : ℕ) → m ≤ n → greatest_depth (trees (drop n ts)) ≤ greatest_depth (trees (drop m ts))
+pub drop_depth-later : (ts : List Term) (m n : ℕ) → m ≤ n →
+    greatest_depth (trees (drop n ts)) ≤ greatest_depth (trees (drop m ts))
 drop_depth-later ts zero n before = drop_depth ts n
 drop_depth-later [] (suc m) zero before = omega arith
 drop_depth-later [] (suc m) (suc n) before = omega arith

@@ -2,7 +2,8 @@
 use Rattle.std.specs.Prelude.{◌≡◌, refl}
 use Rattle.std.specs.declared.cmp.Ordering.TheVariants.{Equal}
 use Rattle.std.specs.Ordering.{as_partial_cmp, eq_by_cmp, on}
-use Rattle.std.specs.Cmp.{IsTotalOrder, IsPartialOrder, IsEquivalence, IsPartialEquivalence, partial_equiv_from_equiv, eq_by_cmp_equiv, po}
+use Rattle.std.specs.Cmp.{IsTotalOrder, IsPartialOrder, IsEquivalence, IsPartialEquivalence, partial_equiv_from_equiv}
+use Rattle.std.specs.Cmp.{eq_by_cmp_equiv, po}
 use Rattle.std.proofs.Common.{ap, sym, ◌∙◌}
 use Rattle.std.proofs.lemmas.Cmp.{on_total}
 use Rattle.erl_term.specs.declared.term.Term.{Term}

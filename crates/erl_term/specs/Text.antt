@@ -1,6 +1,7 @@
 -- How terms are printed: the characters of a term's text, in Erlang's syntax (Erlang Reference Manual, Data
 -- Types), but for process identifiers, which that syntax lacks.
-use Rattle.std.specs.Prelude.{ℕ, pos, negsuc, ◌+◌, ◌/◌, ◌%◌, nat_le, ◌==◌, Bool, false, not, ◌&&◌, ◌||◌, if◌then◌else◌, List, [], ◌∷◌, ◌++◌, codes, Option, Some, None, option_map}
+use Rattle.std.specs.Prelude.{ℕ, pos, negsuc, ◌+◌, ◌/◌, ◌%◌, nat_le, ◌==◌, Bool, false, not, ◌&&◌, ◌||◌, if◌then◌else◌, List}
+use Rattle.std.specs.Prelude.{[], ◌∷◌, ◌++◌, codes, Option, Some, None, option_map}
 use Rattle.std.specs.List.{list_any, list_all, flat_map}
 use Rattle.std.specs.Option.{option_and_then}
 use Rattle.std.specs.Str.{bytes_eq}
@@ -29,7 +30,10 @@ begins_lower (c ∷ cs) = is_lower c
 -- and `maybe`, which are read as atoms but which newer releases reserve
 abbrev pub quoted_words : List (List ℕ)
 quoted_words =
-    codes "after" ∷ codes "and" ∷ codes "andalso" ∷ codes "band" ∷ codes "begin" ∷ codes "bnot" ∷ codes "bor" ∷ codes "bsl" ∷ codes "bsr" ∷ codes "bxor" ∷ codes "case" ∷ codes "catch" ∷ codes "cond" ∷ codes "div" ∷ codes "else" ∷ codes "end" ∷ codes "fun" ∷ codes "if" ∷ codes "let" ∷ codes "maybe" ∷ codes "not" ∷ codes "of" ∷ codes "or" ∷ codes "orelse" ∷ codes "receive" ∷ codes "rem" ∷ codes "try" ∷ codes "when" ∷ codes "xor" ∷ []
+    codes "after" ∷ codes "and" ∷ codes "andalso" ∷ codes "band" ∷ codes "begin" ∷ codes "bnot" ∷ codes "bor" ∷ codes "bsl" ∷
+    codes "bsr" ∷ codes "bxor" ∷ codes "case" ∷ codes "catch" ∷ codes "cond" ∷ codes "div" ∷ codes "else" ∷ codes "end" ∷
+    codes "fun" ∷ codes "if" ∷ codes "let" ∷ codes "maybe" ∷ codes "not" ∷ codes "of" ∷ codes "or" ∷ codes "orelse" ∷
+    codes "receive" ∷ codes "rem" ∷ codes "try" ∷ codes "when" ∷ codes "xor" ∷ []
 
 unfoldable pub is_quoted_word : List ℕ → Bool
 is_quoted_word cs = list_any (λ word. bytes_eq word cs) quoted_words
@@ -51,7 +55,8 @@ hex n = if nat_le n 15 then hex_digit n ∷ [] else hex_digit (n / 16) ∷ hex_d
 -- written in hexadecimal, and all others stand as they are
 abbrev pub quoted_char : ℕ → List ℕ
 quoted_char c =
-    if (c == 39) || (c == 92) then 92 ∷ c ∷ [] else (if nat_le c 31 || (c == 127) then codes "\\x{" ++ (hex c ++ 125 ∷ []) else c ∷ [])
+    if (c == 39) || (c == 92) then 92 ∷ c ∷ [] else
+    (if nat_le c 31 || (c == 127) then codes "\\x{" ++ (hex c ++ 125 ∷ []) else c ∷ [])
 
 abbrev pub atom_text : List ℕ → List ℕ
 atom_text cs = if is_plain cs then cs else 39 ∷ (flat_map quoted_char cs ++ 39 ∷ [])

@@ -29,7 +29,8 @@ abbrev mutual
 -- the tree of a kind's number, what is behind it, and the row that this would be
 abbrev pub tree_of : ℕ → Gv → Trees → Tree
 tree_of kind g ts =
-    cond (eqb kind 0) (int (pos (num g))) (cond (eqb kind 1) (int (negsuc (num g))) (cond (eqb kind 2) (atom (chars_back g)) (cond (eqb kind 3) (pid (num g)) (cond (eqb kind 4) (tuple ts) (list ts)))))
+    cond (eqb kind 0) (int (pos (num g))) (cond (eqb kind 1) (int (negsuc (num g)))
+    (cond (eqb kind 2) (atom (chars_back g)) (cond (eqb kind 3) (pid (num g)) (cond (eqb kind 4) (tuple ts) (list ts)))))
 
 abbrev mutual
   pub tree_back : Gv → Tree
@@ -57,7 +58,8 @@ mutual
 
   pub trees_back-code : (ts : Trees) → trees_back (trees_code ts) ≡ ts
   trees_back-code none = refl
-  trees_back-code (more t ts) = ap (λ u. more u (trees_back (trees_code ts))) (tree_back-code t) ∙ ap (λ us. more t us) (trees_back-code ts)
+  trees_back-code (more t ts) = ap (λ u. more u (trees_back (trees_code ts))) (tree_back-code t) ∙
+      ap (λ us. more t us) (trees_back-code ts)
 
 abbrev pub trees_coded : Coded Trees
 trees_coded = record { code = trees_code; inj = λ x y same. sym (trees_back-code x) ∙ ap trees_back same ∙ trees_back-code y }
