@@ -10,7 +10,8 @@ use Rattle.line_server.specs.Session.{Turns, Fates, MayBe, MayBefallEach, IsTurn
 use Rattle.line_server.specs.Serving.{IsFrontOfText}
 
 -- A line was answered: by its fate the session and the answers go on, and that there was one is kept in mind.
-pub record Hears {S F : Type 0} (turn : Turns S F) (may_befall : Fates S F) (line : List ℕ) (old new : S) (before after : Waiting) : Type 0 where
+pub record Hears {S F : Type 0} (turn : Turns S F) (may_befall : Fates S F) (line : List ℕ) (old new : S)
+    (before after : Waiting) : Type 0 where
   pub fate : Option F
   pub is_turn : IsTurn (turn fate old (heard line)) new before.text.items after.text.items
   pub befell : MayBe may_befall fate old (heard line)
@@ -24,7 +25,8 @@ pub record Stays (old new : Waiting) : Type 0 where
 
 -- How far serving has come after some bytes, of whose text a front was written: each line that a newline ended is
 -- answered, and of the line that was begun as much is kept as tells whether it is too long.
-pub record SoFar {S F : Type 0} (turn : Turns S F) (may_befall : Fates S F) (start : S) (bytes output : List ℕ) (now : S) (pending : Pending) : Type 0 where
+pub record SoFar {S F : Type 0} (turn : Turns S F) (may_befall : Fates S F) (start : S) (bytes output : List ℕ) (now : S)
+    (pending : Pending) : Type 0 where
   pub fates : List (Option F)
   pub answered : length fates ≡ length (whole_lines bytes)
   pub text : text_of turn fates start (whole_lines bytes) ≡ output ++ pending.answers.text.items
@@ -35,7 +37,8 @@ pub record SoFar {S F : Type 0} (turn : Turns S F) (may_befall : Fates S F) (sta
   pub refused : All (λ fate. fate ≡ None) fates → pending.answers.is_refused ≡ false
 
 -- All of the text of some lines is written or waits in the answers.
-pub record IsAnswered {S F : Type 0} (turn : Turns S F) (may_befall : Fates S F) (start : S) (lines : List (List ℕ)) (output : List ℕ) (now : S) (answers : Waiting) : Type 0 where
+pub record IsAnswered {S F : Type 0} (turn : Turns S F) (may_befall : Fates S F) (start : S) (lines : List (List ℕ))
+    (output : List ℕ) (now : S) (answers : Waiting) : Type 0 where
   pub fates : List (Option F)
   pub text : text_of turn fates start lines ≡ output ++ answers.text.items
   pub stands : now ≡ session_after turn fates start lines
@@ -44,7 +47,8 @@ pub record IsAnswered {S F : Type 0} (turn : Turns S F) (may_befall : Fates S F)
   pub refused : All (λ fate. fate ≡ None) fates → answers.is_refused ≡ false
 
 -- A front of the text of some lines is written.
-pub record IsFrontAnswered {S F : Type 0} (turn : Turns S F) (may_befall : Fates S F) (start : S) (lines : List (List ℕ)) (output : List ℕ) (is_refused : Bool) : Type 0 where
+pub record IsFrontAnswered {S F : Type 0} (turn : Turns S F) (may_befall : Fates S F) (start : S) (lines : List (List ℕ))
+    (output : List ℕ) (is_refused : Bool) : Type 0 where
   pub fates : List (Option F)
   pub part : IsFrontOfText turn fates start lines output
   pub befell : MayBefallEach turn may_befall fates start lines
@@ -73,23 +77,29 @@ IsOfWriting WriteZero = ⊤
 IsOfWriting Memory = ⊤
 
 -- Some bytes were taken, and so many of the answers written.
-pub record GoesOn {S F : Type 0} (turn : Turns S F) (may_befall : Fates S F) (bytes : List ℕ) (old new : S) (held holds : Option (List ℕ)) (before after : Pending) : Type 0 where
+pub record GoesOn {S F : Type 0} (turn : Turns S F) (may_befall : Fates S F) (bytes : List ℕ) (old new : S)
+    (held holds : Option (List ℕ)) (before after : Pending) : Type 0 where
   pub taken : List ℕ
   pub appended : Appends held holds taken
-  pub goes : (start : S) (had output : List ℕ) → SoFar turn may_befall start had output old before → SoFar turn may_befall start (had ++ bytes) (output ++ taken) new after
+  pub goes : (start : S) (had output : List ℕ) → SoFar turn may_befall start had output old before →
+      SoFar turn may_befall start (had ++ bytes) (output ++ taken) new after
 
 -- Serving stopped among some bytes with a fault after which a front of the text is owed.
-pub record StopsIn {S F : Type 0} (turn : Turns S F) (may_befall : Fates S F) (bytes : List ℕ) (old : S) (held holds : Option (List ℕ)) (before after : Pending) (fault : Fault) : Type 0 where
+pub record StopsIn {S F : Type 0} (turn : Turns S F) (may_befall : Fates S F) (bytes : List ℕ) (old : S)
+    (held holds : Option (List ℕ)) (before after : Pending) (fault : Fault) : Type 0 where
   pub of_writing : IsOfWriting fault
   pub taken : List ℕ
   pub appended : Appends held holds taken
-  pub part : (start : S) (had output : List ℕ) → SoFar turn may_befall start had output old before → IsFrontAnswered turn may_befall start (lines_of (had ++ bytes)) (output ++ taken) after.answers.is_refused
+  pub part : (start : S) (had output : List ℕ) → SoFar turn may_befall start had output old before →
+      IsFrontAnswered turn may_befall start (lines_of (had ++ bytes)) (output ++ taken) after.answers.is_refused
 
 -- The rest behind the last newline was answered too, where it isn't empty, and the answers were written.
-pub record Finishes {S F : Type 0} (turn : Turns S F) (may_befall : Fates S F) (old new : S) (held holds : Option (List ℕ)) (before after : Pending) : Type 0 where
+pub record Finishes {S F : Type 0} (turn : Turns S F) (may_befall : Fates S F) (old new : S) (held holds : Option (List ℕ))
+    (before after : Pending) : Type 0 where
   pub taken : List ℕ
   pub appended : Appends held holds taken
-  pub goes : (start : S) (had output : List ℕ) → SoFar turn may_befall start had output old before → IsAnswered turn may_befall start (lines_of had) (output ++ taken) new after.answers
+  pub goes : (start : S) (had output : List ℕ) → SoFar turn may_befall start had output old before →
+      IsAnswered turn may_befall start (lines_of had) (output ++ taken) new after.answers
 
 -- the fault of a result
 abbrev pub fault_of : Result (Unit {0}) Fault → Option Fault

@@ -8,7 +8,8 @@ use Rattle.line_server.specs.Lines.{whole_lines, lines_of}
 use Rattle.line_server.specs.Session.{Turns, Fates, MayBefallEach, text_of, session_after}
 
 -- A text was written whole, and the session stands behind its lines.
-pub record IsWholeText {S F : Type 0} (turn : Turns S F) (fates : List (Option F)) (start new : S) (lines : List (List ℕ)) (output : List ℕ) : Type 0 where
+pub record IsWholeText {S F : Type 0} (turn : Turns S F) (fates : List (Option F)) (start new : S) (lines : List (List ℕ))
+    (output : List ℕ) : Type 0 where
   pub text : output ≡ text_of turn fates start lines
   pub stands : new ≡ session_after turn fates start lines
 
@@ -40,7 +41,8 @@ Writes (Some Memory) turn fates start new bytes output = IsFrontOfText turn fate
 -- Serving lines from one session to another: the bytes that the reader gave, what became of each line that was
 -- answered, and the bytes that the writer took. `left` and `rest` are what the reader has left before and after,
 -- `held` and `holds` what the writer holds, where these are known.
-pub record Serves {S F : Type 0} (turn : Turns S F) (may_befall : Fates S F) (start new : S) (left rest held holds : Option (List ℕ)) (ended : Ended) : Type 0 where
+pub record Serves {S F : Type 0} (turn : Turns S F) (may_befall : Fates S F) (start new : S)
+    (left rest held holds : Option (List ℕ)) (ended : Ended) : Type 0 where
   pub bytes : List ℕ
   pub fates : List (Option F)
   pub output : List ℕ

@@ -34,7 +34,8 @@ later_fates (f ∷ fs) = fs
 abbrev pub text_of : {S F : Type 0} → Turns S F → List (Option F) → S → List (List ℕ) → List ℕ
 text_of turn fates s [] = []
 text_of turn fates s (line ∷ lines) =
-    (turn (first_fate fates) s (heard line)).text ++ text_of turn (later_fates fates) (turn (first_fate fates) s (heard line)).after lines
+    (turn (first_fate fates) s (heard line)).text ++
+    text_of turn (later_fates fates) (turn (first_fate fates) s (heard line)).after lines
 
 -- the session after lines
 abbrev pub session_after : {S F : Type 0} → Turns S F → List (Option F) → S → List (List ℕ) → S

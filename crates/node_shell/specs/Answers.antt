@@ -13,7 +13,8 @@ use Rattle.node_shell.specs.declared.event.Answer.{Answer}
 use Rattle.node_shell.specs.declared.event.Answer.TheVariants.{Module, Truth}
 use Rattle.node_shell.specs.declared.event.Note.{Note}
 use Rattle.node_shell.specs.declared.answers.Fixed.{Fixed}
-use Rattle.node_shell.specs.declared.answers.Fixed.TheVariants.{True, False, BadCommand, LineTooLong, SerialEnd, CounterAtEnd, DeadMark, Memory}
+use Rattle.node_shell.specs.declared.answers.Fixed.TheVariants.{True, False, BadCommand, LineTooLong, SerialEnd, CounterAtEnd}
+use Rattle.node_shell.specs.declared.answers.Fixed.TheVariants.{DeadMark, Memory}
 
 -- the line of a term
 abbrev pub line_of : Tree → List ℕ
@@ -48,7 +49,8 @@ char_ints (c ∷ cs) = more (int (pos c)) (char_ints cs)
 
 abbrev pub missing_file : List ℕ → Tree
 missing_file path =
-    pair (atom (codes "error")) (tuple (more (atom (codes "file")) (more (list (char_ints (chars path))) (more (atom (codes "missing")) none))))
+    pair (atom (codes "error")) (tuple (more (atom (codes "file"))
+    (more (list (char_ints (chars path))) (more (atom (codes "missing")) none))))
 
 -- `{mark,K}`
 abbrev pub mark_at : ℕ → Tree

@@ -54,7 +54,8 @@ fates_behind fates (line ∷ lines) = fates_behind (later_fates fates) lines
 
 -- An undo to a living mark, whose cut leaves the timeline `end`: it leads there, the node there is the mark's, and it
 -- answers the report of the stations that it cut.
-pub record Undoes (files : Contents) (fates : List (Option Fate)) (front : List (List ℕ)) (line : List ℕ) (mark : ℕ) (end : NodeTimeline) : Type 0 where
+pub record Undoes (files : Contents) (fates : List (Option Fate)) (front : List (List ℕ)) (line : List ℕ) (mark : ℕ)
+    (end : NodeTimeline) : Type 0 where
   pub leads : timeline_behind files fates (front ++ line ∷ []) ≡ end
   pub node : node_at mark (timeline_behind files fates front) ≡ Some (here end).node
   pub answer : (shell_turn None (session_after shell_turn fates (opened_shell files) front) (heard line)).text

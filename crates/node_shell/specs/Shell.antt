@@ -15,7 +15,8 @@ use Rattle.node_shell.specs.declared.request.Question.TheVariants.{Modules, Mark
 use Rattle.node_shell.specs.declared.fate.Fate.{Fate}
 use Rattle.node_shell.specs.declared.fate.Fate.TheVariants.{Refused, StoppedAt}
 use Rattle.node_shell.specs.declared.answers.Fixed.TheVariants.{BadCommand, LineTooLong, SerialEnd, DeadMark, Memory}
-use Rattle.node_shell.specs.Answers.{line_of, fixed, fixed_of, missing_file, mark_at, undone_steps, stopped_undo, answer_of, modules_of}
+use Rattle.node_shell.specs.Answers.{line_of, fixed, fixed_of, missing_file, mark_at, undone_steps, stopped_undo, answer_of}
+use Rattle.node_shell.specs.Answers.{modules_of}
 use Rattle.node_shell.specs.Files.{Contents, file_of}
 use Rattle.node_shell.specs.Node.{Node, Outcome, rule, refusal_of, event_of}
 use Rattle.node_shell.specs.Request.{Request, ask, load, change, undo, Spoken, too_long, silent, unknown, asks, spoken}

@@ -1,5 +1,6 @@
 -- The words of a line.
-use Rattle.std.specs.Prelude.{ℕ, ◌^◌, ◌==◌, nat_lt, nat_le, Bool, true, false, ◌&&◌, ◌||◌, if◌then◌else◌, List, [], ◌∷◌, filter, Option, None, Some}
+use Rattle.std.specs.Prelude.{ℕ, ◌^◌, ◌==◌, nat_lt, nat_le, Bool, true, false, ◌&&◌, ◌||◌, if◌then◌else◌, List, [], ◌∷◌, filter}
+use Rattle.std.specs.Prelude.{Option, None, Some}
 use Rattle.std.specs.List.{list_all, slice_split}
 use Rattle.std.specs.Str.{all_ascii_digits}
 use Rattle.std.specs.Str.Parse.{digits_value}
@@ -40,4 +41,5 @@ is_digit b = nat_le 48 b && nat_le b 57
 -- the number that a word of decimal digits writes, where it is below 2^64
 abbrev pub number_of : List ℕ → Option ℕ
 number_of ds =
-    if has_bytes ds && all_ascii_digits ds then (if nat_lt (digits_value 10 ds) (2 ^ 64) then Some (digits_value 10 ds) else None) else None
+    if has_bytes ds && all_ascii_digits ds then
+    (if nat_lt (digits_value 10 ds) (2 ^ 64) then Some (digits_value 10 ds) else None) else None

@@ -1,5 +1,6 @@
 -- Whole lists of commands: what they leave of a timeline, and which of their steps are live.
-use Rattle.std.specs.Prelude.{◌≡◌, ℕ, ◌+◌, ◌≤◌, nat_le, List, [], ◌∷◌, ◌++◌, filter, fold, is_some, if◌then◌else◌, Some, Result, Ok, Err, unwrap_or}
+use Rattle.std.specs.Prelude.{◌≡◌, ℕ, ◌+◌, ◌≤◌, nat_le, List, [], ◌∷◌, ◌++◌, filter, fold, is_some, if◌then◌else◌, Some, Result}
+use Rattle.std.specs.Prelude.{Ok, Err, unwrap_or}
 use Prim.Native.Nat.{suc}
 use Rattle.undo_journal.specs.declared.history.Command.{Command}
 use Rattle.undo_journal.specs.declared.history.Command.TheVariants.{Perform, Undo}
@@ -79,13 +80,17 @@ Makes rule node (x ∷ xs) (s ∷ ss) =
 -- left out, and such an undo is one to a mark at or after its own.
 pub data CarriedOut {E : Type 0} : ℕ → List (Command E) → List (Command E) → Type 0 where
   none : CarriedOut 0 [] []
-  done : {missed : ℕ} {asked carried : List (Command E)} (c : Command E) → CarriedOut missed asked carried → CarriedOut missed (c ∷ asked) (c ∷ carried)
-  left_out : {missed : ℕ} {asked carried : List (Command E)} (e : E) → CarriedOut missed asked carried → CarriedOut (suc missed) (Perform e ∷ asked) carried
-  stopped : {missed : ℕ} {asked carried : List (Command E)} (m reached : ℕ) → m ≤ reached → CarriedOut missed asked carried → CarriedOut (suc missed) (Undo m ∷ asked) (Undo reached ∷ carried)
+  done : {missed : ℕ} {asked carried : List (Command E)} (c : Command E) → CarriedOut missed asked carried →
+      CarriedOut missed (c ∷ asked) (c ∷ carried)
+  left_out : {missed : ℕ} {asked carried : List (Command E)} (e : E) → CarriedOut missed asked carried →
+      CarriedOut (suc missed) (Perform e ∷ asked) carried
+  stopped : {missed : ℕ} {asked carried : List (Command E)} (m reached : ℕ) → m ≤ reached → CarriedOut missed asked carried →
+      CarriedOut (suc missed) (Undo m ∷ asked) (Undo reached ∷ carried)
 
 -- A journal that began at a node and was given commands: what it carried out makes its timeline, the
 -- live steps of that make its stations, and their fold is its node.
-pub record IsReplayOf {S E A N F : Type 0} (rule : Rule S E A N F) (node : S) (commands : List (Command E)) (missed : ℕ) (t : Timeline S N) : Type 0 where
+pub record IsReplayOf {S E A N F : Type 0} (rule : Rule S E A N F) (node : S) (commands : List (Command E)) (missed : ℕ)
+    (t : Timeline S N) : Type 0 where
   pub carried : List (Command E)
   pub carried_out : CarriedOut missed commands carried
   pub timeline : t ≡ timeline_after rule carried (opened node)

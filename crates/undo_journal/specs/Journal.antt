@@ -43,7 +43,8 @@ pub record Stopped {S N : Type 0} (mark n : ℕ) (old new : Timeline S N) (reach
   pub at_mark : reached ≡ mark → new ≡ old
   pub reported : reports ≡ stopped_reports n (cut_stations old new)
   pub same_end : cut_to mark new ≡ cut_to mark old
-  pub whole : (end : Timeline S N) → cut_to mark old ≡ Some end → cut_stations old end ≡ cut_stations new end ++ cut_stations old new
+  pub whole : (end : Timeline S N) → cut_to mark old ≡ Some end →
+      cut_stations old end ≡ cut_stations new end ++ cut_stations old new
 
 -- Why an undo did not reach its mark.
 abbrev pub UndoFails : {S N F : Type 0} → ℕ → ℕ → Timeline S N → Timeline S N → JournalError F N → Type 0

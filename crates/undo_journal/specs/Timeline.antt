@@ -1,5 +1,6 @@
 -- What a journal is: every node that the machine has stood at and still can go back to, in order.
-use Rattle.std.specs.Prelude.{◌≡◌, ℕ, ◌+◌, ◌<◌, ◌≤◌, ◌==◌, if◌then◌else◌, List, [], ◌∷◌, ◌++◌, length, drop, Option, Some, None, option_map, option_to_list}
+use Rattle.std.specs.Prelude.{◌≡◌, ℕ, ◌+◌, ◌<◌, ◌≤◌, ◌==◌, if◌then◌else◌, List, [], ◌∷◌, ◌++◌, length, drop, Option, Some, None}
+use Rattle.std.specs.Prelude.{option_map, option_to_list}
 use Rattle.undo_journal.specs.declared.report.Report.{Report}
 
 -- One node that the machine stood at: the serial of the step that made it, and what that step noted.
