@@ -23,7 +23,10 @@ pub data Step : Type 0 where
 -- tab and vertical tab; every other character stands for itself
 abbrev pub named : ℕ → ℕ
 named c =
-    if c == 98 then 8 else (if c == 100 then 127 else (if c == 101 then 27 else (if c == 102 then 12 else (if c == 110 then 10 else (if c == 114 then 13 else (if c == 115 then 32 else (if c == 116 then 9 else (if c == 118 then 11 else c))))))))
+    if c == 98 then 8 else (if c == 100 then 127 else
+    (if c == 101 then 27 else (if c == 102 then 12 else
+    (if c == 110 then 10 else (if c == 114 then 13 else
+    (if c == 115 then 32 else (if c == 116 then 9 else (if c == 118 then 11 else c))))))))
 
 -- up to three octal digits, behind the first
 abbrev pub octal : ℕ → List ℕ → Step
@@ -47,7 +50,8 @@ two_digits c (d ∷ cs) = if is_digit 16 d then stands (digits_value 16 (c ∷ d
 abbrev pub hexadecimal : List ℕ → Step
 hexadecimal [] = cut
 hexadecimal (c ∷ cs) =
-    if c == 123 then braced (front (is_digit 16) cs) (after_front (is_digit 16) cs) else (if is_digit 16 c then two_digits c cs else wrong)
+    if c == 123 then braced (front (is_digit 16) cs) (after_front (is_digit 16) cs) else
+    (if is_digit 16 c then two_digits c cs else wrong)
 
 -- a control character, behind `^`: 127 by `?` (63), else what the low five bits say
 abbrev pub control : List ℕ → Step
@@ -58,7 +62,8 @@ control (c ∷ cs) = stands (if c == 63 then 127 else c % 32) cs
 abbrev pub escape : List ℕ → Step
 escape [] = cut
 escape (c ∷ cs) =
-    if is_digit 8 c then octal c cs else (if c == 120 then hexadecimal cs else (if c == 94 then control cs else stands (named c) cs))
+    if is_digit 8 c then octal c cs else (if c == 120 then hexadecimal cs else
+    (if c == 94 then control cs else stands (named c) cs))
 
 -- what reading an escape answers, as a step
 abbrev pub escape_step : Result ℕ EscapeError → List ℕ → Step

@@ -2,8 +2,8 @@
 //!
 //! A [`Cursor`] stands in a text and steps over it. Contracts see what is left of the text as a list of code points,
 //! `left`; the bytes of the whole text, `total`, stay. A step that fails says so by an error of its own, without
-//! words on where in the text it stands, but for [`QuoteError::BadEscape`]; [`ReadError`] is what a reader above makes
-//! of it.
+//! words on where in the text it stands, but for [`QuoteError::BadEscape`]: what is wrong with a text is for the crates
+//! above to say.
 //!
 //! # What is proved
 //!
@@ -20,21 +20,18 @@
 //!
 //! # What no contract says
 //!
-//! That there is memory, which only [`Text::new`] and [`Cursor::quoted`] ask for; that `Memory` and `AllocError` are
-//! told only where it was refused; and what a call costs: each is linear in what it steps over, but for
+//! That there is memory, which only [`Cursor::quoted`] asks for; that `Memory` is told only where it was refused; and what a call costs: each is linear in what it steps over, but for
 //! [`Name::from_text`], which counts the characters of its text.
 #![tactic(auto)]
 
 mod bytes;
 mod cursor;
-mod error;
 mod escapes;
 mod quotes;
 mod steps;
 mod text;
 
 pub use cursor::Cursor;
-pub use error::{Fault, ReadError};
 pub use escapes::EscapeError;
 pub use quotes::{QuoteError, quotes_read_one_way};
 pub use text::{Name, NameError, Text};

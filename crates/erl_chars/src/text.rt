@@ -2,7 +2,6 @@
 ghost use Rattle.std.specs.Prelude.{◌≡◌, ◌<◌, ◌≤◌, ◌↔◌, ℕ, List, length, IfOk, IsErr, string_bytes};
 ghost use Rattle.std.specs.Str.{chars};
 
-use std::alloc::{AllocError, Global};
 use std::marker::Model;
 use thiserror::Error;
 
@@ -38,16 +37,11 @@ impl Model for Name {
 pub struct NameError;
 
 impl Text {
-    /// The text of these characters.
-    ///
-    /// # Errors
-    ///
-    /// `AllocError` where memory is refused.
-    pub fn new(alloc: Global, text: &str) -> Result<Text, AllocError>
-        ensures { IfOk result (λ it. it ≡ chars text.now) }
+    /// The text of a string's characters. Takes no memory.
+    pub fn from_string(text: String) -> Text
+        ensures { result ≡ chars (string_bytes text) }
     {
-        let text = String::from_str(alloc, text)?;
-        Ok(Text { text })
+        Text { text }
     }
 
     /// The characters. Takes no memory.

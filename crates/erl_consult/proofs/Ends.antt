@@ -2,8 +2,8 @@
 use Rattle.std.proofs.Common.{◌≡◌, ℕ, Bool, true, false, List, [], ◌∷◌, ◌++◌, Some, None, refl, ap, ap₂, sym, subst, ◌∙◌, append_assoc, append-nil, arith, true≢false}
 use Rattle.std.specs.Prelude.{Option}
 use Rattle.std.proofs.lemmas.Option.{none-some, same_Some}
-use Rattle.erl_chars.specs.declared.error.Fault.{Fault}
-use Rattle.erl_chars.specs.declared.error.Fault.TheVariants.{Unclosed, IntegerRange, Unsupported, MissingDot, TooDeep, Syntax}
+use Rattle.erl_scan.specs.declared.error.Fault.{Fault}
+use Rattle.erl_scan.specs.declared.error.Fault.TheVariants.{Unclosed, IntegerRange, Unsupported, MissingDot, TooDeep, Syntax}
 use Rattle.erl_scan.specs.declared.token.Spot.{Spot}
 use Rattle.erl_term.specs.Tree.{Trees}
 use Rattle.erl_consult.specs.Grammar.{Forms, start, text_parts, form_trees, IsText}

@@ -2,9 +2,9 @@
 use Rattle.std.proofs.Common.{◌≡◌, ℕ, Bool, true, false, cond, List, [], ◌∷◌, ◌++◌, length, Some, None, Ok, Err, refl, ap, sym, subst, ◌∙◌, true≢false, ◌⊎◌, inl, inr, eqb, ◌&&◌}
 use Rattle.std.specs.Prelude.{Option, nat_lt, Result, MatchResult}
 use Rattle.std.specs.Str.{chars, IsUtf8}
-use Rattle.erl_chars.specs.declared.error.Fault.{Fault}
-use Rattle.erl_chars.specs.declared.error.Fault.TheVariants.{Unsupported, AtomTooLong, Memory}
-use Rattle.erl_chars.specs.declared.error.ReadError.{ReadError}
+use Rattle.erl_scan.specs.declared.error.Fault.{Fault}
+use Rattle.erl_scan.specs.declared.error.Fault.TheVariants.{Unsupported, AtomTooLong, Memory}
+use Rattle.erl_scan.specs.declared.error.ReadError.{ReadError}
 use Rattle.erl_chars.specs.Cursor.{byte_count, place}
 use Rattle.erl_chars.specs.Gaps.{after_gap}
 use Rattle.erl_chars.specs.Quotes.{Step, stands, closing, cut, wrong, Quoted, closed, unclosed, bad_escape}

@@ -3,7 +3,7 @@ use Rattle.std.proofs.Common.{◌≡◌, ℕ, suc, pos, ◌^◌, ◌<◌, ◌≤
 use Rattle.std.specs.Prelude.{Option, nat_le}
 use Rattle.std.specs.List.{flat_map}
 use borrow.Author.Tests.{ltb-true, ltb-false}
-use Rattle.erl_chars.specs.declared.error.Fault.TheVariants.{IntegerRange, TooDeep, Syntax}
+use Rattle.erl_scan.specs.declared.error.Fault.TheVariants.{IntegerRange, TooDeep, Syntax}
 use Rattle.erl_term.specs.Tree.{Tree, Trees, int, tuple, list, none, more}
 use Rattle.erl_term.specs.Readable.{deepest}
 use Rattle.erl_term.specs.Rows.{append_trees, integers}

@@ -13,7 +13,7 @@ use Rattle.std.proofs.lemmas.Fmt.{decimal_is_IsNumeral}
 use Rattle.std.proofs.lemmas.Nat.{div-add-mod'}
 use borrow.Author.Tests.{ltb-true}
 use lib.Utf8.{scalar, low_scalar}
-use Rattle.erl_chars.specs.declared.error.Fault.TheVariants.{AtomTooLong}
+use Rattle.erl_scan.specs.declared.error.Fault.TheVariants.{AtomTooLong}
 use Rattle.erl_chars.specs.Chars as kinds
 use Rattle.erl_chars.specs.Chars.{is_digit, is_blank, is_small, is_capital, is_decimal, begins_variable, front, after_front, is_between}
 use Rattle.erl_chars.specs.Gaps.{after_gap}

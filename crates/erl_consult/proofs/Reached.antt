@@ -3,8 +3,8 @@ use Rattle.std.proofs.Common.{◌≡◌, ℕ, ◌-◌, Bool, true, false, cond, 
 use Rattle.std.specs.Prelude.{Option}
 use Rattle.std.specs.Option.{option_and_then}
 use Rattle.std.proofs.lemmas.Option.{none-some, same_Some}
-use Rattle.erl_chars.specs.declared.error.Fault.{Fault}
-use Rattle.erl_chars.specs.declared.error.Fault.TheVariants.{IntegerRange, Unsupported, TooDeep, Syntax}
+use Rattle.erl_scan.specs.declared.error.Fault.{Fault}
+use Rattle.erl_scan.specs.declared.error.Fault.TheVariants.{IntegerRange, Unsupported, TooDeep, Syntax}
 use Rattle.erl_scan.specs.declared.token.Spot.{Spot}
 use Rattle.erl_consult.specs.Grammar.{Part, number, minus, plus, name, string, open_tuple, close_tuple, open_list, close_list, comma, bar, dot, unread, foreign, Forms, start, IsStart}
 use Rattle.erl_consult.specs.Faults.{spot_part, parts, last_of, is_minus, is_sign, is_bar, is_string, last_is, opened, closed, is_unread, is_faulty, range_place_by, is_wrong_tail, begins_nesting, begins_list, IsFaulty, not_read, out_of_range, misplaced, wrong_tail, too_deep, is_out_of_range}

@@ -2,9 +2,9 @@
 use Rattle.std.proofs.Common.{◌≡◌, ℕ, pos, ◌+◌, ◌<◌, length-append, List, [], ◌∷◌, ◌++◌, length, get_or, take, zero, suc, false, ◌==◌, Option, Some, None, option_map, Result, Ok, Err, IsErr, ◌⊎◌, inl, inr, if◌then◌else◌, true, nat_lt, subst, sym, ap, ◌∙◌, refl, arith}
 use Rattle.std.specs.Result.{IsErrAnd}
 use Rattle.std.proofs.lemmas.Bool.Decides.{nat_tests}
-use Rattle.erl_chars.specs.declared.error.Fault.{Fault}
-use Rattle.erl_chars.specs.declared.error.Fault.TheVariants.{Syntax, TooDeep, Memory as refused}
-use Rattle.erl_chars.specs.declared.error.ReadError.{ReadError}
+use Rattle.erl_scan.specs.declared.error.Fault.{Fault}
+use Rattle.erl_scan.specs.declared.error.Fault.TheVariants.{Syntax, TooDeep, Memory as refused}
+use Rattle.erl_scan.specs.declared.error.ReadError.{ReadError}
 use Rattle.std.proofs.lemmas.List.{take_all, take_more}
 use Rattle.erl_term.specs.declared.term.Term.{Term}
 use Rattle.erl_term.specs.Readable.{deepest}

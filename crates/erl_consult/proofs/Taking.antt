@@ -2,7 +2,7 @@
 use Rattle.std.proofs.Common.{◌≡◌, ℕ, suc, pos, ◌+◌, ◌<◌, ◌≤◌, Bool, true, false, cond, ◌&&◌, List, [], ◌∷◌, ◌++◌, length, Some, refl, ap, ap₂, sym, ◌∙◌, append_assoc, append-nil, arith, true≢false}
 use Rattle.std.specs.List.{flat_map}
 use borrow.Author.Tests.{lt-ltb}
-use Rattle.erl_chars.specs.declared.error.Fault.TheVariants.{IntegerRange, TooDeep}
+use Rattle.erl_scan.specs.declared.error.Fault.TheVariants.{IntegerRange, TooDeep}
 use Rattle.erl_scan.specs.declared.token.Spot.{Spot}
 use Rattle.erl_term.specs.Tree.{Trees, int, atom, tuple, list, none, more}
 use Rattle.erl_term.specs.Readable.{deepest}

@@ -1,7 +1,7 @@
 -- Why the fault that a text is refused for is its first: the tokens before it are those of some text, as far as they go,
 -- and with the token that is told they are of none.
 use Rattle.std.specs.Prelude.{◌≡◌, ◌⊎◌, ℕ, ◌-◌, true, List, [], ◌∷◌, ◌++◌}
-use Rattle.erl_chars.specs.declared.error.Fault.{Fault}
+use Rattle.erl_scan.specs.declared.error.Fault.{Fault}
 use Rattle.erl_scan.specs.declared.token.Spot.{Spot}
 use Rattle.erl_term.specs.Tree.{Trees}
 use Rattle.erl_term.specs.Readable.{deepest}

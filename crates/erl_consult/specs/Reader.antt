@@ -1,8 +1,8 @@
 -- What a reader has seen of a text of terms: its fields as the steps of reading have them.
 use Rattle.std.specs.Prelude.{◌≡◌, ℕ, List, [], ◌∷◌, ◌++◌, ℤ, pos, neg_ℤ, ◌^◌, nat_le, nat_lt, Bool, true, false, if◌then◌else◌, Option, Some, None, Result, MatchResult, ◌⊎◌}
-use Rattle.erl_chars.specs.declared.error.Fault.{Fault}
-use Rattle.erl_chars.specs.declared.error.Fault.TheVariants.{Syntax, IntegerRange, Memory as refused}
-use Rattle.erl_chars.specs.declared.error.ReadError.{ReadError}
+use Rattle.erl_scan.specs.declared.error.Fault.{Fault}
+use Rattle.erl_scan.specs.declared.error.Fault.TheVariants.{Syntax, IntegerRange, Memory as refused}
+use Rattle.erl_scan.specs.declared.error.ReadError.{ReadError}
 use Rattle.erl_term.specs.Term.{tree, trees}
 use Rattle.erl_consult.specs.declared.parsing.reader.Bracket.{Bracket as Kind}
 use Rattle.erl_consult.specs.declared.parsing.reader.Bracket.TheVariants.{Tuple, List as ListOf, Tail}

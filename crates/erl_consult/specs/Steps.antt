@@ -1,8 +1,8 @@
 -- The steps of reading a text of terms from token to token: words for the reader's own functions, which no public
 -- clause cites.
 use Rattle.std.specs.Prelude.{ℕ, pos, neg_ℤ, ◌^◌, nat_le, nat_lt, Bool, true, false, if◌then◌else◌, List, [], ◌∷◌, length, Option, Some, None}
-use Rattle.erl_chars.specs.declared.error.Fault.{Fault}
-use Rattle.erl_chars.specs.declared.error.Fault.TheVariants.{Unclosed, IntegerRange, Unsupported, MissingDot, TooDeep, Syntax}
+use Rattle.erl_scan.specs.declared.error.Fault.{Fault}
+use Rattle.erl_scan.specs.declared.error.Fault.TheVariants.{Unclosed, IntegerRange, Unsupported, MissingDot, TooDeep, Syntax}
 use Rattle.erl_term.specs.Tree.{Tree, Trees, int, atom, pid, tuple, list, none, more}
 use Rattle.erl_term.specs.Readable.{deepest}
 use Rattle.erl_term.specs.Rows.{append_trees, integers}

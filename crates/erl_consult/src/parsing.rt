@@ -1,7 +1,7 @@
 // Reading texts of terms.
 ghost use Rattle.std.specs.Prelude.{◌≡◌, ◌⊎◌, ℕ, List, MatchResult};
 ghost use Rattle.std.specs.Str.{chars};
-ghost use Rattle.erl_chars.specs.declared.error.Fault.TheVariants.{Memory as refused};
+ghost use Rattle.erl_scan.specs.declared.error.Fault.TheVariants.{Memory as refused};
 ghost use Rattle.erl_term.specs.Term.{trees};
 ghost use Rattle.erl_consult.specs.Faults.{FaultsFirst, IsRefused, IsTextOf, OneReading};
 ghost use Rattle.erl_consult.specs.FirstFault.{FirstFault};

@@ -5,7 +5,7 @@ use Rattle.std.specs.Char.{digit_value}
 use Rattle.std.specs.Str.Parse.{digits_value_after}
 use Rattle.std.proofs.lemmas.Bool.{cases_Bool, cases_lt, lt-leb, le-leb, and_from, and_right}
 use Rattle.erl_chars.specs.Cursor.{first_of, after_first}
-use Rattle.erl_chars.specs.declared.error.Fault.TheVariants.{Syntax}
+use Rattle.erl_scan.specs.declared.error.Fault.TheVariants.{Syntax}
 use Rattle.erl_scan.specs.declared.token.Token.TheVariants.{Integer}
 use Rattle.erl_scan.specs.Numbers.{Number, whole, real, no_base, begins_with_digit, number_by, saturated}
 use Rattle.erl_scan.specs.Saturated.{saturated_number}

@@ -3,8 +3,8 @@ use Rattle.std.proofs.Common.{◌≡◌, ℕ, ◌+◌, true, false, inl, inr, Li
 use Rattle.std.specs.Prelude.{nat_lt}
 use Rattle.std.proofs.lemmas.Bool.{cases_Bool, ne_eqb, and_parts, eqb-true}
 use Rattle.std.proofs.lemmas.List.{drop-drop}
-use Rattle.erl_chars.specs.declared.error.Fault.TheVariants.{BadChar, BadEscape, Unsupported, AtomTooLong}
-use Rattle.erl_chars.specs.declared.error.ReadError.{ReadError}
+use Rattle.erl_scan.specs.declared.error.Fault.TheVariants.{BadChar, BadEscape, Unsupported, AtomTooLong}
+use Rattle.erl_scan.specs.declared.error.ReadError.{ReadError}
 use Rattle.erl_chars.specs.declared.escapes.EscapeError.{EscapeError}
 use Rattle.erl_chars.specs.declared.escapes.EscapeError.TheVariants.{Cut, Wrong}
 use Rattle.erl_chars.specs.declared.quotes.QuoteError.TheVariants.{BadEscape as EscapeAt}

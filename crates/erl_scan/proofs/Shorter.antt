@@ -5,7 +5,7 @@ use Rattle.std.specs.List.{list_all}
 use Rattle.std.specs.Str.Parse.{digits_value}
 use Rattle.std.proofs.lemmas.Option.{none-some, same_Some}
 use lib.Utf8.{scalar}
-use Rattle.erl_chars.specs.declared.error.Fault.TheVariants.{AtomTooLong, Unsupported}
+use Rattle.erl_scan.specs.declared.error.Fault.TheVariants.{AtomTooLong, Unsupported}
 use Rattle.erl_chars.specs.Chars.{is_digit, is_small, is_name_char, begins_variable, after_front, front}
 use Rattle.erl_chars.specs.Gaps.{past_gap, after_gap}
 use Rattle.erl_chars.specs.Chars.{is_blank}

@@ -1,7 +1,7 @@
 -- What reading one token answers, for the steps that read a token of one kind.
 use Rattle.std.specs.Prelude.{◌≡◌, ℕ, nat_lt, if◌then◌else◌, List, [], ◌∷◌, length, Option, Some, None, Result, Ok, Err}
-use Rattle.erl_chars.specs.declared.error.Fault.TheVariants.{Unclosed, BadEscape, AtomTooLong, Memory}
-use Rattle.erl_chars.specs.declared.error.ReadError.{ReadError}
+use Rattle.erl_scan.specs.declared.error.Fault.TheVariants.{Unclosed, BadEscape, AtomTooLong, Memory}
+use Rattle.erl_scan.specs.declared.error.ReadError.{ReadError}
 use Rattle.erl_chars.specs.Chars.{is_name_char, front, after_front}
 use Rattle.erl_chars.specs.Cursor.{place, after_first}
 use Rattle.erl_chars.specs.Quotes.{closed, unclosed, bad_escape, IsQuoted}
@@ -55,8 +55,10 @@ NameGoesOn cs (Some c) rest =
 -- an error tells why nothing stands between quotes, by the text at the opening one
 pub data IsNotBetween (whole quote : ℕ) (here : List ℕ) (error : ReadError) : Type 0 where
   no_memory : error.kind ≡ Memory → IsNotBetween whole quote here error
-  open_end : IsQuoted quote (after_first here) unclosed → error.kind ≡ Unclosed → error.at ≡ place whole here → IsNotBetween whole quote here error
-  escape : (at : List ℕ) → IsQuoted quote (after_first here) (bad_escape at) → error.kind ≡ BadEscape → error.at ≡ place whole at → IsNotBetween whole quote here error
+  open_end : IsQuoted quote (after_first here) unclosed → error.kind ≡ Unclosed → error.at ≡ place whole here →
+      IsNotBetween whole quote here error
+  escape : (at : List ℕ) → IsQuoted quote (after_first here) (bad_escape at) → error.kind ≡ BadEscape →
+      error.at ≡ place whole at → IsNotBetween whole quote here error
 
 -- an answer tells what stands between quotes, by the text at the opening one
 abbrev pub IsBetween : ℕ → ℕ → List ℕ → Result (List ℕ) ReadError → List ℕ → Type 0

@@ -1,7 +1,12 @@
 -- Punctuation: the longest that the characters begin with (`erl_scan` of OTP 25).
 use Rattle.std.specs.Prelude.{◌≡◌, ℕ, ◌≤◌, ◌==◌, if◌then◌else◌, List, [], ◌∷◌, ◌++◌, length, codes, Option, Some, None}
 use Rattle.erl_scan.specs.declared.mark.Mark.{Mark}
-use Rattle.erl_scan.specs.declared.mark.Mark.TheVariants.{ExactlyEqual, ExactlyUnequal, Ellipsis, OpenBinary, LeftArrow, BinaryArrow, CloseBinary, GreaterOrEqual, Arrow, Subtract, Append, LessOrEqual, MapArrow, Equal, Unequal, BarBar, MapMatch, ColonColon, DotDot, MaybeMatch, OpenParen, CloseParen, OpenBrace, CloseBrace, OpenBracket, CloseBracket, Comma, Semicolon, Colon, Period, Bar, Send, Hash, Times, Plus, Minus, Divide, Less, Match, Greater, Question}
+use Rattle.erl_scan.specs.declared.mark.Mark.TheVariants.{ExactlyEqual, ExactlyUnequal, Ellipsis, OpenBinary, LeftArrow}
+use Rattle.erl_scan.specs.declared.mark.Mark.TheVariants.{BinaryArrow, CloseBinary, GreaterOrEqual, Arrow, Subtract, Append}
+use Rattle.erl_scan.specs.declared.mark.Mark.TheVariants.{LessOrEqual, MapArrow, Equal, Unequal, BarBar, MapMatch, ColonColon}
+use Rattle.erl_scan.specs.declared.mark.Mark.TheVariants.{DotDot, MaybeMatch, OpenParen, CloseParen, OpenBrace, CloseBrace}
+use Rattle.erl_scan.specs.declared.mark.Mark.TheVariants.{OpenBracket, CloseBracket, Comma, Semicolon, Colon, Period, Bar, Send}
+use Rattle.erl_scan.specs.declared.mark.Mark.TheVariants.{Hash, Times, Plus, Minus, Divide, Less, Match, Greater, Question}
 
 -- each as it is written
 abbrev pub mark_text : Mark → List ℕ
@@ -50,7 +55,10 @@ mark_text Question = codes "?"
 -- all of them, the longest first
 abbrev pub all_marks : List Mark
 all_marks =
-    ExactlyEqual ∷ ExactlyUnequal ∷ Ellipsis ∷ OpenBinary ∷ LeftArrow ∷ BinaryArrow ∷ CloseBinary ∷ GreaterOrEqual ∷ Arrow ∷ Subtract ∷ Append ∷ LessOrEqual ∷ MapArrow ∷ Equal ∷ Unequal ∷ BarBar ∷ MapMatch ∷ ColonColon ∷ DotDot ∷ MaybeMatch ∷ OpenParen ∷ CloseParen ∷ OpenBrace ∷ CloseBrace ∷ OpenBracket ∷ CloseBracket ∷ Comma ∷ Semicolon ∷ Colon ∷ Period ∷ Bar ∷ Send ∷ Hash ∷ Times ∷ Plus ∷ Minus ∷ Divide ∷ Less ∷ Match ∷ Greater ∷ Question ∷ []
+    ExactlyEqual ∷ ExactlyUnequal ∷ Ellipsis ∷ OpenBinary ∷ LeftArrow ∷ BinaryArrow ∷ CloseBinary ∷ GreaterOrEqual ∷ Arrow ∷
+    Subtract ∷ Append ∷ LessOrEqual ∷ MapArrow ∷ Equal ∷ Unequal ∷ BarBar ∷ MapMatch ∷ ColonColon ∷ DotDot ∷ MaybeMatch ∷
+    OpenParen ∷ CloseParen ∷ OpenBrace ∷ CloseBrace ∷ OpenBracket ∷ CloseBracket ∷ Comma ∷ Semicolon ∷ Colon ∷ Period ∷ Bar ∷
+    Send ∷ Hash ∷ Times ∷ Plus ∷ Minus ∷ Divide ∷ Less ∷ Match ∷ Greater ∷ Question ∷ []
 
 -- what is left behind a text that the characters begin with
 abbrev pub behind : List ℕ → List ℕ → Option (List ℕ)
@@ -84,4 +92,5 @@ pub record IsLongest (cs : List ℕ) (m : Mark) (found : Marked) : Type 0 where
 
 abbrev pub MarksAreLongest : Type 0
 MarksAreLongest =
-    (m : Mark) → (cs rest : List ℕ) → cs ≡ mark_text m ++ rest → (found : Marked) × (mark_in cs ≡ Some found) × IsLongest cs m found
+    (m : Mark) → (cs rest : List ℕ) → cs ≡ mark_text m ++ rest →
+    (found : Marked) × (mark_in cs ≡ Some found) × IsLongest cs m found

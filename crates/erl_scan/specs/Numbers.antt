@@ -17,7 +17,8 @@ digits_on base (c ∷ cs) =
 abbrev pub after_digits : ℕ → List ℕ → List ℕ
 after_digits base [] = []
 after_digits base (c ∷ cs) =
-    if is_digit base c then after_digits base cs else (if (c == 95) && begins_with_digit base cs then after_digits base cs else c ∷ cs)
+    if is_digit base c then after_digits base cs else
+    (if (c == 95) && begins_with_digit base cs then after_digits base cs else c ∷ cs)
 
 -- the value of the digits that the characters begin with
 abbrev pub value_in : ℕ → List ℕ → ℕ
@@ -36,7 +37,8 @@ pub data Number : Type 0 where
 abbrev pub after_sign : List ℕ → List ℕ → List ℕ
 after_sign cs [] = cs
 after_sign cs (d ∷ ds) =
-    if is_digit 10 d then after_digits 10 (d ∷ ds) else (if ((d == 43) || (d == 45)) && begins_with_digit 10 ds then after_digits 10 ds else cs)
+    if is_digit 10 d then after_digits 10 (d ∷ ds) else
+    (if ((d == 43) || (d == 45)) && begins_with_digit 10 ds then after_digits 10 ds else cs)
 
 -- what is left behind the exponent, where there is one: `e` (101) or `E` (69), a sign or none, and digits
 abbrev pub after_exponent : List ℕ → List ℕ
@@ -48,7 +50,10 @@ after_exponent (c ∷ cs) = if (c == 101) || (c == 69) then after_sign (c ∷ cs
 abbrev pub number_by : ℕ → List ℕ → Number
 number_by n [] = whole n []
 number_by n (c ∷ cs) =
-    if (c == 46) && begins_with_digit 10 cs then real (after_exponent (after_digits 10 cs)) else (if c == 35 then (if nat_le 2 n && nat_le n 36 then (if begins_with_digit n cs then whole (value_in n cs) (after_digits n cs) else whole n (c ∷ cs)) else no_base) else whole n (c ∷ cs))
+    if (c == 46) && begins_with_digit 10 cs then real (after_exponent (after_digits 10 cs)) else
+    (if c == 35 then (if nat_le 2 n && nat_le n 36 then
+    (if begins_with_digit n cs then whole (value_in n cs) (after_digits n cs) else whole n (c ∷ cs)) else no_base)
+    else whole n (c ∷ cs))
 
 -- the number in front of characters that begin with a decimal digit
 abbrev pub number_in : List ℕ → Number

@@ -20,4 +20,5 @@ saturated_number no_base = no_base
 abbrev pub GoesOn : ℕ → List ℕ → Option ℕ → List ℕ → Type 0
 GoesOn base cs None rest = (digits_on base cs ≡ []) × (after_digits base cs ≡ cs) × (rest ≡ cs)
 GoesOn base cs (Some d) rest =
-    (c : ℕ) × (d ≡ digit_value c) × (digits_on base cs ≡ c ∷ digits_on base rest) × (after_digits base cs ≡ after_digits base rest)
+    (c : ℕ) × (d ≡ digit_value c) × (digits_on base cs ≡ c ∷ digits_on base rest) ×
+    (after_digits base cs ≡ after_digits base rest)

@@ -1,7 +1,7 @@
 -- A scanner as contracts see it, and what its answers say.
 use Rattle.std.specs.Prelude.{◌≡◌, ℕ, List, [], Option, Some, None, Result, Ok, Err}
-use Rattle.erl_chars.specs.declared.error.Fault.TheVariants.{Memory}
-use Rattle.erl_chars.specs.declared.error.ReadError.{ReadError}
+use Rattle.erl_scan.specs.declared.error.Fault.TheVariants.{Memory}
+use Rattle.erl_scan.specs.declared.error.ReadError.{ReadError}
 use Rattle.erl_chars.specs.Cursor.{place, left as left_of, total as total_of}
 use Rattle.erl_scan.specs.declared.scanner.Scanner.{Scanner}
 use Rattle.erl_scan.specs.declared.token.Spot.{Spot}

@@ -1,14 +1,16 @@
 -- Tokens (Erlang Reference Manual; after `erl_scan` of OTP 25, which differs in little): what a text begins with, and a
 -- text as a list of tokens.
-use Rattle.std.specs.Prelude.{◌≡◌, ℕ, nat_lt, ◌==◌, Bool, true, false, ◌&&◌, ◌||◌, if◌then◌else◌, List, [], ◌∷◌, length, Option, Some, None}
-use Rattle.erl_chars.specs.declared.error.Fault.{Fault}
-use Rattle.erl_chars.specs.declared.error.Fault.TheVariants.{BadChar, Unclosed, BadEscape, Unsupported, AtomTooLong, Syntax}
+use Rattle.std.specs.Prelude.{◌≡◌, ℕ, nat_lt, ◌==◌, Bool, true, false, ◌&&◌, ◌||◌, if◌then◌else◌, List, [], ◌∷◌, length, Option}
+use Rattle.std.specs.Prelude.{Some, None}
+use Rattle.erl_scan.specs.declared.error.Fault.{Fault}
+use Rattle.erl_scan.specs.declared.error.Fault.TheVariants.{BadChar, Unclosed, BadEscape, Unsupported, AtomTooLong, Syntax}
 use Rattle.erl_chars.specs.Chars.{is_blank, is_digit, is_small, is_name_char, begins_variable, front, after_front}
 use Rattle.erl_chars.specs.Cursor.{byte_count, place}
 use Rattle.erl_chars.specs.Gaps.{after_gap}
 use Rattle.erl_chars.specs.Quotes.{Step, stands, closing, cut, wrong, escape, Quoted, closed, unclosed, bad_escape, IsQuoted}
 use Rattle.erl_scan.specs.declared.token.Token.{Token}
-use Rattle.erl_scan.specs.declared.token.Token.TheVariants.{Integer, Float, Atom, Word as WordOf, Variable, String, Mark as MarkOf, Dot}
+use Rattle.erl_scan.specs.declared.token.Token.TheVariants.{Integer, Float, Atom, Word as WordOf, Variable, String}
+use Rattle.erl_scan.specs.declared.token.Token.TheVariants.{Mark as MarkOf, Dot}
 use Rattle.erl_scan.specs.declared.token.Spot.{Spot}
 use Rattle.erl_scan.specs.declared.word.Word.{Word}
 use Rattle.erl_scan.specs.Words.{word_of}
@@ -88,7 +90,12 @@ mark_next here (Some m) = token (MarkOf m.mark) m.rest
 -- what comes next, where the first character is no quote
 abbrev pub plain_next : ℕ → List ℕ → Next
 plain_next c cs =
-    if is_digit 10 c then number_next (c ∷ cs) (number_in (c ∷ cs)) else (if c == 36 then character_next (c ∷ cs) cs else (if is_small c then name_next (c ∷ cs) (c ∷ front is_name_char cs) (word_of (c ∷ front is_name_char cs)) (after_front is_name_char cs) else (if begins_variable c then token (Variable (c ∷ front is_name_char cs)) (after_front is_name_char cs) else (if (c == 46) && ends_form cs then token Dot cs else mark_next (c ∷ cs) (mark_in (c ∷ cs))))))
+    if is_digit 10 c then number_next (c ∷ cs) (number_in (c ∷ cs)) else
+    (if c == 36 then character_next (c ∷ cs) cs else
+    (if is_small c then name_next (c ∷ cs) (c ∷ front is_name_char cs) (word_of (c ∷ front is_name_char cs))
+    (after_front is_name_char cs) else (if begins_variable c then token (Variable (c ∷ front is_name_char cs))
+    (after_front is_name_char cs) else (if (c == 46) &&
+    ends_form cs then token Dot cs else mark_next (c ∷ cs) (mark_in (c ∷ cs))))))
 
 -- what comes next, by whether the first character is a single quote (39) or a double one (34)
 abbrev pub NextBy : Bool → Bool → ℕ → List ℕ → Next → Type 0
@@ -121,4 +128,5 @@ ComesOne = (cs : List ℕ) → (one other : Next) → Comes cs one → Comes cs 
 
 abbrev pub ReadsOne : Type 0
 ReadsOne =
-    (total : ℕ) → (cs : List ℕ) → (one other : List Spot) → (rest : List ℕ) → (left : List ℕ) → Reads total cs one rest → Reads total cs other left → length one ≡ length other → (one ≡ other) × (rest ≡ left)
+    (total : ℕ) → (cs : List ℕ) → (one other : List Spot) → (rest : List ℕ) → (left : List ℕ) → Reads total cs one rest →
+    Reads total cs other left → length one ≡ length other → (one ≡ other) × (rest ≡ left)

@@ -2,7 +2,9 @@
 use Rattle.std.specs.Prelude.{ℕ, if◌then◌else◌, List, [], ◌∷◌, codes, Option, Some, None}
 use Rattle.std.specs.Str.{bytes_eq}
 use Rattle.erl_scan.specs.declared.word.Word.{Word}
-use Rattle.erl_scan.specs.declared.word.Word.TheVariants.{After, And, AndAlso, BitAnd, Begin, BitNot, BitOr, ShiftLeft, ShiftRight, BitXor, Case, Catch, Cond, Div, End, Fun, If, Let, Not, Of, Or, OrElse, Receive, Rem, Try, When, Xor}
+use Rattle.erl_scan.specs.declared.word.Word.TheVariants.{After, And, AndAlso, BitAnd, Begin, BitNot, BitOr, ShiftLeft}
+use Rattle.erl_scan.specs.declared.word.Word.TheVariants.{ShiftRight, BitXor, Case, Catch, Cond, Div, End, Fun, If, Let, Not}
+use Rattle.erl_scan.specs.declared.word.Word.TheVariants.{Of, Or, OrElse, Receive, Rem, Try, When, Xor}
 
 -- each reserved word as it is written
 abbrev pub word_text : Word → List ℕ
@@ -36,7 +38,8 @@ word_text Xor = codes "xor"
 
 abbrev pub all_words : List Word
 all_words =
-    After ∷ And ∷ AndAlso ∷ BitAnd ∷ Begin ∷ BitNot ∷ BitOr ∷ ShiftLeft ∷ ShiftRight ∷ BitXor ∷ Case ∷ Catch ∷ Cond ∷ Div ∷ End ∷ Fun ∷ If ∷ Let ∷ Not ∷ Of ∷ Or ∷ OrElse ∷ Receive ∷ Rem ∷ Try ∷ When ∷ Xor ∷ []
+    After ∷ And ∷ AndAlso ∷ BitAnd ∷ Begin ∷ BitNot ∷ BitOr ∷ ShiftLeft ∷ ShiftRight ∷ BitXor ∷ Case ∷ Catch ∷ Cond ∷ Div ∷
+    End ∷ Fun ∷ If ∷ Let ∷ Not ∷ Of ∷ Or ∷ OrElse ∷ Receive ∷ Rem ∷ Try ∷ When ∷ Xor ∷ []
 
 -- the first of some words that is written so
 abbrev pub word_among : List Word → List ℕ → Option Word

@@ -27,9 +27,10 @@
 //!
 //! That there is memory, which the atoms, variables, strings and reserved words ask for, and the list of [`scan`]; that
 //! `Memory` and `AllocError` are told only where it was refused; and what a call costs: it is linear in what it steps
-//! over, and `scan` in the text, with one list that it pushes to. A name is copied twice.
+//! over, and `scan` in the text, with one list that it pushes to.
 #![tactic(auto)]
 
+mod error;
 mod laws;
 mod mark;
 mod marks;
@@ -42,7 +43,8 @@ mod token;
 mod whole;
 mod word;
 
-pub use erl_chars::{Fault, Name, ReadError, Text};
+pub use erl_chars::{Name, Text};
+pub use error::{Fault, ReadError};
 pub use laws::{marks_are_longest, tokens_read_one_way};
 pub use mark::Mark;
 pub use scanner::Scanner;

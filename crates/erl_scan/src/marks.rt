@@ -8,10 +8,10 @@ ghost use Rattle.erl_scan.specs.Lookahead.{mark_by};
 ghost use Rattle.erl_scan.specs.Marks.{mark_in, mark_text};
 ghost use Rattle.erl_scan.specs.Tokens.{mark_next};
 
+use crate::error::{Fault, ReadError};
 use crate::mark::Mark;
 use crate::scanner::Scanner;
 use crate::token::Token;
-use erl_chars::{Fault, ReadError};
 
 impl<'a> Scanner<'a> {
     /// Reads the longest mark.

@@ -6,10 +6,11 @@ ghost use Rattle.erl_chars.specs.Chars.{front, after_front};
 ghost use Rattle.erl_scan.specs.Scanner.{left, total};
 ghost use Rattle.erl_scan.specs.Answers.{Answers, NameGoesOn, name_in, variable_in, atom_at};
 
+use crate::error::{Fault, ReadError};
 use crate::scanner::{OUT_OF_MEMORY, Scanner};
 use crate::token::Token;
 use crate::word::Word;
-use erl_chars::{Fault, Name, ReadError, Text};
+use erl_chars::{Name, Text};
 use std::alloc::AllocError;
 
 impl<'a> Scanner<'a> {
@@ -50,7 +51,7 @@ impl<'a> Scanner<'a> {
         while let Some(c) = self.next_name_char() {
             append(&mut text, c)?;
         }
-        Text::new(self.alloc, text.as_str())
+        Ok(Text::from_string(text))
     }
 
     /// The next character, stepped over, where a name may have it.

@@ -7,9 +7,10 @@ ghost use Rattle.erl_scan.specs.Numbers.{begins_with_digit, value_in, after_digi
 ghost use Rattle.erl_scan.specs.Saturated.{saturated_number, number_of, GoesOn};
 ghost use Rattle.erl_scan.specs.Tokens.{number_next};
 
+use crate::error::{Fault, ReadError};
 use crate::scanner::Scanner;
 use crate::token::Token;
-use erl_chars::{Cursor, Fault, ReadError};
+use erl_chars::Cursor;
 
 /// A number without a sign.
 #[derive(Clone, Copy)]

@@ -5,10 +5,11 @@ ghost use Rattle.erl_scan.specs.Scanner.{left, total};
 ghost use Rattle.erl_scan.specs.Answers.{Answers, Takes, IsBetween, character_in};
 ghost use Rattle.erl_scan.specs.Tokens.{begins_two_quotes};
 
+use crate::error::{Fault, ReadError};
 use crate::names::atom;
 use crate::scanner::{OUT_OF_MEMORY, Scanner};
 use crate::token::Token;
-use erl_chars::{Fault, QuoteError, ReadError, Text};
+use erl_chars::{QuoteError, Text};
 
 impl<'a> Scanner<'a> {
     /// Reads an atom between single quotes.

@@ -1,5 +1,6 @@
 // The scanner.
-use erl_chars::{Cursor, Fault, ReadError};
+use crate::error::{Fault, ReadError};
+use erl_chars::Cursor;
 use std::alloc::Global;
 
 /// A text, and how far its tokens are read.

@@ -8,11 +8,12 @@ ghost use Rattle.erl_scan.specs.Scanner.{left, total, Scans};
 ghost use Rattle.erl_scan.specs.Answers.{Answers, Takes, plain_in};
 ghost use Rattle.erl_scan.specs.Tokens.{ends_form};
 
+use crate::error::ReadError;
 use crate::names::{begins_variable, is_small};
 use crate::numbers::begins_with_digit;
 use crate::scanner::Scanner;
 use crate::token::{Spot, Token};
-use erl_chars::{Cursor, ReadError};
+use erl_chars::Cursor;
 use std::alloc::Global;
 
 impl<'a> Scanner<'a> {

@@ -3,9 +3,10 @@ ghost use Rattle.std.specs.Prelude.{ℕ, List, IfOk};
 ghost use Rattle.std.specs.Str.{chars};
 ghost use Rattle.erl_scan.specs.Scan.{IsScanOf, HasOneScan};
 
+use crate::error::{Fault, ReadError};
 use crate::scanner::Scanner;
 use crate::token::Spot;
-use erl_chars::{Fault, ReadError, quotes_read_one_way};
+use erl_chars::quotes_read_one_way;
 use std::alloc::{AllocError, Global};
 
 /// The tokens of a text, up to its end or to the first token that is faulty by itself.

@@ -3,8 +3,8 @@ use Rattle.std.proofs.Common.{◌≡◌, ◌⊎◌, ℕ, List, Bool, true, false
 use Rattle.std.specs.Prelude.{codes}
 use Rattle.std.specs.Str.{bytes_eq}
 use Rattle.std.proofs.lemmas.Slice.Eq.{bytes_eq-Decides}
-use Rattle.erl_chars.specs.declared.error.Fault.{Fault}
-use Rattle.erl_chars.specs.declared.error.Fault.TheVariants.{Unsupported}
+use Rattle.erl_scan.specs.declared.error.Fault.{Fault}
+use Rattle.erl_scan.specs.declared.error.Fault.TheVariants.{Unsupported}
 use Rattle.erl_term.specs.Tree.{Tree, Trees, none, more}
 use Rattle.erl_consult.specs.Faults.{IsTextOf, IsRefused, OneReading, IsJudged, is_text, is_refused}
 use Rattle.otp_files.specs.declared.error.FileError.{FileError}

@@ -1,8 +1,8 @@
 -- Bytes are one file, or none for one reason.
 use Rattle.std.proofs.Common.{◌≡◌, ℕ, List, Result, Ok, Err, Option, Some, None, refl, sym, ap, ◌∙◌}
 use Rattle.std.proofs.lemmas.Option.{same_Some}
-use Rattle.erl_chars.specs.declared.error.Fault.TheVariants.{Unsupported}
-use Rattle.erl_chars.specs.declared.error.ReadError.{ReadError}
+use Rattle.erl_scan.specs.declared.error.Fault.TheVariants.{Unsupported}
+use Rattle.erl_scan.specs.declared.error.ReadError.{ReadError}
 use Rattle.erl_term.specs.Tree.{Tree, Trees, none, more}
 use Rattle.erl_consult.specs.Faults.{IsTextOf, IsRefused, OneReading}
 use Rattle.otp_files.specs.declared.error.FileError.{FileError}

@@ -1,6 +1,6 @@
 -- The files of a release as bytes: each holds one term.
 use Rattle.std.specs.Prelude.{◌≡◌, ℕ, List, codes, take, drop, Result, Ok, Err}
-use Rattle.erl_chars.specs.declared.error.Fault.TheVariants.{Unsupported}
+use Rattle.erl_scan.specs.declared.error.Fault.TheVariants.{Unsupported}
 use Rattle.erl_term.specs.Tree.{Tree, Trees, none, more}
 use Rattle.erl_consult.specs.Faults.{IsTextOf, IsRefused}
 use Rattle.otp_files.specs.declared.error.FileError.{FileError}

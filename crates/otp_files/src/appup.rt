@@ -1,6 +1,6 @@
 // Application upgrade files.
 ghost use Rattle.std.specs.Prelude.{◌≡◌, ◌⊎◌, ◌↔◌, IsTrue, IfOk, MatchResult, codes, drop, take};
-ghost use Rattle.erl_chars.specs.declared.error.Fault.TheVariants.{Unsupported as unsupported};
+ghost use Rattle.erl_scan.specs.declared.error.Fault.TheVariants.{Unsupported as unsupported};
 ghost use Rattle.std.specs.Option.{option_copied};
 ghost use Rattle.erl_term.specs.Term.{tree};
 ghost use Rattle.otp_files.specs.Entries.{appup_entry_for};

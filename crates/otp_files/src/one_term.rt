@@ -1,6 +1,6 @@
 // Files that hold one term.
 ghost use Rattle.std.specs.Prelude.{◌≡◌, ◌⊎◌, MatchResult, Ok, Err};
-ghost use Rattle.erl_chars.specs.declared.error.Fault.TheVariants.{Memory as no_memory};
+ghost use Rattle.erl_scan.specs.declared.error.Fault.TheVariants.{Memory as no_memory};
 ghost use Rattle.erl_consult.specs.Faults.{IsTextOf};
 ghost use Rattle.erl_term.specs.Term.{tree};
 ghost use Rattle.erl_term.specs.Tree.{none, more};

@@ -71,7 +71,7 @@ fn shown_and_kept(alloc: Global, name: Name) -> Result<String, AllocError> {
 
 /// The characters of the name that a text is, or a cross and why it is none.
 pub(crate) fn name(alloc: Global, text: &str) -> Result<String, Fail> {
-    match Name::from_text(Text::new(alloc, text)?) {
+    match Name::from_text(Text::from_string(String::from_str(alloc, text)?)) {
         Ok(name) => Ok(shown_and_kept(alloc, name)?),
         Err(e) => Ok(format!(in alloc; "✗ {e:?}")?),
     }
@@ -79,7 +79,7 @@ pub(crate) fn name(alloc: Global, text: &str) -> Result<String, Fail> {
 
 /// The characters of a text that is kept.
 pub(crate) fn text(alloc: Global, text: &str) -> Result<String, Fail> {
-    let kept = Text::new(alloc, text)?;
+    let kept = Text::from_string(String::from_str(alloc, text)?);
     Ok(String::from_str(alloc, kept.as_str())?)
 }
 

@@ -1,7 +1,7 @@
 // Rows of terms, as they grow while a text is read.
 ghost use Rattle.std.specs.Prelude.{◌≡◌, Some, None, MatchOption, MatchResult, OnOk, IfErr, ◌⊎◌, option_map};
 ghost use Rattle.std.specs.Str.{chars};
-ghost use Rattle.erl_chars.specs.declared.error.Fault.TheVariants.{Memory as refused, Syntax as syntax};
+ghost use Rattle.erl_scan.specs.declared.error.Fault.TheVariants.{Memory as refused, Syntax as syntax};
 ghost use Rattle.erl_term.specs.Rows.{append_trees, integers};
 ghost use Rattle.erl_term.specs.Term.{tree, trees};
 ghost use Rattle.erl_consult.specs.Reader.{last_seen};
