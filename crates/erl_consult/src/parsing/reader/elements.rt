@@ -1,5 +1,5 @@
 // Rows of terms, as they grow while a text is read.
-ghost use Rattle.std.specs.Prelude.{◌≡◌, Some, None, MatchOption, MatchResult, OnOk, IfErr, ◌⊎◌, option_map};
+ghost use Rattle.std.specs.Prelude.{◌≡◌, Some, None, MatchResult, OnOk, IfErr, ◌⊎◌, option_map};
 ghost use Rattle.std.specs.Str.{chars};
 ghost use Rattle.erl_chars.specs.declared.error.Fault.TheVariants.{Memory as refused, Syntax as syntax};
 ghost use Rattle.erl_term.specs.Rows.{append_trees, integers};
@@ -10,30 +10,68 @@ ghost use Rattle.erl_consult.specs.Steps.{with_element, elements_at, tail_elemen
 use super::Last;
 use erl_scan::{Fault, ReadError};
 use erl_term::{Term, Terms};
-use std::alloc::AllocError;
+use std::alloc::{AllocError, Global};
 
 impl Last {
-    /// The term, if one was read whole.
-    pub(super) fn into_term(self) -> Option<Term>
-        ensures { MatchOption result (term_of_last (last_seen self) ≡ None)
-            (λ t. term_of_last (last_seen self) ≡ Some (tree t)) }
+    /// The term, before a token that ends one.
+    ///
+    /// # Errors
+    ///
+    /// `Syntax` at the token where none was read whole, and `Memory` where memory is refused.
+    pub(super) fn into_term(self, alloc: Global, at: usize) -> Result<Term, ReadError>
+        ensures { MatchResult result (λ t. term_of_last (last_seen self) ≡ Some (tree t))
+            (λ e. (e.kind ≡ refused) ⊎ ((term_of_last (last_seen self) ≡ None) × (e.kind ≡ syntax) × (e.at ≡ at))) }
     {
         match self {
-            Last::Nothing | Last::Sign { .. } => None,
-            Last::Term(term) => Some(term),
-            Last::Text(items) => Some(Term::List(Terms::new(items))),
+            Last::Nothing | Last::Sign { .. } => Err(ReadError {
+                kind: Fault::Syntax,
+                at,
+            }),
+            Last::Term(term) => Ok(term),
+            Last::Text(items) => Ok(Term::List(row_of(items, alloc, at)?)),
         }
     }
 
-    /// The elements of the list, if one was read whole.
-    fn into_elements(self) -> Option<Vec<Term>>
-        ensures { MatchOption result (tail_elements (term_of_last (last_seen self)) ≡ None)
-            (λ row. tail_elements (term_of_last (last_seen self)) ≡ Some (trees row.items)) }
+    /// The elements of the list, before a bracket that closes.
+    ///
+    /// # Errors
+    ///
+    /// `Syntax` at the bracket where no list was read, and `Memory` where memory is refused.
+    fn into_elements(self, alloc: Global, at: usize) -> Result<Vec<Term>, ReadError>
+        ensures { MatchResult result (λ row. tail_elements (term_of_last (last_seen self)) ≡ Some (trees row.items))
+            (λ e. (e.kind ≡ refused) ⊎ ((tail_elements (term_of_last (last_seen self)) ≡ None) × (e.kind ≡ syntax) × (e.at ≡ at))) }
     {
-        match self.into_term()? {
-            Term::List(row) => Some(row.into_vec()),
-            Term::Int(_) | Term::Atom(_) | Term::Pid(_) | Term::Tuple(_) => None,
+        match self {
+            Last::Text(items) => Ok(items),
+            Last::Term(Term::List(row)) => match row.into_vec(alloc) {
+                Ok(items) => Ok(items),
+                Err(AllocError) => Err(ReadError {
+                    kind: Fault::Memory,
+                    at,
+                }),
+            },
+            Last::Nothing | Last::Sign { .. } | Last::Term(_) => Err(ReadError {
+                kind: Fault::Syntax,
+                at,
+            }),
         }
+    }
+}
+
+/// The row of these terms, before a token.
+///
+/// # Errors
+///
+/// `Memory` where memory is refused.
+pub(super) fn row_of(items: Vec<Term>, alloc: Global, at: usize) -> Result<Terms, ReadError>
+    ensures { MatchResult result (λ row. row ≡ trees items.items) (λ e. e.kind ≡ refused) }
+{
+    match Terms::new(alloc, items) {
+        Ok(row) => Ok(row),
+        Err(AllocError) => Err(ReadError {
+            kind: Fault::Memory,
+            at,
+        }),
     }
 }
 
@@ -60,7 +98,12 @@ pub(super) fn push(items: &mut Vec<Term>, term: Term, at: usize) -> Result<(), R
 /// # Errors
 ///
 /// `Syntax` at the bracket where no element may end, and `Memory` where memory is refused.
-pub(super) fn elements(mut items: Vec<Term>, last: Last, at: usize) -> Result<Vec<Term>, ReadError>
+pub(super) fn elements(
+    mut items: Vec<Term>,
+    last: Last,
+    alloc: Global,
+    at: usize,
+) -> Result<Vec<Term>, ReadError>
     ensures { MatchResult result (λ row. elements_at (trees items.items) (last_seen last) ≡ Some (trees row.items))
         (λ e. (e.kind ≡ refused) ⊎ ((elements_at (trees items.items) (last_seen last) ≡ None) × (e.kind ≡ syntax) × (e.at ≡ at))) }
 {
@@ -73,12 +116,7 @@ pub(super) fn elements(mut items: Vec<Term>, last: Last, at: usize) -> Result<Ve
             at,
         });
     }
-    let Some(term) = last.into_term() else {
-        return Err(ReadError {
-            kind: Fault::Syntax,
-            at,
-        });
-    };
+    let term = last.into_term(alloc, at)?;
     push(&mut items, term, at)?;
     Ok(items)
 }
@@ -88,16 +126,16 @@ pub(super) fn elements(mut items: Vec<Term>, last: Last, at: usize) -> Result<Ve
 /// # Errors
 ///
 /// `Syntax` at the bracket where no list was read, and `Memory` where memory is refused.
-pub(super) fn with_tail(mut items: Vec<Term>, last: Last, at: usize) -> Result<Vec<Term>, ReadError>
+pub(super) fn with_tail(
+    mut items: Vec<Term>,
+    last: Last,
+    alloc: Global,
+    at: usize,
+) -> Result<Vec<Term>, ReadError>
     ensures { MatchResult result (λ row. option_map (append_trees (trees items.items)) (tail_elements (term_of_last (last_seen last))) ≡ Some (trees row.items))
         (λ e. (e.kind ≡ refused) ⊎ ((option_map (append_trees (trees items.items)) (tail_elements (term_of_last (last_seen last))) ≡ None) × (e.kind ≡ syntax) × (e.at ≡ at))) }
 {
-    let Some(tail) = last.into_elements() else {
-        return Err(ReadError {
-            kind: Fault::Syntax,
-            at,
-        });
-    };
+    let tail = last.into_elements(alloc, at)?;
     match items.extend(tail) {
         Ok(()) => Ok(items),
         Err(AllocError) => Err(ReadError {

@@ -32,7 +32,7 @@ returns c =
     let tail = ap (λ l. option_map (append_trees (trees o.items.items)) (tail_elements (term_of_last (last_seen l)))) (sym c.replace-last.ensures.value) in
     elim c.match-bracket.branch [
       | in-List+in_ok-items-in-List w ↦
-          close_list-some (seen c.args.self.now) _ _ o c.args.at _ _ c.in-Some.ensures.items w.in-List.is (elements ∙ w.in_ok-items-in-List.ensures) (c.new.ensures ∙ ap (λ v. trees v.items) w.items-is)
+          close_list-some (seen c.args.self.now) _ _ o c.args.at _ _ c.in-Some.ensures.items w.in-List.is (elements ∙ w.in_ok-items-in-List.ensures) (c.in_ok-row_of.ensures ∙ ap (λ v. trees v.items) w.items-is)
       | in-Tail+in_ok-items-in-Tail w ↦
-          close_tail-some (seen c.args.self.now) _ _ o w.in-Tail.bar c.args.at _ _ c.in-Some.ensures.items w.in-Tail.is (tail ∙ w.in_ok-items-in-Tail.ensures) (c.new.ensures ∙ ap (λ v. trees v.items) w.items-is)
+          close_tail-some (seen c.args.self.now) _ _ o w.in-Tail.bar c.args.at _ _ c.in-Some.ensures.items w.in-Tail.is (tail ∙ w.in_ok-items-in-Tail.ensures) (c.in_ok-row_of.ensures ∙ ap (λ v. trees v.items) w.items-is)
     ]
