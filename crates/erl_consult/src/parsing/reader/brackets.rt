@@ -79,15 +79,15 @@ impl Reader {
         };
         let Open { bracket, items, .. } = opened;
         let last = mem::replace(&mut self.last, Last::Nothing);
-        let items = match bracket {
-            Bracket::List => elements(items, last, self.alloc, at)?,
-            Bracket::Tail { .. } => with_tail(items, last, self.alloc, at)?,
+        let closed = match bracket {
+            Bracket::List => Last::List(elements(items, last, self.alloc, at)?),
+            Bracket::Tail { .. } => Last::Backwards(with_tail(items, last, self.alloc, at)?),
             Bracket::Tuple => return Err(ReadError {
                 kind: Fault::Syntax,
                 at,
             }),
         };
-        self.last = Last::Term(Term::List(row_of(items, self.alloc, at)?));
+        self.last = closed;
         Ok(())
     }
 

@@ -1,5 +1,5 @@
 // Rows of terms, as they grow while a text is read.
-ghost use Rattle.std.specs.Prelude.{◌≡◌, Some, None, MatchResult, OnOk, IfErr, ◌⊎◌, option_map};
+ghost use Rattle.std.specs.Prelude.{◌≡◌, Some, None, MatchResult, OnOk, IfErr, ◌⊎◌, option_map, reverse};
 ghost use Rattle.std.specs.Str.{chars};
 ghost use Rattle.erl_chars.specs.declared.error.Fault.TheVariants.{Memory as refused, Syntax as syntax};
 ghost use Rattle.erl_term.specs.Rows.{append_trees, integers};
@@ -28,23 +28,25 @@ impl Last {
                 at,
             }),
             Last::Term(term) => Ok(term),
-            Last::Text(items) => Ok(Term::List(row_of(items, alloc, at)?)),
+            Last::List(items) | Last::Text(items) => Ok(Term::List(row_of(items, alloc, at)?)),
+            Last::Backwards(items) => Ok(Term::List(row_of(turned(items), alloc, at)?)),
         }
     }
 
-    /// The elements of the list, before a bracket that closes.
+    /// The elements of the list, the last one first, before a bracket that closes.
     ///
     /// # Errors
     ///
     /// `Syntax` at the bracket where no list was read, and `Memory` where memory is refused.
-    fn into_elements(self, alloc: Global, at: usize) -> Result<Vec<Term>, ReadError>
-        ensures { MatchResult result (λ row. tail_elements (term_of_last (last_seen self)) ≡ Some (trees row.items))
+    fn into_backwards(self, alloc: Global, at: usize) -> Result<Vec<Term>, ReadError>
+        ensures { MatchResult result (λ row. tail_elements (term_of_last (last_seen self)) ≡ Some (trees (reverse row.items)))
             (λ e. (e.kind ≡ refused) ⊎ ((tail_elements (term_of_last (last_seen self)) ≡ None) × (e.kind ≡ syntax) × (e.at ≡ at))) }
     {
         match self {
-            Last::Text(items) => Ok(items),
+            Last::Backwards(items) => Ok(items),
+            Last::List(items) | Last::Text(items) => Ok(turned(items)),
             Last::Term(Term::List(row)) => match row.into_vec(alloc) {
-                Ok(items) => Ok(items),
+                Ok(items) => Ok(turned(items)),
                 Err(AllocError) => Err(ReadError {
                     kind: Fault::Memory,
                     at,
@@ -56,6 +58,14 @@ impl Last {
             }),
         }
     }
+}
+
+/// The same terms, the last one first. They are moved in their place.
+fn turned(mut items: Vec<Term>) -> Vec<Term>
+    ensures { result.items ≡ reverse items.items }
+{
+    items.reverse();
+    items
 }
 
 /// The row of these terms, before a token.
@@ -121,23 +131,26 @@ pub(super) fn elements(
     Ok(items)
 }
 
-/// These elements, and behind them those of the tail that was read last.
+/// These elements, and behind them those of the tail that was read last: all of them with the last one first. The
+/// tail's stay where they are, so that each of a list's elements is moved once for the list that it is written in, and
+/// not for the lists around it.
 ///
 /// # Errors
 ///
 /// `Syntax` at the bracket where no list was read, and `Memory` where memory is refused.
 pub(super) fn with_tail(
-    mut items: Vec<Term>,
+    items: Vec<Term>,
     last: Last,
     alloc: Global,
     at: usize,
 ) -> Result<Vec<Term>, ReadError>
-    ensures { MatchResult result (λ row. option_map (append_trees (trees items.items)) (tail_elements (term_of_last (last_seen last))) ≡ Some (trees row.items))
+    ensures { MatchResult result (λ row. option_map (append_trees (trees items.items)) (tail_elements (term_of_last (last_seen last))) ≡ Some (trees (reverse row.items)))
         (λ e. (e.kind ≡ refused) ⊎ ((option_map (append_trees (trees items.items)) (tail_elements (term_of_last (last_seen last))) ≡ None) × (e.kind ≡ syntax) × (e.at ≡ at))) }
 {
-    let tail = last.into_elements(alloc, at)?;
-    match items.extend(tail) {
-        Ok(()) => Ok(items),
+    let mut backwards = last.into_backwards(alloc, at)?;
+    let mut heads = turned(items);
+    match backwards.append(&mut heads) {
+        Ok(()) => Ok(backwards),
         Err(AllocError) => Err(ReadError {
             kind: Fault::Memory,
             at,

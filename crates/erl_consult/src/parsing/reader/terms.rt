@@ -35,7 +35,7 @@ impl Reader {
                     at: sign,
                 }),
             },
-            Last::Term(_) | Last::Text(_) => Err(ReadError {
+            Last::Term(_) | Last::List(_) | Last::Backwards(_) | Last::Text(_) => Err(ReadError {
                 kind: misplaced(n),
                 at,
             }),
@@ -80,10 +80,12 @@ impl Reader {
                 self.go_on(Vec::new(self.alloc), string, at)
             }
             Last::Text(items) => self.go_on(items, string, at),
-            Last::Sign { .. } | Last::Term(_) => Err(ReadError {
-                kind: Fault::Syntax,
-                at,
-            }),
+            Last::Sign { .. } | Last::Term(_) | Last::List(_) | Last::Backwards(_) => Err(
+                ReadError {
+                    kind: Fault::Syntax,
+                    at,
+                },
+            ),
         }
     }
 
