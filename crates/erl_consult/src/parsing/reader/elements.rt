@@ -158,6 +158,31 @@ pub(super) fn with_tail(
     }
 }
 
+/// Makes room for the characters of a text: for a string's own no more than it needs, and for those of a string behind
+/// another more, so that many of them are no slower.
+///
+/// # Errors
+///
+/// `Memory` where memory is refused.
+fn make_room(items: &mut Vec<Term>, text: &str, at: usize) -> Result<(), ReadError>
+    ensures items { items.new.items ≡ items.old.items }
+    ensures err { IfErr result (λ e. e.kind ≡ refused) }
+{
+    let count = text.chars().count();
+    let made = if items.is_empty() {
+        items.reserve_exact(count)
+    } else {
+        items.reserve(count)
+    };
+    match made {
+        Ok(()) => Ok(()),
+        Err(AllocError) => Err(ReadError {
+            kind: Fault::Memory,
+            at,
+        }),
+    }
+}
+
 /// Puts the characters of a text, as integers, behind others.
 ///
 /// # Errors
@@ -167,6 +192,7 @@ pub(super) fn push_characters(items: &mut Vec<Term>, text: &str, at: usize) -> R
     ensures ok { OnOk result (trees items.new.items ≡ append_trees (trees items.old.items) (integers (chars text.now))) }
     ensures err { IfErr result (λ e. e.kind ≡ refused) }
 {
+    make_room(items, text, at)?;
     for c in text.chars() {
         push(items, Term::Int(i64::from(u32::from(c))), at)?;
     }
