@@ -1,11 +1,11 @@
 -- Lemmas on the steps of reading: rows and brackets that grow by one.
-use Rattle.std.proofs.Common.{◌≡◌, ℕ, pos, ◌+◌, ◌<◌, length-append, List, [], ◌∷◌, ◌++◌, length, get_or, take, zero, suc, false, ◌==◌, Option, Some, None, option_map, Result, Ok, Err, IsErr, ◌⊎◌, inl, inr, if◌then◌else◌, true, nat_lt, subst, sym, ap, ◌∙◌, refl, arith}
+use Rattle.std.proofs.Common.{◌≡◌, ℕ, pos, ◌+◌, ◌<◌, length-append, List, [], ◌∷◌, ◌++◌, length, reverse, get_or, take, zero, suc, false, ◌==◌, Option, Some, None, option_map, Result, Ok, Err, IsErr, ◌⊎◌, inl, inr, if◌then◌else◌, true, nat_lt, subst, sym, ap, ◌∙◌, refl, arith}
 use Rattle.std.specs.Result.{IsErrAnd}
 use Rattle.std.proofs.lemmas.Bool.Decides.{nat_tests}
 use Rattle.erl_scan.specs.declared.error.Fault.{Fault}
 use Rattle.erl_scan.specs.declared.error.Fault.TheVariants.{Syntax, TooDeep, Memory as refused}
 use Rattle.erl_scan.specs.declared.error.ReadError.{ReadError}
-use Rattle.std.proofs.lemmas.List.{take_all, take_more}
+use Rattle.std.proofs.lemmas.List.{reverse-append, reverse-reverse, take_all, take_more}
 use Rattle.erl_term.specs.declared.term.Term.{Term}
 use Rattle.erl_term.specs.Readable.{deepest}
 use Rattle.erl_term.specs.Rows.{append_trees, integers}
@@ -17,7 +17,7 @@ use Rattle.erl_consult.specs.declared.parsing.reader.Last.{Last as Held}
 use Rattle.erl_consult.specs.declared.parsing.reader.Last.TheVariants.{Nothing}
 use Rattle.erl_consult.specs.declared.parsing.reader.Open.{Open}
 use Rattle.erl_consult.specs.Reader.{bracket_seen, frame_seen, frames, last_seen, innermost_frame, with_frame, Gives}
-use Rattle.erl_consult.specs.Steps.{Bracket, Frame, Seen, Outcome, nothing, term, goes, fails, opened_by, closed_with, take_dot_by, with_element, elements_at, tail_elements, term_of_last, element_ended, take_bar_by, take_comma_by, take_close_tuple_by, take_close_list_by, bar_in, comma_in, close_tuple_in, close_list_in}
+use Rattle.erl_consult.specs.Steps.{Bracket, Frame, Last, Seen, Outcome, nothing, term, goes, fails, opened_by, closed_with, take_dot_by, with_element, elements_at, tail_elements, term_of_last, element_ended, take_bar_by, take_comma_by, take_close_tuple_by, take_close_list_by, bar_in, comma_in, close_tuple_in, close_list_in}
 
 -- Rows
 
@@ -27,6 +27,12 @@ trees-append (t ∷ ts) us = ap (λ rest. more (tree t) rest) (trees-append ts u
 
 pub trees-push : (ts : List Term) (t : Term) → trees (ts ++ t ∷ []) ≡ with_element (trees ts) (tree t)
 trees-push ts t = trees-append ts (t ∷ [])
+
+-- behind elements that stand backwards those that come before them, backwards too
+pub trees-backwards : (heads tail turned all : List Term) → turned ≡ reverse heads → all ≡ tail ++ turned → append_trees (trees heads) (trees (reverse tail)) ≡ trees (reverse all)
+trees-backwards heads tail turned all is joined =
+    let back : heads ++ reverse tail ≡ reverse all = grind (arith, reverse-append, reverse-reverse) in
+    sym (trees-append heads (reverse tail)) ∙ ap (λ ts. trees ts) back
 
 pub append_trees-assoc : (ts us vs : Trees) → append_trees (append_trees ts us) vs ≡ append_trees ts (append_trees us vs)
 append_trees-assoc none us vs = refl
@@ -109,13 +115,13 @@ pub close_tuple-some : (s : Seen) (os rest : List Open) (o : Open) (at : ℕ) (t
 close_tuple-some s os rest o at ts row e is elements made =
     close_tuple_taken s os rest o at Tuple e is ∙ closed_with-some s (frames rest) tuple (elements_at (trees o.items.items) s.last) ts at elements ∙ ap (λ us. goes (record { whole = s.whole; open_ones = frames rest; last = term (tuple us) })) (sym made)
 
-pub close_list-some : (s : Seen) (os rest : List Open) (o : Open) (at : ℕ) (ts row : Trees) → os ≡ rest ++ o ∷ [] → o.bracket ≡ ListOf → elements_at (trees o.items.items) s.last ≡ Some ts → row ≡ ts → take_close_list_by s (frames os) at ≡ goes (record { whole = s.whole; open_ones = frames rest; last = term (list row) })
-close_list-some s os rest o at ts row e is elements made =
-    close_list_taken s os rest o at ListOf e is ∙ closed_with-some s (frames rest) list (elements_at (trees o.items.items) s.last) ts at elements ∙ ap (λ us. goes (record { whole = s.whole; open_ones = frames rest; last = term (list us) })) (sym made)
+pub close_list-some : (s : Seen) (os rest : List Open) (o : Open) (at : ℕ) (ts : Trees) (held : Last) → os ≡ rest ++ o ∷ [] → o.bracket ≡ ListOf → elements_at (trees o.items.items) s.last ≡ Some ts → held ≡ term (list ts) → take_close_list_by s (frames os) at ≡ goes (record { whole = s.whole; open_ones = frames rest; last = held })
+close_list-some s os rest o at ts held e is elements made =
+    close_list_taken s os rest o at ListOf e is ∙ closed_with-some s (frames rest) list (elements_at (trees o.items.items) s.last) ts at elements ∙ ap (λ l. goes (record { whole = s.whole; open_ones = frames rest; last = l })) (sym made)
 
-pub close_tail-some : (s : Seen) (os rest : List Open) (o : Open) (bar at : ℕ) (ts row : Trees) → os ≡ rest ++ o ∷ [] → o.bracket ≡ Tail bar → option_map (append_trees (trees o.items.items)) (tail_elements (term_of_last s.last)) ≡ Some ts → row ≡ ts → take_close_list_by s (frames os) at ≡ goes (record { whole = s.whole; open_ones = frames rest; last = term (list row) })
-close_tail-some s os rest o bar at ts row e is elements made =
-    close_list_taken s os rest o at (Tail bar) e is ∙ closed_with-tail s (frames rest) (trees o.items.items) (tail_elements (term_of_last s.last)) at ∙ closed_with-some s (frames rest) list (option_map (append_trees (trees o.items.items)) (tail_elements (term_of_last s.last))) ts at elements ∙ ap (λ us. goes (record { whole = s.whole; open_ones = frames rest; last = term (list us) })) (sym made)
+pub close_tail-some : (s : Seen) (os rest : List Open) (o : Open) (bar at : ℕ) (ts : Trees) (held : Last) → os ≡ rest ++ o ∷ [] → o.bracket ≡ Tail bar → option_map (append_trees (trees o.items.items)) (tail_elements (term_of_last s.last)) ≡ Some ts → held ≡ term (list ts) → take_close_list_by s (frames os) at ≡ goes (record { whole = s.whole; open_ones = frames rest; last = held })
+close_tail-some s os rest o bar at ts held e is elements made =
+    close_list_taken s os rest o at (Tail bar) e is ∙ closed_with-tail s (frames rest) (trees o.items.items) (tail_elements (term_of_last s.last)) at ∙ closed_with-some s (frames rest) list (option_map (append_trees (trees o.items.items)) (tail_elements (term_of_last s.last))) ts at elements ∙ ap (λ l. goes (record { whole = s.whole; open_ones = frames rest; last = l })) (sym made)
 
 pub close_tuple-none : (s : Seen) (os rest : List Open) (o : Open) (at : ℕ) → os ≡ rest ++ o ∷ [] → o.bracket ≡ Tuple → elements_at (trees o.items.items) s.last ≡ None → take_close_tuple_by s (frames os) at ≡ fails Syntax at
 close_tuple-none s os rest o at e is no_elements =

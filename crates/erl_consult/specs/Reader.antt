@@ -1,13 +1,14 @@
 -- What a reader has seen of a text of terms: its fields as the steps of reading have them.
-use Rattle.std.specs.Prelude.{◌≡◌, ℕ, List, [], ◌∷◌, ◌++◌, ℤ, pos, neg_ℤ, ◌^◌, nat_le, nat_lt, Bool, true, false, if◌then◌else◌, Option, Some, None, Result, MatchResult, ◌⊎◌}
+use Rattle.std.specs.Prelude.{◌≡◌, ℕ, List, [], ◌∷◌, ◌++◌, ℤ, pos, neg_ℤ, ◌^◌, nat_le, nat_lt, Bool, true, false, if◌then◌else◌, Option, Some, None, Result, MatchResult, ◌⊎◌, reverse}
 use Rattle.erl_scan.specs.declared.error.Fault.{Fault}
 use Rattle.erl_scan.specs.declared.error.Fault.TheVariants.{Syntax, IntegerRange, Memory as refused}
 use Rattle.erl_scan.specs.declared.error.ReadError.{ReadError}
 use Rattle.erl_term.specs.Term.{tree, trees}
+use Rattle.erl_term.specs.Tree.{list}
 use Rattle.erl_consult.specs.declared.parsing.reader.Bracket.{Bracket as Kind}
 use Rattle.erl_consult.specs.declared.parsing.reader.Bracket.TheVariants.{Tuple, List as ListOf, Tail}
 use Rattle.erl_consult.specs.declared.parsing.reader.Last.{Last as Held}
-use Rattle.erl_consult.specs.declared.parsing.reader.Last.TheVariants.{Nothing, Sign, Term as TermOf, Text}
+use Rattle.erl_consult.specs.declared.parsing.reader.Last.TheVariants.{Nothing, Sign, Term as TermOf, List as ListHeld, Backwards, Text}
 use Rattle.erl_consult.specs.declared.parsing.reader.Open.{Open}
 use Rattle.erl_consult.specs.declared.parsing.reader.Reader.{Reader}
 use Rattle.erl_consult.specs.Steps.{Bracket, of_tuple, of_list, of_tail, Frame, Last, nothing, sign, term, text, Seen, Outcome, goes, fails}
@@ -29,6 +30,8 @@ abbrev pub last_seen : Held → Last
 last_seen Nothing = nothing
 last_seen (Sign is_minus at) = sign is_minus at
 last_seen (TermOf t) = term (tree t)
+last_seen (ListHeld ts) = term (list (trees ts.items))
+last_seen (Backwards ts) = term (list (trees (reverse ts.items)))
 last_seen (Text ts) = text (trees ts.items)
 
 abbrev pub seen : Reader → Seen

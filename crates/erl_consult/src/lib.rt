@@ -18,8 +18,7 @@
 //!
 //! # What no contract says
 //!
-//! That there is memory, and what a call costs: `read_terms` is linear in the bytes that it is given, but that the
-//! elements of a tail are moved once for each tail that they stand in, of which 256 at most are open. It needs no stack
+//! That there is memory, and what a call costs: `read_terms` is linear in the bytes that it is given, and needs no stack
 //! for nesting.
 #![tactic(auto)]
 

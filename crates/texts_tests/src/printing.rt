@@ -61,9 +61,9 @@ fn terms_behind_what_was_written(rt: HostRuntime) -> Result<(), Fail> {
 fn nested(alloc: Global, lines: &str) -> Result<Term, Fail> {
     let items = terms_of(alloc, lines)?;
     let mut row = Vec::new(alloc);
-    row.push(Term::Tuple(Terms::new(items)))?;
+    row.push(Term::Tuple(Terms::new(alloc, items)?))?;
     row.push(term_of(alloc, "ok")?)?;
-    Ok(Term::List(Terms::new(row)))
+    Ok(Term::List(Terms::new(alloc, row)?))
 }
 
 /// The text of a term in which these lines' terms stand, whether it has process identifiers and whether it can be read.

@@ -134,7 +134,7 @@ fn kinds(rt: HostRuntime) -> Result<(), Fail> {
 fn list_of(alloc: Global, term: Term) -> Result<Term, AllocError> {
     let mut items = Vec::new(alloc);
     items.push(term)?;
-    Ok(Term::List(Terms::new(items)))
+    Ok(Term::List(Terms::new(alloc, items)?))
 }
 
 /// A list in a list, and so on, with an integer in the innermost.
@@ -192,7 +192,7 @@ fn atoms(rt: HostRuntime) -> Result<(), Fail> {
 fn atoms_of_strings(rt: HostRuntime) -> Result<(), Fail> {
     let atom = Atom::new(rt.alloc(), "two words")?;
     let text = String::from_str(rt.alloc(), atom.as_str())?;
-    assert!(rt; Atom::from_string(text).same(&atom));
+    assert!(rt; Atom::from_string(text)?.same(&atom));
     Ok(())
 }
 
@@ -260,7 +260,7 @@ fn terms_of_rows(rt: HostRuntime) -> Result<(), Fail> {
     let row = integers(rt.alloc(), "10 20 30")?;
     assert!(rt; three_of(row.as_slice()) == Some([10, 20, 30]));
     assert!(rt; first_of(row.as_slice()) == Some((10, 2)));
-    assert!(rt; row.into_vec().len() == 3);
+    assert!(rt; row.into_vec(rt.alloc())?.len() == 3);
     Ok(())
 }
 

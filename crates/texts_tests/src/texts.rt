@@ -62,7 +62,7 @@ pub(crate) fn integers(alloc: Global, text: &str) -> Result<Terms, Fail> {
     for number in text.split_whitespace() {
         items.push(Term::Int(number.parse::<i64>()?))?;
     }
-    Ok(Terms::new(items))
+    Ok(Terms::new(alloc, items)?)
 }
 
 /// The terms of a table, a line each.

@@ -49,8 +49,13 @@ enum Last {
     Nothing,
     /// The sign of an integer, and where it stands.
     Sign { is_minus: bool, at: usize },
-    /// A term other than a string.
+    /// A term other than a list.
     Term(Term),
+    /// The elements of a list that closed.
+    List(Vec<Term>),
+    /// The elements of a list that closed behind a bar, the last one first: a list around it puts those before its
+    /// bar behind them.
+    Backwards(Vec<Term>),
     /// One or more strings behind one another: their characters as integers.
     Text(Vec<Term>),
 }
@@ -124,7 +129,7 @@ impl Reader {
                 kind: Fault::Syntax,
                 at,
             }),
-            Last::Term(_) | Last::Text(_) => Err(ReadError {
+            Last::Term(_) | Last::List(_) | Last::Backwards(_) | Last::Text(_) => Err(ReadError {
                 kind: Fault::MissingDot,
                 at: total,
             }),

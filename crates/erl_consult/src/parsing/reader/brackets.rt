@@ -4,10 +4,10 @@ ghost use Rattle.erl_term.specs.Readable.{deepest};
 ghost use Rattle.erl_consult.specs.Reader.{bracket_seen, frame_seen, frames, seen, innermost_frame, bar_within, with_frame, Gives};
 ghost use Rattle.erl_consult.specs.Steps.{nothing, goes, opened_by, term_of_last, element_ended, take_open_tuple_by, take_open_list_by, take_close_tuple_by, take_close_list_by, take_comma_by, take_bar_by, take_dot_by};
 
-use super::elements::{elements, push, with_tail};
+use super::elements::{elements, push, row_of, with_tail};
 use super::{Bracket, Last, Open, Reader};
 use erl_scan::{Fault, ReadError};
-use erl_term::{Term, Terms};
+use erl_term::Term;
 use std::mem;
 
 /// The greatest number of brackets that may be open at once, a string counting as one.
@@ -57,8 +57,8 @@ impl Reader {
         let last = mem::replace(&mut self.last, Last::Nothing);
         match bracket {
             Bracket::Tuple => {
-                let items = elements(items, last, at)?;
-                self.last = Last::Term(Term::Tuple(Terms::new(items)));
+                let items = elements(items, last, self.alloc, at)?;
+                self.last = Last::Term(Term::Tuple(row_of(items, self.alloc, at)?));
                 Ok(())
             }
             Bracket::List | Bracket::Tail { .. } => Err(ReadError {
@@ -79,15 +79,15 @@ impl Reader {
         };
         let Open { bracket, items, .. } = opened;
         let last = mem::replace(&mut self.last, Last::Nothing);
-        let items = match bracket {
-            Bracket::List => elements(items, last, at)?,
-            Bracket::Tail { .. } => with_tail(items, last, at)?,
+        let closed = match bracket {
+            Bracket::List => Last::List(elements(items, last, self.alloc, at)?),
+            Bracket::Tail { .. } => Last::Backwards(with_tail(items, last, self.alloc, at)?),
             Bracket::Tuple => return Err(ReadError {
                 kind: Fault::Syntax,
                 at,
             }),
         };
-        self.last = Last::Term(Term::List(Terms::new(items)));
+        self.last = closed;
         Ok(())
     }
 
@@ -137,12 +137,8 @@ impl Reader {
                 at,
             });
         }
-        let Some(term) = mem::replace(&mut self.last, Last::Nothing).into_term() else {
-            return Err(ReadError {
-                kind: Fault::Syntax,
-                at,
-            });
-        };
+        let last = mem::replace(&mut self.last, Last::Nothing);
+        let term = last.into_term(self.alloc, at)?;
         push(&mut self.whole, term, at)
     }
 
@@ -165,12 +161,8 @@ impl Reader {
     fn end_element(&mut self, opened: Open, bracket: Bracket, at: usize) -> Result<(), ReadError>
         ensures { Gives (element_ended (seen self.old) (frame_seen opened) (seen self.old).open_ones (bracket_seen bracket) (term_of_last (seen self.old).last) at) (seen self.new) result }
     {
-        let Some(term) = mem::replace(&mut self.last, Last::Nothing).into_term() else {
-            return Err(ReadError {
-                kind: Fault::Syntax,
-                at,
-            });
-        };
+        let last = mem::replace(&mut self.last, Last::Nothing);
+        let term = last.into_term(self.alloc, at)?;
         let Open {
             at: place,
             mut items,

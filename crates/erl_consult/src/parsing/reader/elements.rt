@@ -1,5 +1,5 @@
 // Rows of terms, as they grow while a text is read.
-ghost use Rattle.std.specs.Prelude.{◌≡◌, Some, None, MatchOption, MatchResult, OnOk, IfErr, ◌⊎◌, option_map};
+ghost use Rattle.std.specs.Prelude.{◌≡◌, Some, None, MatchResult, OnOk, IfErr, ◌⊎◌, option_map, reverse};
 ghost use Rattle.std.specs.Str.{chars};
 ghost use Rattle.erl_scan.specs.declared.error.Fault.TheVariants.{Memory as refused, Syntax as syntax};
 ghost use Rattle.erl_term.specs.Rows.{append_trees, integers};
@@ -10,30 +10,78 @@ ghost use Rattle.erl_consult.specs.Steps.{with_element, elements_at, tail_elemen
 use super::Last;
 use erl_scan::{Fault, ReadError};
 use erl_term::{Term, Terms};
-use std::alloc::AllocError;
+use std::alloc::{AllocError, Global};
 
 impl Last {
-    /// The term, if one was read whole.
-    pub(super) fn into_term(self) -> Option<Term>
-        ensures { MatchOption result (term_of_last (last_seen self) ≡ None)
-            (λ t. term_of_last (last_seen self) ≡ Some (tree t)) }
+    /// The term, before a token that ends one.
+    ///
+    /// # Errors
+    ///
+    /// `Syntax` at the token where none was read whole, and `Memory` where memory is refused.
+    pub(super) fn into_term(self, alloc: Global, at: usize) -> Result<Term, ReadError>
+        ensures { MatchResult result (λ t. term_of_last (last_seen self) ≡ Some (tree t))
+            (λ e. (e.kind ≡ refused) ⊎ ((term_of_last (last_seen self) ≡ None) × (e.kind ≡ syntax) × (e.at ≡ at))) }
     {
         match self {
-            Last::Nothing | Last::Sign { .. } => None,
-            Last::Term(term) => Some(term),
-            Last::Text(items) => Some(Term::List(Terms::new(items))),
+            Last::Nothing | Last::Sign { .. } => Err(ReadError {
+                kind: Fault::Syntax,
+                at,
+            }),
+            Last::Term(term) => Ok(term),
+            Last::List(items) | Last::Text(items) => Ok(Term::List(row_of(items, alloc, at)?)),
+            Last::Backwards(items) => Ok(Term::List(row_of(turned(items), alloc, at)?)),
         }
     }
 
-    /// The elements of the list, if one was read whole.
-    fn into_elements(self) -> Option<Vec<Term>>
-        ensures { MatchOption result (tail_elements (term_of_last (last_seen self)) ≡ None)
-            (λ row. tail_elements (term_of_last (last_seen self)) ≡ Some (trees row.items)) }
+    /// The elements of the list, the last one first, before a bracket that closes.
+    ///
+    /// # Errors
+    ///
+    /// `Syntax` at the bracket where no list was read, and `Memory` where memory is refused.
+    fn into_backwards(self, alloc: Global, at: usize) -> Result<Vec<Term>, ReadError>
+        ensures { MatchResult result (λ row. tail_elements (term_of_last (last_seen self)) ≡ Some (trees (reverse row.items)))
+            (λ e. (e.kind ≡ refused) ⊎ ((tail_elements (term_of_last (last_seen self)) ≡ None) × (e.kind ≡ syntax) × (e.at ≡ at))) }
     {
-        match self.into_term()? {
-            Term::List(row) => Some(row.into_vec()),
-            Term::Int(_) | Term::Atom(_) | Term::Pid(_) | Term::Tuple(_) => None,
+        match self {
+            Last::Backwards(items) => Ok(items),
+            Last::List(items) | Last::Text(items) => Ok(turned(items)),
+            Last::Term(Term::List(row)) => match row.into_vec(alloc) {
+                Ok(items) => Ok(turned(items)),
+                Err(AllocError) => Err(ReadError {
+                    kind: Fault::Memory,
+                    at,
+                }),
+            },
+            Last::Nothing | Last::Sign { .. } | Last::Term(_) => Err(ReadError {
+                kind: Fault::Syntax,
+                at,
+            }),
         }
+    }
+}
+
+/// The same terms, the last one first. They are moved in their place.
+fn turned(mut items: Vec<Term>) -> Vec<Term>
+    ensures { result.items ≡ reverse items.items }
+{
+    items.reverse();
+    items
+}
+
+/// The row of these terms, before a token.
+///
+/// # Errors
+///
+/// `Memory` where memory is refused.
+pub(super) fn row_of(items: Vec<Term>, alloc: Global, at: usize) -> Result<Terms, ReadError>
+    ensures { MatchResult result (λ row. row ≡ trees items.items) (λ e. e.kind ≡ refused) }
+{
+    match Terms::new(alloc, items) {
+        Ok(row) => Ok(row),
+        Err(AllocError) => Err(ReadError {
+            kind: Fault::Memory,
+            at,
+        }),
     }
 }
 
@@ -60,7 +108,12 @@ pub(super) fn push(items: &mut Vec<Term>, term: Term, at: usize) -> Result<(), R
 /// # Errors
 ///
 /// `Syntax` at the bracket where no element may end, and `Memory` where memory is refused.
-pub(super) fn elements(mut items: Vec<Term>, last: Last, at: usize) -> Result<Vec<Term>, ReadError>
+pub(super) fn elements(
+    mut items: Vec<Term>,
+    last: Last,
+    alloc: Global,
+    at: usize,
+) -> Result<Vec<Term>, ReadError>
     ensures { MatchResult result (λ row. elements_at (trees items.items) (last_seen last) ≡ Some (trees row.items))
         (λ e. (e.kind ≡ refused) ⊎ ((elements_at (trees items.items) (last_seen last) ≡ None) × (e.kind ≡ syntax) × (e.at ≡ at))) }
 {
@@ -73,33 +126,56 @@ pub(super) fn elements(mut items: Vec<Term>, last: Last, at: usize) -> Result<Ve
             at,
         });
     }
-    let Some(term) = last.into_term() else {
-        return Err(ReadError {
-            kind: Fault::Syntax,
-            at,
-        });
-    };
+    let term = last.into_term(alloc, at)?;
     push(&mut items, term, at)?;
     Ok(items)
 }
 
-/// These elements, and behind them those of the tail that was read last.
+/// These elements, and behind them those of the tail that was read last: all of them with the last one first. The
+/// tail's stay where they are, so that each of a list's elements is moved once for the list that it is written in, and
+/// not for the lists around it.
 ///
 /// # Errors
 ///
 /// `Syntax` at the bracket where no list was read, and `Memory` where memory is refused.
-pub(super) fn with_tail(mut items: Vec<Term>, last: Last, at: usize) -> Result<Vec<Term>, ReadError>
-    ensures { MatchResult result (λ row. option_map (append_trees (trees items.items)) (tail_elements (term_of_last (last_seen last))) ≡ Some (trees row.items))
+pub(super) fn with_tail(
+    items: Vec<Term>,
+    last: Last,
+    alloc: Global,
+    at: usize,
+) -> Result<Vec<Term>, ReadError>
+    ensures { MatchResult result (λ row. option_map (append_trees (trees items.items)) (tail_elements (term_of_last (last_seen last))) ≡ Some (trees (reverse row.items)))
         (λ e. (e.kind ≡ refused) ⊎ ((option_map (append_trees (trees items.items)) (tail_elements (term_of_last (last_seen last))) ≡ None) × (e.kind ≡ syntax) × (e.at ≡ at))) }
 {
-    let Some(tail) = last.into_elements() else {
-        return Err(ReadError {
-            kind: Fault::Syntax,
+    let mut backwards = last.into_backwards(alloc, at)?;
+    let mut heads = turned(items);
+    match backwards.append(&mut heads) {
+        Ok(()) => Ok(backwards),
+        Err(AllocError) => Err(ReadError {
+            kind: Fault::Memory,
             at,
-        });
+        }),
+    }
+}
+
+/// Makes room for the characters of a text: for a string's own no more than it needs, and for those of a string behind
+/// another more, so that many of them are no slower.
+///
+/// # Errors
+///
+/// `Memory` where memory is refused.
+fn make_room(items: &mut Vec<Term>, text: &str, at: usize) -> Result<(), ReadError>
+    ensures items { items.new.items ≡ items.old.items }
+    ensures err { IfErr result (λ e. e.kind ≡ refused) }
+{
+    let count = text.chars().count();
+    let made = if items.is_empty() {
+        items.reserve_exact(count)
+    } else {
+        items.reserve(count)
     };
-    match items.extend(tail) {
-        Ok(()) => Ok(items),
+    match made {
+        Ok(()) => Ok(()),
         Err(AllocError) => Err(ReadError {
             kind: Fault::Memory,
             at,
@@ -116,6 +192,7 @@ pub(super) fn push_characters(items: &mut Vec<Term>, text: &str, at: usize) -> R
     ensures ok { OnOk result (trees items.new.items ≡ append_trees (trees items.old.items) (integers (chars text.now))) }
     ensures err { IfErr result (λ e. e.kind ≡ refused) }
 {
+    make_room(items, text, at)?;
     for c in text.chars() {
         push(items, Term::Int(i64::from(u32::from(c))), at)?;
     }

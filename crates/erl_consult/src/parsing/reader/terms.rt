@@ -1,5 +1,6 @@
 // Tokens that a term begins with or is: integers, signs, atoms and strings.
-ghost use Rattle.std.specs.Prelude.{◌≡◌};
+ghost use Rattle.std.specs.Prelude.{◌≡◌, MatchResult};
+ghost use Rattle.erl_scan.specs.declared.error.Fault.TheVariants.{Memory as refused};
 ghost use Rattle.erl_term.specs.Rows.{append_trees, integers};
 ghost use Rattle.erl_term.specs.Term.{trees};
 ghost use Rattle.erl_consult.specs.Reader.{last_seen, seen, signed_of, misplaced_number, Gives};
@@ -9,6 +10,7 @@ use super::elements::push_characters;
 use super::{Last, Reader};
 use erl_scan::{Fault, Name, ReadError, Text};
 use erl_term::{Atom, Term};
+use std::alloc::AllocError;
 use std::mem;
 
 impl Reader {
@@ -33,7 +35,7 @@ impl Reader {
                     at: sign,
                 }),
             },
-            Last::Term(_) | Last::Text(_) => Err(ReadError {
+            Last::Term(_) | Last::List(_) | Last::Backwards(_) | Last::Text(_) => Err(ReadError {
                 kind: misplaced(n),
                 at,
             }),
@@ -56,7 +58,7 @@ impl Reader {
         ensures { Gives (take_name_by (seen self.old) (seen self.old).last name at) (seen self.new) result }
     {
         match &self.last {
-            Last::Nothing => self.begin(Last::Term(Term::Atom(atom_of(name)))),
+            Last::Nothing => self.begin(Last::Term(Term::Atom(atom_of(name, at)?))),
             _ => Err(ReadError {
                 kind: Fault::Syntax,
                 at,
@@ -78,10 +80,12 @@ impl Reader {
                 self.go_on(Vec::new(self.alloc), string, at)
             }
             Last::Text(items) => self.go_on(items, string, at),
-            Last::Sign { .. } | Last::Term(_) => Err(ReadError {
-                kind: Fault::Syntax,
-                at,
-            }),
+            Last::Sign { .. } | Last::Term(_) | Last::List(_) | Last::Backwards(_) => Err(
+                ReadError {
+                    kind: Fault::Syntax,
+                    at,
+                },
+            ),
         }
     }
 
@@ -111,11 +115,21 @@ impl Reader {
     }
 }
 
-/// The atom of a name.
-fn atom_of(name: Name) -> Atom
-    ensures { result ≡ name }
+/// The atom of a name, which stands here.
+///
+/// # Errors
+///
+/// `Memory` where memory is refused.
+fn atom_of(name: Name, at: usize) -> Result<Atom, ReadError>
+    ensures { MatchResult result (λ atom. atom ≡ name) (λ e. e.kind ≡ refused) }
 {
-    Atom::from_string(name.into_string())
+    match Atom::from_string(name.into_string()) {
+        Ok(atom) => Ok(atom),
+        Err(AllocError) => Err(ReadError {
+            kind: Fault::Memory,
+            at,
+        }),
+    }
 }
 
 /// The integer behind a sign, if it is in range: from -2^63 to 2^63 - 1.

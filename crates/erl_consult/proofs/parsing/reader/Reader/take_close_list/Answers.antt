@@ -7,19 +7,19 @@ use Rattle.erl_consult.specs.Reader.{seen, last_seen}
 use Rattle.erl_consult.specs.Steps.{elements_at, tail_elements, term_of_last}
 use Rattle.erl_consult.proofs.Stepping.{close_list_taken, close_list-some, close_list-none, close_tail-some, close_tail-none, gives-err, refused_for}
 use Rattle.erl_consult.proofs.parsing.reader.Reader.take_close_list.Goals as goal
-use Rattle.erl_consult.proofs.parsing.reader.Reader.take_close_list.Goals.{in-List+in_ok-items-in-List, in-Tail+in_ok-items-in-Tail}
+use Rattle.erl_consult.proofs.parsing.reader.Reader.take_close_list.Goals.{in-List+in_ok-elements-in-List, in-Tail+in_ok-with_tail-in-Tail}
 
-pub returns-in_err-items-in-List : goal.returns-in_err-items-in-List
-returns-in_err-items-in-List c =
+pub returns-in_err-elements-in-List : goal.returns-in_err-elements-in-List
+returns-in_err-elements-in-List c =
     let o = c.in-Some.opened in
     let was = ap (λ l. elements_at (trees o.items.items) (last_seen l)) (sym c.replace-last.ensures.value) in
-    gives-err c.from_residual.result _ _ c.in_err-items-in-List.field-0.0 c.from_residual.ensures (refused_for _ _ _ _ c.args.at c.in_err-items-in-List.ensures (λ none. close_list-none (seen c.args.self.now) _ _ o c.args.at c.in-Some.ensures.items c.in-List.is (was ∙ none)))
+    gives-err c.from_residual.result _ _ c.in_err-elements-in-List.field-0.0 c.from_residual.ensures (refused_for _ _ _ _ c.args.at c.in_err-elements-in-List.ensures (λ none. close_list-none (seen c.args.self.now) _ _ o c.args.at c.in-Some.ensures.items c.in-List.is (was ∙ none)))
 
-pub returns-in_err-items-in-Tail : goal.returns-in_err-items-in-Tail
-returns-in_err-items-in-Tail c =
+pub returns-in_err-with_tail-in-Tail : goal.returns-in_err-with_tail-in-Tail
+returns-in_err-with_tail-in-Tail c =
     let o = c.in-Some.opened in
     let was = ap (λ l. option_map (append_trees (trees o.items.items)) (tail_elements (term_of_last (last_seen l)))) (sym c.replace-last.ensures.value) in
-    gives-err c.from_residual-in_err-items-in-Tail.result _ _ c.in_err-items-in-Tail.field-0.0 c.from_residual-in_err-items-in-Tail.ensures (refused_for _ _ _ _ c.args.at c.in_err-items-in-Tail.ensures (λ none. close_tail-none (seen c.args.self.now) _ _ o c.in-Tail.bar c.args.at c.in-Some.ensures.items c.in-Tail.is (was ∙ none)))
+    gives-err c.from_residual-in_err-with_tail-in-Tail.result _ _ c.in_err-with_tail-in-Tail.field-0.0 c.from_residual-in_err-with_tail-in-Tail.ensures (refused_for _ _ _ _ c.args.at c.in_err-with_tail-in-Tail.ensures (λ none. close_tail-none (seen c.args.self.now) _ _ o c.in-Tail.bar c.args.at c.in-Some.ensures.items c.in-Tail.is (was ∙ none)))
 
 pub returns-in-Tuple : goal.returns-in-Tuple
 returns-in-Tuple c =
@@ -31,8 +31,8 @@ returns c =
     let elements = ap (λ l. elements_at (trees o.items.items) (last_seen l)) (sym c.replace-last.ensures.value) in
     let tail = ap (λ l. option_map (append_trees (trees o.items.items)) (tail_elements (term_of_last (last_seen l)))) (sym c.replace-last.ensures.value) in
     elim c.match-bracket.branch [
-      | in-List+in_ok-items-in-List w ↦
-          close_list-some (seen c.args.self.now) _ _ o c.args.at _ _ c.in-Some.ensures.items w.in-List.is (elements ∙ w.in_ok-items-in-List.ensures) (c.new.ensures ∙ ap (λ v. trees v.items) w.items-is)
-      | in-Tail+in_ok-items-in-Tail w ↦
-          close_tail-some (seen c.args.self.now) _ _ o w.in-Tail.bar c.args.at _ _ c.in-Some.ensures.items w.in-Tail.is (tail ∙ w.in_ok-items-in-Tail.ensures) (c.new.ensures ∙ ap (λ v. trees v.items) w.items-is)
+      | in-List+in_ok-elements-in-List w ↦
+          close_list-some (seen c.args.self.now) _ _ o c.args.at _ _ c.in-Some.ensures.items w.in-List.is (elements ∙ w.in_ok-elements-in-List.ensures) (ap (λ l. last_seen l) w.closed-is)
+      | in-Tail+in_ok-with_tail-in-Tail w ↦
+          close_tail-some (seen c.args.self.now) _ _ o w.in-Tail.bar c.args.at _ _ c.in-Some.ensures.items w.in-Tail.is (tail ∙ w.in_ok-with_tail-in-Tail.ensures) (ap (λ l. last_seen l) w.closed-is)
     ]

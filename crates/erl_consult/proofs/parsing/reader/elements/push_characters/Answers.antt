@@ -11,7 +11,8 @@ use Rattle.erl_consult.proofs.Stepping.{append_trees-none, integers-more}
 use Rattle.erl_consult.proofs.parsing.reader.elements.push_characters.Goals as goal
 
 pub loop-c-init : goal.loop-c-init
-loop-c-init c = sym (append_trees-none (trees c.args.items.now.items))
+loop-c-init c =
+    ap (λ ts. trees ts) c.in_ok-make_room.ensures.items ∙ sym (append_trees-none (trees c.args.items.now.items))
 
 pub loop-c-preserved : goal.loop-c-preserved
 loop-c-preserved c =

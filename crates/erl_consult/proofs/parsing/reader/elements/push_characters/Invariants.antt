@@ -6,4 +6,4 @@ use Rattle.erl_consult.proofs.parsing.reader.elements.push_characters.Given as g
 
 abbrev pub invariant-loop-c : goal.invariant-loop-c
 invariant-loop-c l =
-    trees l.items.items ≡ append_trees (trees l.initial.items.items) (integers l.yielded)
+    trees l.items.items ≡ append_trees (trees l.fn.items.items) (integers l.yielded)
