@@ -2,7 +2,7 @@
 //
 // In a line `␤` stands for a newline. Pieces of a line stand between `⋅`, and a number and `⨯` before a piece say how often
 // it is written: `3⨯[⋅a⋅2⨯]` is `[[[a]]`.
-use crate::{chars, printing, reading, scan, terms};
+use crate::{chars, printing, reading, rows, scan, terms};
 use std::alloc::Global;
 use std::process::Abort;
 use std::test::Fail;
@@ -58,6 +58,14 @@ pub(crate) enum Reading {
     Behind,
     /// A term among others.
     Inside,
+    /// A list, and those behind its elements.
+    Rests,
+    /// The terms behind a list's first.
+    Taken,
+    /// How often a term is doubled.
+    Doubled,
+    /// A term, and how deep and large it may be.
+    Bounded,
 }
 
 /// What is told of a text.
@@ -87,6 +95,10 @@ fn outcome(alloc: Global, reading: Reading, text: &str) -> Result<String, Fail> 
         Reading::Behind => printing::behind(alloc, text),
         Reading::Inside => printing::inside(alloc, text),
         Reading::Row => terms::row(alloc, text),
+        Reading::Rests => rows::rests(alloc, text),
+        Reading::Taken => rows::taken(alloc, text),
+        Reading::Doubled => rows::doubled(alloc, text),
+        Reading::Bounded => rows::bounded(alloc, text),
     }
 }
 

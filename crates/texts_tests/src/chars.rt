@@ -2,7 +2,8 @@
 mod tables;
 
 use crate::cases::{Reading, expect_inside, expect_table};
-use erl_chars::{Cursor, Fault, Name, NameError, QuoteError, ReadError, Text, quotes_read_one_way};
+use erl_chars::{Cursor, Name, NameError, QuoteError, Text, quotes_read_one_way};
+use erl_scan::{Fault, ReadError};
 use std::alloc::{AllocError, Global};
 use std::process::Abort;
 use std::test::Fail;

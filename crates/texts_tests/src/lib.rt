@@ -3,7 +3,7 @@
 //! They see that the definitions in those contracts are Erlang's: escapes, gaps, quotes and names are those of Erlang's
 //! notation (`chars`), texts have the tokens (`scan`) and the terms, or the first fault and its byte, that its rules give
 //! (`reading`), terms print as those rules say (`printing`), and are ordered, copied, measured and taken apart by the
-//! rules for terms (`terms`). Each public call runs once on its happy path, and what goes down a term goes down one of
+//! rules for terms (`terms`), also where they share (`rows`). Each public call runs once on its happy path, and what goes down a term goes down one of
 //! depth 1,024.
 //!
 //! The cases are lines of tables; `cases` says how they are written. The values that are wanted come from the
@@ -18,6 +18,8 @@ mod chars;
 mod printing;
 #[cfg(test)]
 mod reading;
+#[cfg(test)]
+mod rows;
 #[cfg(test)]
 mod scan;
 #[cfg(test)]

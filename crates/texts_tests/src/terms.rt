@@ -218,11 +218,7 @@ fn takes(row: &[Term], count: u32) -> bool {
         1 => one(row).is_some(),
         2 => two(row).is_some(),
         3 => three(row).is_some(),
-        4 => four(row).is_some(),
-        5 => five(row).is_some(),
-        6 => six(row).is_some(),
-        7 => seven(row).is_some(),
-        _ => eight(row).is_some(),
+        _ => four(row).is_some(),
     }
 }
 
@@ -230,7 +226,7 @@ fn takes(row: &[Term], count: u32) -> bool {
 pub(crate) fn row(alloc: Global, text: &str) -> Result<String, Fail> {
     let row = integers(alloc, text)?;
     let mut out = format!(in alloc; "{} {}", row.len(), row.is_empty())?;
-    for count in 0..9 {
+    for count in 0..5 {
         if takes(row.as_slice(), count) {
             out.push_str(format!(in alloc; " {count}")?.as_str())?;
         }

@@ -79,11 +79,7 @@ pub(super) const ROWS: &str = r" ⟶ 0 true 0
 10 20 ⟶ 2 false 2
 10 20 30 ⟶ 3 false 3
 10 20 30 40 ⟶ 4 false 4
-10 20 30 40 50 ⟶ 5 false 5
-10 20 30 40 50 60 ⟶ 6 false 6
-10 20 30 40 50 60 70 ⟶ 7 false 7
-10 20 30 40 50 60 70 80 ⟶ 8 false 8
-10 20 30 40 50 60 70 80 90 ⟶ 9 false";
+10 20 30 40 50 ⟶ 5 false";
 
 /// The characters of an atom of as many as it may have, and of one of more.
 pub(super) const ATOMS: &str = "\
