@@ -7,17 +7,19 @@ ghost use Rattle.erl_consult.specs.Steps.{Seen, nothing_seen, done, cut_short, f
 
 mod brackets;
 mod elements;
+mod rows;
 mod terms;
 
 use brackets::innermost;
 use erl_scan::{Fault, Mark, ReadError, Spot, Token, Word};
 use erl_term::Term;
+use rows::Rows;
 use std::alloc::Global;
 
 /// What was read of a text of terms.
 #[derive(Drop)]
 pub(crate) struct Reader {
-    alloc: Global,
+    rows: Rows,
     /// The terms that a dot ended.
     whole: Vec<Term>,
     /// The open brackets, the innermost last.
@@ -66,7 +68,7 @@ impl Reader {
         ensures { seen result ≡ nothing_seen }
     {
         Reader {
-            alloc,
+            rows: Rows::new(alloc),
             whole: Vec::new(alloc),
             open: Vec::new(alloc),
             last: Last::Nothing,

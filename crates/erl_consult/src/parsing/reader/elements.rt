@@ -7,9 +7,9 @@ ghost use Rattle.erl_term.specs.Term.{tree, trees};
 ghost use Rattle.erl_consult.specs.Reader.{last_seen};
 ghost use Rattle.erl_consult.specs.Steps.{with_element, elements_at, tail_elements, term_of_last};
 
-use super::Last;
+use super::{Last, Rows};
 use erl_scan::{Fault, ReadError};
-use erl_term::{Term, Terms};
+use erl_term::Term;
 use std::alloc::{AllocError, Global};
 
 impl Last {
@@ -18,7 +18,7 @@ impl Last {
     /// # Errors
     ///
     /// `Syntax` at the token where none was read whole, and `Memory` where memory is refused.
-    pub(super) fn into_term(self, alloc: Global, at: usize) -> Result<Term, ReadError>
+    pub(super) fn into_term(self, rows: &mut Rows, at: usize) -> Result<Term, ReadError>
         ensures { MatchResult result (λ t. term_of_last (last_seen self) ≡ Some (tree t))
             (λ e. (e.kind ≡ refused) ⊎ ((term_of_last (last_seen self) ≡ None) × (e.kind ≡ syntax) × (e.at ≡ at))) }
     {
@@ -28,8 +28,8 @@ impl Last {
                 at,
             }),
             Last::Term(term) => Ok(term),
-            Last::List(items) | Last::Text(items) => Ok(Term::List(row_of(items, alloc, at)?)),
-            Last::Backwards(items) => Ok(Term::List(row_of(turned(items), alloc, at)?)),
+            Last::List(items) | Last::Text(items) => Ok(Term::List(rows.row(items, at)?)),
+            Last::Backwards(items) => Ok(Term::List(rows.row(turned(items), at)?)),
         }
     }
 
@@ -68,23 +68,6 @@ fn turned(mut items: Vec<Term>) -> Vec<Term>
     items
 }
 
-/// The row of these terms, before a token.
-///
-/// # Errors
-///
-/// `Memory` where memory is refused.
-pub(super) fn row_of(items: Vec<Term>, alloc: Global, at: usize) -> Result<Terms, ReadError>
-    ensures { MatchResult result (λ row. row ≡ trees items.items) (λ e. e.kind ≡ refused) }
-{
-    match Terms::new(alloc, items) {
-        Ok(row) => Ok(row),
-        Err(AllocError) => Err(ReadError {
-            kind: Fault::Memory,
-            at,
-        }),
-    }
-}
-
 /// Puts a term behind others.
 ///
 /// # Errors
@@ -111,7 +94,7 @@ pub(super) fn push(items: &mut Vec<Term>, term: Term, at: usize) -> Result<(), R
 pub(super) fn elements(
     mut items: Vec<Term>,
     last: Last,
-    alloc: Global,
+    rows: &mut Rows,
     at: usize,
 ) -> Result<Vec<Term>, ReadError>
     ensures { MatchResult result (λ row. elements_at (trees items.items) (last_seen last) ≡ Some (trees row.items))
@@ -126,7 +109,7 @@ pub(super) fn elements(
             at,
         });
     }
-    let term = last.into_term(alloc, at)?;
+    let term = last.into_term(rows, at)?;
     push(&mut items, term, at)?;
     Ok(items)
 }
