@@ -1,10 +1,10 @@
 // Rows of terms, as they grow while a text is read.
-ghost use Rattle.std.specs.Prelude.{◌≡◌, Some, None, MatchResult, OnOk, IfErr, ◌⊎◌, option_map, reverse};
+ghost use Rattle.std.specs.Prelude.{◌≡◌, OnOk, IfErr, option_map, reverse};
 ghost use Rattle.std.specs.Str.{chars};
-ghost use Rattle.erl_chars.specs.declared.error.Fault.TheVariants.{Memory as refused, Syntax as syntax};
+ghost use Rattle.erl_chars.specs.declared.error.Fault.TheVariants.{Memory as refused};
 ghost use Rattle.erl_term.specs.Rows.{append_trees, integers};
 ghost use Rattle.erl_term.specs.Term.{tree, trees};
-ghost use Rattle.erl_consult.specs.Reader.{last_seen};
+ghost use Rattle.erl_consult.specs.Reader.{last_seen, Finds};
 ghost use Rattle.erl_consult.specs.Steps.{with_element, elements_at, tail_elements, term_of_last};
 
 use super::{Last, Rows};
@@ -19,8 +19,7 @@ impl Last {
     ///
     /// `Syntax` at the token where none was read whole, and `Memory` where memory is refused.
     pub(super) fn into_term(self, rows: &mut Rows, at: usize) -> Result<Term, ReadError>
-        ensures { MatchResult result (λ t. term_of_last (last_seen self) ≡ Some (tree t))
-            (λ e. (e.kind ≡ refused) ⊎ ((term_of_last (last_seen self) ≡ None) × (e.kind ≡ syntax) × (e.at ≡ at))) }
+        ensures { Finds (term_of_last (last_seen self)) (λ t. tree t) at result }
     {
         match self {
             Last::Nothing | Last::Sign { .. } => Err(ReadError {
@@ -39,8 +38,7 @@ impl Last {
     ///
     /// `Syntax` at the bracket where no list was read, and `Memory` where memory is refused.
     fn into_backwards(self, alloc: Global, at: usize) -> Result<Vec<Term>, ReadError>
-        ensures { MatchResult result (λ row. tail_elements (term_of_last (last_seen self)) ≡ Some (trees (reverse row.items)))
-            (λ e. (e.kind ≡ refused) ⊎ ((tail_elements (term_of_last (last_seen self)) ≡ None) × (e.kind ≡ syntax) × (e.at ≡ at))) }
+        ensures { Finds (tail_elements (term_of_last (last_seen self))) (λ row. trees (reverse row.items)) at result }
     {
         match self {
             Last::Backwards(items) => Ok(items),
@@ -97,8 +95,7 @@ pub(super) fn elements(
     rows: &mut Rows,
     at: usize,
 ) -> Result<Vec<Term>, ReadError>
-    ensures { MatchResult result (λ row. elements_at (trees items.items) (last_seen last) ≡ Some (trees row.items))
-        (λ e. (e.kind ≡ refused) ⊎ ((elements_at (trees items.items) (last_seen last) ≡ None) × (e.kind ≡ syntax) × (e.at ≡ at))) }
+    ensures { Finds (elements_at (trees items.items) (last_seen last)) (λ row. trees row.items) at result }
 {
     if let Last::Nothing = last {
         if items.is_empty() {
@@ -127,8 +124,8 @@ pub(super) fn with_tail(
     alloc: Global,
     at: usize,
 ) -> Result<Vec<Term>, ReadError>
-    ensures { MatchResult result (λ row. option_map (append_trees (trees items.items)) (tail_elements (term_of_last (last_seen last))) ≡ Some (trees (reverse row.items)))
-        (λ e. (e.kind ≡ refused) ⊎ ((option_map (append_trees (trees items.items)) (tail_elements (term_of_last (last_seen last))) ≡ None) × (e.kind ≡ syntax) × (e.at ≡ at))) }
+    ensures { Finds (option_map (append_trees (trees items.items)) (tail_elements (term_of_last (last_seen last))))
+        (λ row. trees (reverse row.items)) at result }
 {
     let mut backwards = last.into_backwards(alloc, at)?;
     let mut heads = turned(items);
