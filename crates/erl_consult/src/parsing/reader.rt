@@ -55,8 +55,8 @@ enum Last {
     Term(Term),
     /// The elements of a list that closed.
     List(Vec<Term>),
-    /// The elements of a list that closed behind a bar, the last one first: a list around it puts those before its
-    /// bar behind them.
+    /// The elements of a list that was written with a tail, the last one first: a list of which it is the tail puts its
+    /// own behind them.
     Backwards(Vec<Term>),
     /// One or more strings behind one another: their characters as integers.
     Text(Vec<Term>),

@@ -43,6 +43,7 @@ impl Last {
         match self {
             Last::Backwards(items) => Ok(items),
             Last::List(items) | Last::Text(items) => Ok(turned(items)),
+            // A list that was read is kept as its elements, so that none comes here.
             Last::Term(Term::List(row)) => match row.into_vec(alloc) {
                 Ok(items) => Ok(turned(items)),
                 Err(AllocError) => Err(ReadError {
