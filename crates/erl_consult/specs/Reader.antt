@@ -60,6 +60,12 @@ with_frame s f = record { whole = s.whole; open_ones = f ∷ s.open_ones; last =
 abbrev pub Gives : {A : Type 0} → Outcome → Seen → Result A ReadError → Type 0
 Gives outcome new result = MatchResult result (λ _. outcome ≡ goes new) (λ e. (e.kind ≡ refused) ⊎ (outcome ≡ fails e.kind e.at))
 
+-- a call finds this, as its value is seen; where there is none that is a fault of syntax at this place; or memory was
+-- refused
+abbrev pub Finds : {A B : Type 0} → Option B → (A → B) → ℕ → Result A ReadError → Type 0
+Finds found as_seen at result =
+    MatchResult result (λ x. found ≡ Some (as_seen x)) (λ e. (e.kind ≡ refused) ⊎ ((found ≡ None) × (e.kind ≡ Syntax) × (e.at ≡ at)))
+
 -- the integer behind a sign, if it is in range
 abbrev pub signed_of : Bool → ℕ → Option ℤ
 signed_of true n = if nat_le n (2 ^ 63) then Some (neg_ℤ (pos n)) else None

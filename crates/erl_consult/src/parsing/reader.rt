@@ -7,17 +7,19 @@ ghost use Rattle.erl_consult.specs.Steps.{Seen, nothing_seen, done, cut_short, f
 
 mod brackets;
 mod elements;
+mod rows;
 mod terms;
 
 use brackets::innermost;
 use erl_scan::{Fault, Mark, ReadError, Spot, Token, Word};
 use erl_term::Term;
+use rows::Rows;
 use std::alloc::Global;
 
 /// What was read of a text of terms.
 #[derive(Drop)]
 pub(crate) struct Reader {
-    alloc: Global,
+    rows: Rows,
     /// The terms that a dot ended.
     whole: Vec<Term>,
     /// The open brackets, the innermost last.
@@ -53,8 +55,8 @@ enum Last {
     Term(Term),
     /// The elements of a list that closed.
     List(Vec<Term>),
-    /// The elements of a list that closed behind a bar, the last one first: a list around it puts those before its
-    /// bar behind them.
+    /// The elements of a list that was written with a tail, the last one first: a list of which it is the tail puts its
+    /// own behind them.
     Backwards(Vec<Term>),
     /// One or more strings behind one another: their characters as integers.
     Text(Vec<Term>),
@@ -66,7 +68,7 @@ impl Reader {
         ensures { seen result ≡ nothing_seen }
     {
         Reader {
-            alloc,
+            rows: Rows::new(alloc),
             whole: Vec::new(alloc),
             open: Vec::new(alloc),
             last: Last::Nothing,

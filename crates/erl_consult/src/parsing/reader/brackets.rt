@@ -4,7 +4,7 @@ ghost use Rattle.erl_term.specs.Readable.{deepest};
 ghost use Rattle.erl_consult.specs.Reader.{bracket_seen, frame_seen, frames, seen, innermost_frame, bar_within, with_frame, Gives};
 ghost use Rattle.erl_consult.specs.Steps.{nothing, goes, opened_by, term_of_last, element_ended, take_open_tuple_by, take_open_list_by, take_close_tuple_by, take_close_list_by, take_comma_by, take_bar_by, take_dot_by};
 
-use super::elements::{elements, push, row_of, with_tail};
+use super::elements::{elements, push, with_tail};
 use super::{Bracket, Last, Open, Reader};
 use erl_scan::{Fault, ReadError};
 use erl_term::Term;
@@ -57,8 +57,8 @@ impl Reader {
         let last = mem::replace(&mut self.last, Last::Nothing);
         match bracket {
             Bracket::Tuple => {
-                let items = elements(items, last, self.alloc, at)?;
-                self.last = Last::Term(Term::Tuple(row_of(items, self.alloc, at)?));
+                let items = elements(items, last, &mut self.rows, at)?;
+                self.last = Last::Term(Term::Tuple(self.rows.row(items, at)?));
                 Ok(())
             }
             Bracket::List | Bracket::Tail { .. } => Err(ReadError {
@@ -79,16 +79,20 @@ impl Reader {
         };
         let Open { bracket, items, .. } = opened;
         let last = mem::replace(&mut self.last, Last::Nothing);
-        let closed = match bracket {
-            Bracket::List => Last::List(elements(items, last, self.alloc, at)?),
-            Bracket::Tail { .. } => Last::Backwards(with_tail(items, last, self.alloc, at)?),
-            Bracket::Tuple => return Err(ReadError {
+        match bracket {
+            Bracket::List => {
+                self.last = Last::List(elements(items, last, &mut self.rows, at)?);
+                Ok(())
+            }
+            Bracket::Tail { .. } => {
+                self.last = Last::Backwards(with_tail(items, last, self.rows.alloc, at)?);
+                Ok(())
+            }
+            Bracket::Tuple => Err(ReadError {
                 kind: Fault::Syntax,
                 at,
             }),
-        };
-        self.last = closed;
-        Ok(())
+        }
     }
 
     pub(super) fn take_comma(&mut self, at: usize) -> Result<(), ReadError>
@@ -138,7 +142,7 @@ impl Reader {
             });
         }
         let last = mem::replace(&mut self.last, Last::Nothing);
-        let term = last.into_term(self.alloc, at)?;
+        let term = last.into_term(&mut self.rows, at)?;
         push(&mut self.whole, term, at)
     }
 
@@ -153,7 +157,7 @@ impl Reader {
                 at,
             });
         }
-        let items = Vec::new(self.alloc);
+        let items = Vec::new(self.rows.alloc);
         self.push_bracket(Open { bracket, at, items }, at)
     }
 
@@ -162,7 +166,7 @@ impl Reader {
         ensures { Gives (element_ended (seen self.old) (frame_seen opened) (seen self.old).open_ones (bracket_seen bracket) (term_of_last (seen self.old).last) at) (seen self.new) result }
     {
         let last = mem::replace(&mut self.last, Last::Nothing);
-        let term = last.into_term(self.alloc, at)?;
+        let term = last.into_term(&mut self.rows, at)?;
         let Open {
             at: place,
             mut items,

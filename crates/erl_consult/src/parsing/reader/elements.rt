@@ -1,15 +1,15 @@
 // Rows of terms, as they grow while a text is read.
-ghost use Rattle.std.specs.Prelude.{◌≡◌, Some, None, MatchResult, OnOk, IfErr, ◌⊎◌, option_map, reverse};
+ghost use Rattle.std.specs.Prelude.{◌≡◌, OnOk, IfErr, option_map, reverse};
 ghost use Rattle.std.specs.Str.{chars};
-ghost use Rattle.erl_scan.specs.declared.error.Fault.TheVariants.{Memory as refused, Syntax as syntax};
+ghost use Rattle.erl_scan.specs.declared.error.Fault.TheVariants.{Memory as refused};
 ghost use Rattle.erl_term.specs.Rows.{append_trees, integers};
 ghost use Rattle.erl_term.specs.Term.{tree, trees};
-ghost use Rattle.erl_consult.specs.Reader.{last_seen};
+ghost use Rattle.erl_consult.specs.Reader.{last_seen, Finds};
 ghost use Rattle.erl_consult.specs.Steps.{with_element, elements_at, tail_elements, term_of_last};
 
-use super::Last;
+use super::{Last, Rows};
 use erl_scan::{Fault, ReadError};
-use erl_term::{Term, Terms};
+use erl_term::Term;
 use std::alloc::{AllocError, Global};
 
 impl Last {
@@ -18,9 +18,8 @@ impl Last {
     /// # Errors
     ///
     /// `Syntax` at the token where none was read whole, and `Memory` where memory is refused.
-    pub(super) fn into_term(self, alloc: Global, at: usize) -> Result<Term, ReadError>
-        ensures { MatchResult result (λ t. term_of_last (last_seen self) ≡ Some (tree t))
-            (λ e. (e.kind ≡ refused) ⊎ ((term_of_last (last_seen self) ≡ None) × (e.kind ≡ syntax) × (e.at ≡ at))) }
+    pub(super) fn into_term(self, rows: &mut Rows, at: usize) -> Result<Term, ReadError>
+        ensures { Finds (term_of_last (last_seen self)) (λ t. tree t) at result }
     {
         match self {
             Last::Nothing | Last::Sign { .. } => Err(ReadError {
@@ -28,8 +27,8 @@ impl Last {
                 at,
             }),
             Last::Term(term) => Ok(term),
-            Last::List(items) | Last::Text(items) => Ok(Term::List(row_of(items, alloc, at)?)),
-            Last::Backwards(items) => Ok(Term::List(row_of(turned(items), alloc, at)?)),
+            Last::List(items) | Last::Text(items) => Ok(Term::List(rows.row(items, at)?)),
+            Last::Backwards(items) => Ok(Term::List(rows.row(turned(items), at)?)),
         }
     }
 
@@ -39,12 +38,12 @@ impl Last {
     ///
     /// `Syntax` at the bracket where no list was read, and `Memory` where memory is refused.
     fn into_backwards(self, alloc: Global, at: usize) -> Result<Vec<Term>, ReadError>
-        ensures { MatchResult result (λ row. tail_elements (term_of_last (last_seen self)) ≡ Some (trees (reverse row.items)))
-            (λ e. (e.kind ≡ refused) ⊎ ((tail_elements (term_of_last (last_seen self)) ≡ None) × (e.kind ≡ syntax) × (e.at ≡ at))) }
+        ensures { Finds (tail_elements (term_of_last (last_seen self))) (λ row. trees (reverse row.items)) at result }
     {
         match self {
             Last::Backwards(items) => Ok(items),
             Last::List(items) | Last::Text(items) => Ok(turned(items)),
+            // A list that was read is kept as its elements, so that none comes here.
             Last::Term(Term::List(row)) => match row.into_vec(alloc) {
                 Ok(items) => Ok(turned(items)),
                 Err(AllocError) => Err(ReadError {
@@ -66,23 +65,6 @@ fn turned(mut items: Vec<Term>) -> Vec<Term>
 {
     items.reverse();
     items
-}
-
-/// The row of these terms, before a token.
-///
-/// # Errors
-///
-/// `Memory` where memory is refused.
-pub(super) fn row_of(items: Vec<Term>, alloc: Global, at: usize) -> Result<Terms, ReadError>
-    ensures { MatchResult result (λ row. row ≡ trees items.items) (λ e. e.kind ≡ refused) }
-{
-    match Terms::new(alloc, items) {
-        Ok(row) => Ok(row),
-        Err(AllocError) => Err(ReadError {
-            kind: Fault::Memory,
-            at,
-        }),
-    }
 }
 
 /// Puts a term behind others.
@@ -111,11 +93,10 @@ pub(super) fn push(items: &mut Vec<Term>, term: Term, at: usize) -> Result<(), R
 pub(super) fn elements(
     mut items: Vec<Term>,
     last: Last,
-    alloc: Global,
+    rows: &mut Rows,
     at: usize,
 ) -> Result<Vec<Term>, ReadError>
-    ensures { MatchResult result (λ row. elements_at (trees items.items) (last_seen last) ≡ Some (trees row.items))
-        (λ e. (e.kind ≡ refused) ⊎ ((elements_at (trees items.items) (last_seen last) ≡ None) × (e.kind ≡ syntax) × (e.at ≡ at))) }
+    ensures { Finds (elements_at (trees items.items) (last_seen last)) (λ row. trees row.items) at result }
 {
     if let Last::Nothing = last {
         if items.is_empty() {
@@ -126,7 +107,7 @@ pub(super) fn elements(
             at,
         });
     }
-    let term = last.into_term(alloc, at)?;
+    let term = last.into_term(rows, at)?;
     push(&mut items, term, at)?;
     Ok(items)
 }
@@ -144,8 +125,8 @@ pub(super) fn with_tail(
     alloc: Global,
     at: usize,
 ) -> Result<Vec<Term>, ReadError>
-    ensures { MatchResult result (λ row. option_map (append_trees (trees items.items)) (tail_elements (term_of_last (last_seen last))) ≡ Some (trees (reverse row.items)))
-        (λ e. (e.kind ≡ refused) ⊎ ((option_map (append_trees (trees items.items)) (tail_elements (term_of_last (last_seen last))) ≡ None) × (e.kind ≡ syntax) × (e.at ≡ at))) }
+    ensures { Finds (option_map (append_trees (trees items.items)) (tail_elements (term_of_last (last_seen last))))
+        (λ row. trees (reverse row.items)) at result }
 {
     let mut backwards = last.into_backwards(alloc, at)?;
     let mut heads = turned(items);

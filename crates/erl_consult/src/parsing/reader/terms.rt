@@ -77,7 +77,7 @@ impl Reader {
                         at,
                     });
                 }
-                self.go_on(Vec::new(self.alloc), string, at)
+                self.go_on(Vec::new(self.rows.alloc), string, at)
             }
             Last::Text(items) => self.go_on(items, string, at),
             Last::Sign { .. } | Last::Term(_) | Last::List(_) | Last::Backwards(_) => Err(
