@@ -27,7 +27,7 @@ use Rattle.erl_consult.proofs.Judging.{none_last, show}
 use Rattle.erl_consult.proofs.Reached.{stands-none, stands-next, same_goes, goes-fails}
 use Rattle.erl_consult.proofs.Ends.{Somewhere, Goes, it_goes, it_fails, goes_or_fails, faulty-from_fails, sound-from_taken, cut-from_end, text-from_end}
 
--- These tokens were scanned, and taken one by one: so much of the text's characters is left, and the reader holds this.
+-- These tokens were scanned, and taken one by one: so much of the text's characters is left, and the parser holds this.
 pub record SoFar (cs left : List ℕ) (held : Seen) : Type 0 where
   pub before : List Spot
   pub read : Reads (byte_count cs) cs before left
@@ -165,7 +165,7 @@ text-from_so_far bytes left held ts utf8 so comes e = record {
   text = text-from_end so.before so.here.whole so.here.brackets so.here.last (byte_count (chars bytes)) ts so.here.stands (ap (λ h. end_of h (byte_count (chars bytes))) (sym so.holds) ∙ e);
 }
 
--- What the reader's loop keeps
+-- What the parser's loop keeps
 
 pub record Joined (text left : List ℕ) (total : ℕ) (held : Seen) : Type 0 where
   pub so_far : SoFar (chars text) left held

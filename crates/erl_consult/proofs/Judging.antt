@@ -1,4 +1,4 @@
--- Each step of the reader against the grammar: which tokens go on, and which are faulty and why.
+-- Each step of the parser against the grammar: which tokens go on, and which are faulty and why.
 use Rattle.std.proofs.Common.{◌≡◌, ℕ, suc, ◌+◌, ◌^◌, ◌<◌, ◌≤◌, Bool, true, false, cond, not, ◌&&◌, ◌||◌, List, [], ◌∷◌, ◌++◌, length, Some, None, refl, arith, nat_lt}
 use Rattle.std.specs.Prelude.{nat_le}
 use Rattle.std.specs.List.{flat_map}
@@ -33,7 +33,7 @@ abbrev pub places : List Bracketed → List ℕ
 places [] = []
 places (o ∷ os) = place_of o ∷ places os
 
--- what the reader holds then
+-- what the parser holds then
 
 abbrev pub show_one : Bracketed → Frame
 show_one (at_tuple at fs) = record { bracket = of_tuple; at = at; items = form_trees fs }

@@ -1,4 +1,4 @@
--- What the reader holds behind tokens of which none is faulty, and which token or end is faulty there.
+-- What the parser holds behind tokens of which none is faulty, and which token or end is faulty there.
 use Rattle.std.proofs.Common.{◌≡◌, ℕ, ◌-◌, Bool, true, false, cond, not, ◌||◌, List, [], ◌∷◌, ◌++◌, length, Some, None, refl, ap, ap₂, sym, subst, ◌∙◌, arith, true≢false}
 use Rattle.std.specs.Prelude.{Option}
 use Rattle.std.specs.Option.{option_and_then}

@@ -11,12 +11,12 @@ use Rattle.erl_term.specs.Readable.{deepest}
 use Rattle.erl_term.specs.Rows.{append_trees, integers}
 use Rattle.erl_term.specs.Term.{tree, trees}
 use Rattle.erl_term.specs.Tree.{Tree, Trees, int, tuple, list, none, more}
-use Rattle.erl_consult.specs.declared.parsing.reader.Bracket.{Bracket as Kind}
-use Rattle.erl_consult.specs.declared.parsing.reader.Bracket.TheVariants.{Tuple, List as ListOf, Tail}
-use Rattle.erl_consult.specs.declared.parsing.reader.Last.{Last as Held}
-use Rattle.erl_consult.specs.declared.parsing.reader.Last.TheVariants.{Nothing}
-use Rattle.erl_consult.specs.declared.parsing.reader.Open.{Open}
-use Rattle.erl_consult.specs.Reader.{bracket_seen, frame_seen, frames, last_seen, innermost_frame, with_frame, Gives}
+use Rattle.erl_consult.specs.declared.parsing.parser.Bracket.{Bracket as Kind}
+use Rattle.erl_consult.specs.declared.parsing.parser.Bracket.TheVariants.{Tuple, List as ListOf, Tail}
+use Rattle.erl_consult.specs.declared.parsing.parser.Last.{Last as Held}
+use Rattle.erl_consult.specs.declared.parsing.parser.Last.TheVariants.{Nothing}
+use Rattle.erl_consult.specs.declared.parsing.parser.Open.{Open}
+use Rattle.erl_consult.specs.Parser.{bracket_seen, frame_seen, frames, last_seen, innermost_frame, with_frame, Gives}
 use Rattle.erl_consult.specs.Steps.{Bracket, Frame, Last, Seen, Outcome, nothing, term, goes, fails, opened_by, closed_with, take_dot_by, with_element, elements_at, tail_elements, term_of_last, element_ended, take_bar_by, take_comma_by, take_close_tuple_by, take_close_list_by, bar_in, comma_in, close_tuple_in, close_list_in}
 
 -- Rows

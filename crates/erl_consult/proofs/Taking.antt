@@ -1,4 +1,4 @@
--- The reader takes each text that is within the limits.
+-- The parser takes each text that is within the limits.
 use Rattle.std.proofs.Common.{◌≡◌, ℕ, suc, pos, ◌+◌, ◌<◌, ◌≤◌, Bool, true, false, cond, ◌&&◌, List, [], ◌∷◌, ◌++◌, length, Some, refl, ap, ap₂, sym, ◌∙◌, append_assoc, append-nil, arith, true≢false}
 use Rattle.std.specs.List.{flat_map}
 use borrow.Author.Tests.{lt-ltb}
@@ -91,7 +91,7 @@ rows ss xs ys s t o e front back =
 nothing_left : (s : Seen) (bs : List Spot) → parts bs ≡ [] → take_all s bs ≡ goes s
 nothing_left s bs e = ap (take_all s) (no_spots bs e)
 
--- What the reader holds
+-- What the parser holds
 
 abbrev seen : Trees → List Frame → Last → Seen
 seen x fs l = record { whole = x; open_ones = fs; last = l }

@@ -1,16 +1,19 @@
 -- Where a text of terms faults first, and why.
-use Rattle.std.specs.Prelude.{◌≡◌, ℕ, ◌-◌, ◌^◌, ◌≤◌, nat_le, nat_lt, Bool, true, false, not, ◌||◌, if◌then◌else◌, List, [], ◌∷◌, ◌++◌, Option, Some, None}
+use Rattle.std.specs.Prelude.{◌≡◌, ℕ, ◌-◌, ◌^◌, ◌≤◌, nat_le, nat_lt, Bool, true, false, not, ◌||◌, if◌then◌else◌, List, [], ◌∷◌}
+use Rattle.std.specs.Prelude.{◌++◌, Option, Some, None}
 use Rattle.std.specs.List.{count_by}
 use Rattle.std.specs.Str.{chars, IsUtf8, IsValidUpTo}
 use Rattle.erl_scan.specs.declared.error.Fault.{Fault}
-use Rattle.erl_scan.specs.declared.error.Fault.TheVariants.{NotUtf8, Unclosed, IntegerRange, Unsupported, MissingDot, TooDeep, Syntax}
+use Rattle.erl_scan.specs.declared.error.Fault.TheVariants.{NotUtf8, Unclosed, IntegerRange, Unsupported, MissingDot, TooDeep}
+use Rattle.erl_scan.specs.declared.error.Fault.TheVariants.{Syntax}
 use Rattle.erl_chars.specs.Cursor.{byte_count, place}
 use Rattle.erl_chars.specs.Gaps.{after_gap}
 use Rattle.erl_scan.specs.declared.token.Spot.{Spot}
 use Rattle.erl_scan.specs.Tokens.{Next, ends, token, fault, Reads, Reaches}
 use Rattle.erl_term.specs.Tree.{Trees}
 use Rattle.erl_term.specs.Readable.{deepest}
-use Rattle.erl_consult.specs.Grammar.{Part, number, minus, plus, string, open_tuple, close_tuple, open_list, close_list, bar, dot, unread, part_of, IsText, IsStart}
+use Rattle.erl_consult.specs.Grammar.{Part, number, minus, plus, string, open_tuple, close_tuple, open_list, close_list, bar}
+use Rattle.erl_consult.specs.Grammar.{dot, unread, part_of, IsText, IsStart}
 
 -- The tokens before a place
 
@@ -124,22 +127,29 @@ pub data IsFaulty (before : List Spot) (p : Part) (at : ℕ) (kind : Fault) (tol
   -- Erlang has it, but it is not read
   not_read : p ≡ unread → kind ≡ Unsupported → told ≡ at → IsFaulty before p at kind told
   -- an integer out of range
-  out_of_range : is_out_of_range before p ≡ true → kind ≡ IntegerRange → told ≡ range_place before at → IsFaulty before p at kind told
+  out_of_range : is_out_of_range before p ≡ true → kind ≡ IntegerRange → told ≡ range_place before at →
+      IsFaulty before p at kind told
   -- no text goes on so
-  misplaced : is_faulty before p ≡ false → (IsStart (parts before ++ p ∷ []) → ⊥) → kind ≡ Syntax → told ≡ at → IsFaulty before p at kind told
+  misplaced : is_faulty before p ≡ false → (IsStart (parts before ++ p ∷ []) → ⊥) → kind ≡ Syntax → told ≡ at →
+      IsFaulty before p at kind told
   -- a tail that is no list, which is told at the bar before it
-  wrong_tail : is_faulty before p ≡ false → IsStart (parts before ++ p ∷ []) → is_wrong_tail before p ≡ true → (b : Spot) → last_of before ≡ Some b → kind ≡ Unsupported → told ≡ b.at → IsFaulty before p at kind told
+  wrong_tail : is_faulty before p ≡ false → IsStart (parts before ++ p ∷ []) → is_wrong_tail before p ≡ true → (b : Spot) →
+      last_of before ≡ Some b → kind ≡ Unsupported → told ≡ b.at → IsFaulty before p at kind told
   -- one more bracket than may be open at once
-  too_deep : is_faulty before p ≡ false → IsStart (parts before ++ p ∷ []) → is_wrong_tail before p ≡ false → begins_nesting before p ≡ true → deepest ≤ opened before - closed before → kind ≡ TooDeep → told ≡ at → IsFaulty before p at kind told
+  too_deep : is_faulty before p ≡ false → IsStart (parts before ++ p ∷ []) → is_wrong_tail before p ≡ false →
+      begins_nesting before p ≡ true → deepest ≤ opened before - closed before → kind ≡ TooDeep → told ≡ at →
+      IsFaulty before p at kind told
 
 -- The end of the input behind these tokens, in a text of so many bytes, where it is a fault: why, and where it is told.
 pub data IsCutShort (before : List Spot) (total : ℕ) (kind : Fault) (told : ℕ) : Type 0 where
   -- inside a bracket
   in_bracket : (b : Spot) → IsInnermost before b → kind ≡ Unclosed → told ≡ b.at → IsCutShort before total kind told
   -- behind a sign, outside every bracket
-  behind_sign : opened before ≡ closed before → (s : Spot) → last_of before ≡ Some s → is_sign (spot_part s) ≡ true → kind ≡ Syntax → told ≡ s.at → IsCutShort before total kind told
+  behind_sign : opened before ≡ closed before → (s : Spot) → last_of before ≡ Some s → is_sign (spot_part s) ≡ true →
+      kind ≡ Syntax → told ≡ s.at → IsCutShort before total kind told
   -- behind a whole term
-  behind_term : opened before ≡ closed before → (s : Spot) → last_of before ≡ Some s → is_sign (spot_part s) ≡ false → is_dot (spot_part s) ≡ false → kind ≡ MissingDot → told ≡ total → IsCutShort before total kind told
+  behind_term : opened before ≡ closed before → (s : Spot) → last_of before ≡ Some s → is_sign (spot_part s) ≡ false →
+      is_dot (spot_part s) ≡ false → kind ≡ MissingDot → told ≡ total → IsCutShort before total kind told
 
 -- what comes next is a fault: a token that is faulty by itself, one that is faulty where it stands, or the end
 abbrev pub NextFaults : List ℕ → List Spot → List ℕ → Next → Fault → ℕ → Type 0
@@ -150,7 +160,8 @@ NextFaults cs before here (fault k at) kind told = (kind ≡ k) × (told ≡ pla
 -- none of these tokens is faulty where it stands
 abbrev pub NoneFaults : List Spot → Type 0
 NoneFaults before =
-    (outside inside : List Spot) → (s : Spot) → before ≡ outside ++ s ∷ inside → (kind : Fault) → (told : ℕ) → IsFaulty outside (spot_part s) s.at kind told → ⊥
+    (outside inside : List Spot) → (s : Spot) → before ≡ outside ++ s ∷ inside → (kind : Fault) → (told : ℕ) →
+    IsFaulty outside (spot_part s) s.at kind told → ⊥
 
 -- The first fault of a text's characters: what comes next behind some tokens is a fault, and none of these is.
 pub record FaultsFirst (cs : List ℕ) (kind : Fault) (told : ℕ) : Type 0 where
@@ -183,6 +194,7 @@ pub data IsJudged (bytes : List ℕ) : Type 0 where
 -- The law: all bytes are a text of one list of terms, or refused for one reason at one byte, and never both.
 pub record OneReading (bytes : List ℕ) : Type 0 where
   pub terms : (ts us : Trees) → IsTextOf bytes ts → IsTextOf bytes us → ts ≡ us
-  pub faults : (kind other : Fault) → (told place : ℕ) → IsRefused bytes kind told → IsRefused bytes other place → (kind ≡ other) × (told ≡ place)
+  pub faults : (kind other : Fault) → (told place : ℕ) → IsRefused bytes kind told → IsRefused bytes other place →
+      (kind ≡ other) × (told ≡ place)
   pub apart : (ts : Trees) → (kind : Fault) → (told : ℕ) → IsTextOf bytes ts → IsRefused bytes kind told → ⊥
   pub judged : IsJudged bytes

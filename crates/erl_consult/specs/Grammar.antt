@@ -1,13 +1,16 @@
 -- The grammar of texts of terms (Erlang Reference Manual, Data Types): terms as they are written, the tokens that they
 -- are written with, and their meaning.
-use Rattle.std.specs.Prelude.{◌≡◌, ℕ, pos, neg_ℤ, ◌+◌, ◌^◌, ◌≤◌, nat_le, nat_lt, max, Bool, true, false, ◌&&◌, List, [], ◌∷◌, ◌++◌}
+use Rattle.std.specs.Prelude.{◌≡◌, ℕ, pos, neg_ℤ, ◌+◌, ◌^◌, ◌≤◌, nat_le, nat_lt, max, Bool, true, false, ◌&&◌, List, [], ◌∷◌}
+use Rattle.std.specs.Prelude.{◌++◌}
 use Rattle.std.specs.List.{flat_map}
 use Rattle.erl_scan.specs.declared.token.Token.{Token}
-use Rattle.erl_scan.specs.declared.token.Token.TheVariants.{Integer, Float, Atom, Word as WordOf, Variable, String, Mark as MarkOf, Dot}
+use Rattle.erl_scan.specs.declared.token.Token.TheVariants.{Integer, Float, Atom, Word as WordOf, Variable, String}
+use Rattle.erl_scan.specs.declared.token.Token.TheVariants.{Mark as MarkOf, Dot}
 use Rattle.erl_scan.specs.declared.word.Word.{Word}
 use Rattle.erl_scan.specs.declared.word.Word.TheVariants.{Fun}
 use Rattle.erl_scan.specs.declared.mark.Mark.{Mark}
-use Rattle.erl_scan.specs.declared.mark.Mark.TheVariants.{OpenBinary, OpenBrace, CloseBrace, OpenBracket, CloseBracket, Comma, Bar, Hash, Plus, Minus}
+use Rattle.erl_scan.specs.declared.mark.Mark.TheVariants.{OpenBinary, OpenBrace, CloseBrace, OpenBracket, CloseBracket, Comma}
+use Rattle.erl_scan.specs.declared.mark.Mark.TheVariants.{Bar, Hash, Plus, Minus}
 use Rattle.erl_term.specs.Readable.{deepest}
 use Rattle.erl_term.specs.Rows.{append_trees, integers}
 use Rattle.erl_term.specs.Tree.{Tree, Trees, int, atom, pid, tuple, list, none, more}

@@ -2,5 +2,5 @@ pub mod Faults
 pub mod FirstFault
 pub mod Grammar
 pub mod Printed
-pub mod Reader
+pub mod Parser
 pub mod Steps

@@ -1,12 +1,14 @@
--- The steps of reading a text of terms from token to token: words for the reader's own functions, which no public
+-- The steps of reading a text of terms from token to token: words for the parser's own functions, which no public
 -- clause cites.
-use Rattle.std.specs.Prelude.{ℕ, pos, neg_ℤ, ◌^◌, nat_le, nat_lt, Bool, true, false, if◌then◌else◌, List, [], ◌∷◌, length, Option, Some, None}
+use Rattle.std.specs.Prelude.{ℕ, pos, neg_ℤ, ◌^◌, nat_le, nat_lt, Bool, true, false, if◌then◌else◌, List, [], ◌∷◌, length}
+use Rattle.std.specs.Prelude.{Option, Some, None}
 use Rattle.erl_scan.specs.declared.error.Fault.{Fault}
 use Rattle.erl_scan.specs.declared.error.Fault.TheVariants.{Unclosed, IntegerRange, Unsupported, MissingDot, TooDeep, Syntax}
 use Rattle.erl_term.specs.Tree.{Tree, Trees, int, atom, pid, tuple, list, none, more}
 use Rattle.erl_term.specs.Readable.{deepest}
 use Rattle.erl_term.specs.Rows.{append_trees, integers}
-use Rattle.erl_consult.specs.Grammar.{Part, number, minus, plus, name, string, open_tuple, close_tuple, open_list, close_list, comma, bar, dot, unread, foreign}
+use Rattle.erl_consult.specs.Grammar.{Part, number, minus, plus, name, string, open_tuple, close_tuple, open_list, close_list}
+use Rattle.erl_consult.specs.Grammar.{comma, bar, dot, unread, foreign}
 
 -- an open bracket; of a list's bracket behind its bar, where the bar stands
 pub data Bracket : Type 0 where
@@ -99,7 +101,12 @@ take_string_by s (text ts) cs at = with_last s (text (append_trees ts (integers 
 
 abbrev pub opened_by : Seen → Bracket → ℕ → Outcome
 opened_by s bracket at =
-    if_room s.open_ones at (goes (record { whole = s.whole; open_ones = record { bracket = bracket; at = at; items = none } ∷ s.open_ones; last = nothing }))
+    if_room s.open_ones at (goes (record {
+      whole = s.whole;
+      open_ones =
+          record { bracket = bracket; at = at; items = none } ∷ s.open_ones;
+      last = nothing;
+    }))
 
 abbrev pub take_open_tuple_by : Seen → Last → ℕ → Outcome
 take_open_tuple_by s nothing at = begins s.open_ones (opened_by s of_tuple at)
@@ -174,7 +181,12 @@ take_close_list_by s (f ∷ fs) at = close_list_in s fs f.bracket f.items at
 abbrev pub element_ended : Seen → Frame → List Frame → Bracket → Option Tree → ℕ → Outcome
 element_ended s f fs bracket None at = fails Syntax at
 element_ended s f fs bracket (Some t) at =
-    goes (record { whole = s.whole; open_ones = record { bracket = bracket; at = f.at; items = with_element f.items t } ∷ fs; last = nothing })
+    goes (record {
+      whole = s.whole;
+      open_ones =
+          record { bracket = bracket; at = f.at; items = with_element f.items t } ∷ fs;
+      last = nothing;
+    })
 
 abbrev pub comma_in : Seen → Frame → List Frame → Bracket → ℕ → Outcome
 comma_in s f fs of_tuple at = element_ended s f fs of_tuple (term_of_last s.last) at

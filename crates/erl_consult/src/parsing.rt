@@ -7,11 +7,11 @@ ghost use Rattle.erl_consult.specs.Faults.{FaultsFirst, IsRefused, IsTextOf, One
 ghost use Rattle.erl_consult.specs.FirstFault.{FirstFault};
 ghost use Rattle.erl_consult.specs.Printed.{PrintedReads};
 
-mod reader;
+mod parser;
 
 use erl_scan::{Fault, ReadError, Scanner};
 use erl_term::Term;
-use reader::Reader;
+use parser::Parser;
 use std::alloc::Global;
 use std::str;
 
@@ -41,11 +41,11 @@ fn read_text(alloc: Global, text: &str) -> Result<Vec<Term>, ReadError>
     ensures { MatchResult result (λ terms. IsTextOf text.now (trees terms.items)) (λ e. (e.kind ≡ refused) ⊎ FaultsFirst (chars text.now) e.kind e.at) }
 {
     let mut scanner = Scanner::new(alloc, text);
-    let mut reader = Reader::new(alloc);
+    let mut parser = Parser::new(alloc);
     while let Some(spot) = scanner.next_token()? {
-        reader.take(spot)?;
+        parser.take(spot)?;
     }
-    reader.finish(text.len())
+    parser.finish(text.len())
 }
 
 /// A law: all bytes are a text of one list of terms, or refused for one reason at one byte, and never both.

@@ -1,4 +1,4 @@
--- From the reader, which takes the tokens of which none is faulty.
+-- From the parser, which takes the tokens of which none is faulty.
 use Rattle.erl_consult.proofs.FirstFault.{first_fault}
 use Rattle.erl_consult.proofs.parsing.first_fault_is_first.Goals as goal
 

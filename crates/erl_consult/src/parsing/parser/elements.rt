@@ -1,0 +1,181 @@
+// Rows of terms, as they grow while a text is read.
+ghost use Rattle.std.specs.Prelude.{◌≡◌, OnOk, IfErr, option_map, reverse};
+ghost use Rattle.std.specs.Str.{chars};
+ghost use Rattle.erl_scan.specs.declared.error.Fault.TheVariants.{Memory as refused};
+ghost use Rattle.erl_term.specs.Rows.{append_trees, integers};
+ghost use Rattle.erl_term.specs.Term.{tree, trees};
+ghost use Rattle.erl_consult.specs.Parser.{last_seen, Finds};
+ghost use Rattle.erl_consult.specs.Steps.{with_element, elements_at, tail_elements, term_of_last};
+
+use super::{Last, Rows};
+use erl_scan::{Fault, ReadError};
+use erl_term::Term;
+use std::alloc::{AllocError, Global};
+
+impl Last {
+    /// The term, before a token that ends one.
+    ///
+    /// # Errors
+    ///
+    /// `Syntax` at the token where none was read whole, and `Memory` where memory is refused.
+    pub(super) fn into_term(self, rows: &mut Rows, at: usize) -> Result<Term, ReadError>
+        ensures { Finds (term_of_last (last_seen self)) (λ t. tree t) at result }
+    {
+        match self {
+            Last::Nothing | Last::Sign { .. } => Err(ReadError {
+                kind: Fault::Syntax,
+                at,
+            }),
+            Last::Term(term) => Ok(term),
+            Last::List(items) | Last::Text(items) => Ok(Term::List(rows.row(items, at)?)),
+            Last::Backwards(items) => Ok(Term::List(rows.row(turned(items), at)?)),
+        }
+    }
+
+    /// The elements of the list, the last one first, before a bracket that closes.
+    ///
+    /// # Errors
+    ///
+    /// `Syntax` at the bracket where no list was read, and `Memory` where memory is refused.
+    fn into_backwards(self, alloc: Global, at: usize) -> Result<Vec<Term>, ReadError>
+        ensures { Finds (tail_elements (term_of_last (last_seen self))) (λ row. trees (reverse row.items)) at result }
+    {
+        match self {
+            Last::Backwards(items) => Ok(items),
+            Last::List(items) | Last::Text(items) => Ok(turned(items)),
+            // A list that was read is kept as its elements, so that none comes here.
+            Last::Term(Term::List(row)) => match row.into_vec(alloc) {
+                Ok(items) => Ok(turned(items)),
+                Err(AllocError) => Err(ReadError {
+                    kind: Fault::Memory,
+                    at,
+                }),
+            },
+            Last::Nothing | Last::Sign { .. } | Last::Term(_) => Err(ReadError {
+                kind: Fault::Syntax,
+                at,
+            }),
+        }
+    }
+}
+
+/// The same terms, the last one first. They are moved in their place.
+fn turned(mut items: Vec<Term>) -> Vec<Term>
+    ensures { result.items ≡ reverse items.items }
+{
+    items.reverse();
+    items
+}
+
+/// Puts a term behind others.
+///
+/// # Errors
+///
+/// `Memory` where memory is refused.
+pub(super) fn push(items: &mut Vec<Term>, term: Term, at: usize) -> Result<(), ReadError>
+    ensures ok { OnOk result (trees items.new.items ≡ with_element (trees items.old.items) (tree term)) }
+    ensures err { IfErr result (λ e. e.kind ≡ refused) }
+{
+    match items.push(term) {
+        Ok(()) => Ok(()),
+        Err(_) => Err(ReadError {
+            kind: Fault::Memory,
+            at,
+        }),
+    }
+}
+
+/// The elements at a closing bracket: these, and what was read last.
+///
+/// # Errors
+///
+/// `Syntax` at the bracket where no element may end, and `Memory` where memory is refused.
+pub(super) fn elements(
+    mut items: Vec<Term>,
+    last: Last,
+    rows: &mut Rows,
+    at: usize,
+) -> Result<Vec<Term>, ReadError>
+    ensures { Finds (elements_at (trees items.items) (last_seen last)) (λ row. trees row.items) at result }
+{
+    if let Last::Nothing = last {
+        if items.is_empty() {
+            return Ok(items);
+        }
+        return Err(ReadError {
+            kind: Fault::Syntax,
+            at,
+        });
+    }
+    let term = last.into_term(rows, at)?;
+    push(&mut items, term, at)?;
+    Ok(items)
+}
+
+/// These elements, and behind them those of the tail that was read last: all of them with the last one first. The
+/// tail's stay where they are, so that each of a list's elements is moved once for the list that it is written in, and
+/// not for the lists around it.
+///
+/// # Errors
+///
+/// `Syntax` at the bracket where no list was read, and `Memory` where memory is refused.
+pub(super) fn with_tail(
+    items: Vec<Term>,
+    last: Last,
+    alloc: Global,
+    at: usize,
+) -> Result<Vec<Term>, ReadError>
+    ensures { Finds (option_map (append_trees (trees items.items)) (tail_elements (term_of_last (last_seen last))))
+        (λ row. trees (reverse row.items)) at result }
+{
+    let mut backwards = last.into_backwards(alloc, at)?;
+    let mut heads = turned(items);
+    match backwards.append(&mut heads) {
+        Ok(()) => Ok(backwards),
+        Err(AllocError) => Err(ReadError {
+            kind: Fault::Memory,
+            at,
+        }),
+    }
+}
+
+/// Makes room for the characters of a text: for a string's own no more than it needs, and for those of a string behind
+/// another more, so that many of them are no slower.
+///
+/// # Errors
+///
+/// `Memory` where memory is refused.
+fn make_room(items: &mut Vec<Term>, text: &str, at: usize) -> Result<(), ReadError>
+    ensures items { items.new.items ≡ items.old.items }
+    ensures err { IfErr result (λ e. e.kind ≡ refused) }
+{
+    let count = text.chars().count();
+    let made = if items.is_empty() {
+        items.reserve_exact(count)
+    } else {
+        items.reserve(count)
+    };
+    match made {
+        Ok(()) => Ok(()),
+        Err(AllocError) => Err(ReadError {
+            kind: Fault::Memory,
+            at,
+        }),
+    }
+}
+
+/// Puts the characters of a text, as integers, behind others.
+///
+/// # Errors
+///
+/// `Memory` where memory is refused.
+pub(super) fn push_characters(items: &mut Vec<Term>, text: &str, at: usize) -> Result<(), ReadError>
+    ensures ok { OnOk result (trees items.new.items ≡ append_trees (trees items.old.items) (integers (chars text.now))) }
+    ensures err { IfErr result (λ e. e.kind ≡ refused) }
+{
+    make_room(items, text, at)?;
+    for c in text.chars() {
+        push(items, Term::Int(i64::from(u32::from(c))), at)?;
+    }
+    Ok(())
+}
