@@ -31,6 +31,9 @@ pub enum Term {
     List(Terms),
 }
 
+// What a row of many terms takes.
+const _: () = prove!(size_of::<Term>() == 24);
+
 /// Terms in a row: the elements of a tuple or a list.
 ///
 /// A row has any number of owners, each of which sees it from a place in it on. So a copy, and the row behind the
