@@ -103,7 +103,8 @@ impl Version {
         for c in self.as_str().chars() {
             characters.push(character_term(c))?;
         }
-        Ok(Term::List(Terms::new(characters)))
+        let characters = Terms::new(alloc, characters)?;
+        Ok(Term::List(characters))
     }
 }
 

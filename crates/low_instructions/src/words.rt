@@ -42,5 +42,5 @@ pub fn names_term(alloc: Global, names: &Row<Atom>) -> Result<Term, AllocError>
     for name in names.as_slice() {
         terms.push(Term::Atom(name.copy(alloc)?))?;
     }
-    Ok(Term::List(Terms::new(terms)))
+    Ok(Term::List(Terms::new(alloc, terms)?))
 }

@@ -170,7 +170,7 @@ fn suspensions_term(alloc: Global, modules: &Row<Suspension>) -> Result<Term, Al
     for module in modules.as_slice() {
         terms.push(suspension_term(alloc, module)?)?;
     }
-    Ok(Term::List(Terms::new(terms)))
+    Ok(Term::List(Terms::new(alloc, terms)?))
 }
 
 /// `Mod` or `{Mod,Timeout}`
@@ -193,7 +193,7 @@ fn changes_term(alloc: Global, changes: &Row<ModuleChange>) -> Result<Term, Allo
     for change in changes.as_slice() {
         terms.push(change_term(alloc, change)?)?;
     }
-    Ok(Term::List(Terms::new(terms)))
+    Ok(Term::List(Terms::new(alloc, terms)?))
 }
 
 /// `{Mod,Extra}`
@@ -231,7 +231,7 @@ fn pair(alloc: Global, a: Term, b: Term) -> Result<Term, AllocError>
     let mut terms = Vec::with_capacity(alloc, 2)?;
     terms.push(a)?;
     terms.push(b)?;
-    Ok(Term::Tuple(Terms::new(terms)))
+    Ok(Term::Tuple(Terms::new(alloc, terms)?))
 }
 
 /// A tuple of three.
@@ -242,5 +242,5 @@ fn triple(alloc: Global, a: Term, b: Term, c: Term) -> Result<Term, AllocError>
     terms.push(a)?;
     terms.push(b)?;
     terms.push(c)?;
-    Ok(Term::Tuple(Terms::new(terms)))
+    Ok(Term::Tuple(Terms::new(alloc, terms)?))
 }

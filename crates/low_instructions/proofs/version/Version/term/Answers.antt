@@ -19,4 +19,4 @@ returns-clause-written c =
     let text = c.as_str.result.now in
     let whole = YieldsList-end (YieldsList-from_chars text c.as_str.utf8 cc) c.loop-c.yielded _ c.loop-c.yielded_by _ _ c.in-None.is c.next.ensures.steps in
     let all : c.loop-c.yielded ≡ chars text = sym (map-id c.loop-c.yielded) ∙ whole.0 in
-    ap list (c.new.ensures ∙ c.loop-c.invariant ∙ ap integers (all ∙ c.as_str.ensures.chars))
+    ap list (c.in_ok-characters.ensures ∙ c.loop-c.invariant ∙ ap integers (all ∙ c.as_str.ensures.chars))
