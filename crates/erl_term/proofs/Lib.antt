@@ -3,3 +3,4 @@ pub mod Bounds
 pub mod Reading
 pub mod Rows
 pub mod Texts
+pub mod Written

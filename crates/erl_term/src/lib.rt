@@ -27,11 +27,13 @@
 #![tactic(auto)]
 
 mod atom;
+mod conversions;
 mod printing;
 mod readers;
 mod term;
 
 pub use atom::{Atom, AtomError};
+pub use conversions::{FromTerm, ToTerm};
 pub use printing::{print, print_atom};
 pub use readers::{character, eight, first, five, four, one, seven, six, string, three, two};
 pub use term::{Term, Terms};
