@@ -1,8 +1,0 @@
--- The terms so far are the characters so far.
-use Rattle.std.proofs.Common.{◌≡◌}
-use Rattle.erl_term.specs.Rows.{integers}
-use Rattle.erl_term.specs.Term.{trees}
-use Rattle.low_instructions.proofs.version.Version.term.Given as goal
-
-abbrev pub invariant-loop-c : goal.invariant-loop-c
-invariant-loop-c l = trees l.characters.items ≡ integers l.yielded
