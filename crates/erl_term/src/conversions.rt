@@ -65,8 +65,9 @@ impl<T: FromTerm> FromTerm for Row<T> {
         let Some(row) = term.as_list() else {
             return Ok(None);
         };
-        let mut items = Vec::new(alloc);
-        for term in row.as_slice() {
+        let row = row.as_slice();
+        let mut items = Vec::with_capacity(alloc, row.len())?;
+        for term in row {
             let Some(item) = T::from_term(alloc, term)? else {
                 return Ok(None);
             };

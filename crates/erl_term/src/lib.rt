@@ -17,6 +17,8 @@
 //!   does and the term is nested at most 256 deep: the crate `erl_consult` proves that its text is then read back.
 //! - The readers ([`Term::as_int`] and its neighbours, [`first`], [`one`] to [`eight`], [`string`],
 //!   [`character`]) answer exactly where the term is what they read, and with exactly that.
+//! - A list is read as a row of values exactly where each element is one, and a row is written as the list of what is
+//!   written of each ([`FromTerm`] and [`ToTerm`], which crates above give their values too).
 //!
 //! # What no contract says
 //!

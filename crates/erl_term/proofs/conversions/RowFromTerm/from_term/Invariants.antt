@@ -7,4 +7,4 @@ use Rattle.erl_term.proofs.conversions.RowFromTerm.from_term.Given as goal
 abbrev pub invariant-loop-term : goal.invariant-loop-term
 invariant-loop-term g l =
     let read = g.T.FromTerm.reading in
-    all_of read (trees l.term-items) ≡ option_and_then (λ rest. Some (l.items.items ++ rest)) (all_of read (trees (drop l.term-index l.term-items)))
+    all_of read (trees l.row) ≡ option_and_then (λ rest. Some (l.items.items ++ rest)) (all_of read (trees (drop l.term-index l.row)))

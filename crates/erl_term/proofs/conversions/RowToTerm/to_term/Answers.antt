@@ -1,5 +1,5 @@
 -- Each turn writes one item more.
-use Rattle.std.proofs.Common.{sym, ap, subst, ◌∙◌}
+use Rattle.std.proofs.Common.{ap, subst, ◌∙◌}
 use Rattle.std.proofs.lemmas.List.Elements.{All-more}
 use Rattle.erl_term.specs.Term.{trees}
 use Rattle.erl_term.proofs.Written.{rows_more}
