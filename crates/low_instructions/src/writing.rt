@@ -28,7 +28,7 @@ pub fn low_term(alloc: Global, low: &Low) -> Result<Term, AllocError>
     ensures kept { IfOk result (λ t. is_low low.now ≡ true) }
     ensures read_back { IfOk result (λ t. low_result (tree t) ≡ Ok low.now) }
 {
-    written(alloc, low)
+    low.to_term(alloc)
 }
 
 /// In the form that relups are printed with.
@@ -38,43 +38,35 @@ impl ToTerm for Low {
     ghost holds = { λ low. is_low low ≡ true };
 
     fn to_term(&self, alloc: Global) -> Result<Term, AllocError> {
-        written(alloc, self)
-    }
-}
-
-/// The term in that form.
-fn written(alloc: Global, low: &Low) -> Result<Term, AllocError>
-    ensures written { IfOk result (λ t. tree t ≡ low_tree low.now) }
-    ensures kept { IfOk result (λ t. is_low low.now ≡ true) }
-{
-    match low {
-        Low::LoadObjectCode {
-            application,
-            version,
-            modules,
-        } => object_code_term(alloc, application, version, modules),
-        Low::PointOfNoReturn => Ok(Term::Atom(Atom::word(alloc, "point_of_no_return")?)),
-        Low::Load {
-            name,
-            pre_purge,
-            post_purge,
-        } => purged_term(alloc, "load", name, (*pre_purge, *post_purge)),
-        Low::Remove {
-            name,
-            pre_purge,
-            post_purge,
-        } => purged_term(alloc, "remove", name, (*pre_purge, *post_purge)),
-        Low::Purge { modules } => modules_term(alloc, "purge", modules),
-        Low::Suspend { modules } => suspend_term(alloc, modules),
-        Low::Resume { modules } => modules_term(alloc, "resume", modules),
-        Low::CodeChange { direction, changes } => code_change_term(alloc, *direction, changes),
-        Low::Stop { modules } => modules_term(alloc, "stop", modules),
-        Low::Start { modules } => modules_term(alloc, "start", modules),
-        Low::Apply {
-            name,
-            function,
-            arguments,
-        } => apply_term(alloc, name, function, arguments),
+        match self {
+            Low::LoadObjectCode {
+                application,
+                version,
+                modules,
+            } => object_code_term(alloc, application, version, modules),
+            Low::PointOfNoReturn => Ok(Term::Atom(Atom::word(alloc, "point_of_no_return")?)),
+            Low::Load {
+                name,
+                pre_purge,
+                post_purge,
+            } => purged_term(alloc, "load", name, (*pre_purge, *post_purge)),
+            Low::Remove {
+                name,
+                pre_purge,
+                post_purge,
+            } => purged_term(alloc, "remove", name, (*pre_purge, *post_purge)),
+            Low::Purge { modules } => modules_term(alloc, "purge", modules),
+            Low::Suspend { modules } => suspend_term(alloc, modules),
+            Low::Resume { modules } => modules_term(alloc, "resume", modules),
+            Low::CodeChange { direction, changes } => code_change_term(alloc, *direction, changes),
+            Low::Stop { modules } => modules_term(alloc, "stop", modules),
+            Low::Start { modules } => modules_term(alloc, "start", modules),
+            Low::Apply {
+                name,
+                function,
+                arguments,
+            } => apply_term(alloc, name, function, arguments),
+        }
     }
 }
 
