@@ -1,5 +1,5 @@
 -- Lemmas on the lines that the program writes.
-use Rattle.std.proofs.Common.{◌≡◌, ℕ, zero, suc, map, ◌+◌, ◌^◌, ◌<◌, ◌≤◌, pos, cond, eqb, List, [], ◌∷◌, ◌++◌, length, length-take, take, slice_get, true, false, codes, Some, None, Result, Ok, Err, OnOk, is_ok, append_assoc, sym, ap, ◌∙◌, refl, arith}
+use Rattle.std.proofs.Common.{◌≡◌, ℕ, zero, suc, ◌+◌, ◌^◌, ◌<◌, ◌≤◌, pos, cond, eqb, List, [], ◌∷◌, ◌++◌, length, length-take, take, slice_get, true, false, codes, Some, None, Result, Ok, Err, OnOk, is_ok, append_assoc, sym, ap, ◌∙◌, refl, arith}
 use Rattle.std.specs.Str.{chars}
 use Rattle.std.specs.Fmt.{decimal}
 use lib.Utf8.{encode}
