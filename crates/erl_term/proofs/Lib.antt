@@ -4,3 +4,4 @@ pub mod Parts
 pub mod Reading
 pub mod Rows
 pub mod Texts
+pub mod Written

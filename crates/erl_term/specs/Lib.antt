@@ -1,4 +1,5 @@
 pub mod Ascii
+pub mod Conversions
 pub mod Order
 pub mod OrderLaws
 pub mod Parts

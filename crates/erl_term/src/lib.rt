@@ -17,6 +17,8 @@
 //!   does and the term is nested at most 256 deep: the crate `erl_consult` proves that its text is then read back.
 //! - The readers ([`Term::as_int`] and its neighbours, [`first`], [`one`] to [`four`], [`string`],
 //!   [`character`]) answer exactly where the term is what they read, and with exactly that.
+//! - A list is read as a row of values exactly where each element is one, and a row is written as the list of what is
+//!   written of each ([`FromTerm`] and [`ToTerm`], which crates above give their values too).
 //!
 //! # What no contract says
 //!
@@ -27,11 +29,13 @@
 #![tactic(auto)]
 
 mod atom;
+mod conversions;
 mod printing;
 mod readers;
 mod term;
 
 pub use atom::{Atom, AtomError};
+pub use conversions::{FromTerm, ToTerm};
 pub use printing::{print, print_atom};
 pub use readers::{character, first, four, one, string, three, two};
 pub use term::{Term, Terms};

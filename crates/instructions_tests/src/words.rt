@@ -1,12 +1,12 @@
 // Words of instructions, and versions: which terms and texts they are, and their terms.
 use crate::cases::{Read, halves, printed, term_of};
-use erl_term::Term;
+use erl_term::{FromTerm, Term, ToTerm};
 use high_instructions::{Change, ModuleType, StartType};
 use low_instructions::{Milliseconds, Purge, Timeout, Version, names, names_term};
 use std::alloc::Global;
 use std::process::Abort;
 use std::test::Fail;
-use values::Same;
+use values::{Row, Same};
 
 /// A value whose text can be told.
 trait Tell: Read {
@@ -243,6 +243,33 @@ a ⟶ ✗
 #[test]
 fn terms_of_versions(rt: HostRuntime) -> Result<(), Fail> {
     expect_table::<Version>(&rt, rt.alloc(), VERSIONS)
+}
+
+/// Rows of versions.
+const ROWS_OF_VERSIONS: &str = r##"[] ⟶ []
+["1"] ⟶ ["1"]
+["1","2.0","1"] ⟶ ["1","2.0","1"]
+"1" ⟶ ✗
+{"1"} ⟶ ✗
+["1",a] ⟶ ✗
+["1",[]] ⟶ ✗"##;
+
+/// The row of versions that a text is, or a cross where it is none.
+fn versions_told(alloc: Global, text: &str) -> Result<String, Fail> {
+    match Row::<Version>::from_term(alloc, &term_of(alloc, text)?)? {
+        Some(row) => printed(alloc, &row.to_term(alloc)?),
+        None => Ok(String::from_str(alloc, "✗")?),
+    }
+}
+
+#[test]
+fn rows_of_versions(rt: HostRuntime) -> Result<(), Fail> {
+    for line in ROWS_OF_VERSIONS.lines() {
+        let (text, wanted) = halves(line)?;
+        let found = versions_told(rt.alloc(), text)?;
+        assert_eq!(rt; found.as_str(), wanted, "{text}");
+    }
+    Ok(())
 }
 
 /// Texts that are versions, or what is wrong with them.

@@ -4,6 +4,7 @@ use Rattle.std.specs.Prelude.{map, if◌then◌else◌, nat_le, ◌||◌, ◌&&�
 use Rattle.std.specs.List.{list_all}
 use Rattle.std.proofs.lemmas.Bool.{and_parts}
 use Rattle.std.proofs.lemmas.Bool.Decides.{nat_tests}
+use Rattle.erl_term.specs.Conversions.{rows}
 use Rattle.erl_term.specs.Rows.{integers}
 use Rattle.erl_term.specs.Readers.{atom_of, all_of, char_of}
 use Rattle.erl_term.specs.Term.{term_of-tree}
@@ -22,7 +23,7 @@ use Rattle.low_instructions.specs.declared.timeout.Timeout.TheVariants.{Default,
 use Rattle.low_instructions.specs.Forms.{IsLow, LowForm, printed, undirected, suspending, low_tree, low_form_tree, low_meant, change_tree, direction_tree, timed, suspension_tree, SuspensionForm, plain, with_default, suspension_form_tree, suspension_meant, is_out_of_profile}
 use Rattle.low_instructions.specs.Laws.{is_timeout, is_low, is_suspension, LowReads, LowTable}
 use Rattle.low_instructions.specs.Reading.{given, either_of, object_code_of, purged_of, modules_of, suspend_of, suspension_of, change_of, code_change_of, changes_of, direction_of, timeout_of, apply_of, low_of, low_or_bad, low_result, names_of, purge_of, version_of}
-use Rattle.low_instructions.specs.Words.{rows, string_tree, names_tree, purge_tree, timeout_tree, is_version, is_version_char}
+use Rattle.low_instructions.specs.Words.{string_tree, names_tree, purge_tree, timeout_tree, is_version, is_version_char}
 use Rattle.low_instructions.proofs.Sound.{low_is}
 
 -- Words

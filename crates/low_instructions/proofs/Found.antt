@@ -5,6 +5,7 @@ use Rattle.std.specs.List.{list_all}
 use Rattle.std.specs.Str.{bytes_eq}
 use Rattle.std.proofs.lemmas.Option.{same_Some}
 use Rattle.std.proofs.lemmas.Slice.Eq.{bytes_eq-Decides}
+use Rattle.erl_term.specs.Conversions.{rows}
 use Rattle.erl_term.specs.Term.{term_of, tree}
 use Rattle.erl_term.specs.Readers.{atom_of, list_of, all_of, string_of}
 use Rattle.erl_term.specs.Tree.{Tree, Trees, int, atom, pid, tuple, list, none, more}
@@ -19,7 +20,7 @@ use Rattle.low_instructions.specs.declared.timeout.Timeout.TheVariants.{Default,
 use Rattle.low_instructions.specs.Forms.{direction_tree, timed, change_tree, SuspensionForm, plain, with_default, suspension_form_tree, suspension_meant}
 use Rattle.low_instructions.specs.Laws.{is_timeout, is_suspension}
 use Rattle.low_instructions.specs.Reading.{given, purge_named, purge_of, timeout_named, finite_of, timeout_of, version_of, names_of, direction_named, direction_of, timed_of, suspension_of, change_of, changes_of}
-use Rattle.low_instructions.specs.Words.{rows, string_tree, names_tree, purge_tree, timeout_tree, is_version}
+use Rattle.low_instructions.specs.Words.{string_tree, names_tree, purge_tree, timeout_tree, is_version}
 use Rattle.low_instructions.proofs.Parts.{given_is, map_is, either_is, choice, atom_is, list_is, pair_is, two_parts, all_is, string_is}
 
 -- a name is the word that it was found to be

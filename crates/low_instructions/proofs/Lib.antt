@@ -1,5 +1,4 @@
 pub mod Complete
 pub mod Found
 pub mod Parts
-pub mod Rows
 pub mod Sound

@@ -2,6 +2,7 @@
 use Rattle.std.proofs.Common.{◌≡◌, ℕ, true, List, Option, Some, None, refl, sym, ap, subst, ◌∙◌, inl, inr}
 use Rattle.std.specs.Prelude.{codes, if◌then◌else◌}
 use Rattle.std.specs.Str.{bytes_eq}
+use Rattle.erl_term.specs.Conversions.{rows}
 use Rattle.erl_term.specs.Readers.{atom_of, list_of, one_of, two_of, all_of}
 use Rattle.erl_term.specs.Tree.{Tree, Trees, int, atom, pid, tuple, list, none, more}
 use Rattle.low_instructions.specs.declared.head.Head.{Head}
@@ -13,7 +14,7 @@ use Rattle.low_instructions.specs.declared.purge.Purge.{Purge as PurgeKind}
 use Rattle.low_instructions.specs.Forms.{IsLow, printed, undirected, suspending, low_tree, change_tree, direction_tree}
 use Rattle.low_instructions.specs.Laws.{is_low}
 use Rattle.low_instructions.specs.Reading.{object_code_of, purged_of, modules_of, suspend_of, suspension_of, undirected_of, directed_of, code_change_of, changes_of, direction_of, apply_of, head_named, low_headed, low_named, low_in, low_of, names_of, purge_of, version_of}
-use Rattle.low_instructions.specs.Words.{rows, string_tree, names_tree, purge_tree}
+use Rattle.low_instructions.specs.Words.{string_tree, names_tree, purge_tree}
 use Rattle.low_instructions.proofs.Parts.{given_is, map_is, either_is, choice, atom_is, list_is, one_is, two_is, triple_is, two_parts, three_parts}
 use Rattle.low_instructions.proofs.Found.{word_is, none_some, purge_is, direction_is, version_is, names_are, suspensions_are, changes_are}
 

@@ -2,6 +2,7 @@
 use Rattle.std.specs.Prelude.{◌≡◌, ℕ, Bool, false, List, [], ◌∷◌, codes}
 use Rattle.std.specs.Str.{bytes_eq}
 use Rattle.std.specs.Prelude.{◌||◌, map}
+use Rattle.erl_term.specs.Conversions.{rows}
 use Rattle.erl_term.specs.Tree.{Tree, int, atom, pid, tuple, list, none, more}
 use Rattle.erl_term.specs.Term.{tree}
 use Rattle.low_instructions.specs.declared.low.Direction.{Direction}
@@ -12,7 +13,7 @@ use Rattle.low_instructions.specs.declared.low.Low.{Low}
 use Rattle.low_instructions.specs.declared.low.Low.TheVariants.{LoadObjectCode, PointOfNoReturn, Load, Remove, Purge, Suspend, Resume, CodeChange, Stop, Start, Apply}
 use Rattle.low_instructions.specs.declared.timeout.Timeout.{Timeout}
 use Rattle.low_instructions.specs.declared.timeout.Timeout.TheVariants.{Default, Infinity, Finite}
-use Rattle.low_instructions.specs.Words.{row, rows, word, form, string_tree, names_tree, purge_tree, timeout_tree}
+use Rattle.low_instructions.specs.Words.{row, word, form, string_tree, names_tree, purge_tree, timeout_tree}
 
 -- How each is printed
 

@@ -1,6 +1,7 @@
 -- The words of the files of a release, as they are written: versions, kinds of purge, timeouts, rows of names.
 use Rattle.std.specs.Prelude.{ℕ, pos, nat_le, ◌==◌, Bool, false, not, ◌&&◌, List, [], ◌∷◌, codes}
 use Rattle.std.specs.List.{list_all}
+use Rattle.erl_term.specs.Conversions.{rows}
 use Rattle.erl_term.specs.Tree.{Tree, Trees, int, atom, tuple, list, none, more}
 use Rattle.erl_term.specs.Rows.{integers}
 use Rattle.low_instructions.specs.declared.purge.Purge.{Purge}
@@ -12,11 +13,6 @@ use Rattle.low_instructions.specs.declared.timeout.Timeout.TheVariants.{Default,
 abbrev pub row : List Tree → Trees
 row [] = none
 row (t ∷ ts) = more t (row ts)
-
--- a row of what is written of each item
-abbrev pub rows : {A : Type 0} → (A → Tree) → List A → Trees
-rows write [] = none
-rows write (x ∷ xs) = more (write x) (rows write xs)
 
 -- an atom of the notation's own
 abbrev pub word : List ℕ → Tree

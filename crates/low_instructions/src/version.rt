@@ -1,13 +1,12 @@
 // Versions.
-ghost use Rattle.std.specs.Prelude.{◌≡◌, ◌↔◌, pos, Err, IfOk, true, false};
+ghost use Rattle.std.specs.Prelude.{◌≡◌, ◌↔◌, Err, IfOk, true, false};
 ghost use Rattle.std.specs.List.{list_all};
 ghost use Rattle.std.specs.Str.{chars};
 ghost use Rattle.erl_term.specs.Term.{tree};
-ghost use Rattle.erl_term.specs.Tree.{int};
 ghost use Rattle.low_instructions.specs.Reading.{version_of};
 ghost use Rattle.low_instructions.specs.Words.{is_version, is_version_char, string_tree};
 
-use erl_term::{Term, Terms, string};
+use erl_term::{FromTerm, Term, ToTerm, string};
 use std::alloc::{AllocError, Global};
 use std::marker::Model;
 use thiserror::Error;
@@ -99,19 +98,26 @@ impl Version {
         ensures written { IfOk result (λ t. tree t ≡ string_tree self.now) }
         ensures kept { is_version self.now ≡ true }
     {
-        let mut characters = Vec::new(alloc);
-        for c in self.as_str().chars() {
-            characters.push(character_term(c))?;
-        }
-        Ok(Term::List(Terms::new(characters)))
+        self.as_str().to_term(alloc)
     }
 }
 
-/// A character as a term: its code point.
-fn character_term(c: char) -> Term
-    ensures { tree result ≡ int (pos c) }
-{
-    Term::Int(i64::from(u32::from(c)))
+impl FromTerm for Version {
+    ghost reading = { version_of };
+
+    fn from_term(alloc: Global, term: &Term) -> Result<Option<Version>, AllocError> {
+        Version::from_term(alloc, term)
+    }
+}
+
+impl ToTerm for Version {
+    ghost writing = { string_tree };
+
+    ghost holds = { λ version. is_version version ≡ true };
+
+    fn to_term(&self, alloc: Global) -> Result<Term, AllocError> {
+        self.term(alloc)
+    }
 }
 
 /// Whether a text is a version's: not empty, and of its characters alone.

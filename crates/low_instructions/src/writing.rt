@@ -1,20 +1,20 @@
 // Low-level instructions as terms.
-ghost use Rattle.std.specs.Prelude.{◌≡◌, ◌∷◌, ◌≤◌, [], length, IfOk, IsTrue, Ok, true};
+ghost use Rattle.std.specs.Prelude.{◌≡◌, ◌∷◌, ◌≤◌, [], length, IfOk, IsTrue, Ok, true, ⊤};
 ghost use Rattle.std.specs.List.{list_all};
 ghost use Rattle.erl_term.specs.Ascii.{is_ascii_text};
 ghost use Rattle.erl_term.specs.Term.{tree};
-ghost use Rattle.erl_term.specs.Tree.{atom, list, tuple};
+ghost use Rattle.erl_term.specs.Tree.{atom, tuple};
 ghost use Rattle.low_instructions.specs.Forms.{change_tree, direction_tree, low_tree, suspension_tree};
 ghost use Rattle.low_instructions.specs.Laws.{is_low, is_suspension};
 ghost use Rattle.low_instructions.specs.Reading.{low_result};
-ghost use Rattle.low_instructions.specs.Words.{form, is_version, names_tree, purge_tree, row, rows};
+ghost use Rattle.low_instructions.specs.Words.{form, is_version, names_tree, purge_tree, row};
 
 use crate::low::{Direction, Low, ModuleChange, Suspension};
 use crate::purge::Purge;
 use crate::timeout::Timeout;
 use crate::version::Version;
 use crate::words::names_term;
-use erl_term::{Atom, Term, Terms};
+use erl_term::{Atom, Term, Terms, ToTerm};
 use std::alloc::{AllocError, Global};
 use values::{Duplicate, Row};
 
@@ -28,42 +28,45 @@ pub fn low_term(alloc: Global, low: &Low) -> Result<Term, AllocError>
     ensures kept { IfOk result (λ t. is_low low.now ≡ true) }
     ensures read_back { IfOk result (λ t. low_result (tree t) ≡ Ok low.now) }
 {
-    written(alloc, low)
+    low.to_term(alloc)
 }
 
-/// The term in that form.
-fn written(alloc: Global, low: &Low) -> Result<Term, AllocError>
-    ensures written { IfOk result (λ t. tree t ≡ low_tree low.now) }
-    ensures kept { IfOk result (λ t. is_low low.now ≡ true) }
-{
-    match low {
-        Low::LoadObjectCode {
-            application,
-            version,
-            modules,
-        } => object_code_term(alloc, application, version, modules),
-        Low::PointOfNoReturn => Ok(Term::Atom(Atom::word(alloc, "point_of_no_return")?)),
-        Low::Load {
-            name,
-            pre_purge,
-            post_purge,
-        } => purged_term(alloc, "load", name, (*pre_purge, *post_purge)),
-        Low::Remove {
-            name,
-            pre_purge,
-            post_purge,
-        } => purged_term(alloc, "remove", name, (*pre_purge, *post_purge)),
-        Low::Purge { modules } => modules_term(alloc, "purge", modules),
-        Low::Suspend { modules } => suspend_term(alloc, modules),
-        Low::Resume { modules } => modules_term(alloc, "resume", modules),
-        Low::CodeChange { direction, changes } => code_change_term(alloc, *direction, changes),
-        Low::Stop { modules } => modules_term(alloc, "stop", modules),
-        Low::Start { modules } => modules_term(alloc, "start", modules),
-        Low::Apply {
-            name,
-            function,
-            arguments,
-        } => apply_term(alloc, name, function, arguments),
+/// In the form that relups are printed with.
+impl ToTerm for Low {
+    ghost writing = { low_tree };
+
+    ghost holds = { λ low. is_low low ≡ true };
+
+    fn to_term(&self, alloc: Global) -> Result<Term, AllocError> {
+        match self {
+            Low::LoadObjectCode {
+                application,
+                version,
+                modules,
+            } => object_code_term(alloc, application, version, modules),
+            Low::PointOfNoReturn => Ok(Term::Atom(Atom::word(alloc, "point_of_no_return")?)),
+            Low::Load {
+                name,
+                pre_purge,
+                post_purge,
+            } => purged_term(alloc, "load", name, (*pre_purge, *post_purge)),
+            Low::Remove {
+                name,
+                pre_purge,
+                post_purge,
+            } => purged_term(alloc, "remove", name, (*pre_purge, *post_purge)),
+            Low::Purge { modules } => modules_term(alloc, "purge", modules),
+            Low::Suspend { modules } => suspend_term(alloc, modules),
+            Low::Resume { modules } => modules_term(alloc, "resume", modules),
+            Low::CodeChange { direction, changes } => code_change_term(alloc, *direction, changes),
+            Low::Stop { modules } => modules_term(alloc, "stop", modules),
+            Low::Start { modules } => modules_term(alloc, "start", modules),
+            Low::Apply {
+                name,
+                function,
+                arguments,
+            } => apply_term(alloc, name, function, arguments),
+        }
     }
 }
 
@@ -118,7 +121,7 @@ fn suspend_term(alloc: Global, modules: &Row<Suspension>) -> Result<Term, AllocE
     ensures written { IfOk result (λ t. tree t ≡ low_tree (Low.Suspend modules.now)) }
     ensures kept { IfOk result (λ t. list_all is_suspension modules.now ≡ true) }
 {
-    let modules = suspensions_term(alloc, modules)?;
+    let modules = modules.to_term(alloc)?;
     form_of_one(alloc, "suspend", modules)
 }
 
@@ -131,7 +134,7 @@ fn code_change_term(
     ensures { IfOk result (λ t. tree t ≡ low_tree (Low.CodeChange direction changes.now)) }
 {
     let direction = direction_term(alloc, direction)?;
-    let changes = changes_term(alloc, changes)?;
+    let changes = changes.to_term(alloc)?;
     form_of_two(alloc, "code_change", direction, changes)
 }
 
@@ -161,47 +164,31 @@ fn direction_term(alloc: Global, direction: Direction) -> Result<Term, AllocErro
     }
 }
 
-/// `[Mod or {Mod,Timeout}]`
-fn suspensions_term(alloc: Global, modules: &Row<Suspension>) -> Result<Term, AllocError>
-    ensures written { IfOk result (λ t. tree t ≡ list (rows suspension_tree modules.now)) }
-    ensures kept { IfOk result (λ t. list_all is_suspension modules.now ≡ true) }
-{
-    let mut terms = Vec::new(alloc);
-    for module in modules.as_slice() {
-        terms.push(suspension_term(alloc, module)?)?;
-    }
-    Ok(Term::List(Terms::new(terms)))
-}
-
 /// `Mod` or `{Mod,Timeout}`
-fn suspension_term(alloc: Global, suspension: &Suspension) -> Result<Term, AllocError>
-    ensures written { IfOk result (λ t. tree t ≡ suspension_tree suspension.now) }
-    ensures kept { IfOk result (λ t. is_suspension suspension.now ≡ true) }
-{
-    let name = Term::Atom(suspension.name.copy(alloc)?);
-    match &suspension.timeout {
-        Timeout::Default => Ok(name),
-        timeout => pair(alloc, name, timeout.term(alloc)?),
-    }
-}
+impl ToTerm for Suspension {
+    ghost writing = { suspension_tree };
 
-/// `[{Mod,Extra}]`
-fn changes_term(alloc: Global, changes: &Row<ModuleChange>) -> Result<Term, AllocError>
-    ensures { IfOk result (λ t. tree t ≡ list (rows change_tree changes.now)) }
-{
-    let mut terms = Vec::new(alloc);
-    for change in changes.as_slice() {
-        terms.push(change_term(alloc, change)?)?;
+    ghost holds = { λ suspension. is_suspension suspension ≡ true };
+
+    fn to_term(&self, alloc: Global) -> Result<Term, AllocError> {
+        let name = Term::Atom(self.name.copy(alloc)?);
+        match &self.timeout {
+            Timeout::Default => Ok(name),
+            timeout => pair(alloc, name, timeout.term(alloc)?),
+        }
     }
-    Ok(Term::List(Terms::new(terms)))
 }
 
 /// `{Mod,Extra}`
-fn change_term(alloc: Global, change: &ModuleChange) -> Result<Term, AllocError>
-    ensures { IfOk result (λ t. tree t ≡ change_tree change.now) }
-{
-    let name = Term::Atom(change.name.copy(alloc)?);
-    pair(alloc, name, change.extra.copy(alloc)?)
+impl ToTerm for ModuleChange {
+    ghost writing = { change_tree };
+
+    ghost holds = { λ change. ⊤ };
+
+    fn to_term(&self, alloc: Global) -> Result<Term, AllocError> {
+        let name = Term::Atom(self.name.copy(alloc)?);
+        pair(alloc, name, self.extra.copy(alloc)?)
+    }
 }
 
 /// `{Head,Term}`
@@ -231,7 +218,7 @@ fn pair(alloc: Global, a: Term, b: Term) -> Result<Term, AllocError>
     let mut terms = Vec::with_capacity(alloc, 2)?;
     terms.push(a)?;
     terms.push(b)?;
-    Ok(Term::Tuple(Terms::new(terms)))
+    Ok(Term::Tuple(Terms::new(alloc, terms)?))
 }
 
 /// A tuple of three.
@@ -242,5 +229,5 @@ fn triple(alloc: Global, a: Term, b: Term, c: Term) -> Result<Term, AllocError>
     terms.push(a)?;
     terms.push(b)?;
     terms.push(c)?;
-    Ok(Term::Tuple(Terms::new(terms)))
+    Ok(Term::Tuple(Terms::new(alloc, terms)?))
 }

@@ -1,5 +1,5 @@
 -- Lemmas on the lines that the program writes.
-use Rattle.std.proofs.Common.{◌≡◌, ℕ, zero, suc, map, ◌+◌, ◌^◌, ◌<◌, ◌≤◌, pos, cond, eqb, List, [], ◌∷◌, ◌++◌, length, length-take, take, slice_get, true, false, codes, Some, None, Result, Ok, Err, OnOk, is_ok, append_assoc, sym, ap, ◌∙◌, refl, arith}
+use Rattle.std.proofs.Common.{◌≡◌, ℕ, zero, suc, ◌+◌, ◌^◌, ◌<◌, ◌≤◌, pos, cond, eqb, List, [], ◌∷◌, ◌++◌, length, length-take, take, slice_get, true, false, codes, Some, None, Result, Ok, Err, OnOk, is_ok, append_assoc, sym, ap, ◌∙◌, refl, arith}
 use Rattle.std.specs.Str.{chars}
 use Rattle.std.specs.Fmt.{decimal}
 use lib.Utf8.{encode}
@@ -8,8 +8,7 @@ use Rattle.std.proofs.lemmas.Fmt.{IsAscii-decimal}
 use Rattle.std.proofs.lemmas.Option.{unwrap_or-slice_get}
 use Rattle.std.specs.Option.{unwrap_or}
 use Rattle.std.proofs.lemmas.Bool.{cond-true, cond-false, eq-eqb, ne_eqb}
-use Rattle.erl_term.specs.declared.term.Term.TheVariants.{Int}
-use Rattle.erl_term.specs.Term.{trees}
+use Rattle.erl_term.specs.Rows.{integers}
 use Rattle.erl_term.specs.Tree.{int, atom, tuple, list, none, more}
 use Rattle.erl_term.specs.Text.{utf8, is_quoted_word, text, atom_text, elements_text, others_text}
 use Rattle.erl_term.proofs.Texts.{utf8-append, utf8-nil, utf8-ascii}
@@ -215,6 +214,6 @@ slice_get-none (x ∷ xs) zero e = absurd (let no : ⊥ = cc in no)
 slice_get-none (x ∷ xs) (suc place) e = omega (arith, slice_get-none xs place e)
 
 -- the row of the integers of characters
-pub trees-ints : (cs : List ℕ) → trees (map (λ n. Int (pos n)) cs) ≡ char_ints cs
-trees-ints [] = refl
-trees-ints (c ∷ cs) = ap (λ row. more (int (pos c)) row) (trees-ints cs)
+pub integers-ints : (cs : List ℕ) → integers cs ≡ char_ints cs
+integers-ints [] = refl
+integers-ints (c ∷ cs) = ap (λ row. more (int (pos c)) row) (integers-ints cs)

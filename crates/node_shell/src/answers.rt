@@ -3,14 +3,12 @@ ghost use Rattle.std.specs.Prelude.{◌≡◌, ◌++◌, ℕ, List, OnOk};
 ghost use Rattle.std.specs.Fmt.{decimal};
 ghost use Rattle.erl_term.specs.Tree.{list, atom};
 ghost use Rattle.erl_term.specs.Text.{utf8, text, elements_text};
-ghost use Rattle.node_shell.specs.Answers.{line_of, answer_of, pair, fixed, fixed_of, missing_file, mark_at, undone_steps, stopped_undo, serial_of, module_of, modules_of, char_ints, separator};
-ghost use Rattle.std.specs.Prelude.{codes, pos, IfOk};
-ghost use Rattle.std.specs.Str.{chars};
-ghost use Rattle.erl_term.specs.Term.{trees};
+ghost use Rattle.node_shell.specs.Answers.{line_of, answer_of, pair, fixed, fixed_of, missing_file, mark_at, undone_steps, stopped_undo, serial_of, module_of, modules_of, separator};
+ghost use Rattle.std.specs.Prelude.{codes};
 
 use crate::event::{Answer, Code, Note};
 use code_server::{CodeError, Instance, Modules, Slots};
-use erl_term::{Atom, Term, Terms, print, print_atom};
+use erl_term::{Atom, ToTerm, print, print_atom};
 use itoa::Buffer;
 use std::alloc::{AllocError, Global};
 use undo_journal::Report;
@@ -149,28 +147,10 @@ fn write_stopped_cut(mark: u64, cut: usize, out: &mut Vec<u8>) -> Result<(), All
 pub fn write_missing(alloc: Global, path: &str, out: &mut Vec<u8>) -> Result<(), AllocError>
     ensures { OnOk result (out.new.items ≡ out.old.items ++ line_of (missing_file path.now)) }
 {
-    let shown = Term::List(Terms::new(characters(alloc, path)?));
+    let shown = path.to_term(alloc)?;
     out.extend_from_slice(b"{error,{file,")?;
     print(&shown, out)?;
     out.extend_from_slice(b",missing}}\n")
-}
-
-/// The characters of a text, as integers.
-fn characters(alloc: Global, text: &str) -> Result<Vec<Term>, AllocError>
-    ensures { IfOk result (λ terms. trees terms.items ≡ char_ints (chars text.now)) }
-{
-    let mut terms = Vec::new(alloc);
-    for c in text.chars() {
-        terms.push(integer(c))?;
-    }
-    Ok(terms)
-}
-
-/// A character, as an integer.
-fn integer(c: char) -> Term
-    ensures { result ≡ Term.Int (pos c) }
-{
-    Term::Int(i64::from(u32::from(c)))
 }
 
 /// Appends `[{Mod,Current,Old}]`.

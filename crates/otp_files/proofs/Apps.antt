@@ -2,11 +2,12 @@
 use Rattle.std.proofs.Common.{◌≡◌, ℕ, Bool, true, false, List, [], ◌∷◌, Option, Some, None, option_map, Ok, Err, refl, sym, ap, subst, ◌∙◌, inl, inr, true≢false}
 use Rattle.std.specs.Prelude.{codes, map, if◌then◌else◌, ◌||◌}
 use Rattle.std.proofs.lemmas.Option.{same_Some}
+use Rattle.erl_term.specs.Conversions.{rows}
 use Rattle.erl_term.specs.Readers.{atom_of, tuple_of, list_of, three_of, all_of}
 use Rattle.erl_term.specs.Term.{tree, term_of, term_of-tree}
 use Rattle.erl_term.specs.Tree.{Tree, Trees, atom, tuple, list, more, none}
 use Rattle.low_instructions.specs.Reading.{given, version_of, names_of}
-use Rattle.low_instructions.specs.Words.{row, rows, word, string_tree, names_tree, is_version}
+use Rattle.low_instructions.specs.Words.{row, word, string_tree, names_tree, is_version}
 use Rattle.low_instructions.proofs.Parts.{given_is, map_is, either_is, atom_is, tuple_is, list_is, three_is, three_parts, two_parts, pair_is, all_is}
 use Rattle.low_instructions.proofs.Found.{version_is, names_are, tree_back}
 use Rattle.low_instructions.proofs.Complete.{all_back, names_back, version_back}

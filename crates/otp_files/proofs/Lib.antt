@@ -14,7 +14,6 @@ mod Numbers
 mod OneWay
 mod Outcomes
 mod Properties
-mod Reading
 mod RefusedApps
 mod RefusedAppups
 mod RefusedParts
@@ -22,6 +21,5 @@ mod RefusedRels
 mod RefusedRelups
 mod Relups
 mod Rels
-mod Rows
 mod Scripts
 mod TermFaults

@@ -6,7 +6,7 @@ use Rattle.erl_term.specs.Readers.{atom_of, tuple_of, list_of, three_of, all_of}
 use Rattle.erl_term.specs.Term.{tree, term_of}
 use Rattle.erl_term.specs.Tree.{Tree, atom, list}
 use Rattle.low_instructions.specs.Reading.{given, version_of, names_of}
-use Rattle.low_instructions.specs.Words.{rows}
+use Rattle.erl_term.specs.Conversions.{rows}
 use Rattle.low_instructions.proofs.Parts.{given_is, map_is, list_is, all_is}
 use Rattle.low_instructions.proofs.Found.{none_some}
 use Rattle.otp_files.specs.declared.app.AppSpec.{AppSpec}

@@ -4,11 +4,12 @@ use Rattle.std.specs.Prelude.{codes, map, if◌then◌else◌}
 use Rattle.std.specs.List.{list_all}
 use Rattle.std.proofs.lemmas.Bool.{and_parts}
 use Rattle.std.proofs.lemmas.Option.{same_Some}
+use Rattle.erl_term.specs.Conversions.{rows}
 use Rattle.erl_term.specs.Rows.{integers}
 use Rattle.erl_term.specs.Readers.{atom_of, tuple_of, list_of, first_of, one_of, two_of, four_of, three_of, all_of, char_of, string_of}
 use Rattle.erl_term.specs.Tree.{Tree, Trees, int, atom, pid, tuple, list, more, none}
 use Rattle.low_instructions.specs.Reading.{given, either_of, version_of, names_of}
-use Rattle.low_instructions.specs.Words.{row, rows, word, string_tree, names_tree, is_version}
+use Rattle.low_instructions.specs.Words.{row, word, string_tree, names_tree, is_version}
 use Rattle.low_instructions.proofs.Parts.{given_is, map_is, either_is, choice, atom_is, tuple_is, list_is, one_is, two_is, three_is, three_parts, two_parts, pair_is, string_is}
 use Rattle.low_instructions.proofs.Found.{both_true, none_some, version_is, names_are}
 use Rattle.low_instructions.proofs.Complete.{names_back, next_back, version_back}

@@ -1,17 +1,11 @@
--- What a relup's writing keeps for its reading: words of private contracts alone.
-use Rattle.std.specs.Prelude.{◌≡◌, true, Ok}
-use Rattle.low_instructions.specs.declared.low.Low.{Low}
-use Rattle.low_instructions.specs.Forms.{low_tree}
-use Rattle.low_instructions.specs.Reading.{low_result}
+-- What a relup's writing keeps for its reading: a word of private contracts alone.
+use Rattle.std.specs.Prelude.{◌≡◌, true}
+use Rattle.std.specs.List.{All}
+use Rattle.low_instructions.specs.Laws.{is_low}
 use Rattle.low_instructions.specs.Words.{is_version}
-use Rattle.otp_files.specs.Every.{Every}
 use Rattle.otp_files.specs.declared.relup.RelupEntry.{RelupEntry}
 
--- an instruction is read back from its printed form
-abbrev pub IsReadBack : Low → Type 0
-IsReadBack low = low_result (low_tree low) ≡ Ok low
-
--- and so is an entry
+-- an entry is read back from its printed form
 pub record IsKept (entry : RelupEntry) : Type 0 where
   pub version : is_version entry.version ≡ true
-  pub script : Every IsReadBack entry.script
+  pub script : All (λ low. is_low low ≡ true) entry.script

@@ -2,10 +2,11 @@
 -- wrong, or a key that stands twice, or the first instruction of the file that is none.
 use Rattle.std.specs.Prelude.{◌≡◌, ◌⊎◌, ℕ, ◌+◌, length, true, List, [], ◌∷◌, ◌++◌, codes, map}
 use Rattle.std.specs.List.{list_all}
+use Rattle.erl_term.specs.Conversions.{rows}
 use Rattle.erl_term.specs.Tree.{Tree, Trees, atom, tuple, list, none, more}
 use Rattle.low_instructions.specs.declared.low.Low.{Low}
 use Rattle.low_instructions.specs.Forms.{is_out_of_profile}
-use Rattle.low_instructions.specs.Words.{row, rows, word, string_tree, names_tree, is_version}
+use Rattle.low_instructions.specs.Words.{row, word, string_tree, names_tree, is_version}
 use Rattle.high_instructions.specs.declared.instruction.Instruction.{Instruction}
 use Rattle.high_instructions.specs.Forms.{IsSupervisorUpdate}
 use Rattle.otp_files.specs.declared.error.FileError.{FileError}

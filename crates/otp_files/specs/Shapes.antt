@@ -2,12 +2,13 @@
 use Rattle.std.specs.Prelude.{◌≡◌, ◌⊎◌, ℕ, nat_le, Bool, true, ◌&&◌, ◌||◌, if◌then◌else◌, List, [], ◌∷◌, codes, map, Option, Some, None, ⊤}
 use Rattle.std.specs.List.{list_all}
 use Rattle.std.specs.Str.{bytes_eq}
+use Rattle.erl_term.specs.Conversions.{rows}
 use Rattle.erl_term.specs.Tree.{Tree, Trees, atom, tuple, list, none, more}
 use Rattle.erl_term.specs.Term.{tree}
 use Rattle.low_instructions.specs.declared.low.Low.{Low}
 use Rattle.low_instructions.specs.Forms.{IsLow, low_tree}
 use Rattle.low_instructions.specs.Laws.{is_low}
-use Rattle.low_instructions.specs.Words.{row, rows, word, string_tree, names_tree, is_version}
+use Rattle.low_instructions.specs.Words.{row, word, string_tree, names_tree, is_version}
 use Rattle.high_instructions.specs.declared.instruction.Instruction.{Instruction}
 use Rattle.high_instructions.specs.declared.words.StartType.{StartType}
 use Rattle.high_instructions.specs.declared.words.StartType.TheVariants.{Permanent}

@@ -20,11 +20,11 @@ use crate::one_term::{read_one, with_memory};
 use crate::script::script;
 use drafts::{Draft, count, drafts};
 use erl_consult::printed_terms_are_read;
-use erl_term::{Term, print, three};
+use erl_term::{Term, ToTerm, print, three};
 use low_instructions::{Script, Version};
 use std::alloc::{AllocError, Global};
 use values::{Duplicate, Row, Same};
-use writing::{bounded, entries_term, triple};
+use writing::{bounded, triple};
 
 /// How a release is upgraded from a version, or downgraded to it.
 #[derive(Drop)]
@@ -184,8 +184,8 @@ pub fn relup_term(alloc: Global, relup: &Relup) -> Result<Term, AllocError>
     ensures read_back { IfOk result (λ t. relup_of (tree t) ≡ Ok relup.now) }
 {
     let version = relup.version.term(alloc)?;
-    let up = entries_term(alloc, &relup.up)?;
-    let down = entries_term(alloc, &relup.down)?;
+    let up = relup.up.to_term(alloc)?;
+    let down = relup.down.to_term(alloc)?;
     triple(alloc, version, up, down)
 }
 

@@ -15,26 +15,32 @@ use std::alloc::{AllocError, Global};
 use values::Row;
 
 /// An instruction of a file, read from its term.
-pub(crate) trait FromTerm: Drop {
+pub(crate) trait FromInstruction: Drop {
     ghost reading: { Tree → Result Self Fault };
 
     /// The instruction that a term is, or why it is none.
-    fn from_term(alloc: Global, term: &Term) -> Result<Result<Self, InstructionFault>, AllocError>
+    fn from_instruction(
+        alloc: Global,
+        term: &Term,
+    ) -> Result<Result<Self, InstructionFault>, AllocError>
         ensures { IfOk result (λ read. read ≡ reading (tree term.now)) };
 }
 
-impl FromTerm for Low {
+impl FromInstruction for Low {
     ghost reading = { low_result };
 
-    fn from_term(alloc: Global, term: &Term) -> Result<Result<Low, InstructionFault>, AllocError> {
+    fn from_instruction(
+        alloc: Global,
+        term: &Term,
+    ) -> Result<Result<Low, InstructionFault>, AllocError> {
         read_low(alloc, term)
     }
 }
 
-impl FromTerm for Instruction {
+impl FromInstruction for Instruction {
     ghost reading = { instruction_result };
 
-    fn from_term(
+    fn from_instruction(
         alloc: Global,
         term: &Term,
     ) -> Result<Result<Instruction, InstructionFault>, AllocError> {
@@ -43,7 +49,7 @@ impl FromTerm for Instruction {
 }
 
 /// The instructions of a row, the first of which has this number in the file.
-pub(crate) fn script<T: FromTerm>(
+pub(crate) fn script<T: FromInstruction>(
     alloc: Global,
     first: u64,
     row: &[Term],
@@ -53,7 +59,7 @@ pub(crate) fn script<T: FromTerm>(
     let mut number = first;
     let mut instructions = Vec::new(alloc);
     for term in row {
-        match T::from_term(alloc, term)? {
+        match T::from_instruction(alloc, term)? {
             Ok(instruction) => instructions.push(instruction)?,
             Err(fault) => return Ok(Err(numbered(number, fault))),
         }

@@ -64,11 +64,11 @@ fn described(alloc: Global, description: Term) -> Result<Relup, Fail> {
 
 /// A list in a list, and so on, so many of them.
 fn nested(alloc: Global, depth: usize) -> Result<Term, Fail> {
-    let mut term = Term::List(Terms::new(Vec::new(alloc)));
+    let mut term = Term::List(Terms::new(alloc, Vec::new(alloc))?);
     for _ in 1..depth {
         let mut items = Vec::new(alloc);
         items.push(term)?;
-        term = Term::List(Terms::new(items));
+        term = Term::List(Terms::new(alloc, items)?);
     }
     Ok(term)
 }

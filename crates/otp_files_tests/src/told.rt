@@ -3,7 +3,7 @@
 //
 // Most functions write what stands in front, and then the value.
 use crate::cases::{term_of, text_of};
-use erl_term::{Atom, Term, Terms, print, print_atom};
+use erl_term::{Atom, Term, ToTerm, print, print_atom};
 use high_instructions::read_instruction;
 use otp_files::{
     AppSpec, Appup, AppupEntry, FileError, High, Instruction, Low, RelApp, RelSpec, Relup,
@@ -124,11 +124,7 @@ impl File for RelSpec {
 
 /// Writes the characters as a list of integers is printed.
 fn put_characters(out: &mut Vec<u8>, front: &str, text: &str) -> Result<(), AllocError> {
-    let mut characters = Vec::new(*out.allocator());
-    for c in text.chars() {
-        characters.push(Term::Int(i64::from(u32::from(c))))?;
-    }
-    let list = Term::List(Terms::new(characters));
+    let list = text.to_term(*out.allocator())?;
     put_term(out, front, &list)
 }
 

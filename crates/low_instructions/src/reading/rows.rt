@@ -5,7 +5,7 @@ ghost use Rattle.low_instructions.specs.Reading.{change_of, changes_of, code_cha
 
 use crate::low::{Direction, Low, ModuleChange, Suspension};
 use crate::timeout::Timeout;
-use erl_term::{Term, one, two};
+use erl_term::{FromTerm, Term, one, two};
 use std::alloc::{AllocError, Global};
 use values::{Duplicate, Row};
 
@@ -17,32 +17,25 @@ pub(crate) fn suspend(alloc: Global, rest: &[Term]) -> Result<Option<Low>, Alloc
     let Some(row) = one(rest) else {
         return Ok(None);
     };
-    let Some(row) = row.as_list() else {
+    let Some(modules) = Row::from_term(alloc, row)? else {
         return Ok(None);
     };
-    let mut modules = Vec::new(alloc);
-    for term in row.as_slice() {
-        let Some(module) = suspension(alloc, term)? else {
-            return Ok(None);
-        };
-        modules.push(module)?;
-    }
-    Ok(Some(Low::Suspend {
-        modules: Row::new(modules),
-    }))
+    Ok(Some(Low::Suspend { modules }))
 }
 
 /// `Mod` or `{Mod,Timeout}`
-#[tactic(auto, unfolding(crate::specs::Reading::suspension_of))]
-fn suspension(alloc: Global, term: &Term) -> Result<Option<Suspension>, AllocError>
-    ensures { IfOk result (λ found. found ≡ suspension_of (tree term.now)) }
-{
-    match term {
-        Term::Atom(name) => Ok(Some(Suspension {
-            name: name.copy(alloc)?,
-            timeout: Timeout::Default,
-        })),
-        Term::Int(_) | Term::Pid(_) | Term::Tuple(_) | Term::List(_) => timed(alloc, term),
+impl FromTerm for Suspension {
+    ghost reading = { suspension_of };
+
+    #[tactic(auto, unfolding(crate::specs::Reading::suspension_of))]
+    fn from_term(alloc: Global, term: &Term) -> Result<Option<Suspension>, AllocError> {
+        match term {
+            Term::Atom(name) => Ok(Some(Suspension {
+                name: name.copy(alloc)?,
+                timeout: Timeout::Default,
+            })),
+            Term::Int(_) | Term::Pid(_) | Term::Tuple(_) | Term::List(_) => timed(alloc, term),
+        }
     }
 }
 
@@ -131,36 +124,28 @@ fn direction(term: &Term) -> Option<Direction>
 fn changes(alloc: Global, term: &Term) -> Result<Option<Row<ModuleChange>>, AllocError>
     ensures { IfOk result (λ found. found ≡ changes_of (tree term.now)) }
 {
-    let Some(row) = term.as_list() else {
-        return Ok(None);
-    };
-    let mut changes = Vec::new(alloc);
-    for term in row.as_slice() {
-        let Some(change) = change(alloc, term)? else {
-            return Ok(None);
-        };
-        changes.push(change)?;
-    }
-    Ok(Some(Row::new(changes)))
+    Row::from_term(alloc, term)
 }
 
 /// `{Mod,Extra}`
-#[tactic(auto, unfolding(crate::specs::Reading::change_of))]
-fn change(alloc: Global, term: &Term) -> Result<Option<ModuleChange>, AllocError>
-    ensures { IfOk result (λ found. found ≡ change_of (tree term.now)) }
-{
-    let Some(row) = term.as_tuple() else {
-        return Ok(None);
-    };
-    let Some((name, extra)) = two(row.as_slice()) else {
-        return Ok(None);
-    };
-    let Some(name) = name.as_atom() else {
-        return Ok(None);
-    };
-    let name = name.copy(alloc)?;
-    Ok(Some(ModuleChange {
-        name,
-        extra: extra.copy(alloc)?,
-    }))
+impl FromTerm for ModuleChange {
+    ghost reading = { change_of };
+
+    #[tactic(auto, unfolding(crate::specs::Reading::change_of))]
+    fn from_term(alloc: Global, term: &Term) -> Result<Option<ModuleChange>, AllocError> {
+        let Some(row) = term.as_tuple() else {
+            return Ok(None);
+        };
+        let Some((name, extra)) = two(row.as_slice()) else {
+            return Ok(None);
+        };
+        let Some(name) = name.as_atom() else {
+            return Ok(None);
+        };
+        let name = name.copy(alloc)?;
+        Ok(Some(ModuleChange {
+            name,
+            extra: extra.copy(alloc)?,
+        }))
+    }
 }

@@ -2,52 +2,28 @@
 ghost use Rattle.std.specs.Prelude.{◌≡◌, ◌∷◌, [], IfOk, true};
 ghost use Rattle.erl_term.specs.Readable.{is_bounded};
 ghost use Rattle.erl_term.specs.Term.{tree};
-ghost use Rattle.erl_term.specs.Tree.{list, tuple};
-ghost use Rattle.low_instructions.specs.Forms.{low_tree};
-ghost use Rattle.low_instructions.specs.Words.{row, rows};
-ghost use Rattle.otp_files.specs.Every.{Every};
-ghost use Rattle.otp_files.specs.ReadBack.{IsKept, IsReadBack};
+ghost use Rattle.erl_term.specs.Tree.{tuple};
+ghost use Rattle.low_instructions.specs.Words.{row};
+ghost use Rattle.otp_files.specs.ReadBack.{IsKept};
 ghost use Rattle.otp_files.specs.Shapes.{relup_entry_tree};
 
 use super::RelupEntry;
-use erl_term::{Term, Terms};
-use low_instructions::{Script, low_term};
+use erl_term::{Term, Terms, ToTerm};
 use std::alloc::{AllocError, Global};
-use values::{Duplicate, Row};
-
-/// The list of entries.
-pub(crate) fn entries_term(alloc: Global, entries: &Row<RelupEntry>) -> Result<Term, AllocError>
-    ensures written { IfOk result (λ t. tree t ≡ list (rows relup_entry_tree entries.now)) }
-    ensures kept { IfOk result (λ t. Every IsKept entries.now) }
-{
-    let mut terms = Vec::new(alloc);
-    for entry in entries.as_slice() {
-        terms.push(entry_term(alloc, entry)?)?;
-    }
-    Ok(Term::List(Terms::new(terms)))
-}
+use values::Duplicate;
 
 /// `{Version,Descr,Script}`
-fn entry_term(alloc: Global, entry: &RelupEntry) -> Result<Term, AllocError>
-    ensures written { IfOk result (λ t. tree t ≡ relup_entry_tree entry.now) }
-    ensures kept { IfOk result (λ t. IsKept entry.now) }
-{
-    let version = entry.version.term(alloc)?;
-    let description = entry.description.copy(alloc)?;
-    let script = script_term(alloc, &entry.script)?;
-    triple(alloc, version, description, script)
-}
+impl ToTerm for RelupEntry {
+    ghost writing = { relup_entry_tree };
 
-/// The list of instructions.
-fn script_term(alloc: Global, script: &Script) -> Result<Term, AllocError>
-    ensures written { IfOk result (λ t. tree t ≡ list (rows low_tree script.now)) }
-    ensures kept { IfOk result (λ t. Every IsReadBack script.now) }
-{
-    let mut terms = Vec::new(alloc);
-    for low in script.as_slice() {
-        terms.push(low_term(alloc, low)?)?;
+    ghost holds = { IsKept };
+
+    fn to_term(&self, alloc: Global) -> Result<Term, AllocError> {
+        let version = self.version.term(alloc)?;
+        let description = self.description.copy(alloc)?;
+        let script = self.script.to_term(alloc)?;
+        triple(alloc, version, description, script)
     }
-    Ok(Term::List(Terms::new(terms)))
 }
 
 /// A tuple of three.
@@ -58,7 +34,7 @@ pub(crate) fn triple(alloc: Global, a: Term, b: Term, c: Term) -> Result<Term, A
     terms.push(a)?;
     terms.push(b)?;
     terms.push(c)?;
-    Ok(Term::Tuple(Terms::new(terms)))
+    Ok(Term::Tuple(Terms::new(alloc, terms)?))
 }
 
 /// What holds of each term: its integers and its atoms have their bounds.

@@ -15,4 +15,4 @@ written_back (Err e) l written kept = tt
 
 pub returns-clause-read_back : goal.returns-clause-read_back
 returns-clause-read_back c =
-    written_back c.written.result c.args.low.now c.written.ensures.written c.written.ensures.kept
+    written_back c.to_term.result c.args.low.now c.to_term.ensures.written c.to_term.ensures.kept

@@ -6,4 +6,4 @@ use Rattle.otp_files.proofs.script.script.Given as goal
 
 abbrev pub invariant-loop-term : goal.invariant-loop-term
 invariant-loop-term g l =
-    script_from g.T.FromTerm.reading l.fn.first (trees l.row) ≡ after (script_from g.T.FromTerm.reading l.number (trees (drop l.term-index l.row))) (λ rest. Ok (l.instructions.items ++ rest))
+    script_from g.T.FromInstruction.reading l.fn.first (trees l.row) ≡ after (script_from g.T.FromInstruction.reading l.number (trees (drop l.term-index l.row))) (λ rest. Ok (l.instructions.items ++ rest))

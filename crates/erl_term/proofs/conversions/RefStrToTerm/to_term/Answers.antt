@@ -7,16 +7,16 @@ use Rattle.std.proofs.lemmas.Iterator.Consumers.{YieldsList-end}
 use Rattle.erl_term.specs.Rows.{integers}
 use Rattle.erl_term.specs.Term.{trees}
 use Rattle.erl_term.specs.Tree.{list}
-use Rattle.low_instructions.proofs.Rows.{integers_more}
-use Rattle.low_instructions.proofs.version.Version.term.Goals as goal
+use Rattle.erl_term.proofs.Written.{integers_more}
+use Rattle.erl_term.proofs.conversions.RefStrToTerm.to_term.Goals as goal
 
 pub loop-c-preserved : goal.loop-c-preserved
 loop-c-preserved c =
-    ap trees c.in_ok-push.ensures.items ∙ integers_more c.loop-c.yielded c.in-Some.c c.loop-c.characters.items c.character_term.result c.loop-c.invariant c.character_term.ensures
+    ap trees c.in_ok-push.ensures.items ∙ integers_more c.loop-c.yielded c.in-Some.c c.loop-c.terms.items c.character_term.result c.loop-c.invariant c.character_term.ensures
 
 pub returns-clause-written : goal.returns-clause-written
 returns-clause-written c =
-    let text = c.as_str.result.now in
-    let whole = YieldsList-end (YieldsList-from_chars text c.as_str.utf8 cc) c.loop-c.yielded _ c.loop-c.yielded_by _ _ c.in-None.is c.next.ensures.steps in
+    let text = c.args.self.now.now in
+    let whole = YieldsList-end (YieldsList-from_chars text c.type_inv.self cc) c.loop-c.yielded _ c.loop-c.yielded_by _ _ c.in-None.is c.next.ensures.steps in
     let all : c.loop-c.yielded ≡ chars text = sym (map-id c.loop-c.yielded) ∙ whole.0 in
-    ap list (c.new.ensures ∙ c.loop-c.invariant ∙ ap integers (all ∙ c.as_str.ensures.chars))
+    ap list (c.in_ok-characters.ensures ∙ c.loop-c.invariant ∙ ap integers all)
