@@ -9,7 +9,7 @@ use Rattle.erl_scan.specs.declared.token.Token.{Token}
 use Rattle.erl_scan.specs.declared.token.Token.TheVariants.{Integer, Float, Atom, Variable, String, Mark as MarkOf, Dot}
 use Rattle.erl_scan.specs.declared.token.Spot.{Spot}
 use Rattle.erl_term.specs.Tree.{Trees}
-use Rattle.erl_term.specs.Readable.{deepest}
+use Rattle.erl_term.specs.RoundTrip.{deepest}
 use Rattle.erl_consult.specs.Grammar.{Part, number, minus, plus, name, string, open_tuple, close_tuple, open_list, close_list, comma, bar, dot, unread, foreign, part_of, Form, Forms, unsigned, strings, some_tuple, some_list, tailed_list, form_parts, form_trees, is_list, IsText}
 use Rattle.erl_consult.specs.Faults.{spot_part, parts, last_of, begins_list, opened, closed, IsFaulty, IsCutShort, NoneFaults}
 use Rattle.erl_consult.specs.FirstFault.{CanGoOn, IsDeadEnd, FirstFault}

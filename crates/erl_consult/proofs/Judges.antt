@@ -5,7 +5,7 @@ use Rattle.std.specs.List.{flat_map}
 use borrow.Author.Tests.{ltb-true, ltb-false}
 use Rattle.erl_scan.specs.declared.error.Fault.TheVariants.{IntegerRange, TooDeep, Syntax}
 use Rattle.erl_term.specs.Tree.{Tree, Trees, int, tuple, list, none, more}
-use Rattle.erl_term.specs.Readable.{deepest}
+use Rattle.erl_term.specs.RoundTrip.{deepest}
 use Rattle.erl_term.specs.Rows.{append_trees, integers}
 use Rattle.erl_consult.specs.Grammar.{Part, number, minus, plus, name, string, open_tuple, close_tuple, open_list, close_list, comma, bar, dot, unread, foreign, Form, Forms, unsigned, negative, positive, atom_form, strings, empty_tuple, some_tuple, empty_list, some_list, tailed_list, start, then, elements_of, form_tree, form_trees, fits, all_fit, is_list, has_list_tails, have_list_tails}
 use Rattle.erl_consult.specs.Faults.{opens, closes, begins_list}

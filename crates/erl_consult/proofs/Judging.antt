@@ -3,7 +3,7 @@ use Rattle.std.proofs.Common.{◌≡◌, ℕ, suc, ◌+◌, ◌^◌, ◌<◌, �
 use Rattle.std.specs.Prelude.{nat_le}
 use Rattle.std.specs.List.{flat_map}
 use Rattle.erl_scan.specs.declared.error.Fault.TheVariants.{IntegerRange, Unsupported, TooDeep, Syntax}
-use Rattle.erl_term.specs.Readable.{deepest}
+use Rattle.erl_term.specs.RoundTrip.{deepest}
 use Rattle.erl_term.specs.Rows.{integers}
 use Rattle.erl_consult.specs.Grammar.{Part, number, string, open_tuple, open_list, bar, dot, unread, Form, Forms, then, form_tree, form_trees, nesting, nestings, fits, all_fit, is_list, has_list_tails, have_list_tails}
 use Rattle.erl_consult.specs.Faults.{is_sign, is_bar, is_dot, is_string, opens, closes, is_unread, begins_list}

@@ -23,7 +23,7 @@ use Rattle.erl_scan.specs.Tokens.{Comes, token, Reads}
 use Rattle.erl_term.specs.Tree.{Tree, Trees, int, atom, pid, tuple, list, none, more, depth, greatest_depth}
 use Rattle.erl_term.specs.Text.{utf8, text, elements_text, others_text, list_text, printable, printable_char, string_text, string_char, atom_text, quoted_char, is_plain, hex, hex_digit}
 use Rattle.erl_term.specs.Rows.{append_trees, integers}
-use Rattle.erl_term.specs.Readable.{deepest, has_pids, have_pids, is_bounded, are_bounded}
+use Rattle.erl_term.specs.RoundTrip.{deepest, has_pids, have_pids, is_bounded, are_bounded}
 use Rattle.erl_consult.specs.Grammar.{Part, number, minus, name, string, open_tuple, close_tuple, open_list, close_list, comma, dot, part_of, Form, Forms, unsigned, negative, atom_form, strings, empty_tuple, some_tuple, empty_list, some_list, start, then, form_parts, with_commas, form_tree, form_trees, nesting, nestings, fits, all_fit, has_list_tails, have_list_tails, IsText}
 use Rattle.erl_consult.specs.Faults.{parts}
 use Rattle.erl_consult.specs.Printed.{PrintedReads}

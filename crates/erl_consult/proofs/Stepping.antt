@@ -7,7 +7,7 @@ use Rattle.erl_scan.specs.declared.error.Fault.TheVariants.{Syntax, TooDeep, Mem
 use Rattle.erl_scan.specs.declared.error.ReadError.{ReadError}
 use Rattle.std.proofs.lemmas.List.{reverse-append, reverse-reverse, take_all, take_more}
 use Rattle.erl_term.specs.declared.term.Term.{Term}
-use Rattle.erl_term.specs.Readable.{deepest}
+use Rattle.erl_term.specs.RoundTrip.{deepest}
 use Rattle.erl_term.specs.Rows.{append_trees, integers}
 use Rattle.erl_term.specs.Term.{tree, trees}
 use Rattle.erl_term.specs.Tree.{Tree, Trees, int, tuple, list, none, more}

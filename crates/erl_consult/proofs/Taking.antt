@@ -5,7 +5,7 @@ use borrow.Author.Tests.{lt-ltb}
 use Rattle.erl_scan.specs.declared.error.Fault.TheVariants.{IntegerRange, TooDeep}
 use Rattle.erl_scan.specs.declared.token.Spot.{Spot}
 use Rattle.erl_term.specs.Tree.{Trees, int, atom, tuple, list, none, more}
-use Rattle.erl_term.specs.Readable.{deepest}
+use Rattle.erl_term.specs.RoundTrip.{deepest}
 use Rattle.erl_term.specs.Rows.{append_trees, integers}
 use Rattle.erl_consult.specs.Grammar.{Part, number, minus, plus, name, string, open_tuple, close_tuple, open_list, close_list, comma, bar, dot, Form, Forms, unsigned, negative, positive, atom_form, strings, empty_tuple, some_tuple, empty_list, some_list, tailed_list, start, then, form_parts, with_commas, text_parts, elements_of, form_tree, form_trees, nesting, nestings, fits, all_fit, is_list, has_list_tails, have_list_tails}
 use Rattle.erl_consult.specs.Faults.{spot_part, parts}

@@ -11,7 +11,7 @@ use Rattle.erl_chars.specs.Gaps.{after_gap}
 use Rattle.erl_scan.specs.declared.token.Spot.{Spot}
 use Rattle.erl_scan.specs.Tokens.{Next, ends, token, fault, Reads, Reaches}
 use Rattle.erl_term.specs.Tree.{Trees}
-use Rattle.erl_term.specs.Readable.{deepest}
+use Rattle.erl_term.specs.RoundTrip.{deepest}
 use Rattle.erl_consult.specs.Grammar.{Part, number, minus, plus, string, open_tuple, close_tuple, open_list, close_list, bar}
 use Rattle.erl_consult.specs.Grammar.{dot, unread, part_of, IsText, IsStart}
 

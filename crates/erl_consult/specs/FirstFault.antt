@@ -4,7 +4,7 @@ use Rattle.std.specs.Prelude.{◌≡◌, ◌⊎◌, ℕ, ◌-◌, true, List, []
 use Rattle.erl_scan.specs.declared.error.Fault.{Fault}
 use Rattle.erl_scan.specs.declared.token.Spot.{Spot}
 use Rattle.erl_term.specs.Tree.{Trees}
-use Rattle.erl_term.specs.Readable.{deepest}
+use Rattle.erl_term.specs.RoundTrip.{deepest}
 use Rattle.erl_consult.specs.Grammar.{Part, IsText}
 use Rattle.erl_consult.specs.Faults.{parts, last_of, last_is, is_bar, opened, closed, IsFaulty, IsCutShort, NoneFaults}
 

@@ -11,7 +11,7 @@ use Rattle.erl_scan.specs.declared.word.Word.TheVariants.{Fun}
 use Rattle.erl_scan.specs.declared.mark.Mark.{Mark}
 use Rattle.erl_scan.specs.declared.mark.Mark.TheVariants.{OpenBinary, OpenBrace, CloseBrace, OpenBracket, CloseBracket, Comma}
 use Rattle.erl_scan.specs.declared.mark.Mark.TheVariants.{Bar, Hash, Plus, Minus}
-use Rattle.erl_term.specs.Readable.{deepest}
+use Rattle.erl_term.specs.RoundTrip.{deepest}
 use Rattle.erl_term.specs.Rows.{append_trees, integers}
 use Rattle.erl_term.specs.Tree.{Tree, Trees, int, atom, pid, tuple, list, none, more}
 

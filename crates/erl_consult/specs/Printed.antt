@@ -2,7 +2,7 @@
 use Rattle.std.specs.Prelude.{◌≡◌, true, ◌++◌, codes}
 use Rattle.erl_term.specs.Tree.{Tree, none, more}
 use Rattle.erl_term.specs.Text.{utf8, text}
-use Rattle.erl_term.specs.Readable.{is_bounded, is_readable}
+use Rattle.erl_term.specs.RoundTrip.{is_bounded, is_readable}
 use Rattle.erl_consult.specs.Faults.{IsTextOf}
 
 -- The law: what a term prints as, with a dot and a newline behind it, is the text of that term alone.

@@ -5,7 +5,7 @@ use Rattle.std.proofs.lemmas.Str.{scalars-chars}
 use lib.Utf8.{scalars}
 use Rattle.erl_term.specs.declared.term.Term.TheVariants.{Atom as AtomOf}
 use Rattle.erl_term.specs.declared.term.Term.{Term}
-use Rattle.erl_term.specs.Readable.{has_pids, have_pids, is_bounded, are_bounded}
+use Rattle.erl_term.specs.RoundTrip.{has_pids, have_pids, is_bounded, are_bounded}
 use Rattle.erl_term.specs.Term.{tree, trees}
 use Rattle.erl_term.proofs.Rows.{take_here}
 

@@ -1,7 +1,7 @@
 pub mod Ascii
 pub mod Bounds
 pub mod Parts
-pub mod Reading
+pub mod Accessing
 pub mod Rows
 pub mod Texts
 pub mod Written

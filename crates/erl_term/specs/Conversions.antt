@@ -1,7 +1,7 @@
 -- Rows of values, as terms.
 use Rattle.std.specs.Prelude.{List, [], ◌∷◌, Option, option_and_then}
 use Rattle.erl_term.specs.Tree.{Tree, Trees, none, more}
-use Rattle.erl_term.specs.Readers.{list_of, all_of}
+use Rattle.erl_term.specs.Accessors.{list_of, all_of}
 
 -- a list each of whose elements is a value
 abbrev pub rows_of : {A : Type 0} → (Tree → Option A) → Tree → Option (List A)

@@ -3,8 +3,8 @@ pub mod Conversions
 pub mod Order
 pub mod OrderLaws
 pub mod Parts
-pub mod Readable
-pub mod Readers
+pub mod RoundTrip
+pub mod Accessors
 pub mod Rows
 pub mod Strings
 pub mod Term

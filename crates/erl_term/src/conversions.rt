@@ -3,7 +3,7 @@ ghost use Rattle.std.specs.Prelude.{◌≡◌, pos, Option, IfOk, ⊤};
 ghost use Rattle.std.specs.List.{All};
 ghost use Rattle.std.specs.Str.{chars};
 ghost use Rattle.erl_term.specs.Conversions.{rows, rows_of};
-ghost use Rattle.erl_term.specs.Readers.{atom_of};
+ghost use Rattle.erl_term.specs.Accessors.{atom_of};
 ghost use Rattle.erl_term.specs.Rows.{integers};
 ghost use Rattle.erl_term.specs.Term.{tree};
 ghost use Rattle.erl_term.specs.Tree.{Tree, atom, int, list};

@@ -15,7 +15,7 @@
 //!   is refused; [`print_atom`] does so of an atom.
 //! - [`Term::has_pids`] tells whether a process identifier stands in the term, and [`Term::is_readable`] whether none
 //!   does and the term is nested at most 256 deep: the crate `erl_consult` proves that its text is then read back.
-//! - The readers ([`Term::as_int`] and its neighbours, [`first`], [`one`] to [`four`], [`string`],
+//! - The accessors ([`Term::as_int`] and its neighbours, [`first`], [`one`] to [`four`], [`string`],
 //!   [`character`]) answer exactly where the term is what they read, and with exactly that.
 //! - A list is read as a row of values exactly where each element is one, and a row is written as the list of what is
 //!   written of each ([`FromTerm`] and [`ToTerm`], which crates above give their values too).
@@ -28,14 +28,14 @@
 //! print and drop a term of depth 1,024.
 #![tactic(auto)]
 
+mod accessors;
 mod atom;
 mod conversions;
 mod printing;
-mod readers;
 mod term;
 
+pub use accessors::{character, first, four, one, string, three, two};
 pub use atom::{Atom, AtomError};
 pub use conversions::{FromTerm, ToTerm};
 pub use printing::{print, print_atom};
-pub use readers::{character, first, four, one, string, three, two};
 pub use term::{Term, Terms};

@@ -5,7 +5,7 @@ ghost use Rattle.erl_term.specs.Tree.{depth, size};
 
 mod order;
 mod printing;
-mod readable;
+mod round_trip;
 mod rows;
 mod told;
 

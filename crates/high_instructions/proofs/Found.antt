@@ -3,7 +3,7 @@ use Rattle.std.proofs.Common.{◌≡◌, ℕ, Bool, true, false, if◌then◌els
 use Rattle.std.specs.Str.{bytes_eq}
 use Rattle.std.proofs.lemmas.Slice.Eq.{bytes_eq-Decides}
 use Rattle.erl_term.specs.Tree.{Tree, Trees, atom, none, more}
-use Rattle.erl_term.specs.Readers.{first_of, three_of, four_of}
+use Rattle.erl_term.specs.Accessors.{first_of, three_of, four_of}
 use Rattle.low_instructions.specs.Reading.{given, either_of}
 use Rattle.low_instructions.proofs.Parts.{three_is}
 

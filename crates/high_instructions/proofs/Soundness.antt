@@ -2,7 +2,7 @@
 use Rattle.std.proofs.Common.{◌≡◌, ℕ, true, List, [], ◌∷◌, Some, refl, sym, ap, ap₂, subst, ◌∙◌}
 use Rattle.std.specs.Prelude.{codes}
 use Rattle.erl_term.specs.Tree.{Tree, Trees, atom, tuple, none, more}
-use Rattle.erl_term.specs.Readers.{atom_of, tuple_of, first_of, one_of, two_of, three_of, four_of}
+use Rattle.erl_term.specs.Accessors.{atom_of, tuple_of, first_of, one_of, two_of, three_of, four_of}
 use Rattle.low_instructions.specs.declared.purge.Purge.{Purge}
 use Rattle.low_instructions.specs.declared.purge.Purge.TheVariants.{Brutal}
 use Rattle.low_instructions.specs.declared.timeout.Timeout.{Timeout}

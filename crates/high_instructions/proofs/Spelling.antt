@@ -5,7 +5,7 @@ use Rattle.std.specs.Str.{bytes_eq}
 use Rattle.std.proofs.lemmas.Slice.Eq.{bytes_eq-Decides}
 use Rattle.erl_term.specs.Term.{term_of, term_of-tree}
 use Rattle.erl_term.specs.Tree.{Tree, atom, tuple, none, more}
-use Rattle.erl_term.specs.Readers.{atom_of, tuple_of, two_of}
+use Rattle.erl_term.specs.Accessors.{atom_of, tuple_of, two_of}
 use Rattle.low_instructions.specs.declared.timeout.Timeout.{Timeout}
 use Rattle.low_instructions.specs.Laws.{is_timeout}
 use Rattle.low_instructions.specs.Reading.{timeout_of}

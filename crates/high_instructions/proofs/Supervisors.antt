@@ -3,7 +3,7 @@ use Rattle.std.proofs.Common.{◌≡◌, ℕ, Bool, true, false, List, Option, S
 use Rattle.std.specs.Prelude.{codes, ◌&&◌}
 use Rattle.std.proofs.lemmas.Slice.Eq.{bytes_eq-Decides}
 use Rattle.erl_term.specs.Tree.{Tree, int, atom, pid, tuple, list, more}
-use Rattle.erl_term.specs.Readers.{tuple_of, three_of}
+use Rattle.erl_term.specs.Accessors.{tuple_of, three_of}
 use Rattle.low_instructions.specs.Reading.{given}
 use Rattle.low_instructions.proofs.Parts.{three_is, tuple_is}
 use Rattle.high_instructions.specs.Forms.{Name, IsSupervisorUpdate}

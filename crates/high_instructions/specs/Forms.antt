@@ -15,7 +15,8 @@ use Rattle.high_instructions.specs.declared.words.Change.TheVariants.{Soft}
 use Rattle.high_instructions.specs.declared.words.StartType.{StartType}
 use Rattle.high_instructions.specs.declared.words.StartType.TheVariants.{Permanent}
 use Rattle.high_instructions.specs.declared.high.High.{High}
-use Rattle.high_instructions.specs.declared.high.High.TheVariants.{Update, LoadModule, AddModule, DeleteModule, AddApplication, RemoveApplication, RestartApplication}
+use Rattle.high_instructions.specs.declared.high.High.TheVariants.{Update, LoadModule, AddModule, DeleteModule, AddApplication}
+use Rattle.high_instructions.specs.declared.high.High.TheVariants.{RemoveApplication, RestartApplication}
 use Rattle.high_instructions.specs.Words.{module_type_tree, change_tree, start_type_tree}
 
 abbrev pub Name : Type 0
@@ -58,9 +59,11 @@ high_form_tree (update_by_behind m change ms) = form (codes "update") (atom m �
 high_form_tree (update_purging m change pre post ms) =
     form (codes "update") (atom m ∷ change_tree change ∷ purge_tree pre ∷ purge_tree post ∷ names_tree ms ∷ [])
 high_form_tree (update_timed m timeout change pre post ms) =
-    form (codes "update") (atom m ∷ timeout_tree timeout ∷ change_tree change ∷ purge_tree pre ∷ purge_tree post ∷ names_tree ms ∷ [])
+    form (codes "update") (atom m ∷ timeout_tree timeout ∷ change_tree change ∷ purge_tree pre ∷ purge_tree post ∷
+    names_tree ms ∷ [])
 high_form_tree (update_whole m type timeout change pre post ms) =
-    form (codes "update") (atom m ∷ module_type_tree type ∷ timeout_tree timeout ∷ change_tree change ∷ purge_tree pre ∷ purge_tree post ∷ names_tree ms ∷ [])
+    form (codes "update") (atom m ∷ module_type_tree type ∷ timeout_tree timeout ∷ change_tree change ∷ purge_tree pre ∷
+    purge_tree post ∷ names_tree ms ∷ [])
 high_form_tree (load_module m) = form (codes "load_module") (atom m ∷ [])
 high_form_tree (load_module_behind m ms) = form (codes "load_module") (atom m ∷ names_tree ms ∷ [])
 high_form_tree (load_module_purging m pre post ms) =

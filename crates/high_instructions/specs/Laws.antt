@@ -6,7 +6,8 @@ use Rattle.low_instructions.specs.declared.fault.InstructionFault.TheVariants.{B
 use Rattle.low_instructions.specs.Forms.{IsLow, is_out_of_profile}
 use Rattle.low_instructions.specs.Laws.{is_low, is_timeout}
 use Rattle.high_instructions.specs.declared.high.High.{High}
-use Rattle.high_instructions.specs.declared.high.High.TheVariants.{Update, LoadModule, AddModule, DeleteModule, AddApplication, RemoveApplication, RestartApplication}
+use Rattle.high_instructions.specs.declared.high.High.TheVariants.{Update, LoadModule, AddModule, DeleteModule, AddApplication}
+use Rattle.high_instructions.specs.declared.high.High.TheVariants.{RemoveApplication, RestartApplication}
 use Rattle.high_instructions.specs.declared.instruction.Instruction.{Instruction}
 use Rattle.high_instructions.specs.declared.instruction.Instruction.TheVariants as levels
 use Rattle.high_instructions.specs.Forms.{IsHigh, IsSupervisorUpdate}
@@ -37,7 +38,8 @@ IsInstruction t (levels.Low l) = IsLow t l
 abbrev pub InstructionReads : Tree → Result Instruction InstructionFault → Type 0
 InstructionReads t (Ok i) = IsInstruction t i × (is_instruction i ≡ true)
 InstructionReads t (Err Bad) =
-    ((is_out_of_profile t ≡ true) ⊎ IsSupervisorUpdate t → ⊥) × ((i : Instruction) → is_instruction i ≡ true → IsInstruction t i → ⊥)
+    ((is_out_of_profile t ≡ true) ⊎ IsSupervisorUpdate t → ⊥) ×
+    ((i : Instruction) → is_instruction i ≡ true → IsInstruction t i → ⊥)
 InstructionReads t (Err OutOfProfile) = (is_out_of_profile t ≡ true) ⊎ IsSupervisorUpdate t
 
 pub record InstructionTable : Type 0 where

@@ -1,9 +1,10 @@
 -- High-level instructions as they are read: one line a form.
-use Rattle.std.specs.Prelude.{ℕ, Bool, true, false, if◌then◌else◌, List, [], codes, ◌&&◌, Option, Some, None, Result, Ok, Err, option_map}
+use Rattle.std.specs.Prelude.{ℕ, Bool, true, false, if◌then◌else◌, List, [], codes, ◌&&◌, Option, Some, None, Result, Ok, Err}
+use Rattle.std.specs.Prelude.{option_map}
 use Rattle.std.specs.Str.{bytes_eq}
 use Rattle.erl_term.specs.Tree.{Tree, Trees, int, atom, pid, tuple, list, none, more}
 use Rattle.erl_term.specs.Term.{term_of}
-use Rattle.erl_term.specs.Readers.{atom_of, tuple_of, first_of, one_of, two_of, three_of, four_of}
+use Rattle.erl_term.specs.Accessors.{atom_of, tuple_of, first_of, one_of, two_of, three_of, four_of}
 use Rattle.low_instructions.specs.declared.fault.InstructionFault.{InstructionFault}
 use Rattle.low_instructions.specs.declared.fault.InstructionFault.TheVariants.{OutOfProfile}
 use Rattle.low_instructions.specs.declared.purge.Purge.TheVariants.{Brutal}
@@ -20,7 +21,8 @@ use Rattle.high_instructions.specs.declared.words.Change.TheVariants.{Soft, Adva
 use Rattle.high_instructions.specs.declared.words.StartType.{StartType}
 use Rattle.high_instructions.specs.declared.words.StartType.TheVariants as types
 use Rattle.high_instructions.specs.declared.high.High.{High}
-use Rattle.high_instructions.specs.declared.high.High.TheVariants.{Update, LoadModule, AddModule, DeleteModule, AddApplication, RemoveApplication, RestartApplication}
+use Rattle.high_instructions.specs.declared.high.High.TheVariants.{Update, LoadModule, AddModule, DeleteModule, AddApplication}
+use Rattle.high_instructions.specs.declared.high.High.TheVariants.{RemoveApplication, RestartApplication}
 use Rattle.high_instructions.specs.declared.instruction.Instruction.{Instruction}
 use Rattle.high_instructions.specs.declared.instruction.Instruction.TheVariants as levels
 
@@ -39,7 +41,8 @@ soft_of t = given (atom_of t) (λ cs. if bytes_eq cs (codes "soft") then Some So
 -- `{advanced,Extra}`
 abbrev pub advanced_of : Tree → Option Change
 advanced_of t =
-    given (tuple_of t) (λ ts. given (two_of ts) (λ p. given (atom_of p.0) (λ cs. if bytes_eq cs (codes "advanced") then Some (Advanced (term_of p.1)) else None)))
+    given (tuple_of t) (λ ts. given (two_of ts)
+    (λ p. given (atom_of p.0) (λ cs. if bytes_eq cs (codes "advanced") then Some (Advanced (term_of p.1)) else None)))
 
 abbrev pub change_of : Tree → Option Change
 change_of t = either_of (soft_of t) (advanced_of t)
@@ -73,12 +76,15 @@ update_behind_of m ts = given (one_of ts) (λ t. option_map (λ ms. Update m Dyn
 -- `{update,Mod,Change,DepMods}`
 abbrev pub update_by_behind_of : List ℕ → Trees → Option High
 update_by_behind_of m ts =
-    given (two_of ts) (λ p. given (change_of p.0) (λ change. option_map (λ ms. Update m Dynamic Default change Brutal Brutal ms) (names_of p.1)))
+    given (two_of ts) (λ p. given (change_of p.0)
+    (λ change. option_map (λ ms. Update m Dynamic Default change Brutal Brutal ms) (names_of p.1)))
 
 -- `{update,Mod,Change,Pre,Post,DepMods}`, with a kind of module and a timeout from before
 unfoldable pub update_purging_of : List ℕ → ModuleType → Timeout → Trees → Option High
 update_purging_of m type timeout ts =
-    given (four_of ts) (λ p. given (change_of p.0) (λ change. given (purge_of p.1) (λ pre. given (purge_of p.2) (λ post. option_map (λ ms. Update m type timeout change pre post ms) (names_of p.3)))))
+    given (four_of ts) (λ p. given (change_of p.0)
+    (λ change. given (purge_of p.1) (λ pre. given (purge_of p.2)
+    (λ post. option_map (λ ms. Update m type timeout change pre post ms) (names_of p.3)))))
 
 -- `{update,Mod,Timeout,Change,Pre,Post,DepMods}`, with a kind of module from before
 unfoldable pub update_timed_of : List ℕ → ModuleType → Trees → Option High
@@ -91,7 +97,9 @@ update_whole_of m ts = given (first_of ts) (λ p. given (module_type_of p.0) (λ
 -- the forms of an update
 unfoldable pub some_update_of : List ℕ → Trees → Option High
 some_update_of m ts =
-    either_of (update_of m ts) (either_of (update_by_of m ts) (either_of (update_behind_of m ts) (either_of (update_by_behind_of m ts) (either_of (update_purging_of m Dynamic Default ts) (either_of (update_timed_of m Dynamic ts) (update_whole_of m ts))))))
+    either_of (update_of m ts) (either_of (update_by_of m ts)
+    (either_of (update_behind_of m ts) (either_of (update_by_behind_of m ts)
+    (either_of (update_purging_of m Dynamic Default ts) (either_of (update_timed_of m Dynamic ts) (update_whole_of m ts))))))
 
 -- `{load_module,Mod}`
 abbrev pub load_module_of : List ℕ → Trees → Option High
@@ -105,7 +113,8 @@ load_module_behind_of m ts = given (one_of ts) (λ t. option_map (λ ms. LoadMod
 -- `{load_module,Mod,Pre,Post,DepMods}`
 abbrev pub load_module_purging_of : List ℕ → Trees → Option High
 load_module_purging_of m ts =
-    given (three_of ts) (λ p. given (purge_of p.0) (λ pre. given (purge_of p.1) (λ post. option_map (λ ms. LoadModule m pre post ms) (names_of p.2))))
+    given (three_of ts) (λ p. given (purge_of p.0)
+    (λ pre. given (purge_of p.1) (λ post. option_map (λ ms. LoadModule m pre post ms) (names_of p.2))))
 
 unfoldable pub some_load_module_of : List ℕ → Trees → Option High
 some_load_module_of m ts = either_of (load_module_of m ts) (either_of (load_module_behind_of m ts) (load_module_purging_of m ts))

@@ -6,7 +6,7 @@ use Rattle.std.proofs.lemmas.Bool.{and_parts}
 use Rattle.std.proofs.lemmas.Bool.Decides.{nat_tests}
 use Rattle.erl_term.specs.Conversions.{rows}
 use Rattle.erl_term.specs.Rows.{integers}
-use Rattle.erl_term.specs.Readers.{atom_of, all_of, char_of}
+use Rattle.erl_term.specs.Accessors.{atom_of, all_of, char_of}
 use Rattle.erl_term.specs.Term.{term_of-tree}
 use Rattle.erl_term.specs.Tree.{Tree, Trees, int, atom, tuple, list, none, more}
 use Rattle.low_instructions.specs.declared.fault.InstructionFault.TheVariants.{Bad, OutOfProfile}

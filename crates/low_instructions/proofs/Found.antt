@@ -7,7 +7,7 @@ use Rattle.std.proofs.lemmas.Option.{same_Some}
 use Rattle.std.proofs.lemmas.Slice.Eq.{bytes_eq-Decides}
 use Rattle.erl_term.specs.Conversions.{rows}
 use Rattle.erl_term.specs.Term.{term_of, tree}
-use Rattle.erl_term.specs.Readers.{atom_of, list_of, all_of, string_of}
+use Rattle.erl_term.specs.Accessors.{atom_of, list_of, all_of, string_of}
 use Rattle.erl_term.specs.Tree.{Tree, Trees, int, atom, pid, tuple, list, none, more}
 use Rattle.low_instructions.specs.declared.low.Direction.{Direction}
 use Rattle.low_instructions.specs.declared.low.Direction.TheVariants.{Up, Down}

@@ -3,7 +3,7 @@ use Rattle.std.proofs.Common.{◌≡◌, ℕ, pos, negsuc, Bool, true, false, Li
 use Rattle.std.specs.Prelude.{if◌then◌else◌}
 use Rattle.std.proofs.lemmas.Option.{same_Some}
 use Rattle.erl_term.specs.Rows.{integers}
-use Rattle.erl_term.specs.Readers.{atom_of, tuple_of, list_of, one_of, two_of, three_of, all_of, char_of, string_of}
+use Rattle.erl_term.specs.Accessors.{atom_of, tuple_of, list_of, one_of, two_of, three_of, all_of, char_of, string_of}
 use Rattle.erl_term.specs.Tree.{Tree, Trees, int, atom, pid, tuple, list, none, more}
 use Rattle.low_instructions.specs.Reading.{given, either_of}
 use Rattle.erl_term.specs.Conversions.{rows}

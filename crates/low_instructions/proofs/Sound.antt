@@ -3,7 +3,7 @@ use Rattle.std.proofs.Common.{◌≡◌, ℕ, true, List, Option, Some, None, re
 use Rattle.std.specs.Prelude.{codes, if◌then◌else◌}
 use Rattle.std.specs.Str.{bytes_eq}
 use Rattle.erl_term.specs.Conversions.{rows}
-use Rattle.erl_term.specs.Readers.{atom_of, list_of, one_of, two_of, all_of}
+use Rattle.erl_term.specs.Accessors.{atom_of, list_of, one_of, two_of, all_of}
 use Rattle.erl_term.specs.Tree.{Tree, Trees, int, atom, pid, tuple, list, none, more}
 use Rattle.low_instructions.specs.declared.head.Head.{Head}
 use Rattle.low_instructions.specs.declared.head.Head.TheVariants as heads

@@ -10,7 +10,8 @@ use Rattle.low_instructions.specs.declared.low.Direction.TheVariants.{Up, Down}
 use Rattle.low_instructions.specs.declared.low.Suspension.{Suspension}
 use Rattle.low_instructions.specs.declared.low.ModuleChange.{ModuleChange}
 use Rattle.low_instructions.specs.declared.low.Low.{Low}
-use Rattle.low_instructions.specs.declared.low.Low.TheVariants.{LoadObjectCode, PointOfNoReturn, Load, Remove, Purge, Suspend, Resume, CodeChange, Stop, Start, Apply}
+use Rattle.low_instructions.specs.declared.low.Low.TheVariants.{LoadObjectCode, PointOfNoReturn, Load, Remove, Purge, Suspend}
+use Rattle.low_instructions.specs.declared.low.Low.TheVariants.{Resume, CodeChange, Stop, Start, Apply}
 use Rattle.low_instructions.specs.declared.timeout.Timeout.{Timeout}
 use Rattle.low_instructions.specs.declared.timeout.Timeout.TheVariants.{Default, Infinity, Finite}
 use Rattle.low_instructions.specs.Words.{row, word, form, string_tree, names_tree, purge_tree, timeout_tree}
@@ -43,10 +44,12 @@ low_tree (Remove name pre post) = form (codes "remove") (tuple (row (atom name �
 low_tree (Purge modules) = form (codes "purge") (names_tree modules ∷ [])
 low_tree (Suspend modules) = form (codes "suspend") (list (rows suspension_tree modules) ∷ [])
 low_tree (Resume modules) = form (codes "resume") (names_tree modules ∷ [])
-low_tree (CodeChange direction changes) = form (codes "code_change") (direction_tree direction ∷ list (rows change_tree changes) ∷ [])
+low_tree (CodeChange direction changes) =
+    form (codes "code_change") (direction_tree direction ∷ list (rows change_tree changes) ∷ [])
 low_tree (Stop modules) = form (codes "stop") (names_tree modules ∷ [])
 low_tree (Start modules) = form (codes "start") (names_tree modules ∷ [])
-low_tree (Apply name function arguments) = form (codes "apply") (tuple (row (atom name ∷ atom function ∷ list arguments ∷ [])) ∷ [])
+low_tree (Apply name function arguments) =
+    form (codes "apply") (tuple (row (atom name ∷ atom function ∷ list arguments ∷ [])) ∷ [])
 
 -- How each may be written: as it is printed, and two of them otherwise
 

@@ -6,7 +6,8 @@ use Rattle.low_instructions.specs.declared.fault.InstructionFault.{InstructionFa
 use Rattle.low_instructions.specs.declared.fault.InstructionFault.TheVariants.{Bad, OutOfProfile}
 use Rattle.low_instructions.specs.declared.low.Suspension.{Suspension}
 use Rattle.low_instructions.specs.declared.low.Low.{Low}
-use Rattle.low_instructions.specs.declared.low.Low.TheVariants.{LoadObjectCode, PointOfNoReturn, Load, Remove, Purge, Suspend, Resume, CodeChange, Stop, Start, Apply}
+use Rattle.low_instructions.specs.declared.low.Low.TheVariants.{LoadObjectCode, PointOfNoReturn, Load, Remove, Purge, Suspend}
+use Rattle.low_instructions.specs.declared.low.Low.TheVariants.{Resume, CodeChange, Stop, Start, Apply}
 use Rattle.low_instructions.specs.declared.timeout.Timeout.{Timeout}
 use Rattle.low_instructions.specs.declared.timeout.Timeout.TheVariants.{Default, Infinity, Finite}
 use Rattle.low_instructions.specs.Forms.{IsLow, is_out_of_profile}

@@ -1,9 +1,10 @@
 -- Low-level instructions as they are read: one line a form.
-use Rattle.std.specs.Prelude.{ℕ, pos, negsuc, nat_lt, if◌then◌else◌, List, codes, Option, Some, None, Result, Ok, Err, option_map, option_and_then}
+use Rattle.std.specs.Prelude.{ℕ, pos, negsuc, nat_lt, if◌then◌else◌, List, codes, Option, Some, None, Result, Ok, Err}
+use Rattle.std.specs.Prelude.{option_map, option_and_then}
 use Rattle.std.specs.Str.{bytes_eq}
 use Rattle.erl_term.specs.Tree.{Tree, Trees, int, atom, pid, tuple, list, none, more}
 use Rattle.erl_term.specs.Term.{term_of}
-use Rattle.erl_term.specs.Readers.{atom_of, tuple_of, list_of, one_of, two_of, three_of, all_of, string_of}
+use Rattle.erl_term.specs.Accessors.{atom_of, tuple_of, list_of, one_of, two_of, three_of, all_of, string_of}
 use Rattle.low_instructions.specs.declared.fault.InstructionFault.{InstructionFault}
 use Rattle.low_instructions.specs.declared.fault.InstructionFault.TheVariants.{Bad, OutOfProfile}
 use Rattle.low_instructions.specs.declared.low.Direction.{Direction}
@@ -11,7 +12,8 @@ use Rattle.low_instructions.specs.declared.low.Direction.TheVariants.{Up, Down}
 use Rattle.low_instructions.specs.declared.low.Suspension.{Suspension}
 use Rattle.low_instructions.specs.declared.low.ModuleChange.{ModuleChange}
 use Rattle.low_instructions.specs.declared.low.Low.{Low}
-use Rattle.low_instructions.specs.declared.low.Low.TheVariants.{LoadObjectCode, PointOfNoReturn, Load, Remove, Purge, Suspend, Resume, CodeChange, Stop, Start, Apply}
+use Rattle.low_instructions.specs.declared.low.Low.TheVariants.{LoadObjectCode, PointOfNoReturn, Load, Remove, Purge, Suspend}
+use Rattle.low_instructions.specs.declared.low.Low.TheVariants.{Resume, CodeChange, Stop, Start, Apply}
 use Rattle.low_instructions.specs.declared.head.Head.{Head}
 use Rattle.low_instructions.specs.declared.head.Head.TheVariants as heads
 use Rattle.low_instructions.specs.declared.purge.Purge.{Purge as PurgeKind}
@@ -69,7 +71,8 @@ direction_of t = given (atom_of t) direction_named
 -- `Mod` or `{Mod,Timeout}`
 abbrev pub timed_of : Tree → Option Suspension
 timed_of t =
-    given (tuple_of t) (λ ts. given (two_of ts) (λ p. given (atom_of p.0) (λ name. option_map (λ timeout. record { name = name; timeout = timeout }) (timeout_of p.1))))
+    given (tuple_of t) (λ ts. given (two_of ts)
+    (λ p. given (atom_of p.0) (λ name. option_map (λ timeout. record { name = name; timeout = timeout }) (timeout_of p.1))))
 
 unfoldable pub suspension_of : Tree → Option Suspension
 suspension_of t = either_of (option_map (λ name. record { name = name; timeout = Default }) (atom_of t)) (timed_of t)
@@ -77,7 +80,8 @@ suspension_of t = either_of (option_map (λ name. record { name = name; timeout 
 -- `{Mod,Extra}`
 unfoldable pub change_of : Tree → Option ModuleChange
 change_of t =
-    given (tuple_of t) (λ ts. given (two_of ts) (λ p. option_map (λ name. record { name = name; extra = term_of p.1 }) (atom_of p.0)))
+    given (tuple_of t) (λ ts. given (two_of ts)
+    (λ p. option_map (λ name. record { name = name; extra = term_of p.1 }) (atom_of p.0)))
 
 unfoldable pub changes_of : Tree → Option (List ModuleChange)
 changes_of t = given (list_of t) (all_of change_of)
@@ -88,7 +92,8 @@ changes_of t = given (list_of t) (all_of change_of)
 unfoldable pub object_code_of : Trees → Option Low
 object_code_of ts =
     given (one_of ts) (λ t. given (tuple_of t) (λ us. given (three_of us) (λ p.
-    given (atom_of p.0) (λ application. given (version_of p.1) (λ version. option_map (λ modules. LoadObjectCode application version modules) (names_of p.2))))))
+    given (atom_of p.0) (λ application. given (version_of p.1)
+    (λ version. option_map (λ modules. LoadObjectCode application version modules) (names_of p.2))))))
 
 -- `{Mod,Pre,Post}`
 unfoldable pub purged_of : (List ℕ → PurgeKind → PurgeKind → Low) → Trees → Option Low
@@ -109,7 +114,8 @@ abbrev pub undirected_of : Trees → Option Low
 undirected_of ts = given (one_of ts) (λ t. option_map (CodeChange Up) (changes_of t))
 
 abbrev pub directed_of : Trees → Option Low
-directed_of ts = given (two_of ts) (λ p. given (direction_of p.0) (λ direction. option_map (CodeChange direction) (changes_of p.1)))
+directed_of ts = given (two_of ts) (λ p. given (direction_of p.0)
+    (λ direction. option_map (CodeChange direction) (changes_of p.1)))
 
 unfoldable pub code_change_of : Trees → Option Low
 code_change_of ts = either_of (undirected_of ts) (directed_of ts)
@@ -118,7 +124,8 @@ code_change_of ts = either_of (undirected_of ts) (directed_of ts)
 unfoldable pub apply_of : Trees → Option Low
 apply_of ts =
     given (one_of ts) (λ t. given (tuple_of t) (λ us. given (three_of us) (λ p.
-    given (atom_of p.0) (λ name. given (atom_of p.1) (λ function. option_map (λ arguments. Apply name function arguments) (list_of p.2))))))
+    given (atom_of p.0) (λ name. given (atom_of p.1)
+    (λ function. option_map (λ arguments. Apply name function arguments) (list_of p.2))))))
 
 -- Instructions
 

@@ -3,7 +3,7 @@ use Rattle.std.proofs.Common.{◌≡◌, ℕ, Bool, true, false, List, [], ◌�
 use Rattle.std.specs.Prelude.{codes, map, if◌then◌else◌, ◌||◌}
 use Rattle.std.proofs.lemmas.Option.{same_Some}
 use Rattle.erl_term.specs.Conversions.{rows}
-use Rattle.erl_term.specs.Readers.{atom_of, tuple_of, list_of, three_of, all_of}
+use Rattle.erl_term.specs.Accessors.{atom_of, tuple_of, list_of, three_of, all_of}
 use Rattle.erl_term.specs.Term.{tree, term_of, term_of-tree}
 use Rattle.erl_term.specs.Tree.{Tree, Trees, atom, tuple, list, more, none}
 use Rattle.low_instructions.specs.Reading.{given, version_of, names_of}

@@ -1,7 +1,7 @@
 -- Application upgrade files are read as what they say.
 use Rattle.std.proofs.Common.{◌≡◌, ℕ, ◌+◌, true, List, [], ◌∷◌, Option, Some, Result, Ok, refl, ap, subst, ◌∙◌}
 use Rattle.std.proofs.lemmas.Option.{same_Some}
-use Rattle.erl_term.specs.Readers.{tuple_of, list_of, two_of, three_of, all_of}
+use Rattle.erl_term.specs.Accessors.{tuple_of, list_of, two_of, three_of, all_of}
 use Rattle.erl_term.specs.Tree.{Tree, Trees, tuple, list, more, none, count}
 use Rattle.high_instructions.specs.declared.instruction.Instruction.{Instruction}
 use Rattle.high_instructions.specs.Laws.{InstructionTable, InstructionReads}

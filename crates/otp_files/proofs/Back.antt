@@ -3,7 +3,7 @@ use Rattle.std.proofs.Common.{◌≡◌, ℕ, ◌+◌, List, [], ◌∷◌, true
 use Rattle.std.specs.List.{All}
 use Rattle.std.proofs.lemmas.List.Elements.{All-head, All-tail}
 use Rattle.erl_term.specs.Conversions.{rows}
-use Rattle.erl_term.specs.Readers.{all_of}
+use Rattle.erl_term.specs.Accessors.{all_of}
 use Rattle.erl_term.specs.Term.{tree, term_of, term_of-tree}
 use Rattle.erl_term.specs.Tree.{Tree, count, list, tuple}
 use Rattle.low_instructions.specs.declared.low.Low.{Low}

@@ -1,7 +1,7 @@
 -- What stands behind an application's version: nothing, one term or two.
 use Rattle.std.proofs.Common.{◌≡◌, ℕ, List, [], ◌∷◌, length, None, refl}
 use Rattle.erl_term.specs.declared.term.Term.{Term}
-use Rattle.erl_term.specs.Readers.{one_of, two_of}
+use Rattle.erl_term.specs.Accessors.{one_of, two_of}
 use Rattle.erl_term.specs.Term.{trees}
 use Rattle.otp_files.specs.Reading.{rel_app_behind}
 

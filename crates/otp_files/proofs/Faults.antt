@@ -12,7 +12,7 @@ use Rattle.low_instructions.specs.declared.fault.InstructionFault.{InstructionFa
 use Rattle.low_instructions.specs.declared.fault.InstructionFault.TheVariants.{Bad, OutOfProfile as Excluded}
 use Rattle.low_instructions.specs.Reading.{given, low_result, version_of}
 use Rattle.high_instructions.specs.Reading.{instruction_result}
-use Rattle.erl_term.specs.Readers.{atom_of, three_of, four_of, tuple_of}
+use Rattle.erl_term.specs.Accessors.{atom_of, three_of, four_of, tuple_of}
 use Rattle.otp_files.specs.declared.error.FileError.{FileError}
 use Rattle.otp_files.specs.declared.error.FileError.TheVariants.{Text, NoTerm, ManyTerms, Shape, DuplicateKey, BadInstruction, PatternVersion, OutOfProfile, Memory}
 use Rattle.otp_files.specs.OneTerm.{IsTextError}

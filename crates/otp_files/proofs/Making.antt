@@ -1,7 +1,7 @@
 -- What an application resource file is made of, and when.
 use Rattle.std.proofs.Common.{◌≡◌, ℕ, true, false, if◌then◌else◌, List, [], ◌∷◌, Option, Some, None, option_map, Result, Ok, Err, refl, ap, ◌∙◌}
 use Rattle.std.specs.Option.{unwrap_or}
-use Rattle.erl_term.specs.Readers.{all_of, atom_of, list_of, three_of, tuple_of}
+use Rattle.erl_term.specs.Accessors.{all_of, atom_of, list_of, three_of, tuple_of}
 use Rattle.erl_term.specs.Tree.{Tree, Trees}
 use Rattle.std.specs.Prelude.{codes}
 use Rattle.low_instructions.specs.Reading.{given, names_of, version_of}

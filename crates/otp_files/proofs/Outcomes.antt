@@ -2,7 +2,7 @@
 use Rattle.std.proofs.Common.{◌≡◌, ℕ, List, Option, Some, None, Result, Ok, Err, refl, ap, ◌∙◌}
 use Rattle.std.specs.Str.{bytes_eq}
 use Rattle.std.proofs.lemmas.Slice.Eq.{bytes_eq-Decides}
-use Rattle.erl_term.specs.Readers.{atom_of}
+use Rattle.erl_term.specs.Accessors.{atom_of}
 use Rattle.erl_term.specs.Tree.{Tree, atom}
 use Rattle.low_instructions.proofs.Parts.{given_is, choice, atom_is}
 use Rattle.otp_files.specs.declared.error.FileError.{FileError}

@@ -1,6 +1,6 @@
 -- What stands under a key of a row of properties, behind what was read already.
 use Rattle.std.proofs.Common.{ℕ, List, ◌++◌, Option, Some}
-use Rattle.erl_term.specs.Readers.{all_of}
+use Rattle.erl_term.specs.Accessors.{all_of}
 use Rattle.erl_term.specs.Tree.{Tree, Trees}
 use Rattle.low_instructions.specs.Reading.{given}
 use Rattle.otp_files.specs.Reading.{each_of, property_of}

@@ -2,7 +2,7 @@
 use Rattle.std.proofs.Common.{◌≡◌, ◌⊎◌, ℕ, Bool, true, false, List, [], ◌∷◌, Option, Some, None, option_map, Ok, Err, refl, sym, ap, subst, ◌∙◌, inl, inr, true≢false}
 use Rattle.std.specs.Prelude.{codes, if◌then◌else◌, ◌||◌}
 use Rattle.std.proofs.lemmas.Option.{same_Some}
-use Rattle.erl_term.specs.Readers.{atom_of, tuple_of, list_of, three_of, all_of}
+use Rattle.erl_term.specs.Accessors.{atom_of, tuple_of, list_of, three_of, all_of}
 use Rattle.erl_term.specs.Term.{tree, term_of}
 use Rattle.erl_term.specs.Tree.{Tree, atom, list}
 use Rattle.low_instructions.specs.Reading.{given, version_of, names_of}

@@ -1,6 +1,6 @@
 -- What is wrong with a term that is no application upgrade file.
 use Rattle.std.proofs.Common.{◌≡◌, ℕ, ◌+◌, List, [], ◌∷◌, ◌++◌, length, Some, Result, Ok, Err, refl, ap, subst, ◌∙◌, inl, inr, arith}
-use Rattle.erl_term.specs.Readers.{tuple_of, three_of, all_of}
+use Rattle.erl_term.specs.Accessors.{tuple_of, three_of, all_of}
 use Rattle.erl_term.specs.Tree.{Tree, Trees, more, none, count}
 use Rattle.low_instructions.specs.declared.fault.InstructionFault.{InstructionFault}
 use Rattle.low_instructions.specs.declared.fault.InstructionFault.TheVariants.{Bad, OutOfProfile as Excluded}

@@ -2,7 +2,7 @@
 use Rattle.std.proofs.Common.{◌≡◌, ◌⊎◌, ℕ, List, [], ◌∷◌, Option, Some, None, option_map, Result, Ok, Err, refl, sym, ap, ◌∙◌, inl, inr}
 use Rattle.std.specs.Prelude.{if◌then◌else◌}
 use Rattle.std.proofs.lemmas.Slice.Eq.{bytes_eq-Decides}
-use Rattle.erl_term.specs.Readers.{atom_of, tuple_of, three_of}
+use Rattle.erl_term.specs.Accessors.{atom_of, tuple_of, three_of}
 use Rattle.erl_term.specs.Tree.{Tree, atom, tuple, more, none}
 use Rattle.low_instructions.specs.Reading.{given, version_of, names_of}
 use Rattle.low_instructions.proofs.Parts.{given_is, map_is, atom_is, tuple_is, three_is}

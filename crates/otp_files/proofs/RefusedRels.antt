@@ -1,7 +1,7 @@
 -- What is wrong with a term that is no release resource file.
 use Rattle.std.proofs.Common.{◌≡◌, ℕ, List, Option, Some, None, Ok, Err, refl, ap, ◌∙◌, inl, inr}
 use Rattle.std.specs.Prelude.{codes, map}
-use Rattle.erl_term.specs.Readers.{tuple_of, four_of}
+use Rattle.erl_term.specs.Accessors.{tuple_of, four_of}
 use Rattle.erl_term.specs.Tree.{Tree, tuple, more, none}
 use Rattle.low_instructions.specs.Reading.{given}
 use Rattle.low_instructions.proofs.Parts.{given_is, tuple_is}

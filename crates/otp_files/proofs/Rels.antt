@@ -6,7 +6,7 @@ use Rattle.std.proofs.lemmas.Bool.{and_parts}
 use Rattle.std.proofs.lemmas.Option.{same_Some}
 use Rattle.erl_term.specs.Conversions.{rows}
 use Rattle.erl_term.specs.Rows.{integers}
-use Rattle.erl_term.specs.Readers.{atom_of, tuple_of, list_of, first_of, one_of, two_of, four_of, three_of, all_of, char_of, string_of}
+use Rattle.erl_term.specs.Accessors.{atom_of, tuple_of, list_of, first_of, one_of, two_of, four_of, three_of, all_of, char_of, string_of}
 use Rattle.erl_term.specs.Tree.{Tree, Trees, int, atom, pid, tuple, list, more, none}
 use Rattle.low_instructions.specs.Reading.{given, either_of, version_of, names_of}
 use Rattle.low_instructions.specs.Words.{row, word, string_tree, names_tree, is_version}

@@ -1,7 +1,7 @@
 -- Release upgrade files are read as what they say.
 use Rattle.std.proofs.Common.{◌≡◌, ℕ, ◌+◌, true, List, [], ◌∷◌, Option, Some, Result, Ok, refl, sym, ap, subst, ◌∙◌}
 use Rattle.std.proofs.lemmas.Option.{same_Some}
-use Rattle.erl_term.specs.Readers.{tuple_of, list_of, three_of, all_of}
+use Rattle.erl_term.specs.Accessors.{tuple_of, list_of, three_of, all_of}
 use Rattle.erl_term.specs.Term.{tree, term_of, term_of-tree}
 use Rattle.erl_term.specs.Tree.{Tree, Trees, tuple, list, more, none, count}
 use Rattle.low_instructions.specs.declared.low.Low.{Low}

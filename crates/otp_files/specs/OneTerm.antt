@@ -3,7 +3,8 @@ use Rattle.std.specs.Prelude.{ℕ, List}
 use Rattle.erl_term.specs.Tree.{none}
 use Rattle.erl_consult.specs.Faults.{IsTextOf, IsRefused}
 use Rattle.otp_files.specs.declared.error.FileError.{FileError}
-use Rattle.otp_files.specs.declared.error.FileError.TheVariants.{Text, NoTerm, ManyTerms, Shape, DuplicateKey, BadInstruction, PatternVersion, OutOfProfile, Memory}
+use Rattle.otp_files.specs.declared.error.FileError.TheVariants.{Text, NoTerm, ManyTerms, Shape, DuplicateKey, BadInstruction}
+use Rattle.otp_files.specs.declared.error.FileError.TheVariants.{PatternVersion, OutOfProfile, Memory}
 use Rattle.otp_files.specs.Texts.{HasMany}
 
 abbrev pub IsTextError : List ℕ → FileError → Type 0

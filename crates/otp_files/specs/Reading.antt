@@ -1,10 +1,11 @@
 -- The files of a release as they are read: what a term says, or its first fault. Shapes come first, the least element of
 -- the outer tuple first of them, then a key that stands twice, then the instructions, in order.
-use Rattle.std.specs.Prelude.{ℕ, ◌+◌, ◌-◌, ◌^◌, min, Bool, true, false, ◌||◌, if◌then◌else◌, List, [], ◌∷◌, codes, Option, Some, None, Result, Ok, Err, option_map, ok_or}
+use Rattle.std.specs.Prelude.{ℕ, ◌+◌, ◌-◌, ◌^◌, min, Bool, true, false, ◌||◌, if◌then◌else◌, List, [], ◌∷◌, codes, Option, Some}
+use Rattle.std.specs.Prelude.{None, Result, Ok, Err, option_map, ok_or}
 use Rattle.std.specs.Str.{bytes_eq}
 use Rattle.erl_term.specs.Tree.{Tree, Trees, none, more, count}
 use Rattle.erl_term.specs.Term.{term_of}
-use Rattle.erl_term.specs.Readers.{atom_of, tuple_of, list_of, first_of, one_of, two_of, three_of, four_of, all_of, string_of}
+use Rattle.erl_term.specs.Accessors.{atom_of, tuple_of, list_of, first_of, one_of, two_of, three_of, four_of, all_of, string_of}
 use Rattle.low_instructions.specs.declared.fault.InstructionFault.{InstructionFault}
 use Rattle.low_instructions.specs.declared.fault.InstructionFault.TheVariants.{Bad, OutOfProfile as Excluded}
 use Rattle.low_instructions.specs.Reading.{given, either_of, version_of, names_of, low_result}
@@ -48,7 +49,8 @@ each_of f (x ∷ xs) = given (f x) (λ y. option_map (λ ys. y ∷ ys) (each_of 
 -- `{M,Args}`
 abbrev pub start_pair_of : Tree → Option (Option StartModule)
 start_pair_of t =
-    given (tuple_of t) (λ ts. given (two_of ts) (λ p. option_map (λ name. Some (record { name = name; arguments = term_of p.1 })) (atom_of p.0)))
+    given (tuple_of t) (λ ts. given (two_of ts)
+    (λ p. option_map (λ name. Some (record { name = name; arguments = term_of p.1 })) (atom_of p.0)))
 
 -- `[]`
 abbrev pub no_start_of : Trees → Option (Option StartModule)
@@ -87,7 +89,8 @@ is_repeated (x ∷ []) = false
 is_repeated (x ∷ (y ∷ ys)) = true
 
 abbrev pub has_duplicate : Used → Bool
-has_duplicate used = is_repeated used.versions || (is_repeated used.modules || (is_repeated used.applications || is_repeated used.starts))
+has_duplicate used = is_repeated used.versions ||
+    (is_repeated used.modules || (is_repeated used.applications || is_repeated used.starts))
 
 -- the first, or a default
 abbrev pub only : {A : Type 0} → A → List A → A
@@ -97,7 +100,14 @@ only default (x ∷ xs) = x
 abbrev pub app_with : List ℕ → Used → Result AppSpec FileError
 app_with name used =
     if has_duplicate used then Err DuplicateKey
-    else Ok (record { name = name; version = only [] used.versions; modules = only [] used.modules; applications = only [] used.applications; start = only None used.starts })
+    else Ok (record {
+      name = name;
+      version = only [] used.versions;
+      modules = only [] used.modules;
+      applications =
+          only [] used.applications;
+      start = only None used.starts;
+    })
 
 abbrev pub app_elements : Tree × Tree × Tree → Result AppSpec FileError
 app_elements p =
@@ -113,7 +123,8 @@ app_of t = after (element 0 (given (tuple_of t) three_of)) app_elements
 -- `{Name,Vsn}`
 abbrev pub title_of : Tree → Option (List ℕ × List ℕ)
 title_of t =
-    given (tuple_of t) (λ ts. given (two_of ts) (λ p. given (string_of p.0) (λ name. option_map (λ version. (name, version)) (version_of p.1))))
+    given (tuple_of t) (λ ts. given (two_of ts)
+    (λ p. given (string_of p.0) (λ name. option_map (λ version. (name, version)) (version_of p.1))))
 
 -- `{erts,EVsn}`
 abbrev pub erts_of : Tree → Option (List ℕ)
@@ -126,22 +137,32 @@ plain_of a v (more t ts) = None
 
 abbrev pub typed_of : List ℕ → List ℕ → Trees → Option RelApp
 typed_of a v ts =
-    given (one_of ts) (λ t. option_map (λ type. record { name = a; version = v; start_type = type; included = None }) (start_type_of t))
+    given (one_of ts) (λ t. option_map (λ type. record { name = a; version = v; start_type = type; included = None })
+    (start_type_of t))
 
 abbrev pub including_of : List ℕ → List ℕ → Trees → Option RelApp
 including_of a v ts =
-    given (one_of ts) (λ t. option_map (λ names. record { name = a; version = v; start_type = Permanent; included = Some names }) (names_of t))
+    given (one_of ts) (λ t. option_map (λ names. record {
+      name = a;
+      version = v;
+      start_type = Permanent;
+      included =
+          Some names;
+    }) (names_of t))
 
 abbrev pub typed_including_of : List ℕ → List ℕ → Trees → Option RelApp
 typed_including_of a v ts =
-    given (two_of ts) (λ p. given (start_type_of p.0) (λ type. option_map (λ names. record { name = a; version = v; start_type = type; included = Some names }) (names_of p.1)))
+    given (two_of ts) (λ p. given (start_type_of p.0)
+    (λ type. option_map (λ names. record { name = a; version = v; start_type = type; included = Some names }) (names_of p.1)))
 
 abbrev pub rel_app_behind : List ℕ → List ℕ → Trees → Option RelApp
-rel_app_behind a v ts = either_of (plain_of a v ts) (either_of (typed_of a v ts) (either_of (including_of a v ts) (typed_including_of a v ts)))
+rel_app_behind a v ts = either_of (plain_of a v ts)
+    (either_of (typed_of a v ts) (either_of (including_of a v ts) (typed_including_of a v ts)))
 
 abbrev pub rel_app_of : Tree → Option RelApp
 rel_app_of t =
-    given (tuple_of t) (λ ts. given (first_of ts) (λ p. given (atom_of p.0) (λ a. given (first_of p.1) (λ q. given (version_of q.0) (λ v. rel_app_behind a v q.1)))))
+    given (tuple_of t) (λ ts. given (first_of ts)
+    (λ p. given (atom_of p.0) (λ a. given (first_of p.1) (λ q. given (version_of q.0) (λ v. rel_app_behind a v q.1)))))
 
 -- no application twice
 abbrev pub distinct_of : List RelApp → Option (List RelApp)
@@ -187,7 +208,8 @@ AppupDraft = List ℕ × Trees
 
 abbrev pub appup_draft_of : Tree → Option AppupDraft
 appup_draft_of t =
-    given (tuple_of t) (λ ts. given (two_of ts) (λ p. given (version_of p.0) (λ version. option_map (λ instructions. (version, instructions)) (list_of p.1))))
+    given (tuple_of t) (λ ts. given (two_of ts)
+    (λ p. given (version_of p.0) (λ version. option_map (λ instructions. (version, instructions)) (list_of p.1))))
 
 abbrev pub appup_drafts_of : Tree → Option (List AppupDraft)
 appup_drafts_of t = given (list_of t) (all_of appup_draft_of)
@@ -225,7 +247,8 @@ RelupDraft = List ℕ × Tree × Trees
 
 abbrev pub relup_draft_of : Tree → Option RelupDraft
 relup_draft_of t =
-    given (tuple_of t) (λ ts. given (three_of ts) (λ p. given (version_of p.0) (λ version. option_map (λ script. (version, p.1, script)) (list_of p.2))))
+    given (tuple_of t) (λ ts. given (three_of ts)
+    (λ p. given (version_of p.0) (λ version. option_map (λ script. (version, p.1, script)) (list_of p.2))))
 
 abbrev pub relup_drafts_of : Tree → Option (List RelupDraft)
 relup_drafts_of t = given (list_of t) (all_of relup_draft_of)
@@ -238,7 +261,8 @@ abbrev pub relup_entries : ℕ → List RelupDraft → Result (List RelupEntry) 
 relup_entries n [] = Ok []
 relup_entries n (d ∷ ds) =
     after (script_from low_result n d.2) (λ script.
-    after (relup_entries (n + count d.2) ds) (λ entries. Ok (record { version = d.0; description = term_of d.1; script = script } ∷ entries)))
+    after (relup_entries (n + count d.2) ds)
+    (λ entries. Ok (record { version = d.0; description = term_of d.1; script = script } ∷ entries)))
 
 abbrev pub relup_with : List ℕ → List RelupDraft → List RelupDraft → Result Relup FileError
 relup_with version ups downs =

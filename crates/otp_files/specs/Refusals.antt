@@ -14,7 +14,8 @@ use Rattle.otp_files.specs.declared.error.FileError.TheVariants.{Shape, Duplicat
 use Rattle.otp_files.specs.Distinct.{are_distinct, app_names}
 use Rattle.otp_files.specs.Every.{Every}
 use Rattle.otp_files.specs.Reading.{told}
-use Rattle.otp_files.specs.Shapes.{Each, Properties, property_tree, values_of, RelAppForm, rel_app_tree, rel_app_meant, is_scalar, IsProperLow, IsProperInstruction}
+use Rattle.otp_files.specs.Shapes.{Each, Properties, property_tree, values_of, RelAppForm, rel_app_tree, rel_app_meant}
+use Rattle.otp_files.specs.Shapes.{is_scalar, IsProperLow, IsProperInstruction}
 
 -- Parts of files
 
@@ -71,14 +72,18 @@ pub record AreMany (values : List Tree) : Type 0 where
 -- a key that is used stands more than once
 abbrev pub StandsTwice : Properties → Type 0
 StandsTwice ps =
-    AreMany (values_of (codes "vsn") ps) ⊎ (AreMany (values_of (codes "modules") ps) ⊎ (AreMany (values_of (codes "applications") ps) ⊎ AreMany (values_of (codes "mod") ps)))
+    AreMany (values_of (codes "vsn") ps) ⊎ (AreMany (values_of (codes "modules") ps) ⊎
+    (AreMany (values_of (codes "applications") ps) ⊎ AreMany (values_of (codes "mod") ps)))
 
 pub data AppRefused (t : Tree) (fault : FileError) : Type 0 where
   no_tuple : (IsThree t → ⊥) → fault ≡ Shape 0 → AppRefused t fault
   first_wrong : (p : IsThree t) → (p.first ≡ word (codes "application") → ⊥) → fault ≡ Shape 1 → AppRefused t fault
-  second_wrong : (p : IsThree t) → p.first ≡ word (codes "application") → (IsName p.second → ⊥) → fault ≡ Shape 2 → AppRefused t fault
-  third_wrong : (p : IsThree t) → p.first ≡ word (codes "application") → IsName p.second → (AreProperties p.third → ⊥) → fault ≡ Shape 3 → AppRefused t fault
-  twice : (p : IsThree t) → p.first ≡ word (codes "application") → IsName p.second → (q : AreProperties p.third) → StandsTwice q.properties → fault ≡ DuplicateKey → AppRefused t fault
+  second_wrong : (p : IsThree t) → p.first ≡ word (codes "application") → (IsName p.second → ⊥) → fault ≡ Shape 2 →
+      AppRefused t fault
+  third_wrong : (p : IsThree t) → p.first ≡ word (codes "application") → IsName p.second → (AreProperties p.third → ⊥) →
+      fault ≡ Shape 3 → AppRefused t fault
+  twice : (p : IsThree t) → p.first ≡ word (codes "application") → IsName p.second → (q : AreProperties p.third) →
+      StandsTwice q.properties → fault ≡ DuplicateKey → AppRefused t fault
 
 -- .rel
 
@@ -107,8 +112,10 @@ pub data RelRefused (t : Tree) (fault : FileError) : Type 0 where
   no_tuple_of_four : (IsFour t → ⊥) → fault ≡ Shape 0 → RelRefused t fault
   word_wrong : (p : IsFour t) → (p.first ≡ word (codes "release") → ⊥) → fault ≡ Shape 1 → RelRefused t fault
   title_wrong : (p : IsFour t) → p.first ≡ word (codes "release") → (IsTitle p.second → ⊥) → fault ≡ Shape 2 → RelRefused t fault
-  erts_wrong : (p : IsFour t) → p.first ≡ word (codes "release") → IsTitle p.second → (IsErts p.third → ⊥) → fault ≡ Shape 3 → RelRefused t fault
-  apps_wrong : (p : IsFour t) → p.first ≡ word (codes "release") → IsTitle p.second → IsErts p.third → (AreApps p.fourth → ⊥) → fault ≡ Shape 4 → RelRefused t fault
+  erts_wrong : (p : IsFour t) → p.first ≡ word (codes "release") → IsTitle p.second → (IsErts p.third → ⊥) → fault ≡ Shape 3 →
+      RelRefused t fault
+  apps_wrong : (p : IsFour t) → p.first ≡ word (codes "release") → IsTitle p.second → IsErts p.third → (AreApps p.fourth → ⊥) →
+      fault ≡ Shape 4 → RelRefused t fault
 
 -- Instructions
 
@@ -158,9 +165,13 @@ IsOutOfAppups t = (is_out_of_profile t ≡ true) ⊎ IsSupervisorUpdate t
 pub data AppupRefused (t : Tree) (fault : FileError) : Type 0 where
   no_appup : (IsThree t → ⊥) → fault ≡ Shape 0 → AppupRefused t fault
   version_wrong : (p : IsThree t) → (IsVersion p.first → ⊥) → fault ≡ Shape 1 → AppupRefused t fault
-  ups_wrong : (p : IsThree t) → IsVersion p.first → ((ups : List Trees) → AreAppupShapes p.second ups → ⊥) → fault ≡ Shape 2 → AppupRefused t fault
-  downs_wrong : (p : IsThree t) → IsVersion p.first → (ups : List Trees) → AreAppupShapes p.second ups → ((downs : List Trees) → AreAppupShapes p.third downs → ⊥) → fault ≡ Shape 3 → AppupRefused t fault
-  instruction_wrong : (p : IsThree t) → IsVersion p.first → (ups downs : List Trees) → AreAppupShapes p.second ups → AreAppupShapes p.third downs → IsFirstWrong IsRightInstruction IsOutOfAppups 0 (gathered ups ++ gathered downs) fault → AppupRefused t fault
+  ups_wrong : (p : IsThree t) → IsVersion p.first → ((ups : List Trees) → AreAppupShapes p.second ups → ⊥) → fault ≡ Shape 2 →
+      AppupRefused t fault
+  downs_wrong : (p : IsThree t) → IsVersion p.first → (ups : List Trees) → AreAppupShapes p.second ups →
+      ((downs : List Trees) → AreAppupShapes p.third downs → ⊥) → fault ≡ Shape 3 → AppupRefused t fault
+  instruction_wrong : (p : IsThree t) → IsVersion p.first → (ups downs : List Trees) → AreAppupShapes p.second ups →
+      AreAppupShapes p.third downs → IsFirstWrong IsRightInstruction IsOutOfAppups 0 (gathered ups ++ gathered downs) fault →
+      AppupRefused t fault
 
 -- relup
 
@@ -186,6 +197,10 @@ IsOutOfRelups t = is_out_of_profile t ≡ true
 pub data RelupRefused (t : Tree) (fault : FileError) : Type 0 where
   no_relup : (IsThree t → ⊥) → fault ≡ Shape 0 → RelupRefused t fault
   relup_version_wrong : (p : IsThree t) → (IsVersion p.first → ⊥) → fault ≡ Shape 1 → RelupRefused t fault
-  relup_ups_wrong : (p : IsThree t) → IsVersion p.first → ((ups : List Trees) → AreRelupShapes p.second ups → ⊥) → fault ≡ Shape 2 → RelupRefused t fault
-  relup_downs_wrong : (p : IsThree t) → IsVersion p.first → (ups : List Trees) → AreRelupShapes p.second ups → ((downs : List Trees) → AreRelupShapes p.third downs → ⊥) → fault ≡ Shape 3 → RelupRefused t fault
-  low_wrong : (p : IsThree t) → IsVersion p.first → (ups downs : List Trees) → AreRelupShapes p.second ups → AreRelupShapes p.third downs → IsFirstWrong IsRightLow IsOutOfRelups 0 (gathered ups ++ gathered downs) fault → RelupRefused t fault
+  relup_ups_wrong : (p : IsThree t) → IsVersion p.first → ((ups : List Trees) → AreRelupShapes p.second ups → ⊥) →
+      fault ≡ Shape 2 → RelupRefused t fault
+  relup_downs_wrong : (p : IsThree t) → IsVersion p.first → (ups : List Trees) → AreRelupShapes p.second ups →
+      ((downs : List Trees) → AreRelupShapes p.third downs → ⊥) → fault ≡ Shape 3 → RelupRefused t fault
+  low_wrong : (p : IsThree t) → IsVersion p.first → (ups downs : List Trees) → AreRelupShapes p.second ups →
+      AreRelupShapes p.third downs → IsFirstWrong IsRightLow IsOutOfRelups 0 (gathered ups ++ gathered downs) fault →
+      RelupRefused t fault

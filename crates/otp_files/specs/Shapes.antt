@@ -1,5 +1,6 @@
 -- The files of a release: which term says which record (app(4), rel(4), appup(4), relup(4)).
-use Rattle.std.specs.Prelude.{◌≡◌, ◌⊎◌, ℕ, nat_le, Bool, true, ◌&&◌, ◌||◌, if◌then◌else◌, List, [], ◌∷◌, codes, map, Option, Some, None, ⊤}
+use Rattle.std.specs.Prelude.{◌≡◌, ◌⊎◌, ℕ, nat_le, Bool, true, ◌&&◌, ◌||◌, if◌then◌else◌, List, [], ◌∷◌, codes, map, Option}
+use Rattle.std.specs.Prelude.{Some, None, ⊤}
 use Rattle.std.specs.List.{list_all}
 use Rattle.std.specs.Str.{bytes_eq}
 use Rattle.erl_term.specs.Conversions.{rows}
@@ -76,7 +77,8 @@ abbrev pub rel_app_tree : RelAppForm → Tree
 rel_app_tree (plain a v) = tuple (row (atom a ∷ string_tree v ∷ []))
 rel_app_tree (typed a v type) = tuple (row (atom a ∷ string_tree v ∷ start_type_tree type ∷ []))
 rel_app_tree (including a v names) = tuple (row (atom a ∷ string_tree v ∷ names_tree names ∷ []))
-rel_app_tree (typed_including a v type names) = tuple (row (atom a ∷ string_tree v ∷ start_type_tree type ∷ names_tree names ∷ []))
+rel_app_tree (typed_including a v type names) =
+    tuple (row (atom a ∷ string_tree v ∷ start_type_tree type ∷ names_tree names ∷ []))
 
 abbrev pub rel_app_meant : RelAppForm → RelApp
 rel_app_meant (plain a v) = record { name = a; version = v; start_type = Permanent; included = None }
@@ -90,7 +92,8 @@ is_scalar n = nat_le n 55295 || (nat_le 57344 n && nat_le n 1114111)
 
 pub record IsRel (t : Tree) (rel : RelSpec) : Type 0 where
   pub written : List RelAppForm
-  pub is : t ≡ tuple (row (word (codes "release") ∷ tuple (row (string_tree rel.name ∷ string_tree rel.version ∷ [])) ∷ tuple (row (word (codes "erts") ∷ string_tree rel.erts ∷ [])) ∷ list (rows rel_app_tree written) ∷ []))
+  pub is : t ≡ tuple (row (word (codes "release") ∷ tuple (row (string_tree rel.name ∷ string_tree rel.version ∷ [])) ∷
+      tuple (row (word (codes "erts") ∷ string_tree rel.erts ∷ [])) ∷ list (rows rel_app_tree written) ∷ []))
   pub means : rel.apps ≡ map rel_app_meant written
   pub characters : list_all is_scalar rel.name ≡ true
   pub proper : is_version rel.version ≡ true

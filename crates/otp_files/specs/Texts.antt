@@ -4,7 +4,8 @@ use Rattle.erl_scan.specs.declared.error.Fault.TheVariants.{Unsupported}
 use Rattle.erl_term.specs.Tree.{Tree, Trees, none, more}
 use Rattle.erl_consult.specs.Faults.{IsTextOf, IsRefused}
 use Rattle.otp_files.specs.declared.error.FileError.{FileError}
-use Rattle.otp_files.specs.declared.error.FileError.TheVariants.{Text, NoTerm, ManyTerms, Shape, DuplicateKey, BadInstruction, PatternVersion, OutOfProfile, Memory}
+use Rattle.otp_files.specs.declared.error.FileError.TheVariants.{Text, NoTerm, ManyTerms, Shape, DuplicateKey, BadInstruction}
+use Rattle.otp_files.specs.declared.error.FileError.TheVariants.{PatternVersion, OutOfProfile, Memory}
 
 -- bytes that are the text of one term, of which a record is what it says
 pub record IsFile {A : Type 0} (of : Tree → Result A FileError) (bytes : List ℕ) (file : A) : Type 0 where
@@ -56,12 +57,14 @@ IsAppupError of bytes (OutOfProfile n) = IsFileError of bytes (OutOfProfile n)
 IsAppupError of bytes Memory = ⊥
 
 -- bytes are some file of a kind, or none for some reason
-pub data IsJudgedFile {A : Type 0} (of : Tree → Result A FileError) (IsError : List ℕ → FileError → Type 0) (bytes : List ℕ) : Type 0 where
+pub data IsJudgedFile {A : Type 0} (of : Tree → Result A FileError) (IsError : List ℕ → FileError → Type 0)
+    (bytes : List ℕ) : Type 0 where
   is_file : (file : A) → IsFile of bytes file → IsJudgedFile of IsError bytes
   is_none : (fault : FileError) → IsError bytes fault → IsJudgedFile of IsError bytes
 
 -- The law: bytes are just one file, or none for just one reason.
-pub record OneFile {A : Type 0} (of : Tree → Result A FileError) (IsError : List ℕ → FileError → Type 0) (bytes : List ℕ) : Type 0 where
+pub record OneFile {A : Type 0} (of : Tree → Result A FileError) (IsError : List ℕ → FileError → Type 0)
+    (bytes : List ℕ) : Type 0 where
   pub files : (file other : A) → IsFile of bytes file → IsFile of bytes other → file ≡ other
   pub faults : (fault other : FileError) → IsError bytes fault → IsError bytes other → fault ≡ other
   pub apart : (file : A) → (fault : FileError) → IsFile of bytes file → IsError bytes fault → ⊥

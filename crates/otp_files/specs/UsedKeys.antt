@@ -2,7 +2,7 @@
 -- contracts alone. A version that is missing is told only where the file is made.
 use Rattle.std.specs.Prelude.{ℕ, List, [], ◌∷◌, codes, Option, Some, None, Result, option_map}
 use Rattle.erl_term.specs.Tree.{Tree}
-use Rattle.erl_term.specs.Readers.{all_of, list_of}
+use Rattle.erl_term.specs.Accessors.{all_of, list_of}
 use Rattle.low_instructions.specs.Reading.{given, names_of, version_of}
 use Rattle.otp_files.specs.Reading.{Used, after, app_with, each_of, element, property_of, some_of, start_of}
 use Rattle.otp_files.specs.Shapes.{Properties, values_of}

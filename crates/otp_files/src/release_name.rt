@@ -1,7 +1,7 @@
 // Names of releases.
 ghost use Rattle.std.specs.Prelude.{◌≡◌, IfOk};
 ghost use Rattle.std.specs.Str.{chars};
-ghost use Rattle.erl_term.specs.Readers.{string_of};
+ghost use Rattle.erl_term.specs.Accessors.{string_of};
 ghost use Rattle.erl_term.specs.Term.{tree};
 
 use erl_term::{Term, string};

@@ -1,7 +1,7 @@
 // Release upgrade files.
 ghost use Rattle.std.specs.Prelude.{◌≡◌, ◌⊎◌, ◌++◌, true, Ok, IfOk, MatchResult, OnOk, OnErr};
 ghost use Rattle.std.specs.Option.{option_copied};
-ghost use Rattle.erl_term.specs.Readable.{is_readable};
+ghost use Rattle.erl_term.specs.RoundTrip.{is_readable};
 ghost use Rattle.erl_term.specs.Term.{tree};
 ghost use Rattle.otp_files.specs.Entries.{relup_entry_for};
 ghost use Rattle.otp_files.specs.Laws.{relup_text};

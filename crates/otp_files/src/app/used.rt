@@ -1,7 +1,7 @@
 // The keys of an application resource file that are used.
 ghost use Rattle.std.specs.Prelude.{◌≡◌, Option, IfOk, IsTrue, MatchOption, None, Some};
 ghost use Rattle.erl_term.specs.Ascii.{is_ascii_text};
-ghost use Rattle.erl_term.specs.Readers.{all_of};
+ghost use Rattle.erl_term.specs.Accessors.{all_of};
 ghost use Rattle.erl_term.specs.Term.{tree, trees};
 ghost use Rattle.erl_term.specs.Tree.{Tree};
 ghost use Rattle.low_instructions.specs.Reading.{given, names_of, version_of};

@@ -1,6 +1,6 @@
 // The terms of a relup's parts.
 ghost use Rattle.std.specs.Prelude.{◌≡◌, ◌∷◌, [], IfOk, true};
-ghost use Rattle.erl_term.specs.Readable.{is_bounded};
+ghost use Rattle.erl_term.specs.RoundTrip.{is_bounded};
 ghost use Rattle.erl_term.specs.Term.{tree};
 ghost use Rattle.erl_term.specs.Tree.{tuple};
 ghost use Rattle.low_instructions.specs.Words.{row};

@@ -1,6 +1,6 @@
 // Brackets, and what ends a term in them: commas, bars and dots.
 ghost use Rattle.std.specs.Prelude.{◌≡◌, Some, [], MatchOption, length, nat_lt};
-ghost use Rattle.erl_term.specs.Readable.{deepest};
+ghost use Rattle.erl_term.specs.RoundTrip.{deepest};
 ghost use Rattle.erl_consult.specs.Parser.{bracket_seen, frame_seen, frames, seen, innermost_frame, bar_within, with_frame, Gives};
 ghost use Rattle.erl_consult.specs.Steps.{nothing, goes, opened_by, term_of_last, element_ended, take_open_tuple_by, take_open_list_by, take_close_tuple_by, take_close_list_by, take_comma_by, take_bar_by, take_dot_by};
 

@@ -8,13 +8,13 @@ pub Term::has_pids-returns-in-Atom-clause-bounded :
     goal.Term::has_pids-returns-in-Atom-clause-bounded
 Term::has_pids-returns-in-Atom-clause-bounded t c = atom_bounded c.args.self.now c.in-Atom.atom c.as_str-name.result.now c.in-Atom.is c.as_str-name.ensures.chars c.as_str-name.ensures.kept c.as_str-name.utf8
 
-pub readable::have_pids-loop-term-preserved : goal.readable::have_pids-loop-term-preserved
-readable::have_pids-loop-term-preserved t c = record {
+pub round_trip::have_pids-loop-term-preserved : goal.round_trip::have_pids-loop-term-preserved
+round_trip::have_pids-loop-term-preserved t c = record {
   pids = have_pids-more c.args.terms.now c.loop-term.term-index c.term-item.result c.loop-term.have c.has_pids-have.result c.loop-term-test.true c.term-item.is c.loop-term.invariant.pids c.has_pids-have.ensures.pids;
   bounded = are_bounded-more c.args.terms.now c.loop-term.term-index c.term-item.result c.loop-term-test.true c.term-item.is c.loop-term.invariant.bounded c.has_pids-have.ensures.bounded;
 }
 
-pub readable::have_pids-has_pids-have-requires : goal.readable::have_pids-has_pids-have-requires
-readable::have_pids-has_pids-have-requires t c =
+pub round_trip::have_pids-has_pids-have-requires : goal.round_trip::have_pids-has_pids-have-requires
+round_trip::have_pids-has_pids-have-requires t c =
     let smaller = depth_in c.args.terms.now c.loop-term.term-index c.term-item.result c.loop-term-test.true c.term-item.is in
     search rules

@@ -2,7 +2,7 @@
 use Rattle.std.proofs.Common.{◌≡◌, Some, sym, ap, ◌∙◌}
 use Rattle.std.specs.Prelude.{codes}
 use Rattle.erl_term.specs.Term.{tree, trees}
-use Rattle.erl_term.specs.Readers.{atom_of, three_of, tuple_of}
+use Rattle.erl_term.specs.Accessors.{atom_of, three_of, tuple_of}
 use Rattle.otp_files.specs.Reading.{word_of}
 use Rattle.otp_files.specs.UsedKeys.{app_told, used_meant, used_told}
 use Rattle.otp_files.proofs.Making.{app_read}

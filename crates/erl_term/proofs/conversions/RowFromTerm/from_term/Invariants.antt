@@ -1,6 +1,6 @@
 -- The items so far, and those that are left, are those of the whole.
 use Rattle.std.proofs.Common.{◌≡◌, ◌++◌, drop, Some, option_and_then}
-use Rattle.erl_term.specs.Readers.{all_of}
+use Rattle.erl_term.specs.Accessors.{all_of}
 use Rattle.erl_term.specs.Term.{trees}
 use Rattle.erl_term.proofs.conversions.RowFromTerm.from_term.Given as goal
 

@@ -1,6 +1,6 @@
 -- What stands under the key so far, and what is left, is what the whole has.
 use Rattle.std.proofs.Common.{◌≡◌, drop}
-use Rattle.erl_term.specs.Readers.{all_of}
+use Rattle.erl_term.specs.Accessors.{all_of}
 use Rattle.erl_term.specs.Term.{trees}
 use Rattle.low_instructions.specs.Reading.{given}
 use Rattle.otp_files.specs.Reading.{each_of, property_of}

@@ -1,6 +1,6 @@
 -- The entries so far, and those that are left, are those of the whole.
 use Rattle.std.proofs.Common.{◌≡◌, ◌++◌, drop, Some}
-use Rattle.erl_term.specs.Readers.{all_of}
+use Rattle.erl_term.specs.Accessors.{all_of}
 use Rattle.erl_term.specs.Term.{trees}
 use Rattle.low_instructions.specs.Reading.{given}
 use Rattle.otp_files.specs.Drafts.{appup_drafts}

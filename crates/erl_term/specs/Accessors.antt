@@ -1,4 +1,4 @@
--- Terms as values of one kind, and rows as so many terms: readers for the crates above.
+-- Terms as values of one kind, and rows as so many terms: accessors for the crates above.
 use Rattle.std.specs.Prelude.{ℕ, ℤ, pos, negsuc, ◌||◌, ◌&&◌, nat_le, if◌then◌else◌, List, [], ◌∷◌, Option, Some, None}
 use Rattle.std.specs.Prelude.{option_map, option_and_then}
 use Rattle.erl_term.specs.Tree.{Tree, Trees, int, atom, pid, tuple, list, none, more}

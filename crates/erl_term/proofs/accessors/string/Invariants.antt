@@ -1,9 +1,9 @@
 -- The bytes so far, and those of the characters that are left, are those of the whole.
 use Rattle.std.proofs.Common.{◌≡◌, ◌++◌, drop, option_map}
 use Rattle.std.specs.Prelude.{encode_utf8_all, string_bytes}
-use Rattle.erl_term.specs.Readers.{all_of, char_of}
+use Rattle.erl_term.specs.Accessors.{all_of, char_of}
 use Rattle.erl_term.specs.Term.{trees}
-use Rattle.erl_term.proofs.readers.string.Given as goal
+use Rattle.erl_term.proofs.accessors.string.Given as goal
 
 abbrev pub invariant-loop-term : goal.invariant-loop-term
 invariant-loop-term l =

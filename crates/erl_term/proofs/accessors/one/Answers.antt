@@ -2,8 +2,8 @@
 use Rattle.std.proofs.Common.{sym, eq-eqb}
 use Rattle.std.proofs.lemmas.Bool.{both_ways}
 use Rattle.erl_term.specs.Term.{tree, trees}
-use Rattle.erl_term.proofs.Reading.{one_of-first}
-use Rattle.erl_term.proofs.readers.one.Goals as goal
+use Rattle.erl_term.proofs.Accessing.{one_of-first}
+use Rattle.erl_term.proofs.accessors.one.Goals as goal
 
 pub returns-else-is_empty : goal.returns-else-is_empty
 returns-else-is_empty c =

@@ -8,7 +8,7 @@ use lib.Utf8.{encodes}
 use Rattle.std.proofs.lemmas.List.{drop_more, append-nil}
 use Rattle.erl_term.specs.declared.term.Term.{Term}
 use Rattle.erl_term.specs.Tree.{Tree, Trees, none, more}
-use Rattle.erl_term.specs.Readers.{first_of, one_of, all_of, char_of}
+use Rattle.erl_term.specs.Accessors.{first_of, one_of, all_of, char_of}
 use Rattle.erl_term.specs.Term.{tree, trees}
 
 abbrev row_of : Option (Tree × Trees) → Trees

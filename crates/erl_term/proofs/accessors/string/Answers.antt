@@ -2,10 +2,10 @@ use Rattle.std.proofs.Common.{◌≡◌, Some, string_bytes, option_map, option_
 use Rattle.std.specs.Prelude.{encode_utf8_all}
 use Rattle.std.proofs.lemmas.List.{drop_all}
 use Rattle.std.proofs.lemmas.Str.{IsUtf8-string_bytes}
-use Rattle.erl_term.specs.Readers.{all_of, char_of, list_of, string_of}
+use Rattle.erl_term.specs.Accessors.{all_of, char_of, list_of, string_of}
 use Rattle.erl_term.specs.Term.{tree, trees}
-use Rattle.erl_term.proofs.Reading.{string-end, as_chars}
-use Rattle.erl_term.proofs.readers.string.Goals as goal
+use Rattle.erl_term.proofs.Accessing.{string-end, as_chars}
+use Rattle.erl_term.proofs.accessors.string.Goals as goal
 
 -- src/readers.rt:158:1
 pub returns : goal.returns

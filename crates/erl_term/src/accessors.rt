@@ -1,7 +1,7 @@
-// Terms as values of one kind, and rows as so many terms: readers for the crates above.
+// Terms as values of one kind, and rows as so many terms: accessors for the crates above.
 ghost use Rattle.std.specs.Prelude.{◌≡◌, Some, None, MatchOption, IfOk, string_bytes};
 ghost use Rattle.std.specs.Str.{chars};
-ghost use Rattle.erl_term.specs.Readers.{atom_of, char_of, first_of, four_of, int_of, list_of, one_of, pid_of, string_of, three_of, tuple_of, two_of};
+ghost use Rattle.erl_term.specs.Accessors.{atom_of, char_of, first_of, four_of, int_of, list_of, one_of, pid_of, string_of, three_of, tuple_of, two_of};
 ghost use Rattle.erl_term.specs.Term.{tree, trees};
 
 use crate::atom::Atom;

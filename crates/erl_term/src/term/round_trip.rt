@@ -1,6 +1,6 @@
 // Terms whose text can be read back.
 ghost use Rattle.std.specs.Prelude.{◌≡◌, true};
-ghost use Rattle.erl_term.specs.Readable.{are_bounded, has_pids, have_pids, is_bounded, is_readable};
+ghost use Rattle.erl_term.specs.RoundTrip.{are_bounded, has_pids, have_pids, is_bounded, is_readable};
 ghost use Rattle.erl_term.specs.Term.{tree, trees};
 ghost use Rattle.erl_term.specs.Tree.{int};
 
