@@ -1,6 +1,5 @@
 // Tokens that a term begins with or is: integers, signs, atoms and strings.
-ghost use Rattle.std.specs.Prelude.{◌≡◌, MatchResult};
-ghost use Rattle.erl_scan.specs.declared.error.Fault.TheVariants.{Memory as refused};
+ghost use Rattle.std.specs.Prelude.{◌≡◌};
 ghost use Rattle.erl_term.specs.Rows.{append_trees, integers};
 ghost use Rattle.erl_term.specs.Term.{trees};
 ghost use Rattle.erl_consult.specs.Parser.{last_seen, seen, signed_of, misplaced_number, Gives};
@@ -9,8 +8,7 @@ ghost use Rattle.erl_consult.specs.Steps.{text, with_last, begins, take_number_b
 use super::elements::push_characters;
 use super::{Last, Parser};
 use erl_scan::{Fault, Name, ReadError, Text};
-use erl_term::{Atom, Term};
-use std::alloc::AllocError;
+use erl_term::Term;
 use std::mem;
 
 impl Parser {
@@ -58,7 +56,10 @@ impl Parser {
         ensures { Gives (take_name_by (seen self.old) (seen self.old).last name at) (seen self.new) result }
     {
         match &self.last {
-            Last::Nothing => self.begin(Last::Term(Term::Atom(atom_of(name, at)?))),
+            Last::Nothing => {
+                let atom = self.atoms.atom(name, at)?;
+                self.begin(Last::Term(Term::Atom(atom)))
+            }
             _ => Err(ReadError {
                 kind: Fault::Syntax,
                 at,
@@ -112,23 +113,6 @@ impl Parser {
                 Ok(())
             }
         }
-    }
-}
-
-/// The atom of a name, which stands here.
-///
-/// # Errors
-///
-/// `Memory` where memory is refused.
-fn atom_of(name: Name, at: usize) -> Result<Atom, ReadError>
-    ensures { MatchResult result (λ atom. atom ≡ name) (λ e. e.kind ≡ refused) }
-{
-    match Atom::from_string(name.into_string()) {
-        Ok(atom) => Ok(atom),
-        Err(AllocError) => Err(ReadError {
-            kind: Fault::Memory,
-            at,
-        }),
     }
 }
 
