@@ -10,16 +10,19 @@ use std::alloc::{AllocError, Global};
 use std::sync::Arc;
 use values::{Duplicate, copied_slice};
 
+/// How many terms are few: to move them costs less than to make the row.
+const FEW: usize = 64;
+
 impl Terms {
     /// The row of these terms, in no more room than they take.
     ///
     /// # Errors
     ///
     /// `AllocError` where memory is refused.
-    pub fn new(alloc: Global, mut items: Vec<Term>) -> Result<Terms, AllocError>
+    pub fn new(alloc: Global, items: Vec<Term>) -> Result<Terms, AllocError>
         ensures { IfOk result (λ it. it ≡ trees items.items) }
     {
-        items.shrink_to_fit();
+        let items = fitted(alloc, items)?;
         let Told { depth, last, size } = told_of(items.as_slice());
         if depth == u64::MAX {
             return Err(AllocError);
@@ -127,6 +130,21 @@ impl Duplicate for Terms {
             hidden: self.hidden,
         })
     }
+}
+
+/// The same terms, in no more room than they take. Few are moved to room of their own, so that the room that is left is
+/// as large as others ask for it.
+fn fitted(alloc: Global, mut items: Vec<Term>) -> Result<Vec<Term>, AllocError>
+    ensures { IfOk result (λ it. it.items ≡ items.items) }
+{
+    let len = items.len();
+    if len < items.capacity() && len <= FEW {
+        let mut few = Vec::with_capacity(alloc, len)?;
+        few.append(&mut items)?;
+        return Ok(few);
+    }
+    items.shrink_to_fit();
+    Ok(items)
 }
 
 /// The terms from a place on.

@@ -10,8 +10,8 @@ use values::Duplicate;
 /// How many atoms are kept at once.
 const PLACES: usize = 512;
 
-/// What makes atoms. Each is kept at a place that its name chooses, until the next one there: where that has the same
-/// name, it shares.
+/// What makes atoms. Each is kept at the place of its name until another comes there. So an atom that a text names often
+/// is made once, and all of them share its characters.
 #[derive(Drop)]
 pub(super) struct Atoms {
     alloc: Global,
@@ -51,6 +51,7 @@ impl Atoms {
     {
         let place = place_of(name.as_str());
         if let Some(Some(atom)) = self.kept.get(place) {
+            // Another name may have the same place.
             if atom.as_str() == name.as_str() {
                 return atom.copy(self.alloc);
             }

@@ -55,16 +55,14 @@ impl Parser {
     pub(super) fn take_name(&mut self, name: Name, at: usize) -> Result<(), ReadError>
         ensures { Gives (take_name_by (seen self.old) (seen self.old).last name at) (seen self.new) result }
     {
-        match &self.last {
-            Last::Nothing => {
-                let atom = self.atoms.atom(name, at)?;
-                self.begin(Last::Term(Term::Atom(atom)))
-            }
-            _ => Err(ReadError {
+        let Last::Nothing = &self.last else {
+            return Err(ReadError {
                 kind: Fault::Syntax,
                 at,
-            }),
-        }
+            });
+        };
+        let atom = self.atoms.atom(name, at)?;
+        self.begin(Last::Term(Term::Atom(atom)))
     }
 
     pub(super) fn take_string(&mut self, string: &Text, at: usize) -> Result<(), ReadError>
