@@ -2,13 +2,17 @@
 //!
 //! A [`Term`] is an integer, an atom, a process identifier, a tuple or a proper list. Contracts see it as
 //! a `Tree`: `tree` is the tree of a term, and `trees` the row of trees of terms in a row. A tuple's or a
-//! list's elements are [`Terms`], which contracts see as such a row already.
+//! list's elements are [`Terms`], which contracts see as such a row already. Rows and atoms have any number of owners, who
+//! share them.
 //!
 //! # What is proved
 //!
 //! - [`Atom::new`] gives the atom of exactly the text's characters, or `AtomTooLong` exactly where there
 //!   are over 255.
-//! - [`Term::depth`] and [`Term::size`] are those of the tree, up to `2^64 - 1`.
+//! - [`Term::depth`] and [`Term::size`] are those of the tree, up to `2^64 - 1`, and [`Term::is_within`] says of any bounds
+//!   below `2^32` whether they hold.
+//! - [`Terms::rest`] is the row behind the first term, and [`Terms::into_vec`] gives just the terms that are seen, whoever
+//!   else owns the row.
 //! - `Ord` is the order of the Erlang Reference Manual (Term Comparisons), total, and equal exactly for
 //!   equal terms. `Same` decides equality, and `Duplicate` gives an equal term.
 //! - [`print`] appends exactly the bytes of the term's text, and leaves the output as it was where memory
@@ -22,10 +26,14 @@
 //!
 //! # What no contract says
 //!
-//! That there is memory, and what a call costs: each is linear in the terms that it is given. `print` builds the text
-//! before it appends it. What goes down a term, dropping it too, recurses as deep as the term and no deeper: a caller
-//! that takes terms from outside bounds their depth first. On a stack of 8 MB the tests copy, compare, order, measure,
-//! print and drop a term of depth 1,024.
+//! That there is memory, and what a call costs. A copy of a term, a row or an atom, [`Terms::rest`], and what is asked of
+//! depth and size take the same time and no memory but a count, whatever the term; but for a `rest` that goes past the
+//! last of a row's deepest terms, which copies what is left, each term by sharing. A row is made in the time of its own
+//! terms. Comparing, ordering and printing are linear in the terms; `print` builds the text before it appends it.
+//!
+//! Comparing, ordering, printing and dropping recurse as deep as the term and no deeper: a caller that takes terms from
+//! outside bounds their depth first. On a stack of 8 MB the tests copy, compare, order, measure, print and drop a term of
+//! depth 1,024.
 #![tactic(auto)]
 
 mod accessors;
