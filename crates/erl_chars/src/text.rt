@@ -50,6 +50,14 @@ impl Text {
     {
         self.text.as_str()
     }
+
+    /// The characters, to keep. Takes no memory.
+    pub fn into_string(self) -> String
+        ensures { chars (string_bytes result) ≡ self }
+    {
+        let Text { text } = self;
+        text
+    }
 }
 
 impl Name {

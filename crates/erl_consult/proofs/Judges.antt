@@ -1,10 +1,10 @@
 -- Each token is judged: part by part, by what was read before it.
-use Rattle.std.proofs.Common.{◌≡◌, ℕ, suc, pos, ◌^◌, ◌<◌, ◌≤◌, Bool, true, false, cond, not, ◌&&◌, List, [], ◌∷◌, ◌++◌, length, Some, None, refl, ap, sym, subst, ◌∙◌, append_assoc, append-nil, arith, nat_lt}
+use Rattle.std.proofs.Common.{◌≡◌, ℕ, suc, ◌^◌, ◌<◌, ◌≤◌, Bool, true, false, cond, not, ◌&&◌, List, [], ◌∷◌, ◌++◌, length, Some, None, refl, ap, sym, subst, ◌∙◌, append_assoc, append-nil, arith, nat_lt}
 use Rattle.std.specs.Prelude.{Option, nat_le}
 use Rattle.std.specs.List.{flat_map}
 use borrow.Author.Tests.{ltb-true, ltb-false}
 use Rattle.erl_scan.specs.declared.error.Fault.TheVariants.{IntegerRange, TooDeep, Syntax}
-use Rattle.erl_term.specs.Tree.{Tree, Trees, int, tuple, list, none, more}
+use Rattle.erl_term.specs.Tree.{Tree, Trees, tuple, list, none, more}
 use Rattle.erl_term.specs.RoundTrip.{deepest}
 use Rattle.erl_term.specs.Rows.{append_trees, integers}
 use Rattle.erl_consult.specs.Grammar.{Part, number, minus, plus, name, string, open_tuple, close_tuple, open_list, close_list, comma, bar, dot, unread, foreign, Form, Forms, unsigned, negative, positive, atom_form, strings, empty_tuple, some_tuple, empty_list, some_list, tailed_list, start, then, elements_of, form_tree, form_trees, fits, all_fit, is_list, has_list_tails, have_list_tails}
@@ -13,6 +13,7 @@ use Rattle.erl_consult.specs.Steps.{Frame, nothing, sign, term, text, Seen, Outc
 use Rattle.erl_consult.proofs.Spelling.{step, signed}
 use Rattle.erl_consult.proofs.Judging.{Bracketed, at_tuple, at_list, at_tail, Lasting, none_last, sign_last, form_last, strings_last, show_all, show, bare, end_at, end_minus, end_string, end_bar, end_place, TellsPart, faulty_by, tail_by, nesting_by, FineForm, FineForms, FineOne, FineAll, FineLast, is_tail, is_tuple, Fine, Moves, same, one_more, one_less, place_of, places, Judged, is_unread_part, is_out, is_misplaced, is_wrong, is_deep, is_next, length-show}
 use Rattle.erl_consult.proofs.Truth.{never, and-true}
+use Rattle.erl_consult.proofs.Stepping.{integers-append}
 
 -- Truth
 
@@ -65,10 +66,6 @@ elements-text (more t ts) us = refl
 pub append_trees-assoc : (ts us vs : Trees) → append_trees (append_trees ts us) vs ≡ append_trees ts (append_trees us vs)
 append_trees-assoc none us vs = refl
 append_trees-assoc (more t ts) us vs = ap (more t) (append_trees-assoc ts us vs)
-
-integers-append : (cs ds : List ℕ) → integers (cs ++ ds) ≡ append_trees (integers cs) (integers ds)
-integers-append [] ds = refl
-integers-append (c ∷ cs) ds = ap (more (int (pos c))) (integers-append cs ds)
 
 joined : (others : List (List ℕ)) (ds : List ℕ) → flat_map (λ es. es) (others ++ ds ∷ []) ≡ flat_map (λ es. es) others ++ ds
 joined [] ds = append-nil ds

@@ -1,11 +1,13 @@
 -- Lemmas on the steps of reading: rows and brackets that grow by one.
-use Rattle.std.proofs.Common.{◌≡◌, ℕ, pos, ◌+◌, ◌<◌, length-append, List, [], ◌∷◌, ◌++◌, length, reverse, get_or, take, zero, suc, false, ◌==◌, Option, Some, None, option_map, Result, Ok, Err, IsErr, ◌⊎◌, inl, inr, if◌then◌else◌, true, nat_lt, subst, sym, ap, ◌∙◌, refl, arith}
+use Rattle.std.proofs.Common.{◌≡◌, ℕ, pos, ◌+◌, ◌<◌, length-append, List, [], ◌∷◌, ◌++◌, length, reverse, get_or, take, drop, zero, suc, false, ◌==◌, Option, Some, None, option_map, Result, Ok, Err, IsErr, ◌⊎◌, inl, inr, if◌then◌else◌, true, nat_lt, subst, sym, ap, ◌∙◌, refl, arith}
 use Rattle.std.specs.Result.{IsErrAnd}
 use Rattle.std.proofs.lemmas.Bool.Decides.{nat_tests}
 use Rattle.erl_scan.specs.declared.error.Fault.{Fault}
 use Rattle.erl_scan.specs.declared.error.Fault.TheVariants.{Syntax, TooDeep, Memory as refused}
 use Rattle.erl_scan.specs.declared.error.ReadError.{ReadError}
-use Rattle.std.proofs.lemmas.List.{reverse-append, reverse-reverse, take_all, take_more}
+use Rattle.std.proofs.lemmas.List.{reverse-append, reverse-reverse, take-append-drop, take_all, take_more}
+use Rattle.std.proofs.lemmas.Str.{chars-append}
+use Rattle.std.specs.Str.{chars, IsUtf8}
 use Rattle.erl_term.specs.declared.term.Term.{Term}
 use Rattle.erl_term.specs.RoundTrip.{deepest}
 use Rattle.erl_term.specs.Rows.{append_trees, integers}
@@ -50,6 +52,17 @@ integers-push (d ∷ cs) c = ap (λ rest. more (int (pos d)) rest) (integers-pus
 pub integers-more : (before now after : Trees) (cs : List ℕ) (c : ℕ) → now ≡ append_trees before (integers cs) → after ≡ with_element now (int (pos c)) → after ≡ append_trees before (integers (cs ++ c ∷ []))
 integers-more before now after cs c so_far pushed =
     pushed ∙ ap (λ ts. with_element ts (int (pos c))) so_far ∙ append_trees-assoc before (integers cs) (more (int (pos c)) none) ∙ ap (λ ts. append_trees before ts) (sym (integers-push cs c))
+
+pub integers-append : (cs ds : List ℕ) → integers (cs ++ ds) ≡ append_trees (integers cs) (integers ds)
+integers-append [] ds = refl
+integers-append (c ∷ cs) ds = ap (λ rest. more (int (pos c)) rest) (integers-append cs ds)
+
+-- the front of a text behind other terms, and then its back
+pub pieces-joined : (before now : Trees) (text front back : List ℕ) (at : ℕ) → IsUtf8 front → front ≡ take at text → back ≡ drop at text → now ≡ append_trees before (integers (chars front)) → append_trees now (integers (chars back)) ≡ append_trees before (integers (chars text))
+pieces-joined before now text front back at valid is_front is_back pushed =
+    let whole : text ≡ front ++ back = sym (take-append-drop at text) ∙ ap (λ bs. bs ++ drop at text) (sym is_front) ∙ ap (λ bs. front ++ bs) (sym is_back) in
+    let joined = sym (integers-append (chars front) (chars back)) ∙ ap (λ cs. integers cs) (sym (chars-append front back valid) ∙ ap (λ bs. chars bs) (sym whole)) in
+    ap (λ ts. append_trees ts (integers (chars back))) pushed ∙ append_trees-assoc before (integers (chars front)) (integers (chars back)) ∙ ap (λ ts. append_trees before ts) joined
 
 -- Brackets
 

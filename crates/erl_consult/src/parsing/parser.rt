@@ -92,7 +92,7 @@ impl Parser {
         match what {
             Token::Integer(n) => self.take_number(n, at),
             Token::Atom(name) => self.take_name(name, at),
-            Token::String(text) => self.take_string(&text, at),
+            Token::String(text) => self.take_string(text, at),
             Token::Mark(mark) => self.take_mark(mark, at),
             Token::Dot => self.take_dot(at),
             Token::Float => Err(ReadError {

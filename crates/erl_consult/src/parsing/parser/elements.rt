@@ -1,6 +1,6 @@
 // Rows of terms, as they grow while a text is read.
-ghost use Rattle.std.specs.Prelude.{◌≡◌, OnOk, IfErr, option_map, reverse};
-ghost use Rattle.std.specs.Str.{chars};
+ghost use Rattle.std.specs.Prelude.{◌≡◌, ◌<◌, OnOk, IfErr, IfSome, option_map, reverse, string_bytes};
+ghost use Rattle.std.specs.Str.{chars, IsCharBoundary};
 ghost use Rattle.erl_scan.specs.declared.error.Fault.TheVariants.{Memory as refused};
 ghost use Rattle.erl_term.specs.Rows.{append_trees, integers};
 ghost use Rattle.erl_term.specs.Term.{tree, trees};
@@ -164,18 +164,66 @@ fn make_room(items: &mut Vec<Term>, text: &str, at: usize) -> Result<(), ReadErr
     }
 }
 
-/// Puts the characters of a text, as integers, behind others.
+/// How many bytes of a text may stay beside all of its integers.
+const KEPT: usize = 4096;
+
+/// Where a text of more than `KEPT` bytes is cut: at its middle, or up to three bytes behind it, where a character
+/// begins. A shorter one is not cut.
+fn place_to_cut(text: &str) -> Option<usize>
+    ensures { IfSome result (λ at. (0 < at) × IsCharBoundary text.now at) }
+{
+    if text.len() <= KEPT {
+        return None;
+    }
+    let half = text.len() / 2;
+    for at in half..half + 4 {
+        if text.is_char_boundary(at) {
+            return Some(at);
+        }
+    }
+    None
+}
+
+/// Puts the characters of a piece of a text, as integers, behind others.
 ///
 /// # Errors
 ///
 /// `Memory` where memory is refused.
-pub(super) fn push_characters(items: &mut Vec<Term>, text: &str, at: usize) -> Result<(), ReadError>
-    ensures ok { OnOk result (trees items.new.items ≡ append_trees (trees items.old.items) (integers (chars text.now))) }
+fn push_piece(items: &mut Vec<Term>, piece: &str, at: usize) -> Result<(), ReadError>
+    ensures ok { OnOk result (trees items.new.items ≡ append_trees (trees items.old.items) (integers (chars piece.now))) }
     ensures err { IfErr result (λ e. e.kind ≡ refused) }
 {
-    make_room(items, text, at)?;
-    for c in text.chars() {
+    for c in piece.chars() {
         push(items, Term::Int(i64::from(u32::from(c))), at)?;
     }
     Ok(())
+}
+
+/// Puts the characters of a text, as integers, behind others. The text is let go half by half, while the integers come,
+/// which take 24 times its memory and more: at the end no more of it than `KEPT` bytes stand beside them. Each cut
+/// copies the back half, so that the cuts copy no more than the whole text.
+///
+/// # Errors
+///
+/// `Memory` where memory is refused.
+pub(super) fn push_characters(
+    items: &mut Vec<Term>,
+    mut text: String,
+    at: usize,
+) -> Result<(), ReadError>
+    ensures ok { OnOk result (trees items.new.items ≡ append_trees (trees items.old.items) (integers (chars (string_bytes text)))) }
+    ensures err { IfErr result (λ e. e.kind ≡ refused) }
+{
+    make_room(items, text.as_str(), at)?;
+    while let Some(middle) = place_to_cut(text.as_str()) {
+        let Ok(back) = text.split_off(middle) else {
+            return Err(ReadError {
+                kind: Fault::Memory,
+                at,
+            });
+        };
+        push_piece(items, text.as_str(), at)?;
+        text = back;
+    }
+    push_piece(items, text.as_str(), at)
 }

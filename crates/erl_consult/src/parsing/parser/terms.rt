@@ -65,8 +65,8 @@ impl Parser {
         self.begin(Last::Term(Term::Atom(atom)))
     }
 
-    pub(super) fn take_string(&mut self, string: &Text, at: usize) -> Result<(), ReadError>
-        ensures { Gives (take_string_by (seen self.old) (seen self.old).last string.now at) (seen self.new) result }
+    pub(super) fn take_string(&mut self, string: Text, at: usize) -> Result<(), ReadError>
+        ensures { Gives (take_string_by (seen self.old) (seen self.old).last string at) (seen self.new) result }
     {
         match mem::replace(&mut self.last, Last::Nothing) {
             Last::Nothing => {
@@ -89,10 +89,10 @@ impl Parser {
     }
 
     /// Goes on with a string behind these characters.
-    fn go_on(&mut self, mut items: Vec<Term>, string: &Text, at: usize) -> Result<(), ReadError>
-        ensures { Gives (with_last (seen self.old) (text (append_trees (trees items.items) (integers string.now)))) (seen self.new) result }
+    fn go_on(&mut self, mut items: Vec<Term>, string: Text, at: usize) -> Result<(), ReadError>
+        ensures { Gives (with_last (seen self.old) (text (append_trees (trees items.items) (integers string)))) (seen self.new) result }
     {
-        push_characters(&mut items, string.as_str(), at)?;
+        push_characters(&mut items, string.into_string(), at)?;
         self.last = Last::Text(items);
         Ok(())
     }

@@ -1,25 +1,26 @@
--- Each turn adds one character, and the turns are all of them.
-use Rattle.std.proofs.Common.{ℤ, arith, map-id, sym, ap, ◌∙◌}
-use Rattle.std.proofs.lemmas.Iterator.{YieldsList-from_chars}
-use Rattle.std.proofs.lemmas.Iterator.Consumers.{YieldsList-end}
-use Rattle.std.proofs.lemmas.Int.{ints}
+use Rattle.std.proofs.Common.{◌<◌, arith, ap, sym, ◌∙◌}
+use Rattle.std.specs.Prelude.{string_bytes, string_len}
+use Rattle.std.specs.Str.{chars}
+use Rattle.std.proofs.lemmas.Str.{IsUtf8-string_bytes}
 use Rattle.erl_term.specs.Rows.{append_trees, integers}
 use Rattle.erl_term.specs.Term.{trees}
-use Rattle.erl_term.specs.Tree.{int}
-use Rattle.erl_consult.specs.Steps.{with_element}
-use Rattle.erl_consult.proofs.Stepping.{append_trees-none, integers-more}
+use Rattle.erl_consult.proofs.Stepping.{pieces-joined}
 use Rattle.erl_consult.proofs.parsing.parser.elements.push_characters.Goals as goal
 
-pub loop-c-init : goal.loop-c-init
-loop-c-init c =
-    ap (λ ts. trees ts) c.in_ok-make_room.ensures.items ∙ sym (append_trees-none (trees c.args.items.now.items))
+pub loop-middle-init : goal.loop-middle-init
+loop-middle-init c =
+    ap (λ ts. append_trees (trees ts) (integers (chars (string_bytes c.args.text)))) c.in_ok-make_room.ensures.items
 
-pub loop-c-preserved : goal.loop-c-preserved
-loop-c-preserved c =
-    integers-more (trees c.args.items.now.items) (trees c.loop-c.items.items) (trees c.push.new.items.items) c.loop-c.yielded c.in-Some.c c.loop-c.invariant
-    (c.in_ok-push.ensures.ok ∙ ap (λ (z : ℤ). with_element (trees c.loop-c.items.items) (int z)) (omega (arith, ints)))
+pub loop-middle-preserved : goal.loop-middle-preserved
+loop-middle-preserved c =
+    let pushed = c.in_ok-push_piece.ensures.ok ∙ ap (λ bs. append_trees (trees c.loop-middle.items.items) (integers (chars bs))) c.as_str-in-Some.ensures.value in
+    pieces-joined (trees c.loop-middle.items.items) (trees c.push_piece.new.items.items) (string_bytes c.loop-middle.text) (string_bytes c.split_off.new.self) (string_bytes c.in-Ok.back) c.in-Some.middle (IsUtf8-string_bytes c.split_off.new.self) c.in-Ok.ensures.bytes c.in-Ok.ensures.tail pushed ∙ c.loop-middle.invariant
+
+pub loop-middle-smaller : goal.loop-middle-smaller
+loop-middle-smaller c =
+    let less : string_len c.in-Ok.back < string_len c.loop-middle.text = omega (arith, c.in-Ok.ensures.tail_len, c.in-Some.ensures.0) in less
 
 pub returns-clause-ok : goal.returns-clause-ok
 returns-clause-ok c =
-    let all = YieldsList-end (YieldsList-from_chars c.args.text.now c.utf8.text cc) c.loop-c.yielded _ c.loop-c.yielded_by _ _ c.in-None.is c.next.ensures.steps in
-    c.loop-c.invariant ∙ ap (λ cs. append_trees (trees c.args.items.now.items) (integers cs)) (sym (map-id c.loop-c.yielded) ∙ all.0)
+    let text = ap (λ bs. append_trees (trees c.loop-middle.items.items) (integers (chars bs))) c.as_str-2.ensures.value ∙ c.loop-middle.invariant in
+    rw (sym text) c.push_piece-2.ensures.ok
