@@ -1,5 +1,5 @@
 // Rows of terms, as they grow while a text is read.
-ghost use Rattle.std.specs.Prelude.{◌≡◌, ◌<◌, OnOk, IfErr, IfSome, option_map, reverse, string_bytes};
+ghost use Rattle.std.specs.Prelude.{◌≡◌, ◌<◌, ◌++◌, OnOk, IfOk, IfErr, IfSome, option_map, reverse, string_bytes};
 ghost use Rattle.std.specs.Str.{chars, IsCharBoundary};
 ghost use Rattle.erl_scan.specs.declared.error.Fault.TheVariants.{Memory as refused};
 ghost use Rattle.erl_term.specs.Rows.{append_trees, integers};
@@ -112,9 +112,7 @@ pub(super) fn elements(
     Ok(items)
 }
 
-/// These elements, and behind them those of the tail that was read last: all of them with the last one first. The
-/// tail's stay where they are, so that each of a list's elements is moved once for the list that it is written in, and
-/// not for the lists around it.
+/// These elements, and behind them those of the tail that was read last: all of them with the last one first.
 ///
 /// # Errors
 ///
@@ -128,15 +126,33 @@ pub(super) fn with_tail(
     ensures { Finds (option_map (append_trees (trees items.items)) (tail_elements (term_of_last (last_seen last))))
         (λ row. trees (reverse row.items)) at result }
 {
-    let mut backwards = last.into_backwards(alloc, at)?;
-    let mut heads = turned(items);
-    match backwards.append(&mut heads) {
-        Ok(()) => Ok(backwards),
+    let backwards = last.into_backwards(alloc, at)?;
+    match joined(backwards, turned(items)) {
+        Ok(all) => Ok(all),
         Err(AllocError) => Err(ReadError {
             kind: Fault::Memory,
             at,
         }),
     }
+}
+
+/// The terms of both, the first ones before the second. The fewer are moved to the more, so that no third row is made. It
+/// takes time for the second ones alone: where the first ones are no fewer, they stay where they are.
+///
+/// # Errors
+///
+/// `AllocError` where memory is refused.
+fn joined(mut first: Vec<Term>, mut second: Vec<Term>) -> Result<Vec<Term>, AllocError>
+    ensures { IfOk result (λ all. all.items ≡ first.items ++ second.items) }
+{
+    if first.len() >= second.len() {
+        first.append(&mut second)?;
+        return Ok(first);
+    }
+    let count = first.len();
+    second.append(&mut first)?;
+    second.rotate_right(count);
+    Ok(second)
 }
 
 /// Makes room for the characters of a text: for a string's own no more than it needs, and for those of a string behind

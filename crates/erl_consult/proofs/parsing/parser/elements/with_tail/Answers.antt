@@ -8,4 +8,4 @@ use Rattle.erl_consult.proofs.parsing.parser.elements.with_tail.Goals as goal
 
 pub returns-in-Ok : goal.returns-in-Ok
 returns-in-Ok c =
-    ap (λ o. option_map (append_trees (trees c.args.items.items)) o) c.in_ok-backwards.ensures ∙ ap Some (trees-backwards c.args.items.items c.in_ok-backwards.backwards.items c.turned-heads.result.items c.append.new.self.items c.turned-heads.ensures c.in-Ok.ensures.items)
+    ap (λ o. option_map (append_trees (trees c.args.items.items)) o) c.in_ok-backwards.ensures ∙ ap Some (trees-backwards c.args.items.items c.in_ok-backwards.backwards.items c.turned.result.items c.in-Ok.all.items c.turned.ensures c.in-Ok.ensures)
