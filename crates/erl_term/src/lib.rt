@@ -29,7 +29,9 @@
 //! That there is memory, and what a call costs. A copy of a term, a row or an atom, [`Terms::rest`], and what is asked of
 //! depth and size take the same time and no memory but a count, whatever the term; but for a `rest` that goes past the
 //! last of a row's deepest terms, which copies what is left, each term by sharing. A row is made in the time of its own
-//! terms. Comparing, ordering and printing are linear in the terms; `print` builds the text before it appends it.
+//! terms. Comparing, ordering and printing are linear in the terms; `print` builds the text before it appends it. So a
+//! `rest` that never shares and a row that keeps room that it does not need would be proved too; `bench/terms/measure`
+//! sees them.
 //!
 //! Comparing, ordering, printing and dropping recurse as deep as the term and no deeper: a caller that takes terms from
 //! outside bounds their depth first. On a stack of 8 MB the tests copy, compare, order, measure, print and drop a term of
