@@ -215,9 +215,9 @@ fn push_piece(items: &mut Vec<Term>, piece: &str, at: usize) -> Result<(), ReadE
     Ok(())
 }
 
-/// Puts the characters of a text, as integers, behind others. The text is let go half by half, while the integers come,
-/// which take 24 times its memory and more: at the end no more of it than `KEPT` bytes stand beside them. Each cut
-/// copies the back half, so that the cuts copy no more than the whole text.
+/// Puts the characters of a text, as integers, behind others. The text is let go half by half while the integers come,
+/// so that at the end no more of it than `KEPT` bytes stand beside them. Each cut copies the back half, so that all cuts
+/// copy no more than the whole text.
 ///
 /// # Errors
 ///
