@@ -1,13 +1,14 @@
 // Values as terms: read from them, and written as them.
-ghost use Rattle.std.specs.Prelude.{◌≡◌, pos, Option, IfOk, ⊤};
+ghost use Rattle.std.specs.Prelude.{◌≡◌, ◌∷◌, [], pos, Option, Some, IfOk, ⊤};
 ghost use Rattle.std.specs.List.{All};
 ghost use Rattle.std.specs.Str.{chars};
-ghost use Rattle.erl_term.specs.Conversions.{rows, rows_of};
-ghost use Rattle.erl_term.specs.Accessors.{atom_of};
+ghost use Rattle.erl_term.specs.Conversions.{pair_of, row, rows, rows_of, triple_of};
+ghost use Rattle.erl_term.specs.Accessors.{atom_of, list_of};
 ghost use Rattle.erl_term.specs.Rows.{integers};
-ghost use Rattle.erl_term.specs.Term.{tree};
-ghost use Rattle.erl_term.specs.Tree.{Tree, atom, int, list};
+ghost use Rattle.erl_term.specs.Term.{term_of, tree};
+ghost use Rattle.erl_term.specs.Tree.{Tree, atom, int, list, tuple};
 
+use crate::accessors::{three, two};
 use crate::atom::Atom;
 use crate::term::{Term, Terms};
 use std::alloc::{AllocError, Global};
@@ -57,6 +58,72 @@ impl FromTerm for Atom {
     }
 }
 
+/// Any term, as itself.
+impl FromTerm for Term {
+    ghost reading = { λ t. Some (term_of t) };
+
+    fn from_term(alloc: Global, term: &Term) -> Result<Option<Term>, AllocError> {
+        Ok(Some(term.copy(alloc)?))
+    }
+}
+
+/// The elements of a list.
+impl FromTerm for Terms {
+    ghost reading = { list_of };
+
+    fn from_term(alloc: Global, term: &Term) -> Result<Option<Terms>, AllocError> {
+        match term.as_list() {
+            Some(row) => Ok(Some(row.copy(alloc)?)),
+            None => Ok(None),
+        }
+    }
+}
+
+/// A tuple of two.
+impl<A: FromTerm, B: FromTerm> FromTerm for (A, B) {
+    ghost reading = { pair_of A.reading B.reading };
+
+    fn from_term(alloc: Global, term: &Term) -> Result<Option<(A, B)>, AllocError> {
+        let Some(row) = term.as_tuple() else {
+            return Ok(None);
+        };
+        let Some((first, second)) = two(row.as_slice()) else {
+            return Ok(None);
+        };
+        let Some(first) = A::from_term(alloc, first)? else {
+            return Ok(None);
+        };
+        let Some(second) = B::from_term(alloc, second)? else {
+            return Ok(None);
+        };
+        Ok(Some((first, second)))
+    }
+}
+
+/// A tuple of three.
+impl<A: FromTerm, B: FromTerm, C: FromTerm> FromTerm for (A, B, C) {
+    ghost reading = { triple_of A.reading B.reading C.reading };
+
+    fn from_term(alloc: Global, term: &Term) -> Result<Option<(A, B, C)>, AllocError> {
+        let Some(row) = term.as_tuple() else {
+            return Ok(None);
+        };
+        let Some((first, second, third)) = three(row.as_slice()) else {
+            return Ok(None);
+        };
+        let Some(first) = A::from_term(alloc, first)? else {
+            return Ok(None);
+        };
+        let Some(second) = B::from_term(alloc, second)? else {
+            return Ok(None);
+        };
+        let Some(third) = C::from_term(alloc, third)? else {
+            return Ok(None);
+        };
+        Ok(Some((first, second, third)))
+    }
+}
+
 /// A row of values, from the list of their terms.
 impl<T: FromTerm> FromTerm for Row<T> {
     ghost reading = { rows_of T.reading };
@@ -85,6 +152,57 @@ impl ToTerm for Atom {
 
     fn to_term(&self, alloc: Global) -> Result<Term, AllocError> {
         Ok(Term::Atom(self.copy(alloc)?))
+    }
+}
+
+/// A term, as itself.
+impl ToTerm for Term {
+    ghost writing = { tree };
+
+    ghost holds = { λ t. ⊤ };
+
+    fn to_term(&self, alloc: Global) -> Result<Term, AllocError> {
+        self.copy(alloc)
+    }
+}
+
+/// Terms, as a list.
+impl ToTerm for Terms {
+    ghost writing = { list };
+
+    ghost holds = { λ ts. ⊤ };
+
+    fn to_term(&self, alloc: Global) -> Result<Term, AllocError> {
+        Ok(Term::List(self.copy(alloc)?))
+    }
+}
+
+/// A tuple of two.
+impl<A: ToTerm, B: ToTerm> ToTerm for (&A, &B) {
+    ghost writing = { λ p. tuple (row (A.writing p.0.now ∷ B.writing p.1.now ∷ [])) };
+
+    ghost holds = { λ p. A.holds p.0.now × B.holds p.1.now };
+
+    fn to_term(&self, alloc: Global) -> Result<Term, AllocError> {
+        let mut terms = Vec::with_capacity(alloc, 2)?;
+        terms.push(self.0.to_term(alloc)?)?;
+        terms.push(self.1.to_term(alloc)?)?;
+        Ok(Term::Tuple(Terms::new(alloc, terms)?))
+    }
+}
+
+/// A tuple of three.
+impl<A: ToTerm, B: ToTerm, C: ToTerm> ToTerm for (&A, &B, &C) {
+    ghost writing = { λ p. tuple (row (A.writing p.0.now ∷ B.writing p.1.now ∷ C.writing p.2.now ∷ [])) };
+
+    ghost holds = { λ p. A.holds p.0.now × B.holds p.1.now × C.holds p.2.now };
+
+    fn to_term(&self, alloc: Global) -> Result<Term, AllocError> {
+        let mut terms = Vec::with_capacity(alloc, 3)?;
+        terms.push(self.0.to_term(alloc)?)?;
+        terms.push(self.1.to_term(alloc)?)?;
+        terms.push(self.2.to_term(alloc)?)?;
+        Ok(Term::Tuple(Terms::new(alloc, terms)?))
     }
 }
 
