@@ -1,25 +1,17 @@
-mod Apps
-mod Appups
-mod Back
-mod Behind
-mod Distinct
-mod Entries
-mod Faults
-mod Finding
-mod FirstWrong
-mod Judged
-mod Making
-mod Many
-mod Numbers
-mod OneWay
-mod Outcomes
-mod Properties
-mod RefusedApps
-mod RefusedAppups
-mod RefusedParts
-mod RefusedRels
-mod RefusedRelups
-mod Relups
-mod Rels
-mod Scripts
-mod TermFaults
+pub mod Applied
+pub mod Distinct
+pub mod Files
+pub mod Finding
+pub mod Kept
+pub mod Making
+pub mod Many
+pub mod Numbers
+pub mod Properties
+pub mod Released
+pub mod Rest
+pub mod Sayings
+pub mod Scripts
+pub mod Shapes
+pub mod Tables
+pub mod Told
+pub mod Upgraded

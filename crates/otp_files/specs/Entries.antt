@@ -2,11 +2,7 @@
 use Rattle.std.specs.Prelude.{ℕ, List, Option}
 use Rattle.std.specs.List.{find}
 use Rattle.std.specs.Str.{bytes_eq}
-use Rattle.otp_files.specs.declared.appup.AppupEntry.{AppupEntry}
-use Rattle.otp_files.specs.declared.relup.RelupEntry.{RelupEntry}
+use Rattle.otp_files.specs.declared.upgrade.Entry.{Entry}
 
-abbrev pub appup_entry_for : List ℕ → List AppupEntry → Option AppupEntry
-appup_entry_for version entries = find (λ entry. bytes_eq entry.version version) entries
-
-abbrev pub relup_entry_for : List ℕ → List RelupEntry → Option RelupEntry
-relup_entry_for version entries = find (λ entry. bytes_eq entry.version version) entries
+abbrev pub entry_for : {D I : Type 0} → List ℕ → List (Entry D I) → Option (Entry D I)
+entry_for vsn entries = find (λ entry. bytes_eq entry.vsn vsn) entries

@@ -1,13 +1,9 @@
+pub mod Apps
 pub mod Distinct
-pub mod Drafts
 pub mod Entries
-pub mod Every
 pub mod Laws
-pub mod Numbered
-pub mod OneTerm
-pub mod ReadBack
+pub mod Parts
 pub mod Reading
-pub mod Refusals
-pub mod Shapes
+pub mod Rels
 pub mod Texts
-pub mod UsedKeys
+pub mod Upgrades

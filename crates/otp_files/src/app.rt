@@ -1,8 +1,8 @@
 // Application resource files.
 ghost use Rattle.std.specs.Prelude.{◌≡◌, ◌⊎◌, MatchResult, IfOk};
 ghost use Rattle.erl_term.specs.Term.{tree};
-ghost use Rattle.otp_files.specs.Reading.{app_of, has_duplicate, is_repeated};
-ghost use Rattle.otp_files.specs.UsedKeys.{app_told, first_in, used_meant};
+ghost use Rattle.otp_files.specs.Apps.{AppRefused, IsApp};
+ghost use Rattle.otp_files.specs.Reading.{app_of, app_with, first_in, has_duplicate, is_repeated};
 ghost use Rattle.otp_files.specs.Texts.{IsFile, IsFileError};
 ghost use Rattle.otp_files.specs.declared.error.FileError.TheVariants.{Memory as refused};
 
@@ -10,7 +10,7 @@ mod used;
 
 use crate::error::FileError;
 use crate::one_term::{read_one, with_memory};
-use crate::words::as_word;
+use crate::words::is_word;
 use erl_term::{Atom, Term, three};
 use low_instructions::Version;
 use std::alloc::{AllocError, Global};
@@ -31,8 +31,8 @@ pub struct StartModule {
 pub struct AppSpec {
     /// The application's name.
     pub name: Atom,
-    /// `vsn`: its version.
-    pub version: Version,
+    /// Its version.
+    pub vsn: Version,
     /// `modules`: its modules; by default none.
     pub modules: Row<Atom>,
     /// `applications`: those that are to be started before it; by default none.
@@ -50,10 +50,12 @@ pub struct AppSpec {
 /// What is wrong, by the order of [`FileError`]: `Text`, `NoTerm`, `ManyTerms`, `Shape`, `DuplicateKey`; `Memory` where
 /// memory is refused.
 pub fn read_app(alloc: Global, text: &[u8]) -> Result<AppSpec, FileError>
-    ensures { MatchResult result (λ app. IsFile app_of text.now app) (λ e. (e ≡ refused) ⊎ IsFileError app_of text.now e) }
+    ensures { MatchResult result (λ app. IsFile IsApp text.now app) (λ e. (e ≡ refused) ⊎ IsFileError AppRefused text.now e) }
 {
-    let term = read_one(alloc, text)?;
-    with_memory(app_from_term(alloc, &term))
+    match read_one(alloc, text) {
+        Ok(term) => with_memory(app_from_term(alloc, &term)),
+        Err(error) => Err(error),
+    }
 }
 
 /// What a term says as an application resource file.
@@ -67,9 +69,9 @@ fn app_from_term(alloc: Global, term: &Term) -> Result<Result<AppSpec, FileError
     let Some((word, name, properties)) = three(row.as_slice()) else {
         return Ok(Err(FileError::Shape(0)));
     };
-    let Some(_) = as_word(word, "application") else {
+    if !is_word(word, "application") {
         return Ok(Err(FileError::Shape(1)));
-    };
+    }
     let Some(name) = name.as_atom() else {
         return Ok(Err(FileError::Shape(2)));
     };
@@ -81,7 +83,7 @@ fn app_from_term(alloc: Global, term: &Term) -> Result<Result<AppSpec, FileError
 
 /// The application resource file of a name and of what stands under the keys that are used.
 fn app_with(alloc: Global, name: Atom, used: Used) -> Result<AppSpec, FileError>
-    ensures { result ≡ app_told name (used_meant used) }
+    ensures { result ≡ app_with name used }
 {
     let is_twice = has_duplicate(&used);
     let Used {
@@ -90,7 +92,7 @@ fn app_with(alloc: Global, name: Atom, used: Used) -> Result<AppSpec, FileError>
         applications,
         starts,
     } = used;
-    let Some(version) = first_in(versions) else {
+    let Some(vsn) = first_in(versions) else {
         return Err(FileError::Shape(3));
     };
     if is_twice {
@@ -98,7 +100,7 @@ fn app_with(alloc: Global, name: Atom, used: Used) -> Result<AppSpec, FileError>
     }
     Ok(AppSpec {
         name,
-        version,
+        vsn,
         modules: first_in(modules).unwrap_or(Row::new(Vec::new(alloc))),
         applications: first_in(applications).unwrap_or(Row::new(Vec::new(alloc))),
         start: first_in(starts).unwrap_or(None),
@@ -107,7 +109,7 @@ fn app_with(alloc: Global, name: Atom, used: Used) -> Result<AppSpec, FileError>
 
 /// Whether a key that is used stands twice.
 fn has_duplicate(used: &Used) -> bool
-    ensures { result ≡ has_duplicate (used_meant used.now) }
+    ensures { result ≡ has_duplicate used.now }
 {
     is_repeated(&used.versions)
         || is_repeated(&used.modules)
@@ -150,7 +152,7 @@ impl Duplicate for StartModule {
 impl Same for AppSpec {
     fn same(&self, other: &AppSpec) -> bool {
         self.name.same(&other.name)
-            && self.version.same(&other.version)
+            && self.vsn.same(&other.vsn)
             && self.modules.same(&other.modules)
             && self.applications.same(&other.applications)
             && self.start.same(&other.start)
@@ -161,7 +163,7 @@ impl Duplicate for AppSpec {
     fn copy(&self, alloc: Global) -> Result<AppSpec, AllocError> {
         Ok(AppSpec {
             name: self.name.copy(alloc)?,
-            version: self.version.copy(alloc)?,
+            vsn: self.vsn.copy(alloc)?,
             modules: self.modules.copy(alloc)?,
             applications: self.applications.copy(alloc)?,
             start: self.start.copy(alloc)?,

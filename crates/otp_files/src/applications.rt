@@ -16,7 +16,7 @@ pub struct RelApp {
     /// The application's name.
     pub name: Atom,
     /// Its version.
-    pub version: Version,
+    pub vsn: Version,
     /// How it is started; by default `permanent`.
     pub start_type: StartType,
     /// The applications that it includes, where the release says so.
@@ -85,7 +85,7 @@ fn are_distinct(alloc: Global, items: &[RelApp]) -> Result<bool, AllocError>
 impl Same for RelApp {
     fn same(&self, other: &RelApp) -> bool {
         self.name.same(&other.name)
-            && self.version.same(&other.version)
+            && self.vsn.same(&other.vsn)
             && self.start_type.same(&other.start_type)
             && self.included.same(&other.included)
     }
@@ -95,7 +95,7 @@ impl Duplicate for RelApp {
     fn copy(&self, alloc: Global) -> Result<RelApp, AllocError> {
         Ok(RelApp {
             name: self.name.copy(alloc)?,
-            version: self.version.copy(alloc)?,
+            vsn: self.vsn.copy(alloc)?,
             start_type: self.start_type.copy(alloc)?,
             included: self.included.copy(alloc)?,
         })

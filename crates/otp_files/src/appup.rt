@@ -1,76 +1,22 @@
 // Application upgrade files.
-ghost use Rattle.std.specs.Prelude.{◌≡◌, ◌⊎◌, ◌↔◌, IsTrue, IfOk, MatchResult, codes, drop, take};
+ghost use Rattle.std.specs.Prelude.{◌≡◌, ◌⊎◌, ◌↔◌, IsTrue, MatchResult, codes, drop, take};
 ghost use Rattle.erl_scan.specs.declared.error.Fault.TheVariants.{Unsupported as unsupported};
-ghost use Rattle.std.specs.Option.{option_copied};
-ghost use Rattle.erl_term.specs.Term.{tree};
-ghost use Rattle.otp_files.specs.Entries.{appup_entry_for};
-ghost use Rattle.otp_files.specs.Drafts.{appup_draft, appup_drafts};
-ghost use Rattle.otp_files.specs.OneTerm.{IsTextError};
-ghost use Rattle.otp_files.specs.Numbered.{appup_entry};
-ghost use Rattle.otp_files.specs.Reading.{appup_entries, appup_of, appup_with};
-ghost use Rattle.otp_files.specs.Texts.{IsFile, IsAppupError};
+ghost use Rattle.otp_files.specs.Texts.{IsAppupError, IsFile, IsTextError};
+ghost use Rattle.otp_files.specs.Upgrades.{AppupRefused, IsAppup};
 ghost use Rattle.otp_files.specs.declared.error.FileError.TheVariants.{Memory as refused, PatternVersion as pattern};
-
-mod drafts;
 
 use crate::error::FileError;
 use crate::one_term::{read_one, with_memory};
-use crate::script::script;
-use drafts::{Draft, count, drafts};
+use crate::upgrade::{Entry, Upgrades, upgrades_from_term};
 use erl_consult::{Fault, ReadError, texts_read_one_way};
-use erl_term::{Term, three};
-use high_instructions::Instruction;
-use low_instructions::Version;
-use std::alloc::{AllocError, Global};
-use values::{Duplicate, Row, Same};
+use high_instructions::{Instruction, instruction_forms_are_read};
+use std::alloc::Global;
+
+/// An application upgrade file (appup(4)).
+pub type Appup = Upgrades<(), Instruction>;
 
 /// How an application is upgraded from a version, or downgraded to it.
-#[derive(Drop)]
-pub struct AppupEntry {
-    /// The version.
-    pub version: Version,
-    /// What is done, in order.
-    pub instructions: Row<Instruction>,
-}
-
-/// An application upgrade file (appup(4)). Where two entries of one direction have one version, the first counts.
-#[derive(Drop)]
-pub struct Appup {
-    /// The version of the application that it belongs to.
-    pub version: Version,
-    /// How the application is upgraded, by the version that it is upgraded from.
-    pub up: Row<AppupEntry>,
-    /// How the application is downgraded, by the version that it is downgraded to.
-    pub down: Row<AppupEntry>,
-}
-
-impl Appup {
-    /// How the application is upgraded from a version, if it can be: by the first entry of that version. Takes no memory.
-    pub fn up_from(&self, version: &Version) -> Option<&AppupEntry>
-        ensures { option_copied result ≡ appup_entry_for version.now self.now.up }
-    {
-        entry_for(self.up.as_slice(), version)
-    }
-
-    /// How the application is downgraded to a version, if it can be: by the first entry of that version. Takes no memory.
-    pub fn down_to(&self, version: &Version) -> Option<&AppupEntry>
-        ensures { option_copied result ≡ appup_entry_for version.now self.now.down }
-    {
-        entry_for(self.down.as_slice(), version)
-    }
-}
-
-/// The first entry of a version.
-fn entry_for<'a>(entries: &'a [AppupEntry], version: &Version) -> Option<&'a AppupEntry>
-    ensures { option_copied result ≡ appup_entry_for version.now entries.now }
-{
-    for entry in entries {
-        if entry.version.same(version) {
-            return Some(entry);
-        }
-    }
-    None
-}
+pub type AppupEntry = Entry<(), Instruction>;
 
 /// Reads an application upgrade file, `{Vsn,[{UpFrom,Instrs}],[{DownTo,Instrs}]}.`
 ///
@@ -80,17 +26,20 @@ fn entry_for<'a>(entries: &'a [AppupEntry], version: &Version) -> Option<&'a App
 /// is that `<<` is not read; `NoTerm`, `ManyTerms`, `Shape`, then `BadInstruction` or `OutOfProfile`; `Memory` where
 /// memory is refused.
 pub fn read_appup(alloc: Global, text: &[u8]) -> Result<Appup, FileError>
-    ensures { MatchResult result (λ appup. IsFile appup_of text.now appup) (λ e. (e ≡ refused) ⊎ IsAppupError appup_of text.now e) }
+    ensures { MatchResult result (λ appup. IsFile IsAppup text.now appup)
+        (λ e. (e ≡ refused) ⊎ IsAppupError AppupRefused text.now e) }
 {
+    texts_read_one_way();
+    instruction_forms_are_read();
     match read_one(alloc, text) {
-        Ok(term) => with_memory(appup_from_term(alloc, &term)),
+        Ok(term) => with_memory(upgrades_from_term(alloc, &term)),
         Err(error) => Err(appup_error(text, error)),
     }
 }
 
 /// What is wrong with an appup, by what is wrong with its text.
 fn appup_error(text: &[u8], error: FileError) -> FileError
-    ensures { (error ≡ refused) ⊎ IsTextError text.now error → (result ≡ refused) ⊎ IsAppupError appup_of text.now result }
+    ensures { (error ≡ refused) ⊎ IsTextError text.now error → (result ≡ refused) ⊎ IsAppupError AppupRefused text.now result }
 {
     texts_read_one_way();
     match error {
@@ -123,120 +72,5 @@ fn begins_pattern(text: &[u8], at: usize) -> bool
     match text.get(at..) {
         Some(rest) => rest.starts_with(b"<<"),
         None => false,
-    }
-}
-
-/// What a term says as an application upgrade file.
-#[tactic(auto, unfolding(crate::specs::Reading::appup_of))]
-fn appup_from_term(alloc: Global, term: &Term) -> Result<Result<Appup, FileError>, AllocError>
-    ensures { IfOk result (λ read. read ≡ appup_of (tree term.now)) }
-{
-    let Some(row) = term.as_tuple() else {
-        return Ok(Err(FileError::Shape(0)));
-    };
-    let Some((version, up, down)) = three(row.as_slice()) else {
-        return Ok(Err(FileError::Shape(0)));
-    };
-    let Some(version) = Version::from_term(alloc, version)? else {
-        return Ok(Err(FileError::Shape(1)));
-    };
-    let Some(up) = drafts(alloc, up)? else {
-        return Ok(Err(FileError::Shape(2)));
-    };
-    let Some(down) = drafts(alloc, down)? else {
-        return Ok(Err(FileError::Shape(3)));
-    };
-    appup_with(alloc, version, up, down)
-}
-
-/// The appup of a version and of these entries, once their instructions are read.
-#[tactic(auto, using(crate::proofs::Entries::appup_told))]
-fn appup_with(
-    alloc: Global,
-    version: Version,
-    up: Vec<Draft>,
-    down: Vec<Draft>,
-) -> Result<Result<Appup, FileError>, AllocError>
-    ensures { IfOk result (λ read. read ≡ appup_with version (appup_drafts up.entry.items) (appup_drafts down.entry.items)) }
-{
-    let behind = count(up.as_slice());
-    let up = match entries(alloc, 0, up)? {
-        Ok(up) => up,
-        Err(error) => return Ok(Err(error)),
-    };
-    let down = match entries(alloc, behind, down)? {
-        Ok(down) => down,
-        Err(error) => return Ok(Err(error)),
-    };
-    Ok(Ok(Appup { version, up, down }))
-}
-
-/// Entries with their instructions, the first of which has this number in the file.
-fn entries(
-    alloc: Global,
-    first: u64,
-    drafts: Vec<Draft>,
-) -> Result<Result<Row<AppupEntry>, FileError>, AllocError>
-    ensures { IfOk result (λ read. read ≡ appup_entries first (appup_drafts drafts.entry.items)) }
-{
-    let mut number = first;
-    let mut entries = Vec::new(alloc);
-    for draft in drafts {
-        let behind = number.saturating_add(draft.instructions.len() as u64);
-        match entry(alloc, number, draft)? {
-            Ok(entry) => entries.push(entry)?,
-            Err(error) => return Ok(Err(error)),
-        }
-        number = behind;
-    }
-    Ok(Ok(Row::new(entries)))
-}
-
-/// An entry with its instructions, the first of which has this number in the file.
-fn entry(
-    alloc: Global,
-    first: u64,
-    draft: Draft,
-) -> Result<Result<AppupEntry, FileError>, AllocError>
-    ensures { IfOk result (λ read. read ≡ appup_entry first (appup_draft draft.entry)) }
-{
-    let instructions = match script(alloc, first, draft.instructions)? {
-        Ok(instructions) => instructions,
-        Err(error) => return Ok(Err(error)),
-    };
-    Ok(Ok(AppupEntry {
-        version: draft.version,
-        instructions,
-    }))
-}
-
-impl Same for AppupEntry {
-    fn same(&self, other: &AppupEntry) -> bool {
-        self.version.same(&other.version) && self.instructions.same(&other.instructions)
-    }
-}
-
-impl Duplicate for AppupEntry {
-    fn copy(&self, alloc: Global) -> Result<AppupEntry, AllocError> {
-        Ok(AppupEntry {
-            version: self.version.copy(alloc)?,
-            instructions: self.instructions.copy(alloc)?,
-        })
-    }
-}
-
-impl Same for Appup {
-    fn same(&self, other: &Appup) -> bool {
-        self.version.same(&other.version) && self.up.same(&other.up) && self.down.same(&other.down)
-    }
-}
-
-impl Duplicate for Appup {
-    fn copy(&self, alloc: Global) -> Result<Appup, AllocError> {
-        Ok(Appup {
-            version: self.version.copy(alloc)?,
-            up: self.up.copy(alloc)?,
-            down: self.down.copy(alloc)?,
-        })
     }
 }

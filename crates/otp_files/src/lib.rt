@@ -2,27 +2,27 @@
 //!
 //! A file holds one term, with its dot. Its record has only what such a file may say, so a version is a [`Version`],
 //! the applications of a release are [`Applications`], none of them twice, and a script is a [`Script`] of low-level
-//! instructions. Each record has `copy` and `same`.
+//! instructions. Appups and relups are both [`Upgrades`], with the same look-ups. Each record has `copy` and `same`.
 //!
 //! # What is proved
 //!
-//! - [`read_app`], [`read_rel`], [`read_appup`] and [`read_relup`] answer the record that the bytes say, or, want of
-//!   memory aside, what is wrong with them first, in the order of [`FileError`].
-//! - [`terms_are_read_as_they_are_written`]: a term is read as a record exactly where it is written in one of the
-//!   record's forms. [`terms_are_refused_for_what_is_wrong_first`]: every other term is refused for the first element of
-//!   the outer tuple that is wrong, for a key that stands twice, or for the first instruction of the file that is none.
-//!   [`files_are_read_one_way`]: all bytes are one file of a kind, or none for one reason, and never both.
-//! - [`relup_term`] and [`low_term`] give terms that are read back as what they were made of, and so does
-//!   [`print_relup`], where no process identifier stands in the relup and it is nested at most 256 deep; its output
-//!   stays as it was where memory is refused.
-//! - `up_from` and `down_to` give the first entry of a version; [`Applications::new`] refuses exactly where two
-//!   applications have one name.
+//! - [`read_app`], [`read_rel`], [`read_appup`] and [`read_relup`] answer the record that the bytes' one term says by the
+//!   manuals' forms, or, want of memory aside, what is wrong with the text or with the term, in the order of
+//!   [`FileError`]: of a term the first element of the outer tuple that is wrong, then a key that stands twice, then the
+//!   first instruction of the file that is none.
+//! - [`terms_say_one_record_or_have_one_fault`]: by those forms a term says one record, or has one fault where it says
+//!   none. [`files_are_read_one_way`]: all bytes are one file of a kind, or none for one reason, and never both.
+//! - [`relup_term`] and [`low_term`] give terms that say what they were made of, and so does [`print_relup`], where no
+//!   process identifier stands in the relup and it is nested at most 256 deep; its output stays as it was where memory
+//!   is refused.
+//! - [`Upgrades::up_from`] and [`Upgrades::down_to`] give the first entry of a version; [`Applications::new`] refuses
+//!   exactly where two applications have one name.
 //!
 //! # What no contract says
 //!
 //! That there is memory, and what a call costs: beside [`erl_consult::read_terms`], whose costs are stated there,
-//! reading is linear in the file, but that names of applications are looked up by hashing. The text is held as a term
-//! while the record is made of it, and what the record keeps of the term is copied.
+//! reading is linear in the file, but that names of applications are looked up in a tree. The text's term is held while
+//! the record is made of it, and what the record keeps of it is shared.
 #![tactic(auto)]
 
 mod app;
@@ -35,6 +35,7 @@ mod rel;
 mod release_name;
 mod relup;
 mod script;
+mod upgrade;
 mod words;
 
 pub use app::{AppSpec, StartModule, read_app};
@@ -42,10 +43,7 @@ pub use applications::{Applications, RelApp};
 pub use appup::{Appup, AppupEntry, read_appup};
 pub use error::FileError;
 pub use high_instructions::{Change, High, Instruction, ModuleType, StartType};
-pub use laws::{
-    files_are_read_one_way, terms_are_read_as_they_are_written,
-    terms_are_refused_for_what_is_wrong_first,
-};
+pub use laws::{files_are_read_one_way, terms_say_one_record_or_have_one_fault};
 pub use low_instructions::{
     Direction, Low, Milliseconds, ModuleChange, Purge, Script, Suspension, Timeout, Version,
     VersionError, low_term,
@@ -53,3 +51,4 @@ pub use low_instructions::{
 pub use rel::{RelSpec, read_rel};
 pub use release_name::ReleaseName;
 pub use relup::{Relup, RelupEntry, print_relup, read_relup, relup_term};
+pub use upgrade::{Entry, Upgrades};

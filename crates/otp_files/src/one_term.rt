@@ -4,7 +4,7 @@ ghost use Rattle.erl_scan.specs.declared.error.Fault.TheVariants.{Memory as no_m
 ghost use Rattle.erl_consult.specs.Faults.{IsTextOf};
 ghost use Rattle.erl_term.specs.Term.{tree};
 ghost use Rattle.erl_term.specs.Tree.{none, more};
-ghost use Rattle.otp_files.specs.OneTerm.{IsTextError};
+ghost use Rattle.otp_files.specs.Texts.{IsTextError};
 ghost use Rattle.otp_files.specs.declared.error.FileError.TheVariants.{Memory as refused};
 
 use crate::error::FileError;

@@ -1,7 +1,8 @@
 // Release resource files.
-ghost use Rattle.std.specs.Prelude.{◌≡◌, ◌⊎◌, IfOk, MatchOption, MatchResult, None, Some};
+ghost use Rattle.std.specs.Prelude.{◌≡◌, ◌⊎◌, IfOk, MatchResult};
 ghost use Rattle.erl_term.specs.Term.{tree};
-ghost use Rattle.otp_files.specs.Reading.{erts_of, rel_of, title_of};
+ghost use Rattle.otp_files.specs.Reading.{erts_of, rel_of};
+ghost use Rattle.otp_files.specs.Rels.{IsRel, RelRefused};
 ghost use Rattle.otp_files.specs.Texts.{IsFile, IsFileError};
 ghost use Rattle.otp_files.specs.declared.error.FileError.TheVariants.{Memory as refused};
 
@@ -11,9 +12,9 @@ use crate::applications::Applications;
 use crate::error::FileError;
 use crate::one_term::{read_one, with_memory};
 use crate::release_name::ReleaseName;
-use crate::words::as_word;
+use crate::words::is_word;
 use apps::apps_of;
-use erl_term::{Term, four, two};
+use erl_term::{FromTerm, Term, four, two};
 use low_instructions::Version;
 use std::alloc::{AllocError, Global};
 use values::{Duplicate, Same};
@@ -24,7 +25,7 @@ pub struct RelSpec {
     /// The release's name.
     pub name: ReleaseName,
     /// Its version.
-    pub version: Version,
+    pub vsn: Version,
     /// The version of the runtime system.
     pub erts: Version,
     /// Its applications.
@@ -38,10 +39,12 @@ pub struct RelSpec {
 /// What is wrong, by the order of [`FileError`]: `Text`, `NoTerm`, `ManyTerms`, `Shape` (4 where an application stands
 /// twice); `Memory` where memory is refused.
 pub fn read_rel(alloc: Global, text: &[u8]) -> Result<RelSpec, FileError>
-    ensures { MatchResult result (λ rel. IsFile rel_of text.now rel) (λ e. (e ≡ refused) ⊎ IsFileError rel_of text.now e) }
+    ensures { MatchResult result (λ rel. IsFile IsRel text.now rel) (λ e. (e ≡ refused) ⊎ IsFileError RelRefused text.now e) }
 {
-    let term = read_one(alloc, text)?;
-    with_memory(rel_from_term(alloc, &term))
+    match read_one(alloc, text) {
+        Ok(term) => with_memory(rel_from_term(alloc, &term)),
+        Err(error) => Err(error),
+    }
 }
 
 /// What a term says as a release resource file.
@@ -55,10 +58,10 @@ fn rel_from_term(alloc: Global, term: &Term) -> Result<Result<RelSpec, FileError
     let Some((word, title, erts, apps)) = four(row.as_slice()) else {
         return Ok(Err(FileError::Shape(0)));
     };
-    let Some(_) = as_word(word, "release") else {
+    if !is_word(word, "release") {
         return Ok(Err(FileError::Shape(1)));
-    };
-    let Some((name, version)) = title_of(alloc, title)? else {
+    }
+    let Some((name, vsn)) = <(ReleaseName, Version)>::from_term(alloc, title)? else {
         return Ok(Err(FileError::Shape(2)));
     };
     let Some(erts) = erts_of(alloc, erts)? else {
@@ -69,30 +72,10 @@ fn rel_from_term(alloc: Global, term: &Term) -> Result<Result<RelSpec, FileError
     };
     Ok(Ok(RelSpec {
         name,
-        version,
+        vsn,
         erts,
         apps,
     }))
-}
-
-/// The name and the version of a term that is `{Name,Vsn}`.
-fn title_of(alloc: Global, term: &Term) -> Result<Option<(ReleaseName, Version)>, AllocError>
-    ensures { IfOk result (λ found. MatchOption found (title_of (tree term.now) ≡ None)
-        (λ title. title_of (tree term.now) ≡ Some (title.0, title.1))) }
-{
-    let Some(row) = term.as_tuple() else {
-        return Ok(None);
-    };
-    let Some((name, version)) = two(row.as_slice()) else {
-        return Ok(None);
-    };
-    let Some(name) = ReleaseName::from_term(alloc, name)? else {
-        return Ok(None);
-    };
-    let Some(version) = Version::from_term(alloc, version)? else {
-        return Ok(None);
-    };
-    Ok(Some((name, version)))
 }
 
 /// The version of a term that is `{erts,EVsn}`.
@@ -102,19 +85,19 @@ fn erts_of(alloc: Global, term: &Term) -> Result<Option<Version>, AllocError>
     let Some(row) = term.as_tuple() else {
         return Ok(None);
     };
-    let Some((word, version)) = two(row.as_slice()) else {
+    let Some((word, vsn)) = two(row.as_slice()) else {
         return Ok(None);
     };
-    let Some(_) = as_word(word, "erts") else {
+    if !is_word(word, "erts") {
         return Ok(None);
-    };
-    Version::from_term(alloc, version)
+    }
+    Version::from_term(alloc, vsn)
 }
 
 impl Same for RelSpec {
     fn same(&self, other: &RelSpec) -> bool {
         self.name.same(&other.name)
-            && self.version.same(&other.version)
+            && self.vsn.same(&other.vsn)
             && self.erts.same(&other.erts)
             && self.apps.same(&other.apps)
     }
@@ -124,7 +107,7 @@ impl Duplicate for RelSpec {
     fn copy(&self, alloc: Global) -> Result<RelSpec, AllocError> {
         Ok(RelSpec {
             name: self.name.copy(alloc)?,
-            version: self.version.copy(alloc)?,
+            vsn: self.vsn.copy(alloc)?,
             erts: self.erts.copy(alloc)?,
             apps: self.apps.copy(alloc)?,
         })

@@ -2,9 +2,8 @@
 ghost use Rattle.std.specs.Prelude.{◌≡◌, IfOk};
 ghost use Rattle.std.specs.Str.{chars};
 ghost use Rattle.erl_term.specs.Accessors.{string_of};
-ghost use Rattle.erl_term.specs.Term.{tree};
 
-use erl_term::{Term, string};
+use erl_term::{FromTerm, Term, string};
 use std::alloc::{AllocError, Global};
 use std::marker::Model;
 use values::{Duplicate, Same};
@@ -37,25 +36,22 @@ impl ReleaseName {
         Ok(ReleaseName { text })
     }
 
-    /// The name that a term is, if it is a string.
-    ///
-    /// # Errors
-    ///
-    /// `AllocError` where memory is refused.
-    pub(crate) fn from_term(alloc: Global, term: &Term) -> Result<Option<ReleaseName>, AllocError>
-        ensures { IfOk result (λ found. found ≡ string_of (tree term.now)) }
-    {
-        match string(alloc, term)? {
-            Some(text) => Ok(Some(ReleaseName { text })),
-            None => Ok(None),
-        }
-    }
-
     /// The name's characters. Takes no memory.
     pub fn as_str(&self) -> &str
         ensures { chars result.now ≡ self.now }
     {
         String::as_str(&self.text)
+    }
+}
+
+impl FromTerm for ReleaseName {
+    ghost reading = { string_of };
+
+    fn from_term(alloc: Global, term: &Term) -> Result<Option<ReleaseName>, AllocError> {
+        match string(alloc, term)? {
+            Some(text) => Ok(Some(ReleaseName { text })),
+            None => Ok(None),
+        }
     }
 }
 

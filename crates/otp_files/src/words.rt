@@ -1,17 +1,18 @@
 // Words of the notation's own.
-ghost use Rattle.std.specs.Prelude.{◌≡◌, IsTrue, MatchOption, None, Some};
+ghost use Rattle.std.specs.Prelude.{◌≡◌, IsTrue, None, Some, if◌then◌else◌};
 ghost use Rattle.erl_term.specs.Ascii.{is_ascii_text};
 ghost use Rattle.erl_term.specs.Term.{tree};
 ghost use Rattle.otp_files.specs.Reading.{word_of};
 
-use erl_term::{Atom, Term};
+use erl_term::Term;
 
-/// The atom that a term is, if it is this word.
-pub(crate) fn as_word<'a>(term: &'a Term, word: &str) -> Option<&'a Atom>
+/// Whether a term is this atom.
+pub(crate) fn is_word(term: &Term, word: &str) -> bool
     requires { IsTrue (is_ascii_text word.now) }
-    ensures { MatchOption result (word_of word.now (tree term.now) ≡ None)
-        (λ a. word_of word.now (tree term.now) ≡ Some a.now) }
+    ensures { word_of word.now (tree term.now) ≡ (if result then Some tt else None) }
 {
-    let atom = term.as_atom()?;
-    if atom.is(word) { Some(atom) } else { None }
+    match term.as_atom() {
+        Some(atom) => atom.is(word),
+        None => false,
+    }
 }

@@ -1,19 +1,19 @@
 // The keys of an application resource file that are used.
 ghost use Rattle.std.specs.Prelude.{◌≡◌, Option, IfOk, IsTrue, MatchOption, None, Some};
 ghost use Rattle.erl_term.specs.Ascii.{is_ascii_text};
-ghost use Rattle.erl_term.specs.Accessors.{all_of};
+ghost use Rattle.erl_term.specs.Accessors.{all_of, atom_of};
+ghost use Rattle.erl_term.specs.Conversions.{given, rows_of};
 ghost use Rattle.erl_term.specs.Term.{tree, trees};
 ghost use Rattle.erl_term.specs.Tree.{Tree};
-ghost use Rattle.low_instructions.specs.Reading.{given, names_of, version_of};
-ghost use Rattle.otp_files.specs.Reading.{each_of, property_of, start_of};
-ghost use Rattle.otp_files.specs.Shapes.{values_of};
-ghost use Rattle.otp_files.specs.UsedKeys.{used_meant, used_told};
+ghost use Rattle.low_instructions.specs.Reading.{version_of};
+ghost use Rattle.otp_files.specs.Apps.{values_of};
+ghost use Rattle.otp_files.specs.Reading.{property_of, start_of, used_of};
 
 use super::StartModule;
-use erl_term::{Atom, Term, two};
-use low_instructions::{Version, names};
+use erl_term::{Atom, FromTerm, Term, two};
+use low_instructions::Version;
 use std::alloc::{AllocError, Global};
-use values::{Duplicate, Row};
+use values::Row;
 
 /// What stands under the keys that are used, in order.
 #[derive(Drop)]
@@ -46,25 +46,32 @@ impl FromValue for Version {
 }
 
 impl FromValue for Row<Atom> {
-    ghost reading = { names_of };
+    ghost reading = { rows_of atom_of };
 
     fn from_value(alloc: Global, term: &Term) -> Result<Option<Row<Atom>>, AllocError> {
-        names(alloc, term)
+        Row::from_term(alloc, term)
     }
 }
 
+/// A callback module, `{M,Args}`, or none, `[]`.
 impl FromValue for Option<StartModule> {
     ghost reading = { start_of };
 
     fn from_value(alloc: Global, term: &Term) -> Result<Option<Option<StartModule>>, AllocError> {
-        start(alloc, term)
+        if let Some(row) = term.as_list() {
+            return Ok(if row.is_empty() { Some(None) } else { None });
+        }
+        match <(Atom, Term)>::from_term(alloc, term)? {
+            Some((name, arguments)) => Ok(Some(Some(StartModule { name, arguments }))),
+            None => Ok(None),
+        }
     }
 }
 
-/// What stands under the keys that are used, if a term is a list of properties and these are well formed.
+/// What stands under the keys that are used, if a term is a list of properties, these are
+/// well formed, and a version is among them.
 pub(crate) fn used_of(alloc: Global, term: &Term) -> Result<Option<Used>, AllocError>
-    ensures { IfOk result (λ found. MatchOption found (used_told (tree term.now) ≡ None)
-        (λ u. used_told (tree term.now) ≡ Some (used_meant u))) }
+    ensures { IfOk result (λ found. found ≡ used_of (tree term.now)) }
 {
     let Some(row) = term.as_list() else {
         return Ok(None);
@@ -82,6 +89,9 @@ pub(crate) fn used_of(alloc: Global, term: &Term) -> Result<Option<Used>, AllocE
     let Some(starts) = all_under(alloc, row, "mod")? else {
         return Ok(None);
     };
+    if versions.as_slice().is_empty() {
+        return Ok(None);
+    }
     Ok(Some(Used {
         versions,
         modules,
@@ -97,7 +107,7 @@ fn all_under<T: FromValue>(
     key: &str,
 ) -> Result<Option<Row<T>>, AllocError>
     requires { IsTrue (is_ascii_text key.now) }
-    ensures { IfOk result (λ found. found ≡ given (all_of property_of (trees row.now)) (λ ps. each_of T.reading (values_of key.now ps))) }
+    ensures { IfOk result (λ found. found ≡ given (all_of property_of (trees row.now)) (λ ps. all_of T.reading (values_of key.now ps))) }
 {
     let mut values = Vec::new(alloc);
     for term in row {
@@ -121,20 +131,4 @@ fn property(term: &Term) -> Option<(&Atom, &Term)>
 {
     let (key, value) = two(term.as_tuple()?.as_slice())?;
     Some((key.as_atom()?, value))
-}
-
-/// The callback module that a term names, `{M,Args}`, or none, `[]`.
-fn start(alloc: Global, term: &Term) -> Result<Option<Option<StartModule>>, AllocError>
-    ensures { IfOk result (λ found. found ≡ start_of (tree term.now)) }
-{
-    if let Some(row) = term.as_list() {
-        return Ok(if row.is_empty() { Some(None) } else { None });
-    }
-    let Some((name, arguments)) = property(term) else {
-        return Ok(None);
-    };
-    Ok(Some(Some(StartModule {
-        name: name.copy(alloc)?,
-        arguments: arguments.copy(alloc)?,
-    })))
 }

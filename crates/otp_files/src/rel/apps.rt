@@ -2,12 +2,12 @@
 ghost use Rattle.std.specs.Prelude.{◌≡◌, IfOk};
 ghost use Rattle.erl_term.specs.Term.{tree, trees};
 ghost use Rattle.erl_term.specs.Tree.{more, none};
-ghost use Rattle.otp_files.specs.Reading.{rel_app_behind, rel_app_of, rel_apps_of};
+ghost use Rattle.otp_files.specs.Reading.{rel_app_with, rel_app_of, rel_apps_of};
 
 use crate::applications::{Applications, RelApp};
 use erl_term::{Atom, FromTerm, Term, first, one, two};
 use high_instructions::StartType;
-use low_instructions::{Version, names};
+use low_instructions::Version;
 use std::alloc::{AllocError, Global};
 use values::{Duplicate, Row};
 
@@ -29,82 +29,82 @@ impl FromTerm for RelApp {
         let Some(row) = term.as_tuple() else {
             return Ok(None);
         };
-        let Some((name, behind)) = first(row.as_slice()) else {
+        let Some((name, rest)) = first(row.as_slice()) else {
             return Ok(None);
         };
         let Some(name) = name.as_atom() else {
             return Ok(None);
         };
-        let Some((version, behind)) = first(behind) else {
+        let Some((vsn, rest)) = first(rest) else {
             return Ok(None);
         };
-        let Some(version) = Version::from_term(alloc, version)? else {
+        let Some(vsn) = Version::from_term(alloc, vsn)? else {
             return Ok(None);
         };
-        app_behind(alloc, name.copy(alloc)?, version, behind)
+        app_with(alloc, name.copy(alloc)?, vsn, rest)
     }
 }
 
 /// The application of a name, a version and what stands behind them.
-fn app_behind(
+fn app_with(
     alloc: Global,
     name: Atom,
-    version: Version,
-    behind: &[Term],
+    vsn: Version,
+    rest: &[Term],
 ) -> Result<Option<RelApp>, AllocError>
-    ensures { IfOk result (λ found. found ≡ rel_app_behind name version (trees behind.now)) }
+    ensures { IfOk result (λ found. found ≡ rel_app_with name vsn (trees rest.now)) }
 {
-    if behind.is_empty() {
+    if rest.is_empty() {
         return Ok(Some(RelApp {
             name,
-            version,
+            vsn,
             start_type: StartType::Permanent,
             included: None,
         }));
     }
-    if let Some(term) = one(behind) {
-        return app_behind_one(alloc, name, version, term);
+    if let Some(term) = one(rest) {
+        return app_of_one(alloc, name, vsn, term);
     }
-    let Some((start_type, included)) = two(behind) else {
+    let Some((start_type, included)) = two(rest) else {
         return Ok(None);
     };
     let Some(start_type) = StartType::from_term(start_type) else {
         return Ok(None);
     };
-    let Some(included) = names(alloc, included)? else {
+    let Some(included) = Row::from_term(alloc, included)? else {
         return Ok(None);
     };
     Ok(Some(RelApp {
         name,
-        version,
+        vsn,
         start_type,
         included: Some(included),
     }))
 }
 
 /// The application of a name, a version and the one term behind them: its type, or what it includes.
-fn app_behind_one(
+fn app_of_one(
     alloc: Global,
     name: Atom,
-    version: Version,
+    vsn: Version,
     term: &Term,
 ) -> Result<Option<RelApp>, AllocError>
-    ensures { IfOk result (λ found. found ≡ rel_app_behind name version (more (tree term.now) none)) }
+    ensures { IfOk result (λ found. found ≡ rel_app_with name vsn (more (tree term.now) none)) }
 {
     if let Some(start_type) = StartType::from_term(term) {
         return Ok(Some(RelApp {
             name,
-            version,
+            vsn,
             start_type,
             included: None,
         }));
     }
-    let Some(included) = names(alloc, term)? else {
+    let Some(included) = Row::from_term(alloc, term)? else {
         return Ok(None);
     };
     Ok(Some(RelApp {
         name,
-        version,
+        vsn,
         start_type: StartType::Permanent,
         included: Some(included),
     }))
