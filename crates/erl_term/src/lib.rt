@@ -21,15 +21,16 @@
 //!   does and the term is nested at most 256 deep: the crate `erl_consult` proves that its text is then read back.
 //! - The accessors ([`Term::as_int`] and its neighbours, [`first`], [`one`] to [`four`], [`string`],
 //!   [`character`]) answer exactly where the term is what they read, and with exactly that.
-//! - A list is read as a row of values exactly where each element is one, and a row is written as the list of what is
-//!   written of each ([`FromTerm`] and [`ToTerm`], which crates above give their values too).
+//! - A list is read as a row of values exactly where each element is one, a tuple of two or three as values likewise;
+//!   a row is written as the list of what is written of each, and so are two or three values as a tuple ([`FromTerm`] and
+//!   [`ToTerm`], which crates above give their values too).
 //!
 //! # What no contract says
 //!
 //! That there is memory, and what a call costs. A copy of a term, a row or an atom, [`Terms::rest`], and what is asked of
 //! depth and size take the same time and no memory but a count, whatever the term; but for a `rest` that goes past the
-//! last of a row's deepest terms, which copies what is left, each term by sharing. A row is made in the time of its own
-//! terms. Comparing, ordering and printing are linear in the terms; `print` builds the text before it appends it. So a
+//! last of a row's deepest terms, or past more than can be counted ([`Terms::rest`]), which copies what is left, each
+//! term by sharing. A row is made in the time of its own terms. Comparing, ordering and printing are linear in the terms; `print` builds the text before it appends it. So a
 //! `rest` that never shares and a row that keeps room that it does not need would be proved too; `bench/terms/measure`
 //! sees them.
 //!

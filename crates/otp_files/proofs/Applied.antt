@@ -1,6 +1,6 @@
 -- Application resource files: a term says one, or is refused.
 use Rattle.std.proofs.Common.{◌≡◌, ◌⊎◌, ℕ, ◌≤◌, Bool, true, false, List, [], ◌∷◌, length, Option, Some, None, option_map, Result, Ok, Err, refl, sym, ap, subst, ◌∙◌, inl, inr, true≢false, arith}
-use Rattle.std.specs.Prelude.{⊤, codes, if◌then◌else◌, ◌||◌}
+use Rattle.std.specs.Prelude.{codes, if◌then◌else◌, ◌||◌}
 use Rattle.std.proofs.lemmas.Option.{same_Some}
 use Rattle.erl_term.specs.Accessors.{all_of, atom_of, list_of}
 use Rattle.erl_term.specs.Conversions.{given, pair_of, rows_of}
@@ -13,8 +13,8 @@ use Rattle.otp_files.specs.declared.app.AppSpec.{AppSpec}
 use Rattle.otp_files.specs.declared.app.StartModule.{StartModule}
 use Rattle.otp_files.specs.declared.app.used.Used.{Used}
 use Rattle.otp_files.specs.declared.error.FileError.{FileError}
-use Rattle.otp_files.specs.declared.error.FileError.TheVariants.{DuplicateKey, Shape}
-use Rattle.otp_files.specs.Apps.{AppRefused, AreProperties, HasAppParts, IsApp, IsOnly, IsProperty, IsStart, Property, StandsTwice, misshapen, twice, values_of}
+use Rattle.otp_files.specs.declared.error.FileError.TheVariants.{DuplicateKey}
+use Rattle.otp_files.specs.Apps.{AppRefused, AreProperties, HasAppParts, IsApp, IsOnly, IsProperty, IsStart, StandsTwice, misshapen, twice, values_of}
 use Rattle.otp_files.specs.Parts.{IsAny, IsListOf, IsName, IsPair, IsVersion, IsWord}
 use Rattle.otp_files.specs.Reading.{after, app_of, app_with, element, first_in, has_duplicate, is_repeated, no_start_of, only, property_of, start_of, start_pair_of, used_in, used_of, versioned, word_of}
 use Rattle.otp_files.proofs.Sayings.{Reads, any_reads, each_back, each_found, name_reads, pair_reads, rows_reads, value_reads, version_reads, word_reads}

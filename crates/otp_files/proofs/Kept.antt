@@ -4,8 +4,6 @@ use Rattle.std.specs.List.{All}
 use Rattle.std.proofs.lemmas.List.Elements.{All-head, All-tail}
 use Rattle.erl_term.specs.declared.term.Term.{Term}
 use Rattle.erl_term.specs.Conversions.{rows}
-use Rattle.erl_term.specs.Term.{tree}
-use Rattle.erl_term.specs.Tree.{Tree}
 use Rattle.low_instructions.specs.declared.low.Low.{Low}
 use Rattle.low_instructions.specs.Forms.{low_tree, printed}
 use Rattle.low_instructions.specs.Laws.{is_low}

@@ -8,7 +8,7 @@ use Rattle.low_instructions.specs.declared.fault.InstructionFault.{InstructionFa
 use Rattle.low_instructions.specs.declared.fault.InstructionFault.TheVariants.{Bad, OutOfProfile}
 use Rattle.otp_files.specs.declared.error.FileError.{FileError}
 use Rattle.otp_files.specs.declared.error.FileError.TheVariants.{BadInstruction, OutOfProfile as Excluded}
-use Rattle.otp_files.specs.Reading.{after, count_in, entries_from, entry_of, fault_at, numbered, script_from}
+use Rattle.otp_files.specs.Reading.{after, entries_from, entry_of, fault_at, numbered, script_from}
 use Rattle.otp_files.specs.Upgrades.{saturated}
 use Rattle.otp_files.specs.declared.upgrade.Entry.{Entry}
 use Rattle.otp_files.specs.declared.upgrade.drafts.Draft.{Draft}

@@ -3,7 +3,7 @@ use Rattle.std.proofs.Common.{ℕ, List, ◌++◌, Option, Some}
 use Rattle.erl_term.specs.Accessors.{all_of}
 use Rattle.erl_term.specs.Conversions.{given}
 use Rattle.erl_term.specs.Tree.{Tree, Trees}
-use Rattle.otp_files.specs.Apps.{Property, values_of}
+use Rattle.otp_files.specs.Apps.{values_of}
 use Rattle.otp_files.specs.Reading.{property_of}
 
 abbrev pub under : {A : Type 0} → (Tree → Option A) → List ℕ → Trees → List A → Option (List A)

@@ -1,11 +1,11 @@
 -- Release resource files: a term says one, or is refused.
-use Rattle.std.proofs.Common.{◌≡◌, ℕ, ◌+◌, pos, negsuc, true, List, [], ◌∷◌, length, Option, Some, None, option_map, Result, Ok, Err, refl, sym, ap, subst, ◌∙◌, inl, inr, arith}
+use Rattle.std.proofs.Common.{◌≡◌, ℕ, pos, negsuc, true, List, [], ◌∷◌, length, Option, Some, None, option_map, Result, Ok, Err, refl, sym, ap, subst, ◌∙◌, inl, inr, arith}
 use Rattle.std.specs.Prelude.{⊤, codes, if◌then◌else◌}
 use Rattle.std.specs.List.{list_all}
 use Rattle.std.proofs.lemmas.Bool.{and_parts}
 use Rattle.std.proofs.lemmas.Option.{same_Some}
 use Rattle.erl_term.specs.Accessors.{all_of, atom_of, char_of, first_of, four_of, list_of, one_of, string_of, three_of, tuple_of, two_of}
-use Rattle.erl_term.specs.Conversions.{given, pair_of, row, rows_of}
+use Rattle.erl_term.specs.Conversions.{given, row, rows_of}
 use Rattle.erl_term.specs.Rows.{integers}
 use Rattle.erl_term.specs.Tree.{Tree, Trees, atom, int, list, more, none, pid, tuple}
 use Rattle.low_instructions.specs.Reading.{either_of, version_of}

@@ -1,5 +1,5 @@
 -- Readers that find what terms say, and nothing else.
-use Rattle.std.proofs.Common.{◌≡◌, ℕ, true, List, [], ◌∷◌, Option, Some, None, option_map, refl, sym, ap, subst, ◌∙◌}
+use Rattle.std.proofs.Common.{◌≡◌, ℕ, List, [], ◌∷◌, Option, Some, None, option_map, refl, sym, ap, subst, ◌∙◌}
 use Rattle.std.specs.Prelude.{⊤, if◌then◌else◌}
 use Rattle.std.specs.Str.{bytes_eq}
 use Rattle.std.proofs.lemmas.Option.{same_Some}
@@ -7,7 +7,7 @@ use Rattle.std.proofs.lemmas.Slice.Eq.{bytes_eq-Decides}
 use Rattle.erl_term.specs.Accessors.{all_of, atom_of, list_of, three_of, tuple_of, two_of}
 use Rattle.erl_term.specs.Conversions.{given, pair_of, rows_of, triple_of}
 use Rattle.erl_term.specs.Term.{term_of, term_of-tree, tree}
-use Rattle.erl_term.specs.Tree.{Tree, Trees, atom, list, more, none, tuple}
+use Rattle.erl_term.specs.Tree.{Tree, Trees, atom, more, none, tuple}
 use Rattle.low_instructions.specs.Reading.{version_of}
 use Rattle.low_instructions.proofs.Parts.{atom_is, choice, given_is, list_is, map_is, three_is, tuple_is, two_is}
 use Rattle.low_instructions.proofs.Found.{none_some, tree_back, version_is}

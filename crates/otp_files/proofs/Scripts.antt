@@ -5,12 +5,11 @@ use Rattle.erl_term.specs.Tree.{Tree, Trees, count, more, none}
 use Rattle.low_instructions.specs.declared.fault.InstructionFault.{InstructionFault}
 use Rattle.low_instructions.specs.declared.fault.InstructionFault.TheVariants.{Bad, OutOfProfile as Excluded}
 use Rattle.otp_files.specs.declared.error.FileError.{FileError}
-use Rattle.otp_files.specs.declared.error.FileError.TheVariants.{BadInstruction, OutOfProfile}
 use Rattle.otp_files.specs.declared.upgrade.Entry.{Entry}
 use Rattle.otp_files.specs.declared.upgrade.drafts.Draft.{Draft}
 use Rattle.otp_files.specs.Parts.{Each, Says}
 use Rattle.otp_files.specs.Reading.{after, count_in, entries_from, entry_of, numbered, script_from}
-use Rattle.otp_files.specs.Upgrades.{AreEntries, IsEntry, IsFaultAt, IsFirstWrong, instructions_in, saturated, terms_in}
+use Rattle.otp_files.specs.Upgrades.{AreEntries, IsEntry, IsFaultAt, IsFirstWrong, instructions_in, terms_in}
 
 -- what is read of a term as an instruction is what it is
 abbrev pub Told : {I : Type 0} → (Tree → I → Type 0) → (Tree → Type 0) → Tree → Result I InstructionFault → Type 0

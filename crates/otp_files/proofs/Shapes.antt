@@ -1,8 +1,8 @@
 -- The parts of a file, read one after the other: the first that is wrong is told, and where none is the file is made of them.
-use Rattle.std.proofs.Common.{◌≡◌, ℕ, ◌+◌, List, [], ◌∷◌, length, Option, Some, None, Result, Ok, Err, refl, sym, ap, subst, ◌∙◌, inl, inr, arith}
-use Rattle.erl_term.specs.Accessors.{four_of, three_of, tuple_of}
+use Rattle.std.proofs.Common.{◌≡◌, ℕ, List, [], ◌∷◌, length, Option, Some, None, Result, Err, refl, sym, ap, subst, ◌∙◌, inl, inr, arith}
+use Rattle.erl_term.specs.Accessors.{three_of, tuple_of}
 use Rattle.erl_term.specs.Conversions.{given, row}
-use Rattle.erl_term.specs.Tree.{Tree, Trees, tuple}
+use Rattle.erl_term.specs.Tree.{Tree, tuple}
 use Rattle.low_instructions.proofs.Parts.{given_is, three_is, tuple_is}
 use Rattle.low_instructions.proofs.Found.{none_some}
 use Rattle.otp_files.specs.declared.error.FileError.{FileError}

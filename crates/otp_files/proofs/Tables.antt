@@ -1,7 +1,6 @@
 -- The instructions of a file, as the tables of their forms tell them.
-use Rattle.std.proofs.Common.{◌≡◌, ◌⊎◌, ℕ, Bool, true, false, List, Result, Ok, Err, refl, sym, ap, subst, ◌∙◌, inl, inr, true≢false}
+use Rattle.std.proofs.Common.{◌≡◌, ℕ, true, List, Result, Ok, Err, refl, sym, ap, subst, ◌∙◌, inl, inr, true≢false}
 use Rattle.std.specs.Prelude.{codes, if◌then◌else◌}
-use Rattle.std.specs.Str.{bytes_eq}
 use Rattle.std.proofs.lemmas.Slice.Eq.{bytes_eq-Decides}
 use Rattle.erl_term.specs.Tree.{Tree, Trees, atom, int, list, more, none, pid, tuple}
 use Rattle.low_instructions.specs.declared.fault.InstructionFault.{InstructionFault}
@@ -11,10 +10,8 @@ use Rattle.low_instructions.specs.Forms.{is_out_of_profile, is_restart}
 use Rattle.low_instructions.specs.Laws.{LowReads, LowTable}
 use Rattle.low_instructions.specs.Reading.{low_or_bad, low_of, low_result, names_of, purge_of, timeout_of}
 use Rattle.high_instructions.specs.declared.instruction.Instruction.{Instruction}
-use Rattle.high_instructions.specs.Forms.{IsSupervisorUpdate}
 use Rattle.high_instructions.specs.Laws.{InstructionReads, InstructionTable}
-use Rattle.high_instructions.specs.Reading.{high_of, instruction_result, is_supervisor_update, of_high, of_low, some_update_of, update_purging_of, update_timed_of, update_whole_of}
-use Rattle.otp_files.specs.Parts.{Says}
+use Rattle.high_instructions.specs.Reading.{high_of, instruction_result, is_supervisor_update, of_low, some_update_of, update_purging_of, update_timed_of, update_whole_of}
 use Rattle.otp_files.specs.Upgrades.{IsAppupInstruction, IsOutOfAppups, IsOutOfRelups, IsRelupInstruction}
 use Rattle.otp_files.proofs.Scripts.{Tells, Told}
 

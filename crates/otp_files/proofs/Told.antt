@@ -1,5 +1,5 @@
 -- What is told of a text that is not read, as data.
-use Rattle.std.proofs.Common.{◌≡◌, ◌⊎◌, ℕ, List, refl, sym, ap, subst, ◌∙◌, inl, inr}
+use Rattle.std.proofs.Common.{◌≡◌, ◌⊎◌, ℕ, List, inl, inr}
 use Rattle.erl_scan.specs.declared.error.Fault.TheVariants.{Memory as no_memory}
 use Rattle.erl_scan.specs.declared.error.ReadError.{ReadError}
 use Rattle.erl_consult.specs.Faults.{IsRefused}

@@ -1,6 +1,6 @@
 -- Appups and relups: a term says one, or is refused.
 use Rattle.std.specs.Prelude.{⊤}
-use Rattle.std.proofs.Common.{◌≡◌, ℕ, List, ◌∷◌, ◌++◌, Option, Some, Result, Ok, Err, refl, sym, ap, subst, ◌∙◌, inl, inr, option_map}
+use Rattle.std.proofs.Common.{◌≡◌, ℕ, List, Option, Some, Result, Ok, Err, refl, sym, ap, subst, ◌∙◌, inl, inr, option_map}
 use Rattle.erl_term.specs.declared.term.Term.{Term}
 use Rattle.erl_term.specs.Accessors.{list_of}
 use Rattle.erl_term.specs.Conversions.{pair_of, rows_of, triple_of}
@@ -10,16 +10,15 @@ use Rattle.low_instructions.specs.declared.fault.InstructionFault.{InstructionFa
 use Rattle.low_instructions.specs.Reading.{version_of}
 use Rattle.low_instructions.proofs.Parts.{map_is}
 use Rattle.otp_files.specs.declared.error.FileError.{FileError}
-use Rattle.otp_files.specs.declared.error.FileError.TheVariants.{Shape}
 use Rattle.otp_files.specs.declared.upgrade.Entry.{Entry}
 use Rattle.otp_files.specs.declared.upgrade.Upgrades.{Upgrades}
 use Rattle.otp_files.specs.declared.upgrade.drafts.Draft.{Draft}
 use Rattle.otp_files.specs.Parts.{IsAny, IsList, IsListOf, IsPair, IsTriple, IsVersion, Says}
 use Rattle.otp_files.specs.Reading.{after, appup_draft_of, count_in, entries_from, relup_draft_of, upgrades_of, upgrades_with}
-use Rattle.otp_files.specs.Upgrades.{AreEntries, AreUpgrades, HasUpgradeParts, IsAppupDraft, IsFirstWrong, IsRelupDraft, UpgradesRefused, instruction, instructions_in, misshapen, upgrade_parts}
+use Rattle.otp_files.specs.Upgrades.{AreEntries, AreUpgrades, HasUpgradeParts, IsAppupDraft, IsFirstWrong, IsRelupDraft, UpgradesRefused, instruction, instructions_in, misshapen}
 use Rattle.otp_files.proofs.Sayings.{Reads, any_reads, list_reads, pair_reads, rows_reads, triple_reads, version_reads}
 use Rattle.otp_files.proofs.Scripts.{Judges, Tells, down_wrong, entries_done, entries_judged, then_judged, up_wrong, ups_or_downs}
-use Rattle.otp_files.proofs.Shapes.{of_three, three_done, three_judged, three_misshapen}
+use Rattle.otp_files.proofs.Shapes.{three_done, three_judged, three_misshapen}
 
 -- Drafts
 

@@ -7,7 +7,8 @@ use Rattle.otp_files.specs.declared.app.StartModule.{StartModule}
 use Rattle.otp_files.specs.declared.app.used.Used.{Used}
 use Rattle.otp_files.specs.declared.error.FileError.{FileError}
 use Rattle.otp_files.specs.declared.error.FileError.TheVariants.{Shape, DuplicateKey}
-use Rattle.otp_files.specs.Parts.{Each, IsAny, IsListOf, IsMisshapen, IsName, IsPair, IsTriple, IsVersion, IsWord, Parts, Says, end, part}
+use Rattle.otp_files.specs.Parts.{Each, IsAny, IsListOf, IsMisshapen, IsName, IsPair, IsTriple}
+use Rattle.otp_files.specs.Parts.{IsVersion, IsWord, Parts, Says, end, part}
 
 -- `{Key,Value}`
 abbrev pub Property : Type 0

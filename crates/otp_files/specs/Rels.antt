@@ -1,5 +1,5 @@
 -- Release resource files: which term says which, and what is wrong with one that says none (rel(4)).
-use Rattle.std.specs.Prelude.{◌≡◌, ◌⊎◌, ℕ, nat_le, Bool, true, ◌&&◌, ◌||◌, List, [], ◌∷◌, codes, Some, None}
+use Rattle.std.specs.Prelude.{◌≡◌, ℕ, nat_le, Bool, true, ◌&&◌, ◌||◌, List, [], ◌∷◌, codes, Some, None}
 use Rattle.std.specs.List.{list_all}
 use Rattle.erl_term.specs.Conversions.{row}
 use Rattle.erl_term.specs.Tree.{Tree, atom, tuple}

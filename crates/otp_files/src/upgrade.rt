@@ -7,10 +7,9 @@ mod drafts;
 mod reading;
 
 use low_instructions::Version;
+pub(crate) use reading::upgrades_from_term;
 use std::alloc::{AllocError, Global};
 use values::{Duplicate, Row, Same};
-
-pub(crate) use reading::upgrades_from_term;
 
 /// An entry of an appup or of a relup.
 #[derive(Drop)]

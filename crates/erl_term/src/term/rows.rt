@@ -81,8 +81,9 @@ impl Terms {
     }
 
     /// The row behind the first term, as the BIF `tl/1` gives it of a list; of an empty row an empty row. It shares what
-    /// it holds with this one, and takes no memory, but where the first term is the last that is as deep as it: the
-    /// terms behind are then copied into a row of their own, each by sharing.
+    /// it holds with this one, and takes no memory, but where the first term is the last that is as deep as it, or the
+    /// terms passed so far are `2^32` or more or have that size together, or the size of all is `2^64 - 1`: the terms
+    /// behind are then copied into a row of their own, each by sharing.
     ///
     /// # Errors
     ///

@@ -12,7 +12,6 @@ returns-in-Text c = λ told.
       | inr wrong ↦ inr (told_appup AppupRefused bytes c.in-Text.error _ c.text_error.result (c.texts_read_one_way.ensures bytes) c.in-Text.is wrong c.text_error.ensures)
     ]
 
-
 pub returns-in_default : goal.returns-in_default
 returns-in_default c = λ told.
     let bytes = c.args.text.now in

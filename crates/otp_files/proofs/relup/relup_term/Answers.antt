@@ -1,7 +1,6 @@
 -- The written parts say the relup.
-use Rattle.std.proofs.Common.{◌≡◌, IfOk, subst, sym}
-use Rattle.erl_term.specs.Term.{tree}
-use Rattle.otp_files.specs.Upgrades.{IsRelup, relup_tree}
+use Rattle.std.proofs.Common.{subst, sym}
+use Rattle.otp_files.specs.Upgrades.{IsRelup}
 use Rattle.otp_files.proofs.Kept.{relup_kept, with_both}
 use Rattle.otp_files.proofs.relup.relup_term.Goals as goal
 

@@ -1,7 +1,6 @@
 -- Each turn counts the instructions of one entry more.
 use Rattle.std.proofs.Common.{◌≡◌, ◌+◌, ◌∷◌, length, drop, sym, ap, ◌∙◌, arith}
 use Rattle.std.proofs.lemmas.List.{drop_more, drop_all}
-use Rattle.erl_term.specs.Tree.{count}
 use Rattle.otp_files.specs.Reading.{count_in}
 use Rattle.otp_files.specs.Upgrades.{saturated}
 use Rattle.otp_files.proofs.Numbers.{count_step, counted}
