@@ -61,18 +61,18 @@ record IsRelApp (t : Tree) (app : RelApp) : Type 0 where
   pub form : RelAppForm
   pub is : t ≡ rel_app_tree form
   pub means : app ≡ rel_app_meant form
-  pub proper : is_version app.version ≡ true
+  pub proper : is_version app.vsn ≡ true
 
 -- what stands behind an application's name and version
 Behind : List ℕ → List ℕ → Trees → RelApp → Type 0
-Behind a v ts app = (form : RelAppForm) × (tuple (more (atom a) (more (string_tree v) ts)) ≡ rel_app_tree form) × (app ≡ rel_app_meant form) × (app.version ≡ v)
+Behind a v ts app = (form : RelAppForm) × (tuple (more (atom a) (more (string_tree v) ts)) ≡ rel_app_tree form) × (app ≡ rel_app_meant form) × (app.vsn ≡ v)
 
 abbrev front : List ℕ → List ℕ → Trees → Tree
 front a v ts = tuple (more (atom a) (more (string_tree v) ts))
 
 plain_is : (a v : List ℕ) (ts : Trees) (app : RelApp) → plain_of a v ts ≡ Some app → Behind a v ts app
 unfolding Behind
-plain_is a v none app e = let same = same_Some (rel_app_meant (plain a v)) app e in (plain a v, refl, sym same, ap (λ x. x.version) (sym same))
+plain_is a v none app e = let same = same_Some (rel_app_meant (plain a v)) app e in (plain a v, refl, sym same, ap (λ x. x.vsn) (sym same))
 plain_is a v (more t ts) app e = none_some app e
 
 typed_is : (a v : List ℕ) (ts : Trees) (app : RelApp) → typed_of a v ts ≡ Some app → Behind a v ts app
@@ -80,14 +80,14 @@ unfolding Behind
 typed_is a v ts app e =
     let alone = given_is (one_of ts) _ app e in
     let type = map_is _ (start_type_of alone.0) app alone.2 in
-    (typed a v type.0, ap (front a v) (one_is ts alone.0 alone.1 ∙ ap (λ t. more t none) (start_type_found alone.0 type.0 type.1)), sym type.2, ap (λ x. x.version) (sym type.2))
+    (typed a v type.0, ap (front a v) (one_is ts alone.0 alone.1 ∙ ap (λ t. more t none) (start_type_found alone.0 type.0 type.1)), sym type.2, ap (λ x. x.vsn) (sym type.2))
 
 including_is : (a v : List ℕ) (ts : Trees) (app : RelApp) → including_of a v ts ≡ Some app → Behind a v ts app
 unfolding Behind
 including_is a v ts app e =
     let alone = given_is (one_of ts) _ app e in
     let names = map_is _ (names_of alone.0) app alone.2 in
-    (including a v names.0, ap (front a v) (one_is ts alone.0 alone.1 ∙ ap (λ t. more t none) (names_are alone.0 names.0 names.1)), sym names.2, ap (λ x. x.version) (sym names.2))
+    (including a v names.0, ap (front a v) (one_is ts alone.0 alone.1 ∙ ap (λ t. more t none) (names_are alone.0 names.0 names.1)), sym names.2, ap (λ x. x.vsn) (sym names.2))
 
 typed_including_is : (a v : List ℕ) (ts : Trees) (app : RelApp) → typed_including_of a v ts ≡ Some app → Behind a v ts app
 unfolding Behind
@@ -95,7 +95,7 @@ typed_including_is a v ts app e =
     let both = given_is (two_of ts) _ app e in
     let type = given_is (start_type_of both.0.0) _ app both.2 in
     let names = map_is _ (names_of both.0.1) app type.2 in
-    (typed_including a v type.0 names.0, ap (front a v) (two_is ts both.0 both.1 ∙ two_parts both.0.0 both.0.1 _ _ (start_type_found both.0.0 type.0 type.1) (names_are both.0.1 names.0 names.1)), sym names.2, ap (λ x. x.version) (sym names.2))
+    (typed_including a v type.0 names.0, ap (front a v) (two_is ts both.0 both.1 ∙ two_parts both.0.0 both.0.1 _ _ (start_type_found both.0.0 type.0 type.1) (names_are both.0.1 names.0 names.1)), sym names.2, ap (λ x. x.vsn) (sym names.2))
 
 behind_is : (a v : List ℕ) (ts : Trees) (app : RelApp) → rel_app_behind a v ts ≡ Some app → Behind a v ts app
 behind_is a v ts app e =
@@ -137,7 +137,7 @@ pub record AreRelApps (ts : Trees) (apps : List RelApp) : Type 0 where
   pub forms : List RelAppForm
   pub are : ts ≡ rows rel_app_tree forms
   pub mean : apps ≡ map rel_app_meant forms
-  pub proper : list_all (λ app. is_version app.version) apps ≡ true
+  pub proper : list_all (λ app. is_version app.vsn) apps ≡ true
 
 pub rel_apps_are : (ts : Trees) (apps : List RelApp) → all_of rel_app_of ts ≡ Some apps → AreRelApps ts apps
 rel_apps_are none apps e =
@@ -151,13 +151,13 @@ rel_apps_are (more t ts) apps e =
       forms = one.form ∷ rest.forms;
       are = ap (λ u. more u ts) one.is ∙ ap (λ us. more (rel_app_tree one.form) us) rest.are;
       mean = ap (λ s. s ∷ others.0) one.means ∙ ap (λ us. rel_app_meant one.form ∷ us) rest.mean;
-      proper = both_true (is_version first.0.version) (list_all (λ app. is_version app.version) others.0) one.proper rest.proper;
+      proper = both_true (is_version first.0.vsn) (list_all (λ app. is_version app.vsn) others.0) one.proper rest.proper;
     })
 
 plain_back : (a v : List ℕ) → is_version v ≡ true → rel_app_of (rel_app_tree (plain a v)) ≡ Some (rel_app_meant (plain a v))
 plain_back a v fine = ap (λ o. given o (λ v. rel_app_behind a v none)) (version_back v fine)
 
-form_back : (form : RelAppForm) → is_version (rel_app_meant form).version ≡ true → rel_app_of (rel_app_tree form) ≡ Some (rel_app_meant form)
+form_back : (form : RelAppForm) → is_version (rel_app_meant form).vsn ≡ true → rel_app_of (rel_app_tree form) ≡ Some (rel_app_meant form)
 form_back (plain a v) fine = plain_back a v fine
 form_back (typed a v type) fine =
     ap (λ o. given o (λ v. rel_app_behind a v (row (start_type_tree type ∷ [])))) (version_back v fine) ∙ ap (λ o. either_of (option_map (λ type. rel_app_meant (typed a v type)) o) (either_of (including_of a v (row (start_type_tree type ∷ []))) None)) (start_type_read type)
@@ -166,10 +166,10 @@ form_back (including a v names) fine =
 form_back (typed_including a v type names) fine =
     ap (λ o. given o (λ v. rel_app_behind a v (row (start_type_tree type ∷ names_tree names ∷ [])))) (version_back v fine) ∙ ap (λ o. given o (λ type. option_map (λ names. rel_app_meant (typed_including a v type names)) (names_of (names_tree names)))) (start_type_read type) ∙ ap (λ o. option_map (λ names. rel_app_meant (typed_including a v type names)) o) (names_back names)
 
-pub forms_back : (forms : List RelAppForm) → list_all (λ app. is_version app.version) (map rel_app_meant forms) ≡ true → all_of rel_app_of (rows rel_app_tree forms) ≡ Some (map rel_app_meant forms)
+pub forms_back : (forms : List RelAppForm) → list_all (λ app. is_version app.vsn) (map rel_app_meant forms) ≡ true → all_of rel_app_of (rows rel_app_tree forms) ≡ Some (map rel_app_meant forms)
 forms_back [] fine = refl
 forms_back (f ∷ fs) fine =
-    let both = and_parts (is_version (rel_app_meant f).version) (list_all (λ app. is_version app.version) (map rel_app_meant fs)) fine in
+    let both = and_parts (is_version (rel_app_meant f).vsn) (list_all (λ app. is_version app.vsn) (map rel_app_meant fs)) fine in
     next_back (rel_app_of (rel_app_tree f)) (all_of rel_app_of (rows rel_app_tree fs)) (rel_app_meant f) (map rel_app_meant fs) (form_back f both.0) (forms_back fs both.1)
 
 -- Releases
@@ -246,9 +246,9 @@ pub title_back : (name v : List ℕ) → list_all is_scalar name ≡ true → is
 title_back name v characters fine =
     ap (λ o. given {B = List ℕ × List ℕ} o (λ name. option_map (λ version. (name, version)) (version_of (string_tree v)))) (string_back name characters) ∙ ap (λ o. option_map {U = List ℕ × List ℕ} (λ version. (name, version)) o) (version_back v fine)
 
-pub apps_back : (forms : List RelAppForm) (apps : List RelApp) → apps ≡ map rel_app_meant forms → list_all (λ app. is_version app.version) apps ≡ true → are_distinct (app_names apps) ≡ true → rel_apps_of (list (rows rel_app_tree forms)) ≡ Some apps
+pub apps_back : (forms : List RelAppForm) (apps : List RelApp) → apps ≡ map rel_app_meant forms → list_all (λ app. is_version app.vsn) apps ≡ true → are_distinct (app_names apps) ≡ true → rel_apps_of (list (rows rel_app_tree forms)) ≡ Some apps
 apps_back forms apps means fine distinct =
-    ap (λ o. given o distinct_of) (forms_back forms (ap (list_all (λ app. is_version app.version)) (sym means) ∙ fine) ∙ ap (λ x. Some x) (sym means)) ∙ ap (λ b. if b then Some apps else None) distinct
+    ap (λ o. given o distinct_of) (forms_back forms (ap (list_all (λ app. is_version app.vsn)) (sym means) ∙ fine) ∙ ap (λ x. Some x) (sym means)) ∙ ap (λ b. if b then Some apps else None) distinct
 
 rel_with : List ℕ × List ℕ → List ℕ → List RelApp → Result RelSpec FileError
 rel_with title erts apps = Ok (record { name = title.0; version = title.1; erts = erts; apps = apps })

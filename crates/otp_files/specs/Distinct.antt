@@ -1,7 +1,8 @@
--- Applications none of which stands twice.
-use Rattle.std.specs.Prelude.{ℕ, Bool, true, not, ◌&&◌, List, [], ◌∷◌, map}
-use Rattle.std.specs.List.{list_any}
-use Rattle.std.specs.Str.{bytes_eq}
+-- Applications none of which stands twice, and which of them has a name.
+use Rattle.std.specs.Prelude.{◌≡◌, ℕ, ◌+◌, Bool, true, not, ◌&&◌, if◌then◌else◌, List, [], ◌∷◌, map, Option, None, Some, String}
+use Rattle.std.specs.BTreeMap.{BTreeMap, get_by_text}
+use Rattle.std.specs.List.{find, list_any}
+use Rattle.std.specs.Str.{IsUtf8, bytes_eq, chars}
 use Rattle.otp_files.specs.declared.applications.RelApp.{RelApp}
 
 abbrev pub are_distinct : List (List ℕ) → Bool
@@ -10,3 +11,16 @@ are_distinct (name ∷ names) = not (list_any (bytes_eq name) names) && are_dist
 
 abbrev pub app_names : List RelApp → List (List ℕ)
 app_names apps = map (λ app. app.name) apps
+
+-- the first application of a name
+abbrev pub app_of : List ℕ → List RelApp → Option RelApp
+app_of name apps = find (λ app. bytes_eq app.name name) apps
+
+-- and its place, where the first of these stands at this place
+abbrev pub place_of : ℕ → List ℕ → List RelApp → Option ℕ
+place_of place name [] = None
+place_of place name (app ∷ apps) = if bytes_eq app.name name then Some place else place_of (place + 1) name apps
+
+-- a map finds these places by the text of a name
+abbrev pub FindsFrom : {A : Type 0} → ℕ → BTreeMap (String A) ℕ → List RelApp → Type 0
+FindsFrom place places apps = (text : List ℕ) → IsUtf8 text → get_by_text places text ≡ place_of place (chars text) apps

@@ -132,19 +132,19 @@ erts_of t = given (tuple_of t) (λ ts. given (two_of ts) (λ p. given (word_of (
 
 -- behind `App,Vsn`: nothing, Type, IncApps, or Type and IncApps
 abbrev pub plain_of : List ℕ → List ℕ → Trees → Option RelApp
-plain_of a v none = Some (record { name = a; version = v; start_type = Permanent; included = None })
+plain_of a v none = Some (record { name = a; vsn = v; start_type = Permanent; included = None })
 plain_of a v (more t ts) = None
 
 abbrev pub typed_of : List ℕ → List ℕ → Trees → Option RelApp
 typed_of a v ts =
-    given (one_of ts) (λ t. option_map (λ type. record { name = a; version = v; start_type = type; included = None })
+    given (one_of ts) (λ t. option_map (λ type. record { name = a; vsn = v; start_type = type; included = None })
     (start_type_of t))
 
 abbrev pub including_of : List ℕ → List ℕ → Trees → Option RelApp
 including_of a v ts =
     given (one_of ts) (λ t. option_map (λ names. record {
       name = a;
-      version = v;
+      vsn = v;
       start_type = Permanent;
       included =
           Some names;
@@ -153,7 +153,7 @@ including_of a v ts =
 abbrev pub typed_including_of : List ℕ → List ℕ → Trees → Option RelApp
 typed_including_of a v ts =
     given (two_of ts) (λ p. given (start_type_of p.0)
-    (λ type. option_map (λ names. record { name = a; version = v; start_type = type; included = Some names }) (names_of p.1)))
+    (λ type. option_map (λ names. record { name = a; vsn = v; start_type = type; included = Some names }) (names_of p.1)))
 
 abbrev pub rel_app_behind : List ℕ → List ℕ → Trees → Option RelApp
 rel_app_behind a v ts = either_of (plain_of a v ts)

@@ -105,7 +105,7 @@ pub record IsErts (t : Tree) : Type 0 where
 pub record AreApps (t : Tree) : Type 0 where
   pub written : List RelAppForm
   pub is : t ≡ list (rows rel_app_tree written)
-  pub versions : list_all (λ app. is_version app.version) (map rel_app_meant written) ≡ true
+  pub versions : list_all (λ app. is_version app.vsn) (map rel_app_meant written) ≡ true
   pub distinct : are_distinct (app_names (map rel_app_meant written)) ≡ true
 
 pub data RelRefused (t : Tree) (fault : FileError) : Type 0 where

@@ -81,10 +81,10 @@ rel_app_tree (typed_including a v type names) =
     tuple (row (atom a ∷ string_tree v ∷ start_type_tree type ∷ names_tree names ∷ []))
 
 abbrev pub rel_app_meant : RelAppForm → RelApp
-rel_app_meant (plain a v) = record { name = a; version = v; start_type = Permanent; included = None }
-rel_app_meant (typed a v type) = record { name = a; version = v; start_type = type; included = None }
-rel_app_meant (including a v names) = record { name = a; version = v; start_type = Permanent; included = Some names }
-rel_app_meant (typed_including a v type names) = record { name = a; version = v; start_type = type; included = Some names }
+rel_app_meant (plain a v) = record { name = a; vsn = v; start_type = Permanent; included = None }
+rel_app_meant (typed a v type) = record { name = a; vsn = v; start_type = type; included = None }
+rel_app_meant (including a v names) = record { name = a; vsn = v; start_type = Permanent; included = Some names }
+rel_app_meant (typed_including a v type names) = record { name = a; vsn = v; start_type = type; included = Some names }
 
 -- characters of Unicode
 abbrev pub is_scalar : ℕ → Bool
@@ -98,7 +98,7 @@ pub record IsRel (t : Tree) (rel : RelSpec) : Type 0 where
   pub characters : list_all is_scalar rel.name ≡ true
   pub proper : is_version rel.version ≡ true
   pub runtime : is_version rel.erts ≡ true
-  pub versions : list_all (λ app. is_version app.version) rel.apps ≡ true
+  pub versions : list_all (λ app. is_version app.vsn) rel.apps ≡ true
   pub distinct : are_distinct (app_names rel.apps) ≡ true
 
 -- .appup: `{Vsn,[{UpFrom,Instrs}],[{DownTo,Instrs}]}`

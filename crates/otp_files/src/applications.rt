@@ -1,12 +1,13 @@
 // The applications of a release.
 ghost use Rattle.std.specs.Prelude.{◌≡◌, true, false, IfOk, MatchOption};
-ghost use Rattle.otp_files.specs.Distinct.{are_distinct, app_names};
+ghost use Rattle.std.specs.Option.{option_copied};
+ghost use Rattle.otp_files.specs.Distinct.{are_distinct, app_names, app_of, FindsFrom};
 
 use erl_term::Atom;
 use high_instructions::StartType;
 use low_instructions::Version;
 use std::alloc::{AllocError, Global};
-use std::collections::HashSet;
+use std::collections::BTreeMap;
 use std::marker::Model;
 use values::{Duplicate, Row, Same};
 
@@ -16,7 +17,7 @@ pub struct RelApp {
     /// The application's name.
     pub name: Atom,
     /// Its version.
-    pub version: Version,
+    pub vsn: Version,
     /// How it is started; by default `permanent`.
     pub start_type: StartType,
     /// The applications that it includes, where the release says so.
@@ -27,18 +28,19 @@ pub struct RelApp {
 #[derive(Drop)]
 pub struct Applications {
     items: Row<RelApp>,
+    places: BTreeMap<String, usize>,
 }
 
 impl Model for Applications {
     ghost use Rattle.std.specs.Prelude.{◌≡◌, List, true};
     ghost use Rattle.otp_files.specs.declared.applications.RelApp.{RelApp};
-    ghost use Rattle.otp_files.specs.Distinct.{are_distinct, app_names};
+    ghost use Rattle.otp_files.specs.Distinct.{are_distinct, app_names, FindsFrom};
 
     ghost Value = { List RelApp };
 
     ghost view = { λ a. a.items };
 
-    ghost invariant = { λ a. are_distinct (app_names a.items) ≡ true };
+    ghost invariant = { λ a. (are_distinct (app_names a.items) ≡ true) × FindsFrom 0 a.places a.items };
 }
 
 impl Applications {
@@ -51,12 +53,12 @@ impl Applications {
         ensures { IfOk result (λ found. MatchOption found (are_distinct (app_names items.items) ≡ false)
             (λ apps. (apps ≡ items.items) × (are_distinct (app_names items.items) ≡ true))) }
     {
-        if !are_distinct(alloc, items.as_slice())? {
+        let (places, is_each_once) = index(alloc, items.as_slice())?;
+        if !is_each_once {
             return Ok(None);
         }
-        Ok(Some(Applications {
-            items: Row::new(items),
-        }))
+        let items = Row::new(items);
+        Ok(Some(Applications { items, places }))
     }
 
     /// The applications, in order. Takes no memory.
@@ -66,26 +68,39 @@ impl Applications {
     {
         self.items.as_slice()
     }
-}
 
-/// Whether no application stands twice.
-fn are_distinct(alloc: Global, items: &[RelApp]) -> Result<bool, AllocError>
-    ensures { IfOk result (λ distinct. distinct ≡ are_distinct (app_names items.now)) }
-{
-    let mut names = HashSet::new(alloc);
-    for i in (0..items.len()).rev() {
-        let item = &items[i];
-        if !names.insert(&item.name)? {
-            return Ok(false);
+    /// The application of a name, if it is there, found by key. Takes no memory.
+    pub fn get(&self, name: &Atom) -> Option<&RelApp>
+        ensures { option_copied result ≡ app_of name.now self.now }
+    {
+        match self.places.get(name.as_str()) {
+            Some(place) => self.as_slice().get(*place),
+            None => None,
         }
     }
-    Ok(true)
+}
+
+/// The place of the first application of each name, and whether no name stands twice. Names are told apart by their order:
+/// whoever picks them can make them collide under a hasher that everybody knows.
+fn index(alloc: Global, items: &[RelApp]) -> Result<(BTreeMap<String, usize>, bool), AllocError>
+    ensures places { IfOk result (λ found. FindsFrom 0 found.0 items.now) }
+    ensures is_each_once { IfOk result (λ found. found.1 ≡ are_distinct (app_names items.now)) }
+{
+    let mut places = BTreeMap::new(alloc);
+    let mut is_each_once = true;
+    for place in (0..items.len()).rev() {
+        let name = String::from_str(alloc, items[place].name.as_str())?;
+        if places.insert(name, place)?.is_some() {
+            is_each_once = false;
+        }
+    }
+    Ok((places, is_each_once))
 }
 
 impl Same for RelApp {
     fn same(&self, other: &RelApp) -> bool {
         self.name.same(&other.name)
-            && self.version.same(&other.version)
+            && self.vsn.same(&other.vsn)
             && self.start_type.same(&other.start_type)
             && self.included.same(&other.included)
     }
@@ -95,7 +110,7 @@ impl Duplicate for RelApp {
     fn copy(&self, alloc: Global) -> Result<RelApp, AllocError> {
         Ok(RelApp {
             name: self.name.copy(alloc)?,
-            version: self.version.copy(alloc)?,
+            vsn: self.vsn.copy(alloc)?,
             start_type: self.start_type.copy(alloc)?,
             included: self.included.copy(alloc)?,
         })
@@ -110,8 +125,8 @@ impl Same for Applications {
 
 impl Duplicate for Applications {
     fn copy(&self, alloc: Global) -> Result<Applications, AllocError> {
-        Ok(Applications {
-            items: self.items.copy(alloc)?,
-        })
+        let items = self.items.copy(alloc)?;
+        let (places, _) = index(alloc, items.as_slice())?;
+        Ok(Applications { items, places })
     }
 }

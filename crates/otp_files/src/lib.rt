@@ -21,7 +21,7 @@
 //! # What no contract says
 //!
 //! That there is memory, and what a call costs: beside [`erl_consult::read_terms`], whose costs are stated there,
-//! reading is linear in the file, but that names of applications are looked up by hashing. The text is held as a term
+//! reading is linear in the file, but that each name of an application is looked up among the others by its order. The text is held as a term
 //! while the record is made of it, and what the record keeps of the term is copied.
 #![tactic(auto)]
 

@@ -30,7 +30,7 @@ fn apps_of(alloc: Global, row: &str) -> Result<Vec<RelApp>, Fail> {
         let (name, number) = word.split_once('-').ok_or("no version")?;
         apps.push(RelApp {
             name: Atom::new(alloc, name)?,
-            version: Version::new(alloc, number)?,
+            vsn: Version::new(alloc, number)?,
             start_type: StartType::Permanent,
             included: None,
         })?;

@@ -35,13 +35,13 @@ impl FromTerm for RelApp {
         let Some(name) = name.as_atom() else {
             return Ok(None);
         };
-        let Some((version, behind)) = first(behind) else {
+        let Some((vsn, behind)) = first(behind) else {
             return Ok(None);
         };
-        let Some(version) = Version::from_term(alloc, version)? else {
+        let Some(vsn) = Version::from_term(alloc, vsn)? else {
             return Ok(None);
         };
-        app_behind(alloc, name.copy(alloc)?, version, behind)
+        app_behind(alloc, name.copy(alloc)?, vsn, behind)
     }
 }
 
@@ -49,21 +49,21 @@ impl FromTerm for RelApp {
 fn app_behind(
     alloc: Global,
     name: Atom,
-    version: Version,
+    vsn: Version,
     behind: &[Term],
 ) -> Result<Option<RelApp>, AllocError>
-    ensures { IfOk result (λ found. found ≡ rel_app_behind name version (trees behind.now)) }
+    ensures { IfOk result (λ found. found ≡ rel_app_behind name vsn (trees behind.now)) }
 {
     if behind.is_empty() {
         return Ok(Some(RelApp {
             name,
-            version,
+            vsn,
             start_type: StartType::Permanent,
             included: None,
         }));
     }
     if let Some(term) = one(behind) {
-        return app_behind_one(alloc, name, version, term);
+        return app_behind_one(alloc, name, vsn, term);
     }
     let Some((start_type, included)) = two(behind) else {
         return Ok(None);
@@ -76,7 +76,7 @@ fn app_behind(
     };
     Ok(Some(RelApp {
         name,
-        version,
+        vsn,
         start_type,
         included: Some(included),
     }))
@@ -86,15 +86,15 @@ fn app_behind(
 fn app_behind_one(
     alloc: Global,
     name: Atom,
-    version: Version,
+    vsn: Version,
     term: &Term,
 ) -> Result<Option<RelApp>, AllocError>
-    ensures { IfOk result (λ found. found ≡ rel_app_behind name version (more (tree term.now) none)) }
+    ensures { IfOk result (λ found. found ≡ rel_app_behind name vsn (more (tree term.now) none)) }
 {
     if let Some(start_type) = StartType::from_term(term) {
         return Ok(Some(RelApp {
             name,
-            version,
+            vsn,
             start_type,
             included: None,
         }));
@@ -104,7 +104,7 @@ fn app_behind_one(
     };
     Ok(Some(RelApp {
         name,
-        version,
+        vsn,
         start_type: StartType::Permanent,
         included: Some(included),
     }))

@@ -6,4 +6,4 @@ use Rattle.otp_files.proofs.rel.apps.app_behind.Goals as goal
 pub returns-in_default-two : goal.returns-in_default-two
 returns-in_default-two c =
     let some : length c.args.behind.now ≡ 0 → ⊥ = search rules in
-    too_many c.args.name c.args.version c.args.behind.now some c.in_default.ensures c.in_default-two.ensures
+    too_many c.args.name c.args.vsn c.args.behind.now some c.in_default.ensures c.in_default-two.ensures
