@@ -12,6 +12,7 @@ use crate::undo::Undo;
 use erl_term::Atom;
 use indexmap::IndexMap;
 use std::alloc::Global;
+use std::hash::RandomState;
 use std::marker::Model;
 
 /// One instance of a module's code.
@@ -32,11 +33,14 @@ pub struct Slots<C> {
     pub former: Option<Instance<C>>,
 }
 
+/// Modules by their names, which are hashed by keys that nobody outside knows: so nobody can pick names that collide.
+pub(crate) type ByName<C> = IndexMap<Atom, Slots<C>, RandomState>;
+
 /// The modules and their code, first loaded first.
 #[derive(Drop)]
 pub struct Modules<C> {
     alloc: Global,
-    table: IndexMap<Atom, Slots<C>>,
+    table: ByName<C>,
     last: u64,
 }
 
@@ -55,13 +59,13 @@ impl<C: Drop> Modules<C> {
     ghost use Rattle.code_server.specs.Modules.{Table, IsSound, Tells, empty_table, slots_of, current_of, old_of, load_refusal, loaded, delete_refusal, deleted, purged, soft_purge_refusal};
     ghost use Rattle.code_server.specs.Undo.{Fits, IsRemoval, undone};
 
-    /// A table without modules, whose first load has serial 1. Takes no memory.
-    pub fn new(alloc: Global) -> Modules<C>
+    /// A table without modules, whose first load has serial 1. Names are hashed by `hashing`. Takes no memory.
+    pub fn new(alloc: Global, hashing: RandomState) -> Modules<C>
         ensures { result ≡ empty_table }
     {
         Modules {
             alloc,
-            table: IndexMap::new(alloc),
+            table: IndexMap::with_hasher(alloc, hashing),
             last: 0,
         }
     }

@@ -8,15 +8,14 @@ ghost use Rattle.code_server.specs.Places.{changed_slots, current_at, former_at,
 ghost use Rattle.code_server.specs.Undo.{moved_back};
 
 use crate::error::CodeError;
-use crate::modules::{Instance, Slots};
+use crate::modules::{ByName, Instance, Slots};
 use erl_term::Atom;
-use indexmap::IndexMap;
 use std::alloc::Global;
 use std::mem;
 use values::Duplicate;
 
 /// Whether the module at a place has current code.
-pub(crate) fn has_current<C>(table: &IndexMap<Atom, Slots<C>>, place: usize) -> bool
+pub(crate) fn has_current<C>(table: &ByName<C>, place: usize) -> bool
     requires { place < length table.now.entries }
     ensures { result ≡ is_some (current_at table.now.entries place) }
 {
@@ -26,7 +25,7 @@ pub(crate) fn has_current<C>(table: &IndexMap<Atom, Slots<C>>, place: usize) -> 
 
 /// Puts a module last, under a copy of its name, with this instance as its current code.
 pub(crate) fn add<C: Drop>(
-    table: &mut IndexMap<Atom, Slots<C>>,
+    table: &mut ByName<C>,
     alloc: Global,
     name: &Atom,
     instance: Instance<C>,
@@ -62,7 +61,7 @@ pub(crate) enum SlotChange<C> {
 
 /// Changes the instances of the module at a place, and gives the one that went.
 pub(crate) fn change_at<C>(
-    table: &mut IndexMap<Atom, Slots<C>>,
+    table: &mut ByName<C>,
     place: usize,
     change: SlotChange<C>,
 ) -> Option<Instance<C>>
@@ -87,7 +86,7 @@ pub(crate) fn change_at<C>(
 /// Moves the module at a place to the end, puts an instance on top of what it has, and gives its old
 /// code.
 pub(crate) fn stack_last<C>(
-    table: &mut IndexMap<Atom, Slots<C>>,
+    table: &mut ByName<C>,
     place: usize,
     instance: Instance<C>,
 ) -> Option<Instance<C>>
@@ -102,7 +101,7 @@ pub(crate) fn stack_last<C>(
 
 /// Moves the last module to a place, and leaves it with this old code alone.
 pub(crate) fn move_back<C: Drop>(
-    table: &mut IndexMap<Atom, Slots<C>>,
+    table: &mut ByName<C>,
     place: usize,
     instance: Instance<C>,
 )
@@ -119,7 +118,7 @@ pub(crate) fn move_back<C: Drop>(
 
 /// Takes the module at a place out of the table, with its old code, where it has no other.
 pub(crate) fn take_out<C: Drop>(
-    table: &mut IndexMap<Atom, Slots<C>>,
+    table: &mut ByName<C>,
     place: usize,
 ) -> Option<(Atom, Instance<C>)>
     ensures removed { table.new.entries ≡ remove table.old.entries place }
@@ -132,7 +131,7 @@ pub(crate) fn take_out<C: Drop>(
 
 /// Puts a module back at a place, with this old code alone. Gives both back where memory is refused.
 pub(crate) fn put_back<C: Drop>(
-    table: &mut IndexMap<Atom, Slots<C>>,
+    table: &mut ByName<C>,
     place: usize,
     name: Atom,
     instance: Instance<C>,

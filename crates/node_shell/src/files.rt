@@ -6,6 +6,7 @@ ghost use Rattle.node_shell.specs.Files.{file_of};
 use crate::event::Code;
 use indexmap::IndexMap;
 use std::alloc::{AllocError, Global};
+use std::hash::RandomState;
 use std::marker::Model;
 use values::{Row, Shared};
 
@@ -14,7 +15,7 @@ use values::{Row, Shared};
 #[derive(Drop)]
 pub struct Files {
     alloc: Global,
-    list: IndexMap<String, Code>,
+    list: IndexMap<String, Code, RandomState>,
 }
 
 impl Model for Files {
@@ -26,13 +27,13 @@ impl Model for Files {
 }
 
 impl Files {
-    /// No files.
-    pub fn new(alloc: Global) -> Files
+    /// No files. Their paths will be hashed by `hashing`.
+    pub fn new(alloc: Global, hashing: RandomState) -> Files
         ensures { result ≡ [] }
     {
         Files {
             alloc,
-            list: IndexMap::new(alloc),
+            list: IndexMap::with_hasher(alloc, hashing),
         }
     }
 

@@ -4,6 +4,7 @@ ghost use Rattle.std.specs.Prelude.{◌≡◌, IfOk};
 use crate::files::Files;
 use crate::node::Node;
 use std::alloc::{AllocError, Global};
+use std::hash::RandomState;
 use std::marker::Model;
 use undo_journal::Journal;
 
@@ -26,15 +27,15 @@ impl Model for Holdings {
 impl Holdings {
     ghost use Rattle.node_shell.specs.Shell.{opened_shell};
 
-    /// The files, and a journal that begins with a node without modules.
+    /// The files, and a journal that begins with a node without modules, whose names will be hashed by `hashing`.
     ///
     /// # Errors
     ///
     /// `AllocError` where memory is refused.
-    pub fn new(alloc: Global, files: Files) -> Result<Holdings, AllocError>
+    pub fn new(alloc: Global, hashing: RandomState, files: Files) -> Result<Holdings, AllocError>
         ensures { IfOk result (λ held. held ≡ opened_shell files) }
     {
-        let journal = Journal::new(alloc, Node::new(alloc))?;
+        let journal = Journal::new(alloc, Node::new(alloc, hashing))?;
         Ok(Holdings {
             alloc,
             files,

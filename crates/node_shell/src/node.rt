@@ -12,6 +12,7 @@ use crate::request::Change;
 use code_server::{CodeError, Modules, Undo};
 use erl_term::Atom;
 use std::alloc::{AllocError, Global};
+use std::hash::RandomState;
 use std::marker::Model;
 use undo_journal::{Reversible, StepError, Stepped, Told};
 use values::Duplicate;
@@ -36,13 +37,13 @@ impl Model for Node {
 }
 
 impl Node {
-    /// A node without modules.
-    pub fn new(alloc: Global) -> Node
+    /// A node without modules, whose names will be hashed by `hashing`.
+    pub fn new(alloc: Global, hashing: RandomState) -> Node
         ensures { result ≡ empty_table }
     {
         Node {
             alloc,
-            modules: Modules::new(alloc),
+            modules: Modules::new(alloc, hashing),
         }
     }
 

@@ -9,17 +9,19 @@ use crate::files::Files;
 use crate::shell::Shell;
 use line_server::{Ended, Fault, serve};
 use std::alloc::Global;
+use std::hash::RandomState;
 use std::io::{Read, Write};
 
 /// Reads commands, one a line, and writes their answers.
 ///
-/// The node begins without modules, whatever version is asked for.
+/// The node begins without modules, whatever version is asked for. Names of modules are hashed by `hashing`.
 ///
 /// The fault of the end, if there is one, says what was written: after a fault of the reader the answers of
 /// the lines that a newline ended; after a fault of the writer, and where no memory was left to answer with, a
 /// front of the answers.
 pub fn run<R: Read, W: Write>(
     alloc: Global,
+    hashing: RandomState,
     files: Files,
     _vsn: &str,
     reader: &mut R,
@@ -34,7 +36,7 @@ pub fn run<R: Read, W: Write>(
         → result.fault ≡ None → result.is_refused ≡ false
         → W.contents writer.new ≡ Some (before ++ text_of shell_turn [] (opened_shell files) (lines_of input)) }
 {
-    let Ok(mut shell) = Shell::new(alloc, files) else {
+    let Ok(mut shell) = Shell::new(alloc, hashing, files) else {
         return Ended {
             fault: Some(Fault::Memory),
             is_refused: false,

@@ -9,6 +9,7 @@ use crate::holdings::Holdings;
 use crate::request::read_line;
 use line_server::Session;
 use std::alloc::{AllocError, Global};
+use std::hash::RandomState;
 use std::marker::Model;
 
 /// What answers lines: what it holds, and room to write an answer in.
@@ -27,15 +28,15 @@ impl Model for Shell {
 }
 
 impl Shell {
-    /// A shell over a node without modules.
+    /// A shell over a node without modules, whose names will be hashed by `hashing`.
     ///
     /// # Errors
     ///
     /// `AllocError` where memory is refused.
-    pub fn new(alloc: Global, files: Files) -> Result<Shell, AllocError>
+    pub fn new(alloc: Global, hashing: RandomState, files: Files) -> Result<Shell, AllocError>
         ensures { IfOk result (λ shell. shell ≡ opened_shell files) }
     {
-        let held = Holdings::new(alloc, files)?;
+        let held = Holdings::new(alloc, hashing, files)?;
         Ok(Shell {
             held,
             answer: Vec::new(alloc),

@@ -1,6 +1,9 @@
 // Lines of tables: what is done, an arrow, and what is wanted.
 use std::alloc::Global;
+use std::hash::RandomState;
+use std::io;
 use std::process::Abort;
+use std::random::RandomSource;
 use std::test::Fail;
 
 /// Sees that what was found for a line is what is wanted.
@@ -27,4 +30,18 @@ pub(crate) fn unfolded(alloc: Global, half: &str) -> Result<String, Fail> {
         text.push_str(units.as_str())?;
     }
     Ok(text.replace(alloc, "␤", "\n")?)
+}
+
+/// A source that leaves all bytes as they are, so that each run of the tests is the same.
+struct NoBytes;
+
+impl RandomSource for NoBytes {
+    fn fill_bytes(&self, _buf: &mut [u8]) -> io::Result<()> {
+        Ok(())
+    }
+}
+
+/// How tests hash.
+pub(crate) fn hashing() -> io::Result<RandomState> {
+    RandomState::new(&NoBytes)
 }

@@ -2,7 +2,7 @@
 ghost use Rattle.std.specs.Prelude.{◌≡◌, ◌<◌, length, IfOk, OnOk};
 ghost use Rattle.code_server.specs.Undo.{Fits, undone};
 
-use crate::cases::{expect, halves, head};
+use crate::cases::{expect, halves, hashing, head};
 use code_server::{CodeError, Instance, Modules, Undo};
 use erl_term::Atom;
 use std::alloc::Global;
@@ -167,7 +167,7 @@ fn expect_calls(
 
 #[test]
 fn a_module_has_two_instances(rt: HostRuntime) -> Result<(), Fail> {
-    let mut modules = Modules::new(rt.alloc());
+    let mut modules = Modules::new(rt.alloc(), hashing()?);
     expect_calls(&rt, rt.alloc(), &mut modules, TWO_INSTANCES)
 }
 
@@ -244,14 +244,14 @@ const RELOAD: [&str; 6] = [
 
 #[test]
 fn changes_are_taken_back_in_turn(rt: HostRuntime) -> Result<(), Fail> {
-    let mut modules = Modules::new(rt.alloc());
+    let mut modules = Modules::new(rt.alloc(), hashing()?);
     walk(&rt, rt.alloc(), &mut modules, EACH_CHANGE.as_slice(), 11)?;
     expect_calls(&rt, rt.alloc(), &mut modules, "load d 5 ⟶ d 1 0; .")
 }
 
 #[test]
 fn a_removal_comes_back_to_the_middle(rt: HostRuntime) -> Result<(), Fail> {
-    let mut modules = Modules::new(rt.alloc());
+    let mut modules = Modules::new(rt.alloc(), hashing()?);
     walk(&rt, rt.alloc(), &mut modules, REMOVAL.as_slice(), 5)?;
     walk(&rt, rt.alloc(), &mut modules, RELOAD.as_slice(), 5)
 }

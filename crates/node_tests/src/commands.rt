@@ -1,9 +1,9 @@
 // The shell's commands and their answers, over readers and writers that take their time, or fail. The values that are wanted
 // come from the manual page of the commands.
-use crate::cases::{expect, halves, unfolded};
+use crate::cases::{expect, halves, hashing, unfolded};
 use crate::ways::{AT_ONCE, How, ended_text, how_of, reader, writer};
 use node_shell::{Files, run};
-use std::alloc::{AllocError, Global};
+use std::alloc::Global;
 use std::process::Abort;
 use std::test::Fail;
 
@@ -11,8 +11,8 @@ use std::test::Fail;
 const SOURCE: &str = "-module(m).\n-export([a/0]).\na() -> ok.\n";
 
 /// The files of the commands.
-fn files(alloc: Global) -> Result<Files, AllocError> {
-    let mut files = Files::new(alloc);
+fn files(alloc: Global) -> Result<Files, Fail> {
+    let mut files = Files::new(alloc, hashing()?);
     let path = String::from_str(alloc, "a/m.erl")?;
     files.add(path, SOURCE.as_bytes().to_vec(alloc)?)?;
     Ok(files)
@@ -21,7 +21,14 @@ fn files(alloc: Global) -> Result<Files, AllocError> {
 /// What commands are answered, and how the run ends.
 fn answered(alloc: Global, how: &How, input: &[u8]) -> Result<String, Fail> {
     let (mut reader, mut writer) = (reader(how, input), writer(alloc, how));
-    let ended = run(alloc, files(alloc)?, "Z", &mut reader, &mut writer);
+    let ended = run(
+        alloc,
+        hashing()?,
+        files(alloc)?,
+        "Z",
+        &mut reader,
+        &mut writer,
+    );
     ended_text(alloc, &writer, &ended)
 }
 

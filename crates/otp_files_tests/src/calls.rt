@@ -8,6 +8,7 @@ use otp_files::{
 };
 use std::alloc::Global;
 use std::test::Fail;
+use values::Duplicate;
 
 #[test]
 fn release_names(rt: HostRuntime) -> Result<(), Fail> {
@@ -30,7 +31,7 @@ fn apps_of(alloc: Global, row: &str) -> Result<Vec<RelApp>, Fail> {
         let (name, number) = word.split_once('-').ok_or("no version")?;
         apps.push(RelApp {
             name: Atom::new(alloc, name)?,
-            version: Version::new(alloc, number)?,
+            vsn: Version::new(alloc, number)?,
             start_type: StartType::Permanent,
             included: None,
         })?;
@@ -46,6 +47,46 @@ fn release_of(alloc: Global, row: &str) -> Result<String, Fail> {
         None => put(&mut out, "twice")?,
     }
     text_of(alloc, out.as_slice())
+}
+
+/// Applications in no order, and which of them a name finds.
+const UNORDERED: &str = "b-1 é-2 a-3 aa-4 c-5";
+
+const FOUND: &str = "a ⟶ 3
+aa ⟶ 4
+b ⟶ 1
+c ⟶ 5
+é ⟶ 2
+d ⟶ none
+A ⟶ none
+ab ⟶ none";
+
+/// The version of the application of this name.
+fn version_of<'a>(
+    alloc: Global,
+    apps: &'a Applications,
+    name: &str,
+) -> Result<Option<&'a Version>, Fail> {
+    let found = apps.get(&Atom::new(alloc, name)?);
+    Ok(found.map(|app| &app.vsn))
+}
+
+#[test]
+fn applications_are_found_by_their_names(rt: HostRuntime) -> Result<(), Fail> {
+    let apps = Applications::new(rt.alloc(), apps_of(rt.alloc(), UNORDERED)?)?.ok_or("twice")?;
+    let copy = apps.copy(rt.alloc())?;
+    for line in FOUND.lines() {
+        let (name, wanted) = halves(line)?;
+        for apps in [&apps, &copy] {
+            let found = version_of(rt.alloc(), apps, name)?;
+            assert_eq!(rt;
+                found.map_or("none", |version| version.as_str()),
+                wanted,
+                "{name}"
+            );
+        }
+    }
+    Ok(())
 }
 
 #[test]

@@ -145,7 +145,7 @@ pub(crate) fn put_rel_apps(
 fn put_rel_app(out: &mut Vec<u8>, front: &str, app: &RelApp) -> Result<(), AllocError> {
     put(out, front)?;
     put_name(out, "{", &app.name)?;
-    put_version(out, ",", &app.version)?;
+    put_version(out, ",", &app.vsn)?;
     put(out, start_word(app.start_type))?;
     if let Some(included) = &app.included {
         put_names(out, ",", included.as_slice())?;

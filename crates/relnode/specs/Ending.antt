@@ -3,7 +3,7 @@ use Rattle.std.specs.Prelude.{◌≡◌, ℕ, List, Option, None, Some, Result, 
 use Rattle.line_server.specs.declared.ended.Ended.{Ended}
 use Rattle.line_server.specs.declared.ended.Fault.{Fault as CommandsFault}
 use Rattle.relnode.specs.declared.ending.Fault.{Fault}
-use Rattle.relnode.specs.declared.ending.Fault.TheVariants.{CommandLine, Files, Commands, Output}
+use Rattle.relnode.specs.declared.ending.Fault.TheVariants.{CommandLine, NoRandomBytes, Files, Commands, Output}
 use Rattle.relnode.specs.declared.options.OptionsError.{OptionsError}
 use Rattle.relnode.specs.declared.options.OptionsError.TheVariants.{Words, NotUtf8, Unread, Memory}
 use Rattle.node_shell.specs.Files.{Contents}
@@ -31,6 +31,7 @@ status_of_words (Memory error) = 1
 abbrev pub status_of : Result (Unit {0}) Fault → ℕ
 status_of (Ok u) = 0
 status_of (Err (CommandLine error)) = status_of_words error
+status_of (Err (NoRandomBytes error)) = 1
 status_of (Err (Files error)) = 1
 status_of (Err (Commands fault)) = 1
 status_of (Err (Output error)) = 1

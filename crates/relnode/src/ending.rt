@@ -7,6 +7,7 @@ use crate::options::OptionsError;
 use crate::tree::TreeError;
 use node_shell::{Files, run};
 use std::alloc::Global;
+use std::hash::RandomState;
 use std::io;
 use std::io::{Read, Write};
 use std::process::ExitCode;
@@ -18,6 +19,9 @@ pub enum Fault {
     /// The command line is bad.
     #[error(transparent)]
     CommandLine(#[from] OptionsError),
+    /// The system gives no random bytes.
+    #[error("cannot get random bytes: {0}")]
+    NoRandomBytes(io::Error),
     /// The files cannot be read.
     #[error(transparent)]
     Files(#[from] TreeError),
@@ -36,6 +40,7 @@ pub enum Fault {
 /// `Commands` with the fault of the run, where it had one.
 pub fn run_to_end<R: Read, W: Write>(
     alloc: Global,
+    hashing: RandomState,
     files: Files,
     vsn: &str,
     reader: &mut R,
@@ -44,7 +49,7 @@ pub fn run_to_end<R: Read, W: Write>(
     ensures { EndsSo files (R.remaining reader.old) (R.remaining reader.new)
         (W.contents writer.old) (W.contents writer.new) result }
 {
-    let ended = run(alloc, files, vsn, reader, writer);
+    let ended = run(alloc, hashing, files, vsn, reader, writer);
     match ended.fault {
         None => Ok(()),
         Some(fault) => Err(Fault::Commands(fault)),
@@ -65,7 +70,7 @@ fn status(end: &Result<(), Fault>) -> u8
     match end {
         Ok(()) => 0,
         Err(Fault::CommandLine(fault)) => status_of_words(fault),
-        Err(Fault::Files(_) | Fault::Commands(_) | Fault::Output(_)) => 1,
+        Err(Fault::NoRandomBytes(_) | Fault::Files(_) | Fault::Commands(_) | Fault::Output(_)) => 1,
     }
 }
 

@@ -14,13 +14,15 @@ mod tree;
 
 use ending::{Fault, exit_code, run_to_end};
 use options::{Invocation, Options};
+use std::hash::RandomState;
 use std::io;
 use std::process::ExitCode;
+use std::random::RandomSource;
 use std::rt::Runtime;
 
 /// Does what the command line asks for, and finds faults in this order: the command line, the files, the
 /// commands.
-fn start<R: Runtime + AllocGlobal>(rt: &R) -> Result<(), Fault> {
+fn start<R: Runtime + RandomSource + AllocGlobal>(rt: &R) -> Result<(), Fault> {
     match options::read_invocation(rt)? {
         Invocation::Show(text) => Ok(rt.print(text)?),
         Invocation::Run(options) => obey(rt, &options),
@@ -28,12 +30,14 @@ fn start<R: Runtime + AllocGlobal>(rt: &R) -> Result<(), Fault> {
 }
 
 /// Runs the commands of the standard input over the files below the root.
-fn obey<R: Runtime + AllocGlobal>(rt: &R, options: &Options) -> Result<(), Fault> {
-    let files = tree::read_tree(rt, options.root.as_str())?;
+fn obey<R: Runtime + RandomSource + AllocGlobal>(rt: &R, options: &Options) -> Result<(), Fault> {
+    let hashing = RandomState::new(rt).map_err(Fault::NoRandomBytes)?;
+    let files = tree::read_tree(rt, hashing, options.root.as_str())?;
     let mut reader = rt.reader();
     let mut writer = io::writer(rt);
     run_to_end(
         rt.alloc(),
+        hashing,
         files,
         options.vsn.as_str(),
         &mut reader,

@@ -4,6 +4,7 @@ ghost use Rattle.std.specs.Prelude.{◌≡◌, ◌+◌, ◌≤◌, length, IfOk,
 use node_shell::Files;
 use std::alloc::{AllocError, Global};
 use std::fs::{DirEntry, FileType};
+use std::hash::RandomState;
 use std::rt::Files as FileSystem;
 use std::{fs, io};
 use thiserror::Error;
@@ -39,7 +40,7 @@ pub enum TreeError {
 }
 
 /// All files below a folder: their paths, with their parts joined by `/` and without the folder's own,
-/// and their bytes, in the byte order of the paths.
+/// and their bytes, in the byte order of the paths. The paths are hashed by `hashing`.
 ///
 /// Folders are read however deep they stand. A link to a file is read as that file. A link to a folder is
 /// read as that folder where at most 8 links to folders were followed on the way to it, and it stands at
@@ -55,10 +56,11 @@ pub enum TreeError {
 /// memory is refused. Folders are listed before files are read, and in the order that the system has.
 pub fn read_tree<R: FileSystem + AllocGlobal + Clone + Drop>(
     rt: &R,
+    hashing: RandomState,
     root: &str,
 ) -> Result<Files, TreeError> {
     let paths = sorted_paths(rt, root)?;
-    let mut files = Files::new(rt.alloc());
+    let mut files = Files::new(rt.alloc(), hashing);
     for path in paths {
         if files.get(path.as_str()).is_none() {
             let bytes = read_file(rt, root, path.as_str())?;
