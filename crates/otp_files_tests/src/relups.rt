@@ -1,118 +1,207 @@
-// Relups that are printed, and read back where they can be.
-use crate::cases::printed;
-use erl_consult::{Fault, ReadError};
-use erl_term::{Term, Terms};
-use otp_files::{FileError, Relup, RelupEntry, Version, print_relup, read_relup, relup_term};
-use std::alloc::Global;
+// Relups that are made, printed and read back; entries of upgrade files that count for a version; and a large file.
+use crate::texts::{REFUSED, fault_of, printed, said, term_of, text_of};
+use crate::told::{Tell, told};
+use erl_term::{Atom, Term, Terms};
+use otp_files::{
+    Direction, Entry, FileError, Low, ModuleChange, Purge, Relup, RelupEntry, Script, Suspension, Timeout,
+    Upgrades, Version, print_relup, read_appup, read_relup, relup_term,
+};
+use std::alloc::{AllocError, Global};
 use std::process::Abort;
 use std::test::Fail;
 use values::{Row, Same};
 
+/// The row of this value alone.
+fn alone<T: Drop>(alloc: Global, value: T) -> Result<Row<T>, Fail> {
+    let mut row = Vec::new(alloc);
+    row.push(value)?;
+    Ok(Row::new(row))
+}
+
+/// The empty list.
+fn empty(alloc: Global) -> Result<Term, Fail> {
+    Ok(Term::List(Terms::new(alloc, Vec::new(alloc))?))
+}
+
+/// `{load_object_code,{ctr_app,Vsn,[ctr]}}`
+fn object_code(alloc: Global, number: &str, ctr: Atom) -> Result<Low, Fail> {
+    Ok(Low::LoadObjectCode {
+        application: Atom::new(alloc, "ctr_app")?,
+        version: Version::new(alloc, number)?,
+        modules: alone(alloc, ctr)?,
+    })
+}
+
+/// `{code_change,Direction,[{ctr,[]}]}`
+fn code_change(alloc: Global, direction: Direction, name: Atom) -> Result<Low, Fail> {
+    let extra = empty(alloc)?;
+    Ok(Low::CodeChange {
+        direction,
+        changes: alone(alloc, ModuleChange { name, extra })?,
+    })
+}
+
+/// `{suspend,[ctr]}`
+fn suspend(alloc: Global, name: Atom) -> Result<Low, Fail> {
+    let timeout = Timeout::Default;
+    Ok(Low::Suspend {
+        modules: alone(alloc, Suspension { name, timeout })?,
+    })
+}
+
+/// The instruction on the module `ctr` that a word stands for; a number for that of this version's object code.
+fn instruction(alloc: Global, word: &str) -> Result<Low, Fail> {
+    let name = Atom::new(alloc, "ctr")?;
+    match word {
+        "point_of_no_return" => Ok(Low::PointOfNoReturn),
+        "suspend" => suspend(alloc, name),
+        "load" => Ok(Low::Load {
+            name,
+            pre_purge: Purge::Brutal,
+            post_purge: Purge::Brutal,
+        }),
+        "up" => code_change(alloc, Direction::Up, name),
+        "down" => code_change(alloc, Direction::Down, name),
+        "resume" => Ok(Low::Resume {
+            modules: alone(alloc, name)?,
+        }),
+        number => object_code(alloc, number, name),
+    }
+}
+
+/// The instructions that words stand for.
+fn script(alloc: Global, words: &str) -> Result<Script, Fail> {
+    let mut script = Vec::new(alloc);
+    for word in words.split_whitespace() {
+        script.push(instruction(alloc, word)?)?;
+    }
+    Ok(Row::new(script))
+}
+
+/// The row of an entry of version A, with this description and these instructions.
+fn entry(alloc: Global, description: Term, words: &str) -> Result<Row<RelupEntry>, Fail> {
+    let entry = Entry {
+        vsn: Version::new(alloc, "A")?,
+        description,
+        instructions: script(alloc, words)?,
+    };
+    alone(alloc, entry)
+}
+
+/// A relup of version B.
+fn relup(alloc: Global, up: Row<RelupEntry>, down: Row<RelupEntry>) -> Result<Relup, Fail> {
+    let vsn = Version::new(alloc, "B")?;
+    Ok(Upgrades { vsn, up, down })
+}
+
 /// `releases/B/relup` of the example tree.
-pub(crate) const RELUP_B: &str =
-    r##"{"B",[{"A",[],[{load_object_code,{ctr_app,"2",[ctr]}},point_of_no_return,{suspend,[ctr]},{load,{ctr,brutal_purge,brutal_purge}},{code_change,up,[{ctr,[]}]},{resume,[ctr]}]}],[{"A",[],[{load_object_code,{ctr_app,"1",[ctr]}},point_of_no_return,{suspend,[ctr]},{code_change,down,[{ctr,[]}]},{load,{ctr,brutal_purge,brutal_purge}},{resume,[ctr]}]}]}.
-"##;
-
-/// What is printed goes behind what was written before.
-#[test]
-fn a_relup_is_printed(rt: HostRuntime) -> Result<(), Fail> {
-    let relup = read_relup(rt.alloc(), RELUP_B.as_bytes())?;
-    let mut out = Vec::from_slice(rt.alloc(), b">")?;
-    print_relup(&relup, &mut out)?;
-    let wanted = [">", RELUP_B].concat(rt.alloc())?;
-    assert_eq!(rt; out.as_slice(), wanted.as_bytes());
-    Ok(())
-}
-
-/// Sees that what is printed of a relup is read back as the same one.
-fn expect_read_back(rt: &impl Abort, alloc: Global, relup: &Relup) -> Result<(), Fail> {
-    let mut out = Vec::new(alloc);
-    print_relup(relup, &mut out)?;
-    let read = read_relup(alloc, out.as_slice())?;
-    assert!(rt; read.same(relup));
-    Ok(())
-}
-
-#[test]
-fn a_printed_relup_is_read_back(rt: HostRuntime) -> Result<(), Fail> {
-    let relup = read_relup(rt.alloc(), RELUP_B.as_bytes())?;
-    expect_read_back(&rt, rt.alloc(), &relup)
-}
-
-#[test]
-fn the_term_of_a_relup_is_printed(rt: HostRuntime) -> Result<(), Fail> {
-    let relup = read_relup(rt.alloc(), RELUP_B.as_bytes())?;
-    let term = printed(rt.alloc(), &relup_term(rt.alloc(), &relup)?)?;
-    assert_eq!(rt; Some(term.as_str()), RELUP_B.strip_suffix(".\n"));
-    Ok(())
+fn example(alloc: Global) -> Result<Relup, Fail> {
+    let up = "2 point_of_no_return suspend load up resume";
+    let down = "1 point_of_no_return suspend down load resume";
+    let up = entry(alloc, empty(alloc)?, up)?;
+    relup(alloc, up, entry(alloc, empty(alloc)?, down)?)
 }
 
 /// A relup whose only entry has this description and no instructions.
 fn described(alloc: Global, description: Term) -> Result<Relup, Fail> {
-    let mut up = Vec::new(alloc);
-    up.push(RelupEntry {
-        version: Version::new(alloc, "A")?,
-        description,
-        script: Row::new(Vec::new(alloc)),
-    })?;
-    Ok(Relup {
-        version: Version::new(alloc, "B")?,
-        up: Row::new(up),
-        down: Row::new(Vec::new(alloc)),
-    })
+    let up = entry(alloc, description, "")?;
+    relup(alloc, up, Row::new(Vec::new(alloc)))
 }
 
 /// A list in a list, and so on, so many of them.
 fn nested(alloc: Global, depth: usize) -> Result<Term, Fail> {
-    let mut term = Term::List(Terms::new(alloc, Vec::new(alloc))?);
-    for _ in 1..depth {
-        let mut items = Vec::new(alloc);
-        items.push(term)?;
-        term = Term::List(Terms::new(alloc, items)?);
+    let (front, behind) = ("[".repeat(alloc, depth)?, "]".repeat(alloc, depth)?);
+    let text = [front.as_str(), behind.as_str()].concat(alloc)?;
+    term_of(alloc, text.as_str())
+}
+
+/// The relup that a text stands for: `example`, or one whose description is a process identifier or nested so deep.
+fn made(alloc: Global, text: &str) -> Result<Relup, Fail> {
+    match text.split_once(' ') {
+        Some(("pid", number)) => described(alloc, Term::Pid(number.parse::<u64>()?)),
+        Some((_, depth)) => described(alloc, nested(alloc, depth.parse::<usize>()?)?),
+        None => example(alloc),
     }
-    Ok(term)
 }
 
-/// Sees that what is printed of a relup with this description is no text, for this fault.
-fn expect_unreadable(
-    rt: &impl Abort,
-    alloc: Global,
-    description: Term,
-    kind: Fault,
-    at: usize,
-) -> Result<(), Fail> {
+/// What is printed of a relup behind what was written before. What was written before a refusal is nothing.
+pub(crate) fn printed_relup(alloc: Global, text: &str) -> Result<String, Fail> {
+    let relup = made(alloc, text)?;
+    let mut out = Vec::from_slice(alloc, b">")?;
+    if print_relup(&relup, &mut out).is_err() {
+        let is_left = out.as_slice() == b">".as_slice();
+        return said(alloc, if is_left { REFUSED } else { "changed" });
+    }
+    Ok(text_of(alloc, out.as_slice())?.replace(alloc, "\n", "␤")?)
+}
+
+/// The term of a relup.
+pub(crate) fn term_of_relup(alloc: Global, text: &str) -> Result<String, Fail> {
+    match relup_term(alloc, &made(alloc, text)?) {
+        Ok(term) => printed(alloc, &term),
+        Err(AllocError) => said(alloc, REFUSED),
+    }
+}
+
+/// Whether what is printed of a relup is read back as the same one, or its fault.
+pub(crate) fn read_back(alloc: Global, text: &str) -> Result<String, Fail> {
+    let relup = made(alloc, text)?;
     let mut out = Vec::new(alloc);
-    print_relup(&described(alloc, description)?, &mut out)?;
-    let error = read_relup(alloc, out.as_slice()).err();
-    assert_eq!(rt; error, Some(FileError::Text(ReadError { kind, at })));
-    Ok(())
+    print_relup(&relup, &mut out)?;
+    match read_relup(alloc, out.as_slice()) {
+        Ok(read) => Ok(format!(in alloc; "{}", read.same(&relup))?),
+        Err(error) => fault_of(alloc, error),
+    }
 }
 
-/// What is printed with a process identifier, or with a nesting of more than 256, is not read back.
-#[test]
-fn unreadable_relups(rt: HostRuntime) -> Result<(), Fail> {
-    expect_unreadable(&rt, rt.alloc(), Term::Pid(7), Fault::Syntax, 11)?;
-    expect_unreadable(
-        &rt,
-        rt.alloc(),
-        nested(rt.alloc(), 254)?,
-        Fault::TooDeep,
-        264,
-    )
+/// An appup with two entries of version 1 in each direction, the second and the third.
+const APPUP: &str =
+    r##"{"3",[{"2",[]},{"1",[{stop,[first_up]}]},{"1",[{stop,[second_up]}]},{"3",[]}],
+[{"0",[]},{"1",[{stop,[first_down]}]},{"1",[{stop,[second_down]}]}]}."##;
+
+/// A relup with the same.
+const RELUP: &str = r##"{"3",[{"2",[],[]},{"1",first_up,[]},{"1",second_up,[]},{"3",[],[]}],
+[{"0",[],[]},{"1",first_down,[]},{"1",second_down,[]}]}."##;
+
+/// What counts, or a stroke where nothing does.
+fn entry_told<T: Tell>(alloc: Global, entry: Option<&T>) -> Result<String, Fail> {
+    match entry {
+        Some(entry) => told(alloc, entry),
+        None => said(alloc, "-"),
+    }
 }
 
-#[test]
-fn a_process_identifier_is_printed(rt: HostRuntime) -> Result<(), Fail> {
-    let mut out = Vec::new(rt.alloc());
-    print_relup(&described(rt.alloc(), Term::Pid(7))?, &mut out)?;
-    assert!(rt; out.as_slice() == b"{\"B\",[{\"A\",<0.7.0>,[]}],[]}.\n".as_slice());
-    Ok(())
+/// What counts up, and what counts down.
+fn entries_told<T: Tell>(alloc: Global, up: Option<&T>, down: Option<&T>) -> Result<String, Fail> {
+    let (up, down) = (entry_told(alloc, up)?, entry_told(alloc, down)?);
+    Ok([up.as_str(), " ", down.as_str()].concat(alloc)?)
 }
 
-#[test]
-fn the_deepest_relup_is_read_back(rt: HostRuntime) -> Result<(), Fail> {
-    let deepest = described(rt.alloc(), nested(rt.alloc(), 253)?)?;
-    expect_read_back(&rt, rt.alloc(), &deepest)
+/// What counts in the appup for a version.
+pub(crate) fn in_appup(alloc: Global, number: &str) -> Result<String, Fail> {
+    let appup = read_appup(alloc, APPUP.as_bytes())?;
+    let version = Version::new(alloc, number)?;
+    entries_told(alloc, appup.up_from(&version), appup.down_to(&version))
+}
+
+/// What counts in the relup for a version.
+pub(crate) fn in_relup(alloc: Global, number: &str) -> Result<String, Fail> {
+    let relup = read_relup(alloc, RELUP.as_bytes())?;
+    let version = Version::new(alloc, number)?;
+    entries_told(alloc, relup.up_from(&version), relup.down_to(&version))
+}
+
+/// How many instructions a relup of 300 kB has whose last one is this text.
+pub(crate) fn large(alloc: Global, last: &str) -> Result<String, Fail> {
+    let middles = "{load,{m,brutal_purge,brutal_purge}},".repeat(alloc, 8_000)?;
+    let text = ["{\"2\",[{\"1\",[],[", middles.as_str(), last, "]}],[]}.\n"].concat(alloc)?;
+    match read_relup(alloc, text.as_bytes()) {
+        Ok(relup) => {
+            let entry = relup.up.as_slice().first().ok_or("no entry")?;
+            Ok(format!(in alloc; "{}", entry.instructions.as_slice().len())?)
+        }
+        Err(error) => fault_of(alloc, error),
+    }
 }
 
 /// Whether the front of the relup with so many bytes is read, or no text.
@@ -128,10 +217,11 @@ fn is_read(rt: &impl Abort, alloc: Global, front: &[u8]) -> bool {
 /// others are no texts.
 #[test]
 fn fronts_of_a_relup_are_refused(rt: HostRuntime) -> Result<(), Fail> {
-    let text = RELUP_B.as_bytes();
+    let mut text = Vec::new(rt.alloc());
+    print_relup(&example(rt.alloc())?, &mut text)?;
     assert_eq!(rt; read_relup(rt.alloc(), b"").err(), Some(FileError::NoTerm));
     for n in 1..text.len() {
-        let front = text.get(..n).ok_or("no front")?;
+        let front = text.as_slice().get(..n).ok_or("no front")?;
         assert_eq!(rt; is_read(&rt, rt.alloc(), front), n + 1 == text.len(), "{n}");
     }
     Ok(())

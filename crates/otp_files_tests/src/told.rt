@@ -1,294 +1,394 @@
-// What a text says as a file of a kind, as a text itself: the record's longest form, written field by field, or the
-// fault after a cross.
+// A record in its longest form, as a text: what stands in its fields, in the places of a form.
 //
-// Most functions write what stands in front, and then the value.
-use crate::cases::{term_of, text_of};
-use erl_term::{Atom, Term, ToTerm, print, print_atom};
-use high_instructions::read_instruction;
+// No other file reads the fields of a record, but `relups`, which writes one out as a value.
+use crate::texts::text_of;
+use erl_term::{Atom, Term, Terms, ToTerm, print, print_atom};
 use otp_files::{
-    AppSpec, Appup, AppupEntry, FileError, High, Instruction, Low, RelApp, RelSpec, Relup,
-    RelupEntry, StartModule, StartType, Version, low_term, read_app, read_appup, read_rel,
-    read_relup,
+    AppSpec, Applications, Appup, AppupEntry, Change, Direction, High, Instruction, Low,
+    ModuleChange, ModuleType, Purge, RelApp, RelSpec, Relup, RelupEntry, StartModule, StartType,
+    Suspension, Timeout, Version,
 };
 use std::alloc::{AllocError, Global};
 use std::test::Fail;
-use values::{Duplicate, Same};
+use values::{Duplicate, Row};
 
-/// A file of a release.
-pub(crate) trait File: Same + Duplicate {
-    /// The file of a text.
-    fn read(alloc: Global, text: &[u8]) -> Result<Self, FileError>;
-
-    /// Writes its longest form.
-    fn put(&self, out: &mut Vec<u8>) -> Result<(), Fail>;
+/// A value that has a longest form.
+pub(crate) trait Tell {
+    /// Writes it.
+    fn put(&self, out: &mut Vec<u8>) -> Result<(), AllocError>;
 }
 
-/// What a text says as a file.
-pub(crate) fn told<T: File>(alloc: Global, text: &[u8]) -> Result<String, Fail> {
-    match T::read(alloc, text) {
-        Ok(file) => file_told(alloc, &file),
-        Err(FileError::Text(e)) => Ok(format!(in alloc; "✗ {:?} {}", e.kind, e.at)?),
-        Err(error) => Ok(format!(in alloc; "✗ {error:?}")?),
-    }
-}
-
-/// The longest form of a file.
-fn file_told<T: File>(alloc: Global, file: &T) -> Result<String, Fail> {
+/// The longest form of a value.
+pub(crate) fn told<T: Tell>(alloc: Global, value: &T) -> Result<String, Fail> {
     let mut out = Vec::new(alloc);
-    file.put(&mut out)?;
+    value.put(&mut out)?;
     text_of(alloc, out.as_slice())
 }
 
+/// What stands at a place of a form.
+#[derive(Clone, Copy)]
+enum Piece<'a> {
+    /// A word.
+    Word(&'static str),
+    /// A name.
+    Name(&'a Atom),
+    /// The list of these names.
+    Names(&'a Row<Atom>),
+    /// A version.
+    Vsn(&'a Version),
+    /// A term.
+    Any(&'a Term),
+    /// The list of these terms.
+    List(&'a Terms),
+    /// The list of these characters.
+    Text(&'a str),
+    /// A timeout.
+    Wait(&'a Timeout),
+    /// A change of state.
+    State(&'a Change),
+}
+
+use Piece::{Any, List, Name, Names, State, Text, Vsn, Wait, Word};
+
 /// Writes these characters.
-pub(crate) fn put(out: &mut Vec<u8>, text: &str) -> Result<(), AllocError> {
+fn put(out: &mut Vec<u8>, text: &str) -> Result<(), AllocError> {
     out.extend_from_slice(text.as_bytes())
 }
 
-/// Writes a name.
-fn put_name(out: &mut Vec<u8>, front: &str, name: &Atom) -> Result<(), AllocError> {
-    put(out, front)?;
-    print_atom(name, out)
-}
-
-/// Writes a term.
-pub(crate) fn put_term(out: &mut Vec<u8>, front: &str, term: &Term) -> Result<(), AllocError> {
-    put(out, front)?;
-    print(term, out)
-}
-
-/// Writes a version.
-fn put_version(out: &mut Vec<u8>, front: &str, version: &Version) -> Result<(), AllocError> {
-    let term = version.term(*out.allocator())?;
-    put_term(out, front, &term)
-}
-
-/// What stands in front of an element of a list.
-fn list_front(place: usize) -> &'static str {
-    if place == 0 { "[" } else { "," }
-}
-
-/// What stands behind the elements of a list of so many.
-fn list_end(length: usize) -> &'static str {
-    if length == 0 { "[]" } else { "]" }
-}
-
-/// Writes the list of these names.
-fn put_names(out: &mut Vec<u8>, front: &str, names: &[Atom]) -> Result<(), AllocError> {
-    put(out, front)?;
-    for (i, name) in names.iter().enumerate() {
-        put_name(out, list_front(i), name)?;
-    }
-    put(out, list_end(names.len()))
-}
-
-impl File for AppSpec {
-    fn read(alloc: Global, text: &[u8]) -> Result<AppSpec, FileError> {
-        read_app(alloc, text)
-    }
-
-    /// Writes an application resource file with all keys that are used.
-    fn put(&self, out: &mut Vec<u8>) -> Result<(), Fail> {
-        put_name(out, "{application,", &self.name)?;
-        put_version(out, ",[{vsn,", &self.version)?;
-        put_names(out, "},{modules,", self.modules.as_slice())?;
-        put_names(out, "},{applications,", self.applications.as_slice())?;
-        put_start(out, self.start.as_ref())?;
-        Ok(put(out, "}]}")?)
-    }
-}
-
-/// Writes the callback module of an application and what it is given, or the empty list where there is none.
-fn put_start(out: &mut Vec<u8>, start: Option<&StartModule>) -> Result<(), AllocError> {
-    let Some(start) = start else {
-        return put(out, "},{mod,[]");
-    };
-    put_name(out, "},{mod,{", &start.name)?;
-    put_term(out, ",", &start.arguments)?;
-    put(out, "}")
-}
-
-impl File for RelSpec {
-    fn read(alloc: Global, text: &[u8]) -> Result<RelSpec, FileError> {
-        read_rel(alloc, text)
-    }
-
-    /// Writes a release resource file.
-    fn put(&self, out: &mut Vec<u8>) -> Result<(), Fail> {
-        put_characters(out, "{release,{", self.name.as_str())?;
-        put_version(out, ",", &self.version)?;
-        put_version(out, "},{erts,", &self.erts)?;
-        put_rel_apps(out, "},", self.apps.as_slice())?;
-        Ok(put(out, "}")?)
-    }
-}
-
-/// Writes the characters as a list of integers is printed.
-fn put_characters(out: &mut Vec<u8>, front: &str, text: &str) -> Result<(), AllocError> {
-    let list = text.to_term(*out.allocator())?;
-    put_term(out, front, &list)
-}
-
-/// Writes the list of these applications of a release.
-pub(crate) fn put_rel_apps(
-    out: &mut Vec<u8>,
-    front: &str,
-    apps: &[RelApp],
-) -> Result<(), AllocError> {
-    put(out, front)?;
-    for (i, app) in apps.iter().enumerate() {
-        put_rel_app(out, list_front(i), app)?;
-    }
-    put(out, list_end(apps.len()))
-}
-
-/// Writes an application with its type, and with what it includes where the release says so.
-fn put_rel_app(out: &mut Vec<u8>, front: &str, app: &RelApp) -> Result<(), AllocError> {
-    put(out, front)?;
-    put_name(out, "{", &app.name)?;
-    put_version(out, ",", &app.vsn)?;
-    put(out, start_word(app.start_type))?;
-    if let Some(included) = &app.included {
-        put_names(out, ",", included.as_slice())?;
-    }
-    put(out, "}")
-}
-
-/// How an application is started, behind a comma.
-fn start_word(start_type: StartType) -> &'static str {
-    match start_type {
-        StartType::Permanent => ",permanent",
-        StartType::Transient => ",transient",
-        StartType::Temporary => ",temporary",
-        StartType::Load => ",load",
-        StartType::None => ",none",
-    }
-}
-
-impl File for Appup {
-    fn read(alloc: Global, text: &[u8]) -> Result<Appup, FileError> {
-        read_appup(alloc, text)
-    }
-
-    /// Writes an application upgrade file.
-    fn put(&self, out: &mut Vec<u8>) -> Result<(), Fail> {
-        put_version(out, "{", &self.version)?;
-        put_appup_entries(out, self.up.as_slice())?;
-        put_appup_entries(out, self.down.as_slice())?;
-        Ok(put(out, "}")?)
-    }
-}
-
-/// Writes the list of these entries of an appup, behind a comma.
-fn put_appup_entries(out: &mut Vec<u8>, entries: &[AppupEntry]) -> Result<(), Fail> {
-    put(out, ",")?;
-    for (i, entry) in entries.iter().enumerate() {
-        put(out, list_front(i))?;
-        put_appup_entry(out, entry)?;
-    }
-    Ok(put(out, list_end(entries.len()))?)
-}
-
-/// Writes an entry of an appup.
-fn put_appup_entry(out: &mut Vec<u8>, entry: &AppupEntry) -> Result<(), Fail> {
-    put_version(out, "{", &entry.version)?;
-    put_instructions(out, ",", entry.instructions.as_slice())?;
-    Ok(put(out, "}")?)
-}
-
-/// Writes the list of these instructions.
-pub(crate) fn put_instructions(
-    out: &mut Vec<u8>,
-    front: &str,
-    instructions: &[Instruction],
-) -> Result<(), Fail> {
-    put(out, front)?;
-    for (i, instruction) in instructions.iter().enumerate() {
-        put_instruction(out, list_front(i), instruction)?;
-    }
-    Ok(put(out, list_end(instructions.len()))?)
-}
-
-/// Writes an instruction.
-fn put_instruction(out: &mut Vec<u8>, front: &str, instruction: &Instruction) -> Result<(), Fail> {
-    match instruction {
-        Instruction::High(high) => put_high(out, front, high),
-        Instruction::Low(low) => Ok(put_low(out, front, low)?),
-    }
-}
-
-/// Writes a low-level instruction.
-fn put_low(out: &mut Vec<u8>, front: &str, low: &Low) -> Result<(), AllocError> {
-    let term = low_term(*out.allocator(), low)?;
-    put_term(out, front, &term)
-}
-
-/// The high-level instructions of the files of the tables, in their longest forms.
-const HIGHS: &str = "\
-{update,m,dynamic,default,soft,brutal_purge,brutal_purge,[]}
-{update,ctr,dynamic,default,{advanced,[]},brutal_purge,brutal_purge,[]}
-{update,m,dynamic,default,{advanced,[x]},brutal_purge,brutal_purge,[]}
-{load_module,m,brutal_purge,brutal_purge,[]}
-{load_module,n,brutal_purge,brutal_purge,[m]}
-{add_module,n,[]}
-{delete_module,n,[]}
-{add_application,a,permanent}";
-
-/// Writes a high-level instruction: the line that is read as the same one.
-fn put_high(out: &mut Vec<u8>, front: &str, high: &High) -> Result<(), Fail> {
-    put(out, front)?;
-    for line in HIGHS.lines() {
-        if is_high(*out.allocator(), line, high)? {
-            put(out, line)?;
+/// Writes a form with these pieces in its places, which are `◇`.
+fn fill(out: &mut Vec<u8>, form: &str, pieces: &[Piece]) -> Result<(), AllocError> {
+    for (i, text) in form.split('◇').enumerate() {
+        if i > 0 {
+            put_piece(out, pieces.get(i - 1))?;
         }
+        put(out, text)?;
     }
     Ok(())
 }
 
-/// Whether a text is this high-level instruction.
-fn is_high(alloc: Global, text: &str, high: &High) -> Result<bool, Fail> {
-    match read_instruction(alloc, &term_of(alloc, text)?)? {
-        Ok(Instruction::High(found)) => Ok(found.same(high)),
-        _ => Ok(false),
+/// Writes a piece, if there is one.
+fn put_piece(out: &mut Vec<u8>, piece: Option<&Piece>) -> Result<(), AllocError> {
+    match piece {
+        Some(Word(word)) => put(out, word),
+        Some(Name(name)) => print_atom(name, out),
+        Some(Names(names)) => put_row(out, "", names.as_slice(), ""),
+        Some(Vsn(version)) => put_version(out, version),
+        Some(Any(term)) => print(term, out),
+        Some(List(terms)) => put_list(out, terms),
+        Some(Text(text)) => put_characters(out, text),
+        Some(Wait(timeout)) => put_timeout(out, timeout),
+        Some(State(change)) => put_change(out, change),
+        None => Ok(()),
     }
 }
 
-impl File for Relup {
-    fn read(alloc: Global, text: &[u8]) -> Result<Relup, FileError> {
-        read_relup(alloc, text)
-    }
+/// Writes a version.
+fn put_version(out: &mut Vec<u8>, version: &Version) -> Result<(), AllocError> {
+    let term = version.term(*out.allocator())?;
+    print(&term, out)
+}
 
-    /// Writes a release upgrade file.
-    fn put(&self, out: &mut Vec<u8>) -> Result<(), Fail> {
-        put_version(out, "{", &self.version)?;
-        put_relup_entries(out, self.up.as_slice())?;
-        put_relup_entries(out, self.down.as_slice())?;
-        Ok(put(out, "}")?)
+/// Writes the list of these terms.
+fn put_list(out: &mut Vec<u8>, terms: &Terms) -> Result<(), AllocError> {
+    let list = Term::List(terms.copy(*out.allocator())?);
+    print(&list, out)
+}
+
+/// Writes the list of these characters.
+fn put_characters(out: &mut Vec<u8>, text: &str) -> Result<(), AllocError> {
+    let list = text.to_term(*out.allocator())?;
+    print(&list, out)
+}
+
+/// Writes a timeout.
+fn put_timeout(out: &mut Vec<u8>, timeout: &Timeout) -> Result<(), AllocError> {
+    match timeout {
+        Timeout::Default => put(out, "default"),
+        Timeout::Infinity => put(out, "infinity"),
+        Timeout::Finite(count) => print(&Term::Int(count.get()), out),
     }
 }
 
-/// Writes the list of these entries of a relup, behind a comma.
-fn put_relup_entries(out: &mut Vec<u8>, entries: &[RelupEntry]) -> Result<(), AllocError> {
-    put(out, ",")?;
-    for (i, entry) in entries.iter().enumerate() {
-        put(out, list_front(i))?;
-        put_relup_entry(out, entry)?;
-    }
-    put(out, list_end(entries.len()))
-}
-
-/// Writes an entry of a relup.
-fn put_relup_entry(out: &mut Vec<u8>, entry: &RelupEntry) -> Result<(), AllocError> {
-    put_version(out, "{", &entry.version)?;
-    put_term(out, ",", &entry.description)?;
-    put_script(out, ",", entry.script.as_slice())?;
+/// Writes how state changes.
+fn put_change(out: &mut Vec<u8>, change: &Change) -> Result<(), AllocError> {
+    let Change::Advanced(extra) = change else {
+        return put(out, "soft");
+    };
+    put(out, "{advanced,")?;
+    print(extra, out)?;
     put(out, "}")
 }
 
-/// Writes the list of these low-level instructions.
-fn put_script(out: &mut Vec<u8>, front: &str, script: &[Low]) -> Result<(), AllocError> {
+/// Writes what stands in front, the list of these values, and what stands behind.
+fn put_row<T: Tell>(
+    out: &mut Vec<u8>,
+    front: &str,
+    row: &[T],
+    behind: &str,
+) -> Result<(), AllocError> {
     put(out, front)?;
-    for (i, low) in script.iter().enumerate() {
-        put_low(out, list_front(i), low)?;
+    for (i, value) in row.iter().enumerate() {
+        put(out, if i == 0 { "[" } else { "," })?;
+        value.put(out)?;
     }
-    put(out, list_end(script.len()))
+    put(out, if row.is_empty() { "[]" } else { "]" })?;
+    put(out, behind)
+}
+
+impl Tell for Atom {
+    fn put(&self, out: &mut Vec<u8>) -> Result<(), AllocError> {
+        print_atom(self, out)
+    }
+}
+
+/// `Mod`, or `{Mod,Timeout}` where the timeout is not the default.
+impl Tell for Suspension {
+    fn put(&self, out: &mut Vec<u8>) -> Result<(), AllocError> {
+        match &self.timeout {
+            Timeout::Default => print_atom(&self.name, out),
+            timeout => fill(out, "{◇,◇}", &[Name(&self.name), Wait(timeout)]),
+        }
+    }
+}
+
+impl Tell for ModuleChange {
+    fn put(&self, out: &mut Vec<u8>) -> Result<(), AllocError> {
+        fill(out, "{◇,◇}", &[Name(&self.name), Any(&self.extra)])
+    }
+}
+
+/// The word of a kind of purge.
+fn purge(purge: &Purge) -> Piece<'static> {
+    match *purge {
+        Purge::Soft => Word("soft_purge"),
+        Purge::Brutal => Word("brutal_purge"),
+    }
+}
+
+/// What stands in front of the changes of `code_change`.
+fn change_front(direction: Direction) -> &'static str {
+    match direction {
+        Direction::Up => "{code_change,up,",
+        Direction::Down => "{code_change,down,",
+    }
+}
+
+impl Tell for Low {
+    fn put(&self, out: &mut Vec<u8>) -> Result<(), AllocError> {
+        match self {
+            Low::LoadObjectCode {
+                application,
+                version,
+                modules,
+            } => {
+                let pieces = [Name(application), Vsn(version), Names(modules)];
+                fill(out, "{load_object_code,{◇,◇,◇}}", &pieces)
+            }
+            Low::PointOfNoReturn => put(out, "point_of_no_return"),
+            Low::Load {
+                name,
+                pre_purge,
+                post_purge,
+            } => {
+                let pieces = [Name(name), purge(pre_purge), purge(post_purge)];
+                fill(out, "{load,{◇,◇,◇}}", &pieces)
+            }
+            Low::Remove {
+                name,
+                pre_purge,
+                post_purge,
+            } => {
+                let pieces = [Name(name), purge(pre_purge), purge(post_purge)];
+                fill(out, "{remove,{◇,◇,◇}}", &pieces)
+            }
+            Low::Purge { modules } => fill(out, "{purge,◇}", &[Names(modules)]),
+            Low::Suspend { modules } => put_row(out, "{suspend,", modules.as_slice(), "}"),
+            Low::Resume { modules } => fill(out, "{resume,◇}", &[Names(modules)]),
+            Low::CodeChange { direction, changes } => {
+                put_row(out, change_front(*direction), changes.as_slice(), "}")
+            }
+            Low::Stop { modules } => fill(out, "{stop,◇}", &[Names(modules)]),
+            Low::Start { modules } => fill(out, "{start,◇}", &[Names(modules)]),
+            Low::Apply {
+                name,
+                function,
+                arguments,
+            } => {
+                let pieces = [Name(name), Name(function), List(arguments)];
+                fill(out, "{apply,{◇,◇,◇}}", &pieces)
+            }
+        }
+    }
+}
+
+/// The word of a kind of module.
+fn module_type_word(module_type: &ModuleType) -> Piece<'static> {
+    match *module_type {
+        ModuleType::Static => Word("static"),
+        ModuleType::Dynamic => Word("dynamic"),
+    }
+}
+
+/// The word of a way to start an application.
+fn start(start_type: &StartType) -> Piece<'static> {
+    match *start_type {
+        StartType::Permanent => Word("permanent"),
+        StartType::Transient => Word("transient"),
+        StartType::Temporary => Word("temporary"),
+        StartType::Load => Word("load"),
+        StartType::None => Word("none"),
+    }
+}
+
+impl Tell for High {
+    fn put(&self, out: &mut Vec<u8>) -> Result<(), AllocError> {
+        match self {
+            High::Update {
+                name,
+                module_type,
+                timeout,
+                change,
+                pre_purge,
+                post_purge,
+                dependencies,
+            } => {
+                let pieces = [
+                    Name(name),
+                    module_type_word(module_type),
+                    Wait(timeout),
+                    State(change),
+                    purge(pre_purge),
+                    purge(post_purge),
+                    Names(dependencies),
+                ];
+                fill(out, "{update,◇,◇,◇,◇,◇,◇,◇}", &pieces)
+            }
+            High::LoadModule {
+                name,
+                pre_purge,
+                post_purge,
+                dependencies,
+            } => {
+                let purges = (purge(pre_purge), purge(post_purge));
+                let pieces = [Name(name), purges.0, purges.1, Names(dependencies)];
+                fill(out, "{load_module,◇,◇,◇,◇}", &pieces)
+            }
+            High::AddModule { name, dependencies } => {
+                fill(out, "{add_module,◇,◇}", &[Name(name), Names(dependencies)])
+            }
+            High::DeleteModule { name, dependencies } => {
+                let pieces = [Name(name), Names(dependencies)];
+                fill(out, "{delete_module,◇,◇}", &pieces)
+            }
+            High::AddApplication { name, start_type } => {
+                fill(
+                    out,
+                    "{add_application,◇,◇}",
+                    &[Name(name), start(start_type)],
+                )
+            }
+            High::RemoveApplication { name } => fill(out, "{remove_application,◇}", &[Name(name)]),
+            High::RestartApplication { name } => fill(
+                out,
+                "{restart_application,◇}",
+                &[Name(name)],
+            ),
+        }
+    }
+}
+
+impl Tell for Instruction {
+    fn put(&self, out: &mut Vec<u8>) -> Result<(), AllocError> {
+        match self {
+            Instruction::High(high) => high.put(out),
+            Instruction::Low(low) => low.put(out),
+        }
+    }
+}
+
+/// An application resource file with all keys that are used.
+impl Tell for AppSpec {
+    fn put(&self, out: &mut Vec<u8>) -> Result<(), AllocError> {
+        let front = [Name(&self.name), Vsn(&self.vsn)];
+        fill(out, "{application,◇,[{vsn,◇},", &front)?;
+        let rows = [Names(&self.modules), Names(&self.applications)];
+        fill(out, "{modules,◇},{applications,◇},{mod,", &rows)?;
+        put_start(out, self.start.as_ref())
+    }
+}
+
+/// Writes the callback module of an application and what it is given, or the empty list where there is none, and the end.
+fn put_start(out: &mut Vec<u8>, start: Option<&StartModule>) -> Result<(), AllocError> {
+    match start {
+        Some(start) => fill(out, "{◇,◇}}]}", &[Name(&start.name), Any(&start.arguments)]),
+        None => put(out, "[]}]}"),
+    }
+}
+
+impl Tell for RelSpec {
+    fn put(&self, out: &mut Vec<u8>) -> Result<(), AllocError> {
+        let name = Text(self.name.as_str());
+        let pieces = [name, Vsn(&self.vsn), Vsn(&self.erts)];
+        fill(out, "{release,{◇,◇},{erts,◇},", &pieces)?;
+        self.apps.put(out)?;
+        put(out, "}")
+    }
+}
+
+impl Tell for Applications {
+    fn put(&self, out: &mut Vec<u8>) -> Result<(), AllocError> {
+        put_row(out, "", self.as_slice(), "")
+    }
+}
+
+/// An application of a release, with its type, and with what it includes where the release says so.
+impl Tell for RelApp {
+    fn put(&self, out: &mut Vec<u8>) -> Result<(), AllocError> {
+        fill(out, "{◇,◇,", &[Name(&self.name), Vsn(&self.vsn)])?;
+        let start_type = start(&self.start_type);
+        match &self.included {
+            Some(included) => fill(out, "◇,◇}", &[start_type, Names(included)]),
+            None => fill(out, "◇}", &[start_type]),
+        }
+    }
+}
+
+/// A permanent application of this name and version.
+pub(crate) fn rel_app(alloc: Global, name: &str, number: &str) -> Result<RelApp, Fail> {
+    Ok(RelApp {
+        name: Atom::new(alloc, name)?,
+        vsn: Version::new(alloc, number)?,
+        start_type: StartType::Permanent,
+        included: None,
+    })
+}
+
+impl Tell for Appup {
+    fn put(&self, out: &mut Vec<u8>) -> Result<(), AllocError> {
+        fill(out, "{◇,", &[Vsn(&self.vsn)])?;
+        put_row(out, "", self.up.as_slice(), ",")?;
+        put_row(out, "", self.down.as_slice(), "}")
+    }
+}
+
+impl Tell for AppupEntry {
+    fn put(&self, out: &mut Vec<u8>) -> Result<(), AllocError> {
+        fill(out, "{◇,", &[Vsn(&self.vsn)])?;
+        put_row(out, "", self.instructions.as_slice(), "}")
+    }
+}
+
+impl Tell for Relup {
+    fn put(&self, out: &mut Vec<u8>) -> Result<(), AllocError> {
+        fill(out, "{◇,", &[Vsn(&self.vsn)])?;
+        put_row(out, "", self.up.as_slice(), ",")?;
+        put_row(out, "", self.down.as_slice(), "}")
+    }
+}
+
+impl Tell for RelupEntry {
+    fn put(&self, out: &mut Vec<u8>) -> Result<(), AllocError> {
+        fill(out, "{◇,◇,", &[Vsn(&self.vsn), Any(&self.description)])?;
+        put_row(out, "", self.instructions.as_slice(), "}")
+    }
 }

@@ -1,0 +1,28 @@
+// Cases, a line each, by topics.
+mod apps;
+mod appups;
+mod instructions;
+mod no_files;
+mod rels;
+mod relups;
+mod words;
+
+/// Each table.
+pub(crate) const TABLES: [&str; 16] = [
+    instructions::LOW,
+    instructions::HIGH,
+    instructions::OUT_OF_PROFILE,
+    instructions::WRONG,
+    instructions::WRONG_WORDS,
+    words::WORDS,
+    words::VERSIONS,
+    words::RELEASE_NAMES,
+    apps::APPS,
+    apps::PROPERTIES,
+    rels::RELS,
+    appups::APPUPS,
+    relups::RELUPS,
+    relups::MADE,
+    relups::COUNTING,
+    no_files::NO_FILES,
+];

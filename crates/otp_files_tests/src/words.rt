@@ -1,0 +1,98 @@
+// Words of release files: versions, ways to start, and names and applications of releases.
+use crate::texts::{printed, said, term_of};
+use crate::told::{rel_app, told};
+use erl_term::{Atom, FromTerm, Term, ToTerm};
+use high_instructions::instruction_forms_are_read;
+use low_instructions::{Timeout, low_forms_are_read};
+use otp_files::{
+    Applications, ReleaseName, StartType, Version, files_are_read_one_way,
+    terms_say_one_record_or_have_one_fault,
+};
+use std::alloc::Global;
+use std::test::Fail;
+use values::{Duplicate, Row, Same};
+
+/// The way to start an application that a text is, as its term is printed.
+pub(crate) fn start_type(alloc: Global, text: &str) -> Result<String, Fail> {
+    match StartType::from_term(&term_of(alloc, text)?) {
+        Some(start_type) => printed(alloc, &start_type.term(alloc)?),
+        None => said(alloc, "✗"),
+    }
+}
+
+/// The row of versions that a text is, as its term is printed.
+pub(crate) fn versions(alloc: Global, text: &str) -> Result<String, Fail> {
+    match Row::<Version>::from_term(alloc, &term_of(alloc, text)?)? {
+        Some(row) => printed(alloc, &row.to_term(alloc)?),
+        None => said(alloc, "✗"),
+    }
+}
+
+/// The text of the version that is read back from the term of this one, where the two are the same.
+fn read_back(alloc: Global, version: &Version) -> Result<String, Fail> {
+    let read = Version::from_term(alloc, &version.term(alloc)?)?.ok_or("no version")?;
+    said(
+        alloc,
+        if read.same(version) {
+            read.as_str()
+        } else {
+            "another"
+        },
+    )
+}
+
+/// The version that a text is, or what is wrong with it.
+pub(crate) fn version(alloc: Global, text: &str) -> Result<String, Fail> {
+    match Version::new(alloc, text) {
+        Ok(version) => read_back(alloc, &version),
+        Err(error) => Ok(format!(in alloc; "✗ {error:?}")?),
+    }
+}
+
+/// The name of a release.
+pub(crate) fn release_name(alloc: Global, text: &str) -> Result<String, Fail> {
+    let name = ReleaseName::new(alloc, text)?;
+    said(alloc, name.as_str())
+}
+
+/// The applications of a release that are named with their versions, if none stands twice.
+fn applications_of(alloc: Global, text: &str) -> Result<Option<Applications>, Fail> {
+    let mut apps = Vec::new(alloc);
+    for word in text.split_whitespace() {
+        let (name, number) = word.split_once('-').ok_or("no version")?;
+        apps.push(rel_app(alloc, name, number)?)?;
+    }
+    Ok(Applications::new(alloc, apps)?)
+}
+
+/// The applications of a release that are named with their versions, or that one stands twice.
+pub(crate) fn applications(alloc: Global, text: &str) -> Result<String, Fail> {
+    match applications_of(alloc, text)? {
+        Some(apps) => told(alloc, &apps),
+        None => said(alloc, "twice"),
+    }
+}
+
+/// The application of a name, in a copy of those that stand behind the name and a colon.
+pub(crate) fn application(alloc: Global, text: &str) -> Result<String, Fail> {
+    let (name, others) = text.split_once(": ").ok_or("no colon")?;
+    let apps = applications_of(alloc, others)?.ok_or("twice")?.copy(alloc)?;
+    match apps.get(&Atom::new(alloc, name)?) {
+        Some(app) => told(alloc, app),
+        None => said(alloc, "-"),
+    }
+}
+
+#[test]
+fn process_identifiers_are_no_timeouts(rt: HostRuntime) {
+    assert!(rt; Timeout::from_term(&Term::Pid(1)).is_none());
+}
+
+/// The laws are functions that do nothing.
+#[test]
+fn laws(_rt: HostRuntime) {
+    low_forms_are_read();
+    instruction_forms_are_read();
+    terms_say_one_record_or_have_one_fault();
+    files_are_read_one_way();
+}
