@@ -53,7 +53,11 @@ code_change_is ts l e =
           subst (Is _) cs.2 (behind (codes "code_change") ts _ (CodeChange p.0.0 cs.0) (way.0 ∙ ap (λ us. more (direction_tree p.0.0) us) found.0) (printed refl, refl))
     ]
 
-forms_are : OfEach (λ head read. (ts : Trees) (l : Low) → read ts ≡ Some l → Is (tuple (more (atom head) ts)) l) low_forms
+-- the instructions of a name
+abbrev AllAre : List ℕ → (Trees → Option Low) → Type 0
+AllAre head read = (ts : Trees) (l : Low) → read ts ≡ Some l → Is (tuple (more (atom head) ts)) l
+
+forms_are : OfEach AllAre low_forms
 forms_are = (
   one_is_low (triples atoms versions names) _ (λ p. LoadObjectCode p.0 p.1 p.2) (λ p holds. (printed refl, holds.1)),
   (
@@ -61,18 +65,18 @@ forms_are = (
     (
       one_is_low (triples atoms purges purges) _ (λ p. Remove p.0 p.1 p.2) (λ p holds. (printed refl, refl)),
       (
-        one_is_low names _ Purge (λ ms holds. (printed refl, refl)),
+        code_change_is,
         (
-          suspend_is,
+          one_is_low (triples atoms atoms lists) _ (λ p. Apply p.0 p.1 p.2) (λ p holds. (printed refl, refl)),
           (
-            one_is_low names _ Resume (λ ms holds. (printed refl, refl)),
+            one_is_low names _ Purge (λ ms holds. (printed refl, refl)),
             (
-              code_change_is,
+              suspend_is,
               (
-                one_is_low names _ Stop (λ ms holds. (printed refl, refl)),
+                one_is_low names _ Resume (λ ms holds. (printed refl, refl)),
                 (
-                  one_is_low names _ Start (λ ms holds. (printed refl, refl)),
-                  (one_is_low (triples atoms atoms lists) _ (λ p. Apply p.0 p.1 p.2) (λ p holds. (printed refl, refl)), tt),
+                  one_is_low names _ Stop (λ ms holds. (printed refl, refl)),
+                  (one_is_low names _ Start (λ ms holds. (printed refl, refl)), tt),
                 ),
               ),
             ),
@@ -87,7 +91,7 @@ in_is : (ts : Trees) (l : Low) → low_in ts ≡ Some l → Is (tuple ts) l
 in_is ts l e =
     let p = given_is (leading_of atom_of ts) _ l e in
     let read = given_is (named low_forms p.0.0) _ l p.2 in
-    let found = named_is (λ head read. (ts : Trees) (l : Low) → read ts ≡ Some l → Is (tuple (more (atom head) ts)) l) low_forms forms_are p.0.0 read.0 read.1 p.0.1 l read.2 in
+    let found = named_is AllAre low_forms forms_are p.0.0 read.0 read.1 p.0.1 l read.2 in
     subst (λ us. Is (tuple us) l) (sym (leading_is atoms ts p.0 p.1).0) found
 
 low_is : (t : Tree) (l : Low) → low_of t ≡ Some l → Is t l

@@ -40,18 +40,25 @@ code_change_of ts =
     (given (leading_of direction_of ts) (λ p. option_map (CodeChange p.0) (alone_of (rows_of change_of) p.1)))
 
 -- what stands behind each name
-abbrev pub low_forms : List (List ℕ × (Trees → Option Low))
-low_forms =
-    (codes "load_object_code", λ ts. option_map (λ p. LoadObjectCode p.0 p.1 p.2) (alone_of (triple_of atom_of version_of names_of) ts)) ∷
-    (codes "load", λ ts. option_map (λ p. Load p.0 p.1 p.2) (alone_of (triple_of atom_of purge_of purge_of) ts)) ∷
-    (codes "remove", λ ts. option_map (λ p. Remove p.0 p.1 p.2) (alone_of (triple_of atom_of purge_of purge_of) ts)) ∷
+
+abbrev pub module_forms : List (List ℕ × (Trees → Option Low))
+module_forms =
     (codes "purge", λ ts. option_map Purge (alone_of names_of ts)) ∷
     (codes "suspend", λ ts. option_map Suspend (alone_of (rows_of suspension_of) ts)) ∷
     (codes "resume", λ ts. option_map Resume (alone_of names_of ts)) ∷
-    (codes "code_change", λ ts. code_change_of ts) ∷
     (codes "stop", λ ts. option_map Stop (alone_of names_of ts)) ∷
-    (codes "start", λ ts. option_map Start (alone_of names_of ts)) ∷
-    (codes "apply", λ ts. option_map (λ p. Apply p.0 p.1 p.2) (alone_of (triple_of atom_of atom_of list_of) ts)) ∷ []
+    (codes "start", λ ts. option_map Start (alone_of names_of ts)) ∷ []
+
+abbrev pub low_forms : List (List ℕ × (Trees → Option Low))
+low_forms = (
+  codes "load_object_code",
+  λ ts. option_map (λ p. LoadObjectCode p.0 p.1 p.2)
+      (alone_of (triple_of atom_of version_of names_of) ts),
+) ∷
+    (codes "load", λ ts. option_map (λ p. Load p.0 p.1 p.2) (alone_of (triple_of atom_of purge_of purge_of) ts)) ∷
+    (codes "remove", λ ts. option_map (λ p. Remove p.0 p.1 p.2) (alone_of (triple_of atom_of purge_of purge_of) ts)) ∷
+    (codes "code_change", λ ts. code_change_of ts) ∷
+    (codes "apply", λ ts. option_map (λ p. Apply p.0 p.1 p.2) (alone_of (triple_of atom_of atom_of list_of) ts)) ∷ module_forms
 
 abbrev pub low_in : Trees → Option Low
 low_in ts = given (leading_of atom_of ts) (λ p. given (named low_forms p.0) (λ read. read p.1))

@@ -5,7 +5,7 @@ ghost use Rattle.erl_term.specs.Term.{tree, trees};
 ghost use Rattle.release_words.specs.Reading.{named};
 ghost use Rattle.low_instructions.specs.Forms.{begins_sync_nodes, is_out_of_profile};
 ghost use Rattle.low_instructions.specs.Laws.{LowTable};
-ghost use Rattle.low_instructions.specs.Reading.{code_change_of, low_forms, low_of, low_result};
+ghost use Rattle.low_instructions.specs.Reading.{code_change_of, low_forms, low_of, low_result, module_forms};
 
 use crate::low::Low;
 use crate::modules::Direction;
@@ -99,24 +99,33 @@ fn tagged(alloc: Global, head: &Atom, rest: &[Term]) -> Result<Option<Low>, Allo
             pre_purge,
             post_purge,
         }))
-    } else if head.is("purge") {
-        Ok(alone(alloc, rest)?.map(|modules| Low::Purge { modules }))
-    } else if head.is("suspend") {
-        Ok(alone(alloc, rest)?.map(|modules| Low::Suspend { modules }))
-    } else if head.is("resume") {
-        Ok(alone(alloc, rest)?.map(|modules| Low::Resume { modules }))
     } else if head.is("code_change") {
         code_change(alloc, rest)
-    } else if head.is("stop") {
-        Ok(alone(alloc, rest)?.map(|modules| Low::Stop { modules }))
-    } else if head.is("start") {
-        Ok(alone(alloc, rest)?.map(|modules| Low::Start { modules }))
     } else if head.is("apply") {
         Ok(alone(alloc, rest)?.map(|(name, function, arguments)| Low::Apply {
             name,
             function,
             arguments,
         }))
+    } else {
+        on_modules(alloc, head, rest)
+    }
+}
+
+/// The instruction on a row of modules that begins with this name.
+fn on_modules(alloc: Global, head: &Atom, rest: &[Term]) -> Result<Option<Low>, AllocError>
+    ensures { IfOk result (λ found. found ≡ given (named module_forms head.now) (λ read. read (trees rest.now))) }
+{
+    if head.is("purge") {
+        Ok(alone(alloc, rest)?.map(|modules| Low::Purge { modules }))
+    } else if head.is("suspend") {
+        Ok(alone(alloc, rest)?.map(|modules| Low::Suspend { modules }))
+    } else if head.is("resume") {
+        Ok(alone(alloc, rest)?.map(|modules| Low::Resume { modules }))
+    } else if head.is("stop") {
+        Ok(alone(alloc, rest)?.map(|modules| Low::Stop { modules }))
+    } else if head.is("start") {
+        Ok(alone(alloc, rest)?.map(|modules| Low::Start { modules }))
     } else {
         Ok(None)
     }
