@@ -1,7 +1,2 @@
-mod Binding
-mod Completeness
-mod Filled
-pub mod Found
-mod Soundness
-pub mod Spelling
-mod Supervisors
+pub mod Forms
+pub mod Parts

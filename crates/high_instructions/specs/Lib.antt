@@ -1,4 +1,3 @@
 pub mod Forms
 pub mod Laws
 pub mod Reading
-pub mod Words

@@ -1,17 +1,35 @@
 // High-level instructions as values.
-use crate::words::{Change, ModuleType, StartType};
+use crate::words::{Change, ModuleType};
 use erl_term::Atom;
-use low_instructions::{Purge, Timeout};
+use release_words::{Purge, StartType, Timeout, copied_variants, same_variants};
 use std::alloc::{AllocError, Global};
 use values::{Duplicate, Row, Same};
 
-/// A high-level instruction (appup(4), High-Level Instructions). Rows of modules may be empty, and may repeat.
+/// A high-level instruction (appup(4), High-Level Instructions).
 #[derive(Drop)]
 pub enum High {
-    /// `{update,Mod,..}`: load the module while the processes that use it are suspended.
+    /// One on a module.
+    Module(ModuleInstruction),
+    /// One on an application.
+    Application(ApplicationInstruction),
+}
+
+/// An instruction on a module.
+#[derive(Drop)]
+pub struct ModuleInstruction {
+    /// The module.
+    pub name: Atom,
+    /// What is done to it.
+    pub work: ModuleWork,
+    /// The modules that it depends on (DepMods); they may repeat.
+    pub dependencies: Row<Atom>,
+}
+
+/// What is done to a module.
+#[derive(Drop)]
+pub enum ModuleWork {
+    /// `{update,Mod,..}`: load it while the processes that use it are suspended.
     Update {
-        /// The module.
-        name: Atom,
         /// When its processes change their state on the way down.
         module_type: ModuleType,
         /// How long its processes may take to be suspended.
@@ -22,130 +40,48 @@ pub enum High {
         pre_purge: Purge,
         /// How its old code is purged after.
         post_purge: Purge,
-        /// The modules that it depends on.
-        dependencies: Row<Atom>,
     },
-    /// `{load_module,Mod,..}`: load the module.
-    LoadModule {
-        /// The module.
-        name: Atom,
+    /// `{load_module,Mod,..}`: load it.
+    Load {
         /// How its old code is purged before.
         pre_purge: Purge,
         /// How its old code is purged after.
         post_purge: Purge,
-        /// The modules that it depends on.
-        dependencies: Row<Atom>,
     },
-    /// `{add_module,Mod,..}`: load a module that is new.
-    AddModule {
-        /// The module.
-        name: Atom,
-        /// The modules that it depends on.
-        dependencies: Row<Atom>,
-    },
-    /// `{delete_module,Mod,..}`: remove the module.
-    DeleteModule {
-        /// The module.
-        name: Atom,
-        /// The modules that it depends on.
-        dependencies: Row<Atom>,
-    },
-    /// `{add_application,App,..}`: load and start an application that is new.
-    AddApplication {
-        /// The application.
-        name: Atom,
+    /// `{add_module,Mod,..}`: load it, as a module that is new.
+    Add,
+    /// `{delete_module,Mod,..}`: remove it.
+    Delete,
+}
+
+/// An instruction on an application.
+#[derive(Drop)]
+pub struct ApplicationInstruction {
+    /// The application.
+    pub name: Atom,
+    /// What is done to it.
+    pub work: ApplicationWork,
+}
+
+/// What is done to an application.
+#[derive(Drop)]
+pub enum ApplicationWork {
+    /// `{add_application,App,..}`: load and start it, as one that is new.
+    Add {
         /// How it is started.
         start_type: StartType,
     },
-    /// `{remove_application,App}`: stop the application and unload it.
-    RemoveApplication {
-        /// The application.
-        name: Atom,
-    },
-    /// `{restart_application,App}`: stop the application, load its modules anew, and start it.
-    RestartApplication {
-        /// The application.
-        name: Atom,
-    },
+    /// `{remove_application,App}`: stop it and unload it.
+    Remove,
+    /// `{restart_application,App}`: stop it, load its modules anew, and start it.
+    Restart,
 }
 
 impl Same for High {
     fn same(&self, other: &High) -> bool {
         match (self, other) {
-            (
-                High::Update {
-                    name: a,
-                    module_type: b,
-                    timeout: c,
-                    change: d,
-                    pre_purge: e,
-                    post_purge: f,
-                    dependencies: g,
-                },
-                High::Update {
-                    name: n,
-                    module_type: o,
-                    timeout: p,
-                    change: q,
-                    pre_purge: r,
-                    post_purge: s,
-                    dependencies: t,
-                },
-            ) => a.same(n)
-                && b.same(o)
-                && c.same(p)
-                && d.same(q)
-                && e.same(r)
-                && f.same(s)
-                && g.same(t),
-            (
-                High::LoadModule {
-                    name: a,
-                    pre_purge: b,
-                    post_purge: c,
-                    dependencies: d,
-                },
-                High::LoadModule {
-                    name: n,
-                    pre_purge: o,
-                    post_purge: p,
-                    dependencies: q,
-                },
-            ) => a.same(n) && b.same(o) && c.same(p) && d.same(q),
-            (
-                High::AddModule {
-                    name: a,
-                    dependencies: b,
-                },
-                High::AddModule {
-                    name: n,
-                    dependencies: o,
-                },
-            ) => a.same(n) && b.same(o),
-            (
-                High::DeleteModule {
-                    name: a,
-                    dependencies: b,
-                },
-                High::DeleteModule {
-                    name: n,
-                    dependencies: o,
-                },
-            ) => a.same(n) && b.same(o),
-            (
-                High::AddApplication {
-                    name: a,
-                    start_type: b,
-                },
-                High::AddApplication {
-                    name: n,
-                    start_type: o,
-                },
-            ) => a.same(n) && b.same(o),
-            (High::RemoveApplication { name: a }, High::RemoveApplication { name: n }) => a.same(n),
-            (High::RestartApplication { name: a }, High::RestartApplication { name: n }) => a.same(
-                n,
-            ),
+            (High::Module(one), High::Module(another)) => one.same(another),
+            (High::Application(one), High::Application(another)) => one.same(another),
             (_, _) => false,
         }
     }
@@ -154,52 +90,77 @@ impl Same for High {
 impl Duplicate for High {
     fn copy(&self, alloc: Global) -> Result<High, AllocError> {
         match self {
-            High::Update {
-                name,
-                module_type,
-                timeout,
-                change,
-                pre_purge,
-                post_purge,
-                dependencies,
-            } => Ok(High::Update {
-                name: name.copy(alloc)?,
-                module_type: module_type.copy(alloc)?,
-                timeout: timeout.copy(alloc)?,
-                change: change.copy(alloc)?,
-                pre_purge: pre_purge.copy(alloc)?,
-                post_purge: post_purge.copy(alloc)?,
-                dependencies: dependencies.copy(alloc)?,
-            }),
-            High::LoadModule {
-                name,
-                pre_purge,
-                post_purge,
-                dependencies,
-            } => Ok(High::LoadModule {
-                name: name.copy(alloc)?,
-                pre_purge: pre_purge.copy(alloc)?,
-                post_purge: post_purge.copy(alloc)?,
-                dependencies: dependencies.copy(alloc)?,
-            }),
-            High::AddModule { name, dependencies } => Ok(High::AddModule {
-                name: name.copy(alloc)?,
-                dependencies: dependencies.copy(alloc)?,
-            }),
-            High::DeleteModule { name, dependencies } => Ok(High::DeleteModule {
-                name: name.copy(alloc)?,
-                dependencies: dependencies.copy(alloc)?,
-            }),
-            High::AddApplication { name, start_type } => Ok(High::AddApplication {
-                name: name.copy(alloc)?,
-                start_type: start_type.copy(alloc)?,
-            }),
-            High::RemoveApplication { name } => Ok(High::RemoveApplication {
-                name: name.copy(alloc)?,
-            }),
-            High::RestartApplication { name } => Ok(High::RestartApplication {
-                name: name.copy(alloc)?,
-            }),
+            High::Module(instruction) => Ok(High::Module(instruction.copy(alloc)?)),
+            High::Application(instruction) => Ok(High::Application(instruction.copy(alloc)?)),
         }
+    }
+}
+
+impl Same for ModuleInstruction {
+    fn same(&self, other: &ModuleInstruction) -> bool {
+        self.name.same(&other.name)
+            && self.work.same(&other.work)
+            && self.dependencies.same(&other.dependencies)
+    }
+}
+
+impl Duplicate for ModuleInstruction {
+    fn copy(&self, alloc: Global) -> Result<ModuleInstruction, AllocError> {
+        Ok(ModuleInstruction {
+            name: self.name.copy(alloc)?,
+            work: self.work.copy(alloc)?,
+            dependencies: self.dependencies.copy(alloc)?,
+        })
+    }
+}
+
+impl Same for ModuleWork {
+    fn same(&self, other: &ModuleWork) -> bool {
+        same_variants!(
+            self, other, ModuleWork,
+            Update { module_type: m, timeout: t, change: c, pre_purge: p, post_purge: q }
+            Load { pre_purge: p, post_purge: q }
+            Add {}
+            Delete {}
+        )
+    }
+}
+
+impl Duplicate for ModuleWork {
+    fn copy(&self, alloc: Global) -> Result<ModuleWork, AllocError> {
+        copied_variants!(
+            self, alloc, ModuleWork,
+            Update { module_type, timeout, change, pre_purge, post_purge }
+            Load { pre_purge, post_purge }
+            Add {}
+            Delete {}
+        )
+    }
+}
+
+impl Same for ApplicationInstruction {
+    fn same(&self, other: &ApplicationInstruction) -> bool {
+        self.name.same(&other.name) && self.work.same(&other.work)
+    }
+}
+
+impl Duplicate for ApplicationInstruction {
+    fn copy(&self, alloc: Global) -> Result<ApplicationInstruction, AllocError> {
+        Ok(ApplicationInstruction {
+            name: self.name.copy(alloc)?,
+            work: self.work.copy(alloc)?,
+        })
+    }
+}
+
+impl Same for ApplicationWork {
+    fn same(&self, other: &ApplicationWork) -> bool {
+        same_variants!(self, other, ApplicationWork, Add { start_type: s } Remove {} Restart {})
+    }
+}
+
+impl Duplicate for ApplicationWork {
+    fn copy(&self, alloc: Global) -> Result<ApplicationWork, AllocError> {
+        copied_variants!(self, alloc, ApplicationWork, Add { start_type } Remove {} Restart {})
     }
 }

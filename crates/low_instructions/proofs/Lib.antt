@@ -1,4 +1,2 @@
-pub mod Complete
-pub mod Found
-pub mod Parts
-pub mod Sound
+pub mod Forms
+pub mod ModuleParts

@@ -1,20 +1,19 @@
--- Low-level instructions as they are written (appup(4), Low-Level Instructions).
-use Rattle.std.specs.Prelude.{◌≡◌, ℕ, Bool, false, List, [], ◌∷◌, codes}
+-- Low-level instructions as they are written (appup(4), Low-Level Instructions), and what that means.
+use Rattle.std.specs.Prelude.{◌≡◌, ℕ, Bool, false, List, [], ◌∷◌, codes, ◌||◌, map}
 use Rattle.std.specs.Str.{bytes_eq}
-use Rattle.std.specs.Prelude.{◌||◌, map}
-use Rattle.erl_term.specs.Conversions.{rows}
+use Rattle.erl_term.specs.Conversions.{row, rows}
 use Rattle.erl_term.specs.Tree.{Tree, int, atom, pid, tuple, list, none, more}
 use Rattle.erl_term.specs.Term.{tree}
-use Rattle.low_instructions.specs.declared.low.Direction.{Direction}
-use Rattle.low_instructions.specs.declared.low.Direction.TheVariants.{Up, Down}
-use Rattle.low_instructions.specs.declared.low.Suspension.{Suspension}
-use Rattle.low_instructions.specs.declared.low.ModuleChange.{ModuleChange}
+use Rattle.release_words.specs.declared.timeout.Timeout.{Timeout}
+use Rattle.release_words.specs.declared.timeout.Timeout.TheVariants.{Default, Infinity, Finite}
+use Rattle.release_words.specs.Words.{word, form, string_tree, names_tree, purge_tree, timeout_tree}
 use Rattle.low_instructions.specs.declared.low.Low.{Low}
 use Rattle.low_instructions.specs.declared.low.Low.TheVariants.{LoadObjectCode, PointOfNoReturn, Load, Remove, Purge, Suspend}
 use Rattle.low_instructions.specs.declared.low.Low.TheVariants.{Resume, CodeChange, Stop, Start, Apply}
-use Rattle.low_instructions.specs.declared.timeout.Timeout.{Timeout}
-use Rattle.low_instructions.specs.declared.timeout.Timeout.TheVariants.{Default, Infinity, Finite}
-use Rattle.low_instructions.specs.Words.{row, word, form, string_tree, names_tree, purge_tree, timeout_tree}
+use Rattle.low_instructions.specs.declared.modules.Direction.{Direction}
+use Rattle.low_instructions.specs.declared.modules.Direction.TheVariants.{Up, Down}
+use Rattle.low_instructions.specs.declared.modules.ModuleChange.{ModuleChange}
+use Rattle.low_instructions.specs.declared.modules.Suspension.{Suspension}
 
 -- How each is printed
 
@@ -23,13 +22,13 @@ direction_tree Up = word (codes "up")
 direction_tree Down = word (codes "down")
 
 -- a module to suspend: `Mod` where the timeout is the default, else `{Mod,Timeout}`
-abbrev pub timed : List ℕ → Timeout → Tree
-timed name Default = atom name
-timed name Infinity = tuple (row (atom name ∷ timeout_tree Infinity ∷ []))
-timed name (Finite n) = tuple (row (atom name ∷ timeout_tree (Finite n) ∷ []))
+abbrev pub timed_tree : List ℕ → Timeout → Tree
+timed_tree name Default = atom name
+timed_tree name Infinity = tuple (row (atom name ∷ timeout_tree Infinity ∷ []))
+timed_tree name (Finite n) = tuple (row (atom name ∷ timeout_tree (Finite n) ∷ []))
 
 abbrev pub suspension_tree : Suspension → Tree
-suspension_tree s = timed s.name s.timeout
+suspension_tree s = timed_tree s.name s.timeout
 
 -- `{Mod,Extra}`
 abbrev pub change_tree : ModuleChange → Tree
@@ -53,41 +52,28 @@ low_tree (Apply name function arguments) =
 
 -- How each may be written: as it is printed, and two of them otherwise
 
+-- a module to suspend: `Mod`, or `{Mod,Timeout}` with any timeout
 pub data SuspensionForm : Type 0 where
-  plain : Suspension → SuspensionForm
-  -- `{Mod,default}`
-  with_default : List ℕ → SuspensionForm
+  plain : List ℕ → SuspensionForm
+  timed : List ℕ → Timeout → SuspensionForm
 
 abbrev pub suspension_form_tree : SuspensionForm → Tree
-suspension_form_tree (plain s) = suspension_tree s
-suspension_form_tree (with_default name) = tuple (row (atom name ∷ word (codes "default") ∷ []))
+suspension_form_tree (plain name) = atom name
+suspension_form_tree (timed name timeout) = tuple (row (atom name ∷ timeout_tree timeout ∷ []))
 
 abbrev pub suspension_meant : SuspensionForm → Suspension
-suspension_meant (plain s) = s
-suspension_meant (with_default name) = record { name = name; timeout = Default }
-
-pub data LowForm : Type 0 where
-  printed : Low → LowForm
-  -- `{code_change,[{Mod,Extra}]}`
-  undirected : List ModuleChange → LowForm
-  -- `{suspend,[Mod or {Mod,Timeout}]}`
-  suspending : List SuspensionForm → LowForm
-
-abbrev pub low_form_tree : LowForm → Tree
-low_form_tree (printed l) = low_tree l
-low_form_tree (undirected changes) = form (codes "code_change") (list (rows change_tree changes) ∷ [])
-low_form_tree (suspending modules) = form (codes "suspend") (list (rows suspension_form_tree modules) ∷ [])
-
-abbrev pub low_meant : LowForm → Low
-low_meant (printed l) = l
-low_meant (undirected changes) = CodeChange Up changes
-low_meant (suspending modules) = Suspend (map suspension_meant modules)
+suspension_meant (plain name) = record { name = name; timeout = Default }
+suspension_meant (timed name timeout) = record { name = name; timeout = timeout }
 
 -- a term that is written in one of the forms of an instruction
-pub record IsLow (t : Tree) (l : Low) : Type 0 where
-  pub written : LowForm
-  pub is : t ≡ low_form_tree written
-  pub means : l ≡ low_meant written
+pub data IsLow (t : Tree) (l : Low) : Type 0 where
+  printed : t ≡ low_tree l → IsLow t l
+  -- `{code_change,[{Mod,Extra}]}`
+  undirected : (changes : List ModuleChange) → t ≡ form (codes "code_change") (list (rows change_tree changes) ∷ []) →
+      l ≡ CodeChange Up changes → IsLow t l
+  -- `{suspend,[Mod or {Mod,Timeout}]}`
+  suspending : (modules : List SuspensionForm) → t ≡ form (codes "suspend") (list (rows suspension_form_tree modules) ∷ []) →
+      l ≡ Suspend (map suspension_meant modules) → IsLow t l
 
 -- Instructions that OTP has and a node of this kind has not: `restart_new_emulator`, `restart_emulator` and
 -- `{sync_nodes,..}`

@@ -1,5 +1,4 @@
-//! Low-level instructions of an upgrade (appup(4), relup(4)): as values, as terms, and from one to the other; and the
-//! words of release files that they are made of, such as versions.
+//! Low-level instructions of an upgrade (appup(4), relup(4)): as values, as terms, and from one to the other.
 //!
 //! # What is proved
 //!
@@ -7,26 +6,14 @@
 //! - [`low_term`] gives the term of an instruction in its form, and it is read back as the instruction.
 //! - [`low_forms_are_read`]: what is read is written in one of the forms of the instruction, and each form of an
 //!   instruction is read as it.
-//! - The words ([`Version`], [`Purge`], [`Timeout`], rows of names) are read exactly where a term is one.
 #![tactic(auto)]
 
-mod fault;
-mod head;
 mod low;
-mod purge;
+mod modules;
 mod reading;
-mod table;
-mod timeout;
-mod version;
-mod words;
 mod writing;
 
-pub use fault::InstructionFault;
-pub use low::{Direction, Low, ModuleChange, Script, Suspension};
-pub use purge::Purge;
-pub use reading::read_low;
-pub use table::low_forms_are_read;
-pub use timeout::{Milliseconds, Timeout};
-pub use version::{Version, VersionError};
-pub use words::{names, names_term};
+pub use low::{Low, Script};
+pub use modules::{Direction, ModuleChange, Suspension};
+pub use reading::{low_forms_are_read, read_low};
 pub use writing::low_term;

@@ -1,56 +1,9 @@
 // Low-level instructions as values.
-use crate::purge::Purge;
-use crate::timeout::Timeout;
-use crate::version::Version;
-use erl_term::{Atom, Term, Terms};
+use crate::modules::{Direction, ModuleChange, Suspension};
+use erl_term::{Atom, Terms};
+use release_words::{Purge, Version, copied_variants, same_variants};
 use std::alloc::{AllocError, Global};
 use values::{Duplicate, Row, Same};
-
-// Whether two values are the same variant with equal fields; each field is given a second name, for the other value's.
-macro_rules! same_variants {
-    ($this:expr, $other:expr, $Enum:ident, $($Variant:ident { $($field:ident: $others:ident),* })*) => {
-        match ($this, $other) {
-            $(($Enum::$Variant { $($field),* }, $Enum::$Variant { $($field: $others),* }) => true $(&& $field.same($others))*,)*
-            (_, _) => false,
-        }
-    };
-}
-
-// The same variant with copies of its fields.
-macro_rules! copied_variants {
-    ($this:expr, $alloc:expr, $Enum:ident, $($Variant:ident { $($field:ident),* })*) => {
-        match $this {
-            $($Enum::$Variant { $($field),* } => Ok($Enum::$Variant { $($field: $field.copy($alloc)?),* }),)*
-        }
-    };
-}
-
-/// Which way code is changed.
-#[derive(Clone, Copy, Debug, PartialEq, Eq, Drop)]
-pub enum Direction {
-    /// `up`: to a newer version.
-    Up,
-    /// `down`: to an older one.
-    Down,
-}
-
-/// A module whose processes are suspended.
-#[derive(Drop)]
-pub struct Suspension {
-    /// The module.
-    pub name: Atom,
-    /// How long its processes may take.
-    pub timeout: Timeout,
-}
-
-/// A module whose processes change their state.
-#[derive(Drop)]
-pub struct ModuleChange {
-    /// The module.
-    pub name: Atom,
-    /// What `code_change` is given.
-    pub extra: Term,
-}
 
 /// A low-level instruction (appup(4), Low-Level Instructions). Rows of modules may be empty, and may repeat.
 #[derive(Drop)]
@@ -129,53 +82,6 @@ pub enum Low {
 
 /// The instructions of an upgrade or a downgrade, in order.
 pub type Script = Row<Low>;
-
-impl Same for Direction {
-    fn same(&self, other: &Direction) -> bool {
-        match (*self, *other) {
-            (Direction::Up, Direction::Up) | (Direction::Down, Direction::Down) => true,
-            (_, _) => false,
-        }
-    }
-}
-
-impl Duplicate for Direction {
-    fn copy(&self, _alloc: Global) -> Result<Direction, AllocError> {
-        Ok(*self)
-    }
-}
-
-impl Same for Suspension {
-    fn same(&self, other: &Suspension) -> bool {
-        self.name.same(&other.name) && self.timeout.same(&other.timeout)
-    }
-}
-
-impl Duplicate for Suspension {
-    fn copy(&self, alloc: Global) -> Result<Suspension, AllocError> {
-        let name = self.name.copy(alloc)?;
-        Ok(Suspension {
-            name,
-            timeout: self.timeout.copy(alloc)?,
-        })
-    }
-}
-
-impl Same for ModuleChange {
-    fn same(&self, other: &ModuleChange) -> bool {
-        self.name.same(&other.name) && self.extra.same(&other.extra)
-    }
-}
-
-impl Duplicate for ModuleChange {
-    fn copy(&self, alloc: Global) -> Result<ModuleChange, AllocError> {
-        let name = self.name.copy(alloc)?;
-        Ok(ModuleChange {
-            name,
-            extra: self.extra.copy(alloc)?,
-        })
-    }
-}
 
 impl Same for Low {
     fn same(&self, other: &Low) -> bool {

@@ -1,23 +1,17 @@
-// Low-level instructions from terms: one function a form.
-ghost use Rattle.std.specs.Prelude.{◌≡◌, ℕ, List, IfOk, option_map};
+// Low-level instructions from terms.
+ghost use Rattle.std.specs.Prelude.{◌≡◌, IfOk};
+ghost use Rattle.erl_term.specs.Conversions.{given};
 ghost use Rattle.erl_term.specs.Term.{tree, trees};
+ghost use Rattle.release_words.specs.Reading.{named};
 ghost use Rattle.low_instructions.specs.Forms.{begins_sync_nodes, is_out_of_profile};
-ghost use Rattle.low_instructions.specs.Reading.{apply_of, low_headed, low_in, low_named, low_of, low_result, modules_of, object_code_of, purged_of};
-ghost use Rattle.low_instructions.specs.declared.low.Low.{Low as Instruction};
-ghost use Rattle.low_instructions.specs.declared.purge.Purge.{Purge as PurgeKind};
+ghost use Rattle.low_instructions.specs.Laws.{LowTable};
+ghost use Rattle.low_instructions.specs.Reading.{code_change_of, low_forms, low_of, low_result, module_forms};
 
-mod rows;
-
-use crate::fault::InstructionFault;
-use crate::head::Head;
 use crate::low::Low;
-use crate::purge::Purge;
-use crate::version::Version;
-use crate::words::names;
-use erl_term::{Atom, Term, first, one, three};
-use rows::{code_change, suspend};
+use crate::modules::Direction;
+use erl_term::{Atom, Term};
+use release_words::{InstructionFault, alone, leading};
 use std::alloc::{AllocError, Global};
-use values::{Duplicate, Row};
 
 /// The low-level instruction that a term is, or why it is none.
 ///
@@ -36,6 +30,11 @@ pub fn read_low(alloc: Global, term: &Term) -> Result<Result<Low, InstructionFau
         None => Ok(Err(InstructionFault::Bad)),
     }
 }
+
+/// A law: the table of the forms and that of their reading say the same.
+pub fn low_forms_are_read()
+    ensures { LowTable }
+{}
 
 /// Whether it is an instruction that a node of this kind has not.
 fn is_out_of_profile(term: &Term) -> bool
@@ -67,181 +66,82 @@ fn low(alloc: Global, term: &Term) -> Result<Option<Low>, AllocError>
     ensures { IfOk result (λ found. found ≡ low_of (tree term.now)) }
 {
     match term {
-        Term::Atom(name) => Ok(named(name)),
-        Term::Tuple(row) => tagged(alloc, row.as_slice()),
-        Term::Int(_) | Term::Pid(_) | Term::List(_) => Ok(None),
+        Term::Atom(name) if name.is("point_of_no_return") => Ok(Some(Low::PointOfNoReturn)),
+        Term::Tuple(row) => {
+            let Some((head, rest)) = leading::<Atom>(alloc, row.as_slice())? else {
+                return Ok(None);
+            };
+            tagged(alloc, &head, rest)
+        }
+        Term::Atom(_) | Term::Int(_) | Term::Pid(_) | Term::List(_) => Ok(None),
     }
 }
 
-/// `point_of_no_return`
-fn named(name: &Atom) -> Option<Low>
-    ensures { result ≡ low_named name.now }
+/// The instruction that begins with this name.
+fn tagged(alloc: Global, head: &Atom, rest: &[Term]) -> Result<Option<Low>, AllocError>
+    ensures { IfOk result (λ found. found ≡ given (named low_forms head.now) (λ read. read (trees rest.now))) }
 {
-    if name.is("point_of_no_return") {
-        Some(Low::PointOfNoReturn)
+    if head.is("load_object_code") {
+        Ok(alone(alloc, rest)?.map(|(application, version, modules)| Low::LoadObjectCode {
+            application,
+            version,
+            modules,
+        }))
+    } else if head.is("load") {
+        Ok(alone(alloc, rest)?.map(|(name, pre_purge, post_purge)| Low::Load {
+            name,
+            pre_purge,
+            post_purge,
+        }))
+    } else if head.is("remove") {
+        Ok(alone(alloc, rest)?.map(|(name, pre_purge, post_purge)| Low::Remove {
+            name,
+            pre_purge,
+            post_purge,
+        }))
+    } else if head.is("code_change") {
+        code_change(alloc, rest)
+    } else if head.is("apply") {
+        Ok(alone(alloc, rest)?.map(|(name, function, arguments)| Low::Apply {
+            name,
+            function,
+            arguments,
+        }))
     } else {
-        None
+        on_modules(alloc, head, rest)
     }
 }
 
-/// `{Head,..}`
-fn tagged(alloc: Global, row: &[Term]) -> Result<Option<Low>, AllocError>
-    ensures { IfOk result (λ found. found ≡ low_in (trees row.now)) }
+/// The instruction on a row of modules that begins with this name.
+fn on_modules(alloc: Global, head: &Atom, rest: &[Term]) -> Result<Option<Low>, AllocError>
+    ensures { IfOk result (λ found. found ≡ given (named module_forms head.now) (λ read. read (trees rest.now))) }
 {
-    let Some((name, rest)) = first(row) else {
-        return Ok(None);
-    };
-    let Some(name) = name.as_atom() else {
-        return Ok(None);
-    };
-    match Head::named(name) {
-        Some(head) => headed(alloc, head, rest),
-        None => Ok(None),
+    if head.is("purge") {
+        Ok(alone(alloc, rest)?.map(|modules| Low::Purge { modules }))
+    } else if head.is("suspend") {
+        Ok(alone(alloc, rest)?.map(|modules| Low::Suspend { modules }))
+    } else if head.is("resume") {
+        Ok(alone(alloc, rest)?.map(|modules| Low::Resume { modules }))
+    } else if head.is("stop") {
+        Ok(alone(alloc, rest)?.map(|modules| Low::Stop { modules }))
+    } else if head.is("start") {
+        Ok(alone(alloc, rest)?.map(|modules| Low::Start { modules }))
+    } else {
+        Ok(None)
     }
 }
 
-/// What stands behind a head.
-fn headed(alloc: Global, head: Head, rest: &[Term]) -> Result<Option<Low>, AllocError>
-    ensures { IfOk result (λ found. found ≡ low_headed head (trees rest.now)) }
+/// `[{Mod,Extra}]`, or `up` or `down` before it
+#[tactic(auto, unfolding(crate::specs::Reading::code_change_of))]
+fn code_change(alloc: Global, rest: &[Term]) -> Result<Option<Low>, AllocError>
+    ensures { IfOk result (λ found. found ≡ code_change_of (trees rest.now)) }
 {
-    match head {
-        Head::LoadObjectCode => object_code(alloc, rest),
-        Head::Load => load(alloc, rest),
-        Head::Remove => remove(alloc, rest),
-        Head::Purge => Ok(modules(alloc, rest)?.map(|modules| Low::Purge { modules })),
-        Head::Suspend => suspend(alloc, rest),
-        Head::Resume => Ok(modules(alloc, rest)?.map(|modules| Low::Resume { modules })),
-        Head::CodeChange => code_change(alloc, rest),
-        Head::Stop => Ok(modules(alloc, rest)?.map(|modules| Low::Stop { modules })),
-        Head::Start => Ok(modules(alloc, rest)?.map(|modules| Low::Start { modules })),
-        Head::Apply => apply(alloc, rest),
+    if let Some(changes) = alone(alloc, rest)? {
+        let direction = Direction::Up;
+        return Ok(Some(Low::CodeChange { direction, changes }));
     }
-}
-
-/// `{App,Vsn,[Mod]}`
-#[tactic(auto, unfolding(crate::specs::Reading::object_code_of))]
-fn object_code(alloc: Global, rest: &[Term]) -> Result<Option<Low>, AllocError>
-    ensures { IfOk result (λ found. found ≡ object_code_of (trees rest.now)) }
-{
-    let Some(row) = one(rest) else {
+    let Some((direction, rest)) = leading(alloc, rest)? else {
         return Ok(None);
     };
-    let Some(row) = row.as_tuple() else {
-        return Ok(None);
-    };
-    let Some((application, version, modules)) = three(row.as_slice()) else {
-        return Ok(None);
-    };
-    let Some(application) = application.as_atom() else {
-        return Ok(None);
-    };
-    let Some(version) = Version::from_term(alloc, version)? else {
-        return Ok(None);
-    };
-    let Some(modules) = names(alloc, modules)? else {
-        return Ok(None);
-    };
-    Ok(Some(Low::LoadObjectCode {
-        application: application.copy(alloc)?,
-        version,
-        modules,
-    }))
-}
-
-/// `{Mod,PrePurge,PostPurge}`, whatever instruction it is of
-#[tactic(auto, unfolding(crate::specs::Reading::purged_of))]
-fn purged(alloc: Global, rest: &[Term]) -> Result<Option<(Atom, Purge, Purge)>, AllocError>
-    ensures { IfOk result (λ found. (low : List ℕ → PurgeKind → PurgeKind → Instruction) →
-        purged_of low (trees rest.now) ≡ option_map (λ p. low p.0 p.1 p.2) found) }
-{
-    let Some(row) = one(rest) else {
-        return Ok(None);
-    };
-    let Some(row) = row.as_tuple() else {
-        return Ok(None);
-    };
-    let Some((name, pre_purge, post_purge)) = three(row.as_slice()) else {
-        return Ok(None);
-    };
-    let Some(name) = name.as_atom() else {
-        return Ok(None);
-    };
-    let Some(pre_purge) = Purge::from_term(pre_purge) else {
-        return Ok(None);
-    };
-    let Some(post_purge) = Purge::from_term(post_purge) else {
-        return Ok(None);
-    };
-    Ok(Some((name.copy(alloc)?, pre_purge, post_purge)))
-}
-
-/// `{Mod,PrePurge,PostPurge}` of `load`
-fn load(alloc: Global, rest: &[Term]) -> Result<Option<Low>, AllocError>
-    ensures { IfOk result (λ found. found ≡ purged_of Low.Load (trees rest.now)) }
-{
-    let Some((name, pre_purge, post_purge)) = purged(alloc, rest)? else {
-        return Ok(None);
-    };
-    Ok(Some(Low::Load {
-        name,
-        pre_purge,
-        post_purge,
-    }))
-}
-
-/// `{Mod,PrePurge,PostPurge}` of `remove`
-fn remove(alloc: Global, rest: &[Term]) -> Result<Option<Low>, AllocError>
-    ensures { IfOk result (λ found. found ≡ purged_of Low.Remove (trees rest.now)) }
-{
-    let Some((name, pre_purge, post_purge)) = purged(alloc, rest)? else {
-        return Ok(None);
-    };
-    Ok(Some(Low::Remove {
-        name,
-        pre_purge,
-        post_purge,
-    }))
-}
-
-/// `[Mod]`, whatever instruction it is of
-#[tactic(auto, unfolding(crate::specs::Reading::modules_of))]
-fn modules(alloc: Global, rest: &[Term]) -> Result<Option<Row<Atom>>, AllocError>
-    ensures { IfOk result (λ found. (low : List (List ℕ) → Instruction) →
-        modules_of low (trees rest.now) ≡ option_map low found) }
-{
-    let Some(modules) = one(rest) else {
-        return Ok(None);
-    };
-    names(alloc, modules)
-}
-
-/// `{M,F,Args}`
-#[tactic(auto, unfolding(crate::specs::Reading::apply_of))]
-fn apply(alloc: Global, rest: &[Term]) -> Result<Option<Low>, AllocError>
-    ensures { IfOk result (λ found. found ≡ apply_of (trees rest.now)) }
-{
-    let Some(row) = one(rest) else {
-        return Ok(None);
-    };
-    let Some(row) = row.as_tuple() else {
-        return Ok(None);
-    };
-    let Some((name, function, arguments)) = three(row.as_slice()) else {
-        return Ok(None);
-    };
-    let Some(name) = name.as_atom() else {
-        return Ok(None);
-    };
-    let Some(function) = function.as_atom() else {
-        return Ok(None);
-    };
-    let Some(arguments) = arguments.as_list() else {
-        return Ok(None);
-    };
-    let name = name.copy(alloc)?;
-    Ok(Some(Low::Apply {
-        name,
-        function: function.copy(alloc)?,
-        arguments: arguments.copy(alloc)?,
-    }))
+    Ok(alone(alloc, rest)?.map(|changes| Low::CodeChange { direction, changes }))
 }

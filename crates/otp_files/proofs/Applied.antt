@@ -6,9 +6,8 @@ use Rattle.erl_term.specs.Accessors.{all_of, atom_of, list_of}
 use Rattle.erl_term.specs.Conversions.{given, pair_of, rows_of}
 use Rattle.erl_term.specs.Term.{term_of}
 use Rattle.erl_term.specs.Tree.{Tree, Trees, list, more, none}
-use Rattle.low_instructions.specs.Reading.{either_of, version_of}
-use Rattle.low_instructions.proofs.Parts.{either_is, given_is, list_is, map_is}
-use Rattle.low_instructions.proofs.Found.{none_some}
+use Rattle.release_words.specs.Reading.{either_of, version_of}
+use Rattle.release_words.proofs.Parts.{either_is, given_is, list_is, map_is, none_some}
 use Rattle.otp_files.specs.declared.app.AppSpec.{AppSpec}
 use Rattle.otp_files.specs.declared.app.StartModule.{StartModule}
 use Rattle.otp_files.specs.declared.app.used.Used.{Used}

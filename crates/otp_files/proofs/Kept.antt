@@ -7,7 +7,7 @@ use Rattle.erl_term.specs.Conversions.{rows}
 use Rattle.low_instructions.specs.declared.low.Low.{Low}
 use Rattle.low_instructions.specs.Forms.{low_tree, printed}
 use Rattle.low_instructions.specs.Laws.{is_low}
-use Rattle.low_instructions.specs.Words.{is_version}
+use Rattle.release_words.specs.Words.{is_version}
 use Rattle.otp_files.specs.declared.upgrade.Entry.{Entry}
 use Rattle.otp_files.specs.declared.upgrade.Upgrades.{Upgrades}
 use Rattle.otp_files.specs.declared.upgrade.drafts.Draft.{Draft}
@@ -20,7 +20,7 @@ IsFine low = is_low low ≡ true
 script_kept : (ls : List Low) → All IsFine ls → Each IsRelupInstruction (rows low_tree ls) ls
 script_kept [] all = tt
 script_kept (l ∷ ls) all =
-    ((record { written = printed l; is = refl; means = refl }, All-head IsFine l ls all), script_kept ls (All-tail IsFine l ls all))
+    ((printed refl, All-head IsFine l ls all), script_kept ls (All-tail IsFine l ls all))
 
 abbrev draft : Entry Term Low → Draft Term
 draft e = record { vsn = e.vsn; description = e.description; instructions = rows low_tree e.instructions }

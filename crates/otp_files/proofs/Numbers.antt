@@ -4,8 +4,8 @@ use Rattle.std.proofs.lemmas.List.{drop_more}
 use Rattle.erl_term.specs.declared.term.Term.{Term}
 use Rattle.erl_term.specs.Tree.{Tree, Trees, none, more, count}
 use Rattle.erl_term.specs.Term.{tree, trees}
-use Rattle.low_instructions.specs.declared.fault.InstructionFault.{InstructionFault}
-use Rattle.low_instructions.specs.declared.fault.InstructionFault.TheVariants.{Bad, OutOfProfile}
+use Rattle.release_words.specs.declared.fault.InstructionFault.{InstructionFault}
+use Rattle.release_words.specs.declared.fault.InstructionFault.TheVariants.{Bad, OutOfProfile}
 use Rattle.otp_files.specs.declared.error.FileError.{FileError}
 use Rattle.otp_files.specs.declared.error.FileError.TheVariants.{BadInstruction, OutOfProfile as Excluded}
 use Rattle.otp_files.specs.Reading.{after, entries_from, entry_of, fault_at, numbered, script_from}

@@ -8,16 +8,14 @@ use Rattle.erl_term.specs.Accessors.{all_of, atom_of, char_of, first_of, four_of
 use Rattle.erl_term.specs.Conversions.{given, row, rows_of}
 use Rattle.erl_term.specs.Rows.{integers}
 use Rattle.erl_term.specs.Tree.{Tree, Trees, atom, int, list, more, none, pid, tuple}
-use Rattle.low_instructions.specs.Reading.{either_of, version_of}
-use Rattle.low_instructions.specs.Words.{is_version, names_tree, string_tree}
-use Rattle.low_instructions.proofs.Parts.{all_is, atom_is, choice, either_is, given_is, list_is, map_is, one_is, string_is, three_is, tuple_is, two_is, two_parts}
-use Rattle.low_instructions.proofs.Found.{both_true, none_some, version_is}
-use Rattle.low_instructions.proofs.Complete.{all_back, next_back, version_back}
-use Rattle.high_instructions.specs.declared.words.StartType.{StartType}
-use Rattle.high_instructions.specs.declared.words.StartType.TheVariants.{Permanent}
-use Rattle.high_instructions.specs.Reading.{start_type_of}
-use Rattle.high_instructions.specs.Words.{start_type_tree}
-use Rattle.high_instructions.proofs.Spelling.{start_type_found, start_type_read}
+use Rattle.release_words.specs.Reading.{either_of, version_of, start_type_of}
+use Rattle.release_words.specs.Words.{is_version, names_tree, string_tree, start_type_tree}
+use Rattle.release_words.proofs.Parts.{all_is, atom_is, choice, either_is, given_is, list_is, map_is, one_is, string_is, three_is, tuple_is, two_is, two_parts, both_true, none_some, all_back, next_back}
+use Rattle.release_words.proofs.Words.{version_is}
+use Rattle.release_words.proofs.Words.{version_back}
+use Rattle.release_words.specs.declared.start_type.StartType.{StartType}
+use Rattle.release_words.specs.declared.start_type.StartType.TheVariants.{Permanent}
+use Rattle.release_words.proofs.Words.{start_types}
 use Rattle.otp_files.specs.declared.applications.RelApp.{RelApp}
 use Rattle.otp_files.specs.declared.error.FileError.{FileError}
 use Rattle.otp_files.specs.declared.error.FileError.TheVariants.{Shape}
@@ -107,7 +105,7 @@ typed_found : (a v : List ℕ) (ts : Trees) (app : RelApp) → typed_of a v ts �
 typed_found a v ts app e =
     let alone = given_is (one_of ts) _ app e in
     let type = map_is _ (start_type_of alone.0) app alone.2 in
-    subst (Of a v ts) type.2 (typed (ap (front a v) (one_is ts alone.0 alone.1 ∙ ap (λ t. more t none) (start_type_found alone.0 type.0 type.1))) refl, refl)
+    subst (Of a v ts) type.2 (typed (ap (front a v) (one_is ts alone.0 alone.1 ∙ ap (λ t. more t none) ((start_types.is alone.0 type.0 type.1).0))) refl, refl)
 
 including_found : (a v : List ℕ) (ts : Trees) (app : RelApp) → including_of a v ts ≡ Some app → Of a v ts app
 including_found a v ts app e =
@@ -120,7 +118,7 @@ typed_including_found a v ts app e =
     let both = given_is (two_of ts) _ app e in
     let type = given_is (start_type_of both.0.0) _ app both.2 in
     let names = map_is _ (rows_of atom_of both.0.1) app type.2 in
-    subst (Of a v ts) names.2 (typed_including names.0 (ap (front a v) (two_is ts both.0 both.1 ∙ two_parts both.0.0 both.0.1 _ _ (start_type_found both.0.0 type.0 type.1) (names_is both.0.1 names.0 names.1))) refl, refl)
+    subst (Of a v ts) names.2 (typed_including names.0 (ap (front a v) (two_is ts both.0 both.1 ∙ two_parts both.0.0 both.0.1 _ _ ((start_types.is both.0.0 type.0 type.1).0) (names_is both.0.1 names.0 names.1))) refl, refl)
 
 with_found : (a v : List ℕ) (ts : Trees) (app : RelApp) → rel_app_with a v ts ≡ Some app → Of a v ts app
 with_found a v ts app e =
@@ -171,7 +169,7 @@ app_back t app (typed is names, fine) =
     let a = app.name in
     let v = app.vsn in
     let ts = row (start_type_tree app.start_type ∷ []) in
-    ap rel_app_of is ∙ fronted a v ts fine ∙ ap (λ o. either_of (option_map (λ type. record { name = a; vsn = v; start_type = type; included = None }) o) (either_of (including_of a v ts) None)) (start_type_read app.start_type) ∙ same_app app app.start_type None refl names
+    ap rel_app_of is ∙ fronted a v ts fine ∙ ap (λ o. either_of (option_map (λ type. record { name = a; vsn = v; start_type = type; included = None }) o) (either_of (including_of a v ts) None)) (start_types.back app.start_type tt) ∙ same_app app app.start_type None refl names
 app_back t app (including names is type are, fine) =
     let a = app.name in
     let v = app.vsn in
@@ -180,7 +178,7 @@ app_back t app (typed_including names is are, fine) =
     let a = app.name in
     let v = app.vsn in
     let type = app.start_type in
-    ap rel_app_of is ∙ fronted a v (row (start_type_tree type ∷ names_tree names ∷ [])) fine ∙ ap (λ o. given {B = RelApp} o (λ type. option_map (λ names. record { name = a; vsn = v; start_type = type; included = Some names }) (rows_of atom_of (names_tree names)))) (start_type_read type) ∙ ap (λ o. option_map {U = RelApp} (λ names. record { name = a; vsn = v; start_type = type; included = Some names }) o) (names_back names) ∙ same_app app type (Some names) refl are
+    ap rel_app_of is ∙ fronted a v (row (start_type_tree type ∷ names_tree names ∷ [])) fine ∙ ap (λ o. given {B = RelApp} o (λ type. option_map (λ names. record { name = a; vsn = v; start_type = type; included = Some names }) (rows_of atom_of (names_tree names)))) (start_types.back type tt) ∙ ap (λ o. option_map {U = RelApp} (λ names. record { name = a; vsn = v; start_type = type; included = Some names }) o) (names_back names) ∙ same_app app type (Some names) refl are
 
 app_reads : Reads rel_app_of IsRelApp
 app_reads = record { found = app_found; back = app_back }

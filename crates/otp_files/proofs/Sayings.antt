@@ -8,10 +8,10 @@ use Rattle.erl_term.specs.Accessors.{all_of, atom_of, list_of, three_of, tuple_o
 use Rattle.erl_term.specs.Conversions.{given, pair_of, rows_of, triple_of}
 use Rattle.erl_term.specs.Term.{term_of, term_of-tree, tree}
 use Rattle.erl_term.specs.Tree.{Tree, Trees, atom, more, none, tuple}
-use Rattle.low_instructions.specs.Reading.{version_of}
-use Rattle.low_instructions.proofs.Parts.{atom_is, choice, given_is, list_is, map_is, three_is, tuple_is, two_is}
-use Rattle.low_instructions.proofs.Found.{none_some, tree_back, version_is}
-use Rattle.low_instructions.proofs.Complete.{next_back, version_back}
+use Rattle.release_words.specs.Reading.{version_of}
+use Rattle.release_words.proofs.Parts.{atom_is, choice, given_is, list_is, map_is, three_is, tuple_is, two_is, none_some, tree_back, next_back}
+use Rattle.release_words.proofs.Words.{version_is}
+use Rattle.release_words.proofs.Words.{version_back}
 use Rattle.otp_files.specs.Parts.{Each, IsAny, IsList, IsListOf, IsName, IsPair, IsTriple, IsVersion, IsWord, Says}
 use Rattle.otp_files.specs.Reading.{word_of}
 

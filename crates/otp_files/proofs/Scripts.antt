@@ -2,8 +2,8 @@
 use Rattle.std.specs.Prelude.{⊤}
 use Rattle.std.proofs.Common.{◌≡◌, ◌⊎◌, ℕ, ◌+◌, List, [], ◌∷◌, ◌++◌, length, Result, Ok, Err, refl, sym, ap, subst, ◌∙◌, inl, inr, arith}
 use Rattle.erl_term.specs.Tree.{Tree, Trees, count, more, none}
-use Rattle.low_instructions.specs.declared.fault.InstructionFault.{InstructionFault}
-use Rattle.low_instructions.specs.declared.fault.InstructionFault.TheVariants.{Bad, OutOfProfile as Excluded}
+use Rattle.release_words.specs.declared.fault.InstructionFault.{InstructionFault}
+use Rattle.release_words.specs.declared.fault.InstructionFault.TheVariants.{Bad, OutOfProfile as Excluded}
 use Rattle.otp_files.specs.declared.error.FileError.{FileError}
 use Rattle.otp_files.specs.declared.upgrade.Entry.{Entry}
 use Rattle.otp_files.specs.declared.upgrade.drafts.Draft.{Draft}

@@ -3,8 +3,7 @@ use Rattle.std.proofs.Common.{◌≡◌, ℕ, List, [], ◌∷◌, length, Optio
 use Rattle.erl_term.specs.Accessors.{three_of, tuple_of}
 use Rattle.erl_term.specs.Conversions.{given, row}
 use Rattle.erl_term.specs.Tree.{Tree, tuple}
-use Rattle.low_instructions.proofs.Parts.{given_is, three_is, tuple_is}
-use Rattle.low_instructions.proofs.Found.{none_some}
+use Rattle.release_words.proofs.Parts.{given_is, three_is, tuple_is, none_some}
 use Rattle.otp_files.specs.declared.error.FileError.{FileError}
 use Rattle.otp_files.specs.declared.error.FileError.TheVariants.{Shape}
 use Rattle.otp_files.specs.Parts.{FailsFirst, HasElements, IsMisshapen, IsTriple, Parts, Says, element as wrong_element, end, no_tuple, part}

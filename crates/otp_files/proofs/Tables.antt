@@ -1,78 +1,79 @@
 -- The instructions of a file, as the tables of their forms tell them.
-use Rattle.std.proofs.Common.{◌≡◌, ℕ, true, List, Result, Ok, Err, refl, sym, ap, subst, ◌∙◌, inl, inr, true≢false}
-use Rattle.std.specs.Prelude.{codes, if◌then◌else◌}
+use Rattle.std.proofs.Common.{◌≡◌, ℕ, Bool, true, false, List, Result, Ok, Err, refl, sym, ap, subst, ◌∙◌, inl, inr, true≢false}
+use Rattle.std.specs.Prelude.{codes}
 use Rattle.std.proofs.lemmas.Slice.Eq.{bytes_eq-Decides}
 use Rattle.erl_term.specs.Tree.{Tree, Trees, atom, int, list, more, none, pid, tuple}
-use Rattle.low_instructions.specs.declared.fault.InstructionFault.{InstructionFault}
-use Rattle.low_instructions.specs.declared.fault.InstructionFault.TheVariants.{Bad, OutOfProfile}
-use Rattle.low_instructions.specs.declared.low.Low.{Low}
-use Rattle.low_instructions.specs.Forms.{is_out_of_profile, is_restart}
-use Rattle.low_instructions.specs.Laws.{LowReads, LowTable}
-use Rattle.low_instructions.specs.Reading.{low_or_bad, low_of, low_result, names_of, purge_of, timeout_of}
-use Rattle.high_instructions.specs.declared.instruction.Instruction.{Instruction}
-use Rattle.high_instructions.specs.Laws.{InstructionReads, InstructionTable}
-use Rattle.high_instructions.specs.Reading.{high_of, instruction_result, is_supervisor_update, of_low, some_update_of, update_purging_of, update_timed_of, update_whole_of}
+use Rattle.release_words.specs.declared.fault.InstructionFault.{InstructionFault}
+use Rattle.release_words.specs.declared.fault.InstructionFault.TheVariants.{Bad, OutOfProfile}
+use Rattle.release_words.specs.Forms.{ReadsAs}
+use Rattle.release_words.specs.Reading.{result_of}
+use Rattle.low_instructions.specs.Forms.{is_out_of_profile}
+use Rattle.low_instructions.specs.Laws.{LowTable}
+use Rattle.low_instructions.specs.Reading.{low_of, low_result}
+use Rattle.high_instructions.specs.Forms.{IsSupervisorUpdate}
+use Rattle.high_instructions.specs.Reading.{high_of, high_result, is_supervisor_update}
+use Rattle.high_instructions.proofs.Parts.{supervisor_back}
+use Rattle.instructions.specs.Instructions.{InstructionTable, instruction_result, of_high, of_low}
 use Rattle.otp_files.specs.Upgrades.{IsAppupInstruction, IsOutOfAppups, IsOutOfRelups, IsRelupInstruction}
 use Rattle.otp_files.proofs.Scripts.{Tells, Told}
 
--- Relups
+told_so : {I : Type 0} (IsForm : Tree → I → Type 0) (is_so : I → Bool) (IsOut : Tree → Type 0) (t : Tree) (r : Result I InstructionFault) → ReadsAs IsForm is_so IsOut t r → Told (λ t i. IsForm t i × (is_so i ≡ true)) IsOut t r
+told_so IsForm is_so IsOut t (Ok i) reads = reads
+told_so IsForm is_so IsOut t (Err Bad) reads = (reads.0, λ says. reads.1 says.value says.is.1 says.is.0)
+told_so IsForm is_so IsOut t (Err OutOfProfile) reads = reads
 
-low_told : (t : Tree) (r : Result Low InstructionFault) → LowReads t r → Told IsRelupInstruction IsOutOfRelups t r
-low_told t (Ok l) reads = reads
-low_told t (Err Bad) reads =
-    (λ out. true≢false (sym out ∙ reads.0), λ says. reads.1 says.value says.is.1 says.is.0)
-low_told t (Err OutOfProfile) reads = reads
+-- Relups
 
 low_out : (t : Tree) → is_out_of_profile t ≡ true → low_result t ≡ Err OutOfProfile
 unfolding low_result
-low_out t out = ap (λ b. if b then Err OutOfProfile else low_or_bad (low_of t)) out
+low_out t out = ap (λ b. result_of b (low_of t)) out
 
 pub low_tells : LowTable → Tells low_result IsRelupInstruction IsOutOfRelups
-low_tells table = record { told = λ t. low_told t (low_result t) (table.sound t); right = λ t l is. table.complete t l is.1 is.0; out = low_out }
+low_tells table = record {
+  told = λ t. told_so _ _ IsOutOfRelups t (low_result t) (table.sound t);
+  right = λ t l is. table.complete t l is.1 is.0;
+  out = low_out;
+}
 
 -- Appups
 
-instruction_told : (t : Tree) (r : Result Instruction InstructionFault) → InstructionReads t r → Told IsAppupInstruction IsOutOfAppups t r
-instruction_told t (Ok i) reads = reads
-instruction_told t (Err Bad) reads = (reads.0, λ says. reads.1 says.value says.is.1 says.is.0)
-instruction_told t (Err OutOfProfile) reads = reads
+supervisor_high : (t : Tree) → IsSupervisorUpdate t → high_result t ≡ Err OutOfProfile
+unfolding high_result
+supervisor_high t update = ap (λ b. result_of b (high_of t)) (supervisor_back t update)
 
-supervisor_out : (name : List ℕ) → instruction_result (tuple (more (atom (codes "update")) (more (atom name) (more (atom (codes "supervisor")) none)))) ≡ Err OutOfProfile
-unfolding instruction_result high_of some_update_of update_purging_of update_timed_of update_whole_of is_supervisor_update names_of purge_of timeout_of
-supervisor_out name = refl
+restart_not_high : (cs : List ℕ) → high_result (atom cs) ≡ Err Bad
+unfolding high_result high_of is_supervisor_update
+restart_not_high cs = refl
 
-sync_out : (ts : Trees) → instruction_result (tuple (more (atom (codes "sync_nodes")) ts)) ≡ Err OutOfProfile
-unfolding instruction_result high_of is_supervisor_update low_result
-sync_out none = refl
-sync_out (more a none) = refl
-sync_out (more a (more b none)) = refl
-sync_out (more a (more b (more c ts))) = refl
+sync_not_high : (ts : Trees) → high_result (tuple (more (atom (codes "sync_nodes")) ts)) ≡ Err Bad
+unfolding high_result high_of is_supervisor_update
+sync_not_high none = refl
+sync_not_high (more a none) = refl
+sync_not_high (more a (more b none)) = refl
+sync_not_high (more a (more b (more c ts))) = refl
 
-restart_out : (cs : List ℕ) → is_restart cs ≡ true → instruction_result (atom cs) ≡ Err OutOfProfile
-unfolding instruction_result high_of is_supervisor_update
-restart_out cs e = ap of_low (low_out (atom cs) e)
-
-low_is_out : (t : Tree) → is_out_of_profile t ≡ true → instruction_result t ≡ Err OutOfProfile
-low_is_out (int n) out = absurd (true≢false (sym out))
-low_is_out (atom cs) out = restart_out cs out
-low_is_out (pid n) out = absurd (true≢false (sym out))
-low_is_out (tuple none) out = absurd (true≢false (sym out))
-low_is_out (tuple (more (int n) ts)) out = absurd (true≢false (sym out))
-low_is_out (tuple (more (atom cs) ts)) out =
-    let P : List ℕ → Type 0 = λ ds. instruction_result (tuple (more (atom ds) ts)) ≡ Err OutOfProfile in
-    subst P (sym ((bytes_eq-Decides cs (codes "sync_nodes")).0 out)) (sync_out ts)
-low_is_out (tuple (more (pid n) ts)) out = absurd (true≢false (sym out))
-low_is_out (tuple (more (tuple us) ts)) out = absurd (true≢false (sym out))
-low_is_out (tuple (more (list us) ts)) out = absurd (true≢false (sym out))
-low_is_out (list ts) out = absurd (true≢false (sym out))
+out_not_high : (t : Tree) → is_out_of_profile t ≡ true → high_result t ≡ Err Bad
+out_not_high (int n) out = absurd (true≢false (sym out))
+out_not_high (atom cs) out = restart_not_high cs
+out_not_high (pid n) out = absurd (true≢false (sym out))
+out_not_high (tuple none) out = absurd (true≢false (sym out))
+out_not_high (tuple (more (int n) ts)) out = absurd (true≢false (sym out))
+out_not_high (tuple (more (atom cs) ts)) out =
+    let P : List ℕ → Type 0 = λ ds. high_result (tuple (more (atom ds) ts)) ≡ Err Bad in
+    subst P (sym ((bytes_eq-Decides cs (codes "sync_nodes")).0 out)) (sync_not_high ts)
+out_not_high (tuple (more (pid n) ts)) out = absurd (true≢false (sym out))
+out_not_high (tuple (more (tuple us) ts)) out = absurd (true≢false (sym out))
+out_not_high (tuple (more (list us) ts)) out = absurd (true≢false (sym out))
+out_not_high (list ts) out = absurd (true≢false (sym out))
 
 instruction_out : (t : Tree) → IsOutOfAppups t → instruction_result t ≡ Err OutOfProfile
-instruction_out t (inl out) = low_is_out t out
-instruction_out t (inr update) = ap instruction_result update.is ∙ supervisor_out update.name
+unfolding instruction_result
+instruction_out t (inl out) = ap (λ r. of_high r (low_result t)) (out_not_high t out) ∙ ap of_low (low_out t out)
+instruction_out t (inr update) = ap (λ r. of_high r (low_result t)) (supervisor_high t update)
 
 pub instruction_tells : InstructionTable → Tells instruction_result IsAppupInstruction IsOutOfAppups
 instruction_tells table = record {
-  told = λ t. instruction_told t (instruction_result t) (table.sound t);
+  told = λ t. told_so _ _ IsOutOfAppups t (instruction_result t) (table.sound t);
   right = λ t i is. table.complete t i is.1 is.0;
   out = instruction_out;
 }

@@ -6,9 +6,9 @@ use Rattle.erl_term.specs.Accessors.{list_of}
 use Rattle.erl_term.specs.Conversions.{pair_of, rows_of, triple_of}
 use Rattle.erl_term.specs.Term.{term_of}
 use Rattle.erl_term.specs.Tree.{Tree}
-use Rattle.low_instructions.specs.declared.fault.InstructionFault.{InstructionFault}
-use Rattle.low_instructions.specs.Reading.{version_of}
-use Rattle.low_instructions.proofs.Parts.{map_is}
+use Rattle.release_words.specs.declared.fault.InstructionFault.{InstructionFault}
+use Rattle.release_words.specs.Reading.{version_of}
+use Rattle.release_words.proofs.Parts.{map_is}
 use Rattle.otp_files.specs.declared.error.FileError.{FileError}
 use Rattle.otp_files.specs.declared.upgrade.Entry.{Entry}
 use Rattle.otp_files.specs.declared.upgrade.Upgrades.{Upgrades}

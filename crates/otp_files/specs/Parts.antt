@@ -4,7 +4,7 @@ use Rattle.erl_term.specs.declared.term.Term.{Term}
 use Rattle.erl_term.specs.Conversions.{row}
 use Rattle.erl_term.specs.Tree.{Tree, Trees, atom, tuple, list, none, more}
 use Rattle.erl_term.specs.Term.{tree}
-use Rattle.low_instructions.specs.Words.{word, string_tree, is_version}
+use Rattle.release_words.specs.Words.{word, string_tree, is_version}
 
 -- Relations between a term and what it says
 

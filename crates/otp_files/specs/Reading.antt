@@ -7,11 +7,10 @@ use Rattle.erl_term.specs.Tree.{Tree, Trees, none, more, count}
 use Rattle.erl_term.specs.Term.{term_of}
 use Rattle.erl_term.specs.Conversions.{given, pair_of, rows_of, triple_of}
 use Rattle.erl_term.specs.Accessors.{atom_of, tuple_of, list_of, first_of, one_of, two_of, three_of, four_of, all_of, string_of}
-use Rattle.low_instructions.specs.declared.fault.InstructionFault.{InstructionFault}
-use Rattle.low_instructions.specs.declared.fault.InstructionFault.TheVariants.{Bad, OutOfProfile as Excluded}
-use Rattle.low_instructions.specs.Reading.{either_of, version_of}
-use Rattle.high_instructions.specs.declared.words.StartType.TheVariants.{Permanent}
-use Rattle.high_instructions.specs.Reading.{start_type_of}
+use Rattle.release_words.specs.declared.fault.InstructionFault.{InstructionFault}
+use Rattle.release_words.specs.declared.fault.InstructionFault.TheVariants.{Bad, OutOfProfile as Excluded}
+use Rattle.release_words.specs.Reading.{either_of, version_of, start_type_of}
+use Rattle.release_words.specs.declared.start_type.StartType.TheVariants.{Permanent}
 use Rattle.otp_files.specs.declared.error.FileError.{FileError}
 use Rattle.otp_files.specs.declared.error.FileError.TheVariants.{Shape, DuplicateKey, BadInstruction, OutOfProfile}
 use Rattle.otp_files.specs.declared.app.AppSpec.{AppSpec}

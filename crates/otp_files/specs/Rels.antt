@@ -3,9 +3,8 @@ use Rattle.std.specs.Prelude.{◌≡◌, ℕ, nat_le, Bool, true, ◌&&◌, ◌|
 use Rattle.std.specs.List.{list_all}
 use Rattle.erl_term.specs.Conversions.{row}
 use Rattle.erl_term.specs.Tree.{Tree, atom, tuple}
-use Rattle.low_instructions.specs.Words.{string_tree, names_tree, is_version}
-use Rattle.high_instructions.specs.declared.words.StartType.TheVariants.{Permanent}
-use Rattle.high_instructions.specs.Words.{start_type_tree}
+use Rattle.release_words.specs.Words.{string_tree, names_tree, is_version, start_type_tree}
+use Rattle.release_words.specs.declared.start_type.StartType.TheVariants.{Permanent}
 use Rattle.otp_files.specs.declared.rel.RelSpec.{RelSpec}
 use Rattle.otp_files.specs.declared.applications.RelApp.{RelApp}
 use Rattle.otp_files.specs.declared.error.FileError.{FileError}

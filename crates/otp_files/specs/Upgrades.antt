@@ -9,10 +9,9 @@ use Rattle.erl_term.specs.Term.{tree}
 use Rattle.low_instructions.specs.declared.low.Low.{Low}
 use Rattle.low_instructions.specs.Forms.{IsLow, is_out_of_profile, low_tree}
 use Rattle.low_instructions.specs.Laws.{is_low}
-use Rattle.low_instructions.specs.Words.{is_version, string_tree}
-use Rattle.high_instructions.specs.declared.instruction.Instruction.{Instruction}
-use Rattle.high_instructions.specs.Forms.{IsSupervisorUpdate}
-use Rattle.high_instructions.specs.Laws.{IsInstruction, is_instruction}
+use Rattle.release_words.specs.Words.{is_version, string_tree}
+use Rattle.instructions.specs.declared.instruction.Instruction.{Instruction}
+use Rattle.instructions.specs.Instructions.{IsInstruction, IsOut, is_instruction}
 use Rattle.otp_files.specs.declared.error.FileError.{FileError}
 use Rattle.otp_files.specs.declared.error.FileError.TheVariants.{Shape, BadInstruction, OutOfProfile}
 use Rattle.otp_files.specs.declared.upgrade.Entry.{Entry}
@@ -26,7 +25,7 @@ abbrev pub IsAppupInstruction : Tree → Instruction → Type 0
 IsAppupInstruction t i = IsInstruction t i × (is_instruction i ≡ true)
 
 abbrev pub IsOutOfAppups : Tree → Type 0
-IsOutOfAppups t = (is_out_of_profile t ≡ true) ⊎ IsSupervisorUpdate t
+IsOutOfAppups t = IsOut t
 
 abbrev pub IsRelupInstruction : Tree → Low → Type 0
 IsRelupInstruction t low = IsLow t low × (is_low low ≡ true)

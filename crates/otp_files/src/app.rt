@@ -12,7 +12,7 @@ use crate::error::FileError;
 use crate::one_term::{read_one, with_memory};
 use crate::words::is_word;
 use erl_term::{Atom, Term, three};
-use low_instructions::Version;
+use release_words::Version;
 use std::alloc::{AllocError, Global};
 use used::{Used, used_of};
 use values::{Duplicate, Row, Same};

@@ -9,7 +9,7 @@ use crate::error::FileError;
 use crate::one_term::{read_one, with_memory};
 use crate::upgrade::{Entry, Upgrades, upgrades_from_term};
 use erl_consult::{Fault, ReadError, texts_read_one_way};
-use high_instructions::{Instruction, instruction_forms_are_read};
+use instructions::{Instruction, instruction_forms_are_read};
 use std::alloc::Global;
 
 /// An application upgrade file (appup(4)).

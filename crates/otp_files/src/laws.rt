@@ -10,7 +10,7 @@ pub fn terms_say_one_record_or_have_one_fault()
     ensures { (t : Tree) → TermsAreOneOf t }
 {
     low_instructions::low_forms_are_read();
-    high_instructions::instruction_forms_are_read();
+    instructions::instruction_forms_are_read();
 }
 
 /// A law: all bytes are just one file of each kind, or none for just one reason, and never both.

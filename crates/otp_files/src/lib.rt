@@ -42,13 +42,15 @@ pub use app::{AppSpec, StartModule, read_app};
 pub use applications::{Applications, RelApp};
 pub use appup::{Appup, AppupEntry, read_appup};
 pub use error::FileError;
-pub use high_instructions::{Change, High, Instruction, ModuleType, StartType};
-pub use laws::{files_are_read_one_way, terms_say_one_record_or_have_one_fault};
-pub use low_instructions::{
-    Direction, Low, Milliseconds, ModuleChange, Purge, Script, Suspension, Timeout, Version,
-    VersionError, low_term,
+pub use high_instructions::{
+    ApplicationInstruction, ApplicationWork, Change, High, ModuleInstruction, ModuleType,
+    ModuleWork,
 };
+pub use instructions::Instruction;
+pub use laws::{files_are_read_one_way, terms_say_one_record_or_have_one_fault};
+pub use low_instructions::{Direction, Low, ModuleChange, Script, Suspension, low_term};
 pub use rel::{RelSpec, read_rel};
 pub use release_name::ReleaseName;
+pub use release_words::{Milliseconds, Purge, StartType, Timeout, Version, VersionError};
 pub use relup::{Relup, RelupEntry, print_relup, read_relup, relup_term};
 pub use upgrade::{Entry, Upgrades};

@@ -15,7 +15,7 @@ use crate::release_name::ReleaseName;
 use crate::words::is_word;
 use apps::apps_of;
 use erl_term::{FromTerm, Term, four, two};
-use low_instructions::Version;
+use release_words::Version;
 use std::alloc::{AllocError, Global};
 use values::{Duplicate, Same};
 

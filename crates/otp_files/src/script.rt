@@ -3,14 +3,15 @@ ghost use Rattle.std.specs.Prelude.{◌≡◌, IfOk, Result};
 ghost use Rattle.erl_term.specs.Term.{tree, trees};
 ghost use Rattle.erl_term.specs.Tree.{Tree};
 ghost use Rattle.low_instructions.specs.Reading.{low_result};
-ghost use Rattle.low_instructions.specs.declared.fault.InstructionFault.{InstructionFault as Fault};
-ghost use Rattle.high_instructions.specs.Reading.{instruction_result};
+ghost use Rattle.release_words.specs.declared.fault.InstructionFault.{InstructionFault as Fault};
+ghost use Rattle.instructions.specs.Instructions.{instruction_result};
 ghost use Rattle.otp_files.specs.Reading.{fault_at, script_from};
 
 use crate::error::FileError;
 use erl_term::Term;
-use high_instructions::{Instruction, read_instruction};
-use low_instructions::{InstructionFault, Low, read_low};
+use instructions::{Instruction, read_instruction};
+use low_instructions::{Low, read_low};
+use release_words::InstructionFault;
 use std::alloc::{AllocError, Global};
 use values::Row;
 

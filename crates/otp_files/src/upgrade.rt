@@ -6,7 +6,7 @@ ghost use Rattle.otp_files.specs.Entries.{entry_for};
 mod drafts;
 mod reading;
 
-use low_instructions::Version;
+use release_words::Version;
 pub(crate) use reading::upgrades_from_term;
 use std::alloc::{AllocError, Global};
 use values::{Duplicate, Row, Same};

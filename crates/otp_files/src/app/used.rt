@@ -5,13 +5,13 @@ ghost use Rattle.erl_term.specs.Accessors.{all_of, atom_of};
 ghost use Rattle.erl_term.specs.Conversions.{given, rows_of};
 ghost use Rattle.erl_term.specs.Term.{tree, trees};
 ghost use Rattle.erl_term.specs.Tree.{Tree};
-ghost use Rattle.low_instructions.specs.Reading.{version_of};
+ghost use Rattle.release_words.specs.Reading.{version_of};
 ghost use Rattle.otp_files.specs.Apps.{values_of};
 ghost use Rattle.otp_files.specs.Reading.{property_of, start_of, used_of};
 
 use super::StartModule;
 use erl_term::{Atom, FromTerm, Term, two};
-use low_instructions::Version;
+use release_words::Version;
 use std::alloc::{AllocError, Global};
 use values::Row;
 

@@ -6,8 +6,8 @@ ghost use Rattle.otp_files.specs.Reading.{rel_app_with, rel_app_of, rel_apps_of}
 
 use crate::applications::{Applications, RelApp};
 use erl_term::{Atom, FromTerm, Term, first, one, two};
-use high_instructions::StartType;
-use low_instructions::Version;
+use release_words::StartType;
+use release_words::Version;
 use std::alloc::{AllocError, Global};
 use values::{Duplicate, Row};
 
@@ -68,7 +68,7 @@ fn app_with(
     let Some((start_type, included)) = two(rest) else {
         return Ok(None);
     };
-    let Some(start_type) = StartType::from_term(start_type) else {
+    let Some(start_type) = StartType::from_term(alloc, start_type)? else {
         return Ok(None);
     };
     let Some(included) = Row::from_term(alloc, included)? else {
@@ -91,7 +91,7 @@ fn app_of_one(
 ) -> Result<Option<RelApp>, AllocError>
     ensures { IfOk result (λ found. found ≡ rel_app_with name vsn (more (tree term.now) none)) }
 {
-    if let Some(start_type) = StartType::from_term(term) {
+    if let Some(start_type) = StartType::from_term(alloc, term)? {
         return Ok(Some(RelApp {
             name,
             vsn,

@@ -7,7 +7,7 @@ ghost use Rattle.otp_files.specs.Upgrades.{saturated};
 ghost use Rattle.otp_files.specs.declared.upgrade.drafts.Draft.{Draft as Drafted};
 
 use erl_term::{FromTerm, Term, Terms};
-use low_instructions::Version;
+use release_words::Version;
 use std::alloc::{AllocError, Global};
 
 /// An entry whose instructions are not read yet.

@@ -8,7 +8,7 @@ use super::{Entry, Upgrades};
 use crate::error::FileError;
 use crate::script::{FromInstruction, script};
 use erl_term::{FromTerm, Term, three};
-use low_instructions::Version;
+use release_words::Version;
 use std::alloc::{AllocError, Global};
 use values::Row;
 

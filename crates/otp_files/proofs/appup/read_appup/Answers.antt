@@ -1,7 +1,7 @@
 -- What is read of the one term is what is read of the bytes.
 use Rattle.erl_term.specs.Term.{tree}
 use Rattle.erl_term.specs.Tree.{more, none}
-use Rattle.high_instructions.specs.Reading.{instruction_result}
+use Rattle.instructions.specs.Instructions.{instruction_result}
 use Rattle.otp_files.specs.Reading.{appup_draft_of, upgrades_of}
 use Rattle.otp_files.specs.Texts.{IsAppupError, no_pattern, term}
 use Rattle.otp_files.specs.Upgrades.{AppupRefused, IsAppup, IsAppupDraft, IsAppupInstruction, IsOutOfAppups}

@@ -1,6 +1,6 @@
 -- Each kind of file, by the tables of instructions.
 use Rattle.low_instructions.specs.Reading.{low_result}
-use Rattle.high_instructions.specs.Reading.{instruction_result}
+use Rattle.instructions.specs.Instructions.{instruction_result}
 use Rattle.otp_files.specs.Apps.{AppRefused, IsApp}
 use Rattle.otp_files.specs.Reading.{app_of, appup_draft_of, rel_of, relup_draft_of, upgrades_of}
 use Rattle.otp_files.specs.Rels.{IsRel, RelRefused}

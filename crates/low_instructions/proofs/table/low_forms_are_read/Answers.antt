@@ -1,6 +1,0 @@
--- The two halves of the law.
-use Rattle.low_instructions.proofs.Complete.{table}
-use Rattle.low_instructions.proofs.table.low_forms_are_read.Goals as goal
-
-pub returns : goal.returns
-returns c = table
