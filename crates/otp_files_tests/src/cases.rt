@@ -8,9 +8,11 @@ use crate::tables::TABLES;
 use crate::texts::{REFUSED, bytes_of, fault_of, printed, said, term_of};
 use crate::told::{Tell, told};
 use crate::words::{application, applications, release_name, start_type, version, versions};
-use high_instructions::read_instruction;
-use low_instructions::{InstructionFault, read_low};
+use high_instructions::read_high;
+use instructions::read_instruction;
+use low_instructions::read_low;
 use otp_files::{FileError, low_term, read_app, read_appup, read_rel, read_relup};
+use release_words::InstructionFault;
 use std::alloc::Global;
 use std::process::Abort;
 use std::test::Fail;
@@ -29,6 +31,7 @@ pub(crate) fn outcome(alloc: Global, kind: &str, text: &str) -> Result<String, F
         "large" => large(alloc, text),
         "low" => low(alloc, text),
         "low_term" => term_of_low(alloc, text),
+        "high" => high(alloc, text),
         "instruction" => instruction(alloc, text),
         "start_type" => start_type(alloc, text),
         "version" => version(alloc, text),
@@ -102,6 +105,11 @@ fn term_of_low(alloc: Global, text: &str) -> Result<String, Fail> {
         .ok()
         .ok_or("no instruction")?;
     printed(alloc, &low_term(alloc, &low)?)
+}
+
+/// What a text says as a high-level instruction.
+fn high(alloc: Global, text: &str) -> Result<String, Fail> {
+    read_of(alloc, read_high(alloc, &term_of(alloc, text)?)?)
 }
 
 /// What a text says as an instruction of an appup.

@@ -4,8 +4,8 @@
 use crate::texts::text_of;
 use erl_term::{Atom, Term, Terms, ToTerm, print, print_atom};
 use otp_files::{
-    AppSpec, Applications, Appup, AppupEntry, Change, Direction, High, Instruction, Low,
-    ModuleChange, ModuleType, Purge, RelApp, RelSpec, Relup, RelupEntry, StartModule, StartType,
+    AppSpec, ApplicationInstruction, ApplicationWork, Applications, Appup, AppupEntry, Change,
+    Direction, High, Instruction, Low, ModuleChange, ModuleInstruction, ModuleType, ModuleWork, Purge, RelApp, RelSpec, Relup, RelupEntry, StartModule, StartType,
     Suspension, Timeout, Version,
 };
 use std::alloc::{AllocError, Global};
@@ -84,7 +84,7 @@ fn put_piece(out: &mut Vec<u8>, piece: Option<&Piece>) -> Result<(), AllocError>
 
 /// Writes a version.
 fn put_version(out: &mut Vec<u8>, version: &Version) -> Result<(), AllocError> {
-    let term = version.term(*out.allocator())?;
+    let term = version.to_term(*out.allocator())?;
     print(&term, out)
 }
 
@@ -243,57 +243,49 @@ fn start(start_type: &StartType) -> Piece<'static> {
 impl Tell for High {
     fn put(&self, out: &mut Vec<u8>) -> Result<(), AllocError> {
         match self {
-            High::Update {
-                name,
-                module_type,
-                timeout,
-                change,
-                pre_purge,
-                post_purge,
-                dependencies,
-            } => {
-                let pieces = [
-                    Name(name),
-                    module_type_word(module_type),
-                    Wait(timeout),
-                    State(change),
-                    purge(pre_purge),
-                    purge(post_purge),
-                    Names(dependencies),
-                ];
-                fill(out, "{update,◇,◇,◇,◇,◇,◇,◇}", &pieces)
-            }
-            High::LoadModule {
-                name,
-                pre_purge,
-                post_purge,
-                dependencies,
-            } => {
-                let purges = (purge(pre_purge), purge(post_purge));
-                let pieces = [Name(name), purges.0, purges.1, Names(dependencies)];
-                fill(out, "{load_module,◇,◇,◇,◇}", &pieces)
-            }
-            High::AddModule { name, dependencies } => {
-                fill(out, "{add_module,◇,◇}", &[Name(name), Names(dependencies)])
-            }
-            High::DeleteModule { name, dependencies } => {
-                let pieces = [Name(name), Names(dependencies)];
-                fill(out, "{delete_module,◇,◇}", &pieces)
-            }
-            High::AddApplication { name, start_type } => {
-                fill(
-                    out,
-                    "{add_application,◇,◇}",
-                    &[Name(name), start(start_type)],
-                )
-            }
-            High::RemoveApplication { name } => fill(out, "{remove_application,◇}", &[Name(name)]),
-            High::RestartApplication { name } => fill(
-                out,
-                "{restart_application,◇}",
-                &[Name(name)],
-            ),
+            High::Module(instruction) => put_on_module(out, instruction),
+            High::Application(instruction) => put_on_application(out, instruction),
         }
+    }
+}
+
+/// Writes an instruction on a module.
+fn put_on_module(out: &mut Vec<u8>, on: &ModuleInstruction) -> Result<(), AllocError> {
+    let (name, modules) = (Name(&on.name), Names(&on.dependencies));
+    match &on.work {
+        ModuleWork::Update {
+            module_type,
+            timeout,
+            change,
+            pre_purge,
+            post_purge,
+        } => {
+            let module_type = module_type_word(module_type);
+            fill(out, "{update,◇,◇,◇,", &[name, module_type, Wait(timeout)])?;
+            let purges = (purge(pre_purge), purge(post_purge));
+            fill(out, "◇,◇,◇,◇}", &[State(change), purges.0, purges.1, modules])
+        }
+        ModuleWork::Load {
+            pre_purge,
+            post_purge,
+        } => {
+            let pieces = [name, purge(pre_purge), purge(post_purge), modules];
+            fill(out, "{load_module,◇,◇,◇,◇}", &pieces)
+        }
+        ModuleWork::Add => fill(out, "{add_module,◇,◇}", &[name, modules]),
+        ModuleWork::Delete => fill(out, "{delete_module,◇,◇}", &[name, modules]),
+    }
+}
+
+/// Writes an instruction on an application.
+fn put_on_application(out: &mut Vec<u8>, on: &ApplicationInstruction) -> Result<(), AllocError> {
+    let name = Name(&on.name);
+    match &on.work {
+        ApplicationWork::Add { start_type } => {
+            fill(out, "{add_application,◇,◇}", &[name, start(start_type)])
+        }
+        ApplicationWork::Remove => fill(out, "{remove_application,◇}", &[name]),
+        ApplicationWork::Restart => fill(out, "{restart_application,◇}", &[name]),
     }
 }
 

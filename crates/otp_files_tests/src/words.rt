@@ -2,10 +2,11 @@
 use crate::texts::{printed, said, term_of};
 use crate::told::{rel_app, told};
 use erl_term::{Atom, FromTerm, Term, ToTerm};
-use high_instructions::instruction_forms_are_read;
-use low_instructions::{Timeout, low_forms_are_read};
+use high_instructions::high_forms_are_read;
+use instructions::instruction_forms_are_read;
+use low_instructions::low_forms_are_read;
 use otp_files::{
-    Applications, ReleaseName, StartType, Version, files_are_read_one_way,
+    Applications, ReleaseName, StartType, Timeout, Version, files_are_read_one_way,
     terms_say_one_record_or_have_one_fault,
 };
 use std::alloc::Global;
@@ -14,8 +15,8 @@ use values::{Duplicate, Row, Same};
 
 /// The way to start an application that a text is, as its term is printed.
 pub(crate) fn start_type(alloc: Global, text: &str) -> Result<String, Fail> {
-    match StartType::from_term(&term_of(alloc, text)?) {
-        Some(start_type) => printed(alloc, &start_type.term(alloc)?),
+    match StartType::from_term(alloc, &term_of(alloc, text)?)? {
+        Some(start_type) => printed(alloc, &start_type.to_term(alloc)?),
         None => said(alloc, "✗"),
     }
 }
@@ -30,7 +31,7 @@ pub(crate) fn versions(alloc: Global, text: &str) -> Result<String, Fail> {
 
 /// The text of the version that is read back from the term of this one, where the two are the same.
 fn read_back(alloc: Global, version: &Version) -> Result<String, Fail> {
-    let read = Version::from_term(alloc, &version.term(alloc)?)?.ok_or("no version")?;
+    let read = Version::from_term(alloc, &version.to_term(alloc)?)?.ok_or("no version")?;
     said(
         alloc,
         if read.same(version) {
@@ -84,14 +85,17 @@ pub(crate) fn application(alloc: Global, text: &str) -> Result<String, Fail> {
 }
 
 #[test]
-fn process_identifiers_are_no_timeouts(rt: HostRuntime) {
-    assert!(rt; Timeout::from_term(&Term::Pid(1)).is_none());
+fn process_identifiers_are_no_timeouts(rt: HostRuntime) -> Result<(), Fail> {
+    let found = Timeout::from_term(rt.alloc(), &Term::Pid(1))?;
+    assert!(rt; found.is_none());
+    Ok(())
 }
 
 /// The laws are functions that do nothing.
 #[test]
 fn laws(_rt: HostRuntime) {
     low_forms_are_read();
+    high_forms_are_read();
     instruction_forms_are_read();
     terms_say_one_record_or_have_one_fault();
     files_are_read_one_way();

@@ -36,38 +36,38 @@ low,instruction,low_term {code_change,[{up,down}]} ⟶ {code_change,up,[{up,down
 /// High-level instructions likewise. As low-level ones they are none.
 pub(super) const HIGH: &str =
     r##"instruction {update,m,static,default,soft,soft_purge,brutal_purge,[a]} ⟶ =
-instruction {update,m,dynamic,infinity,{advanced,x},brutal_purge,soft_purge,[a,a]} ⟶ =
-instruction {update,m,static,9223372036854775807,{advanced,[]},brutal_purge,brutal_purge,[]} ⟶ =
-instruction {load_module,m,soft_purge,brutal_purge,[a,b]} ¦ {load_module,m,brutal_purge,soft_purge,[]} ⟶ =
-instruction {add_module,m,[a,b]} ¦ {delete_module,m,[a]} ⟶ =
-instruction {add_application,a,permanent} ¦ {add_application,a,transient} ¦ {add_application,a,temporary} ⟶ =
-instruction {add_application,a,load} ¦ {add_application,a,none} ⟶ =
-instruction {remove_application,a} ¦ {restart_application,a} ⟶ =
-instruction {update,m} ⟶ {update,m,dynamic,default,soft,brutal_purge,brutal_purge,[]}
-instruction {update,soft} ⟶ {update,soft,dynamic,default,soft,brutal_purge,brutal_purge,[]}
-instruction {update,supervisor} ⟶ {update,supervisor,dynamic,default,soft,brutal_purge,brutal_purge,[]}
-instruction {update,m,soft} ⟶ {update,m,dynamic,default,soft,brutal_purge,brutal_purge,[]}
-instruction {update,m,{advanced,[]}} ⟶ {update,m,dynamic,default,{advanced,[]},brutal_purge,brutal_purge,[]}
-instruction {update,m,{advanced,{a,"b",1}}} ⟶ {update,m,dynamic,default,{advanced,{a,"b",1}},brutal_purge,brutal_purge,[]}
-instruction {update,m,[a,b]} ⟶ {update,m,dynamic,default,soft,brutal_purge,brutal_purge,[a,b]}
-instruction {update,m,[advanced,x]} ⟶ {update,m,dynamic,default,soft,brutal_purge,brutal_purge,[advanced,x]}
-instruction {update,m,[soft]} ⟶ {update,m,dynamic,default,soft,brutal_purge,brutal_purge,[soft]}
-instruction {update,m,[]} ⟶ {update,m,dynamic,default,soft,brutal_purge,brutal_purge,[]}
-instruction {update,m,""} ⟶ {update,m,dynamic,default,soft,brutal_purge,brutal_purge,[]}
-instruction {update,m,soft,[a]} ⟶ {update,m,dynamic,default,soft,brutal_purge,brutal_purge,[a]}
-instruction {update,m,{advanced,x},[]} ⟶ {update,m,dynamic,default,{advanced,x},brutal_purge,brutal_purge,[]}
-instruction {update,m,soft,soft_purge,brutal_purge,[a]} ⟶ {update,m,dynamic,default,soft,soft_purge,brutal_purge,[a]}
-instruction {update,m,{advanced,x},brutal_purge,soft_purge,[]} ⟶ {update,m,dynamic,default,{advanced,x},brutal_purge,soft_purge,[]}
-instruction {update,m,infinity,soft,soft_purge,soft_purge,[]} ⟶ {update,m,dynamic,infinity,soft,soft_purge,soft_purge,[]}
-instruction {update,m,default,{advanced,x},brutal_purge,brutal_purge,[a]} ⟶ {update,m,dynamic,default,{advanced,x},brutal_purge,brutal_purge,[a]}
-instruction {update,m,5000,soft,brutal_purge,soft_purge,[a,b]} ⟶ {update,m,dynamic,5000,soft,brutal_purge,soft_purge,[a,b]}
-instruction {update,m,1,soft,brutal_purge,soft_purge,[]} ⟶ {update,m,dynamic,1,soft,brutal_purge,soft_purge,[]}
-instruction {update,m,{advanced,{x,1}}} ⟶ {update,m,dynamic,default,{advanced,{x,1}},brutal_purge,brutal_purge,[]}
-instruction {load_module,m} ⟶ {load_module,m,brutal_purge,brutal_purge,[]}
-instruction {load_module,m,[a]} ⟶ {load_module,m,brutal_purge,brutal_purge,[a]}
-instruction {add_module,m} ⟶ {add_module,m,[]}
-instruction {delete_module,m} ⟶ {delete_module,m,[]}
-instruction {add_application,a} ⟶ {add_application,a,permanent}
+high,instruction {update,m,dynamic,infinity,{advanced,x},brutal_purge,soft_purge,[a,a]} ⟶ =
+high,instruction {update,m,static,9223372036854775807,{advanced,[]},brutal_purge,brutal_purge,[]} ⟶ =
+high,instruction {load_module,m,soft_purge,brutal_purge,[a,b]} ¦ {load_module,m,brutal_purge,soft_purge,[]} ⟶ =
+high,instruction {add_module,m,[a,b]} ¦ {delete_module,m,[a]} ⟶ =
+high,instruction {add_application,a,permanent} ¦ {add_application,a,transient} ¦ {add_application,a,temporary} ⟶ =
+high,instruction {add_application,a,load} ¦ {add_application,a,none} ⟶ =
+high,instruction {remove_application,a} ¦ {restart_application,a} ⟶ =
+high,instruction {update,m} ⟶ {update,m,dynamic,default,soft,brutal_purge,brutal_purge,[]}
+high,instruction {update,soft} ⟶ {update,soft,dynamic,default,soft,brutal_purge,brutal_purge,[]}
+high,instruction {update,supervisor} ⟶ {update,supervisor,dynamic,default,soft,brutal_purge,brutal_purge,[]}
+high,instruction {update,m,soft} ⟶ {update,m,dynamic,default,soft,brutal_purge,brutal_purge,[]}
+high,instruction {update,m,{advanced,[]}} ⟶ {update,m,dynamic,default,{advanced,[]},brutal_purge,brutal_purge,[]}
+high,instruction {update,m,{advanced,{a,"b",1}}} ⟶ {update,m,dynamic,default,{advanced,{a,"b",1}},brutal_purge,brutal_purge,[]}
+high,instruction {update,m,[a,b]} ⟶ {update,m,dynamic,default,soft,brutal_purge,brutal_purge,[a,b]}
+high,instruction {update,m,[advanced,x]} ⟶ {update,m,dynamic,default,soft,brutal_purge,brutal_purge,[advanced,x]}
+high,instruction {update,m,[soft]} ⟶ {update,m,dynamic,default,soft,brutal_purge,brutal_purge,[soft]}
+high,instruction {update,m,[]} ⟶ {update,m,dynamic,default,soft,brutal_purge,brutal_purge,[]}
+high,instruction {update,m,""} ⟶ {update,m,dynamic,default,soft,brutal_purge,brutal_purge,[]}
+high,instruction {update,m,soft,[a]} ⟶ {update,m,dynamic,default,soft,brutal_purge,brutal_purge,[a]}
+high,instruction {update,m,{advanced,x},[]} ⟶ {update,m,dynamic,default,{advanced,x},brutal_purge,brutal_purge,[]}
+high,instruction {update,m,soft,soft_purge,brutal_purge,[a]} ⟶ {update,m,dynamic,default,soft,soft_purge,brutal_purge,[a]}
+high,instruction {update,m,{advanced,x},brutal_purge,soft_purge,[]} ⟶ {update,m,dynamic,default,{advanced,x},brutal_purge,soft_purge,[]}
+high,instruction {update,m,infinity,soft,soft_purge,soft_purge,[]} ⟶ {update,m,dynamic,infinity,soft,soft_purge,soft_purge,[]}
+high,instruction {update,m,default,{advanced,x},brutal_purge,brutal_purge,[a]} ⟶ {update,m,dynamic,default,{advanced,x},brutal_purge,brutal_purge,[a]}
+high,instruction {update,m,5000,soft,brutal_purge,soft_purge,[a,b]} ⟶ {update,m,dynamic,5000,soft,brutal_purge,soft_purge,[a,b]}
+high,instruction {update,m,1,soft,brutal_purge,soft_purge,[]} ⟶ {update,m,dynamic,1,soft,brutal_purge,soft_purge,[]}
+high,instruction {update,m,{advanced,{x,1}}} ⟶ {update,m,dynamic,default,{advanced,{x,1}},brutal_purge,brutal_purge,[]}
+high,instruction {load_module,m} ⟶ {load_module,m,brutal_purge,brutal_purge,[]}
+high,instruction {load_module,m,[a]} ⟶ {load_module,m,brutal_purge,brutal_purge,[a]}
+high,instruction {add_module,m} ⟶ {add_module,m,[]}
+high,instruction {delete_module,m} ⟶ {delete_module,m,[]}
+high,instruction {add_application,a} ⟶ {add_application,a,permanent}
 low {update,m} ¦ {update,soft} ¦ {update,supervisor} ¦ {update,m,soft} ¦ {update,m,{advanced,[]}} ⟶ ✗ Bad
 low {update,m,{advanced,{a,"b",1}}} ¦ {update,m,[a,b]} ¦ {update,m,[advanced,x]} ¦ {update,m,[soft]} ¦ {update,m,[]} ⟶ ✗ Bad
 low {update,m,""} ¦ {update,m,soft,[a]} ¦ {update,m,{advanced,x},[]} ¦ {update,m,soft,soft_purge,brutal_purge,[a]} ⟶ ✗ Bad
@@ -87,7 +87,7 @@ pub(super) const OUT_OF_PROFILE: &str =
     r##"low,instruction restart_new_emulator ¦ restart_emulator ¦ 'restart_emulator' ¦ {sync_nodes,a,b} ⟶ ✗ OutOfProfile
 low,instruction {sync_nodes,a,[n]} ¦ {sync_nodes,a,{m,f,[]}} ¦ {sync_nodes,1,2,3,4} ¦ {sync_nodes,a} ⟶ ✗ OutOfProfile
 low,instruction {sync_nodes} ⟶ ✗ OutOfProfile
-instruction {update,m,supervisor} ¦ {update,supervisor,supervisor} ¦ {'update','M','supervisor'} ⟶ ✗ OutOfProfile"##;
+high,instruction {update,m,supervisor} ¦ {update,supervisor,supervisor} ¦ {'update','M','supervisor'} ⟶ ✗ OutOfProfile"##;
 
 /// What is no instruction.
 pub(super) const WRONG: &str = r##"low,instruction foo ⟶ ✗ Bad
