@@ -5,6 +5,7 @@ use Rattle.release_words.specs.declared.fault.InstructionFault.{InstructionFault
 use Rattle.release_words.specs.declared.fault.InstructionFault.TheVariants.{Bad, OutOfProfile}
 use Rattle.low_instructions.specs.declared.low.Low.{Low}
 use Rattle.low_instructions.specs.declared.low.Low.TheVariants.{LoadObjectCode, PointOfNoReturn, Load, Remove, Purge, Suspend, Resume, CodeChange, Stop, Start, Apply}
+use Rattle.low_instructions.specs.declared.modules.Direction.TheVariants.{Up, Down}
 use Rattle.low_instructions.specs.Forms.{IsLow, low_tree, printed, undirected, suspending}
 use Rattle.low_instructions.specs.Laws.{LowReads, LowTable}
 use Rattle.low_instructions.specs.Reading.{low_result}
@@ -26,7 +27,8 @@ printed_not_high (Remove name pre post) = refl
 printed_not_high (Purge modules) = refl
 printed_not_high (Suspend modules) = refl
 printed_not_high (Resume modules) = refl
-printed_not_high (CodeChange direction changes) = refl
+printed_not_high (CodeChange Up changes) = refl
+printed_not_high (CodeChange Down changes) = refl
 printed_not_high (Stop modules) = refl
 printed_not_high (Start modules) = refl
 printed_not_high (Apply name function arguments) = refl

@@ -16,7 +16,10 @@ use std::alloc::{AllocError, Global};
 ///
 /// `AllocError` where memory is refused.
 #[tactic(auto, unfolding(crate::specs::Instructions::instruction_result))]
-pub fn read_instruction(alloc: Global, term: &Term) -> Result<Result<Instruction, InstructionFault>, AllocError>
+pub fn read_instruction(
+    alloc: Global,
+    term: &Term,
+) -> Result<Result<Instruction, InstructionFault>, AllocError>
     ensures { IfOk result (λ read. read ≡ instruction_result (tree term.now)) }
 {
     match read_high(alloc, term)? {
