@@ -100,11 +100,7 @@ pub(crate) fn stack_last<C>(
 }
 
 /// Moves the last module to a place, and leaves it with this old code alone.
-pub(crate) fn move_back<C: Drop>(
-    table: &mut ByName<C>,
-    place: usize,
-    instance: Instance<C>,
-)
+pub(crate) fn move_back<C: Drop>(table: &mut ByName<C>, place: usize, instance: Instance<C>)
     requires { place < length table.old.entries }
     ensures { table.new.entries ≡ moved_back place instance (slice_get table.old.entries (length table.old.entries - 1)) (take (length table.old.entries - 1) table.old.entries) }
 {
@@ -117,10 +113,7 @@ pub(crate) fn move_back<C: Drop>(
 }
 
 /// Takes the module at a place out of the table, with its old code, where it has no other.
-pub(crate) fn take_out<C: Drop>(
-    table: &mut ByName<C>,
-    place: usize,
-) -> Option<(Atom, Instance<C>)>
+pub(crate) fn take_out<C: Drop>(table: &mut ByName<C>, place: usize) -> Option<(Atom, Instance<C>)>
     ensures removed { table.new.entries ≡ remove table.old.entries place }
     ensures taken { result ≡ option_and_then (λ entry. option_map (λ instance. (entry.0, instance)) entry.1.former) (slice_get table.old.entries place) }
 {

@@ -163,6 +163,7 @@ same_app app type names is_type is_names =
     ap (λ x. Some (record { name = app.name; vsn = app.vsn; start_type = x; included = names })) (sym is_type) ∙ ap (λ x. Some (record { name = app.name; vsn = app.vsn; start_type = app.start_type; included = x })) (sym is_names)
 
 app_back : (t : Tree) (app : RelApp) → IsRelApp t app → rel_app_of t ≡ Some app
+unfolding start_type_of
 app_back t app (plain is type names, fine) =
     ap rel_app_of is ∙ fronted app.name app.vsn none fine ∙ same_app app Permanent None type names
 app_back t app (typed is names, fine) =

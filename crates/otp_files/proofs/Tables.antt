@@ -1,19 +1,21 @@
 -- The instructions of a file, as the tables of their forms tell them.
-use Rattle.std.proofs.Common.{◌≡◌, ℕ, Bool, true, false, List, Result, Ok, Err, refl, sym, ap, subst, ◌∙◌, inl, inr, true≢false}
+use Rattle.std.proofs.Common.{◌≡◌, ℕ, Bool, true, false, List, Option, Some, None, Result, Ok, Err, refl, sym, ap, subst, ◌∙◌, inl, inr, true≢false}
 use Rattle.std.specs.Prelude.{codes}
 use Rattle.std.proofs.lemmas.Slice.Eq.{bytes_eq-Decides}
+use Rattle.erl_term.specs.Accessors.{atom_of}
+use Rattle.erl_term.specs.Conversions.{given}
 use Rattle.erl_term.specs.Tree.{Tree, Trees, atom, int, list, more, none, pid, tuple}
 use Rattle.release_words.specs.declared.fault.InstructionFault.{InstructionFault}
 use Rattle.release_words.specs.declared.fault.InstructionFault.TheVariants.{Bad, OutOfProfile}
 use Rattle.release_words.specs.Forms.{ReadsAs}
-use Rattle.release_words.specs.Reading.{result_of}
-use Rattle.low_instructions.specs.Forms.{is_out_of_profile}
-use Rattle.low_instructions.specs.Laws.{LowTable}
+use Rattle.release_words.specs.Reading.{leading_of, result_of}
+use Rattle.low_instructions.specs.Forms.{IsLow, is_out_of_profile}
+use Rattle.low_instructions.specs.Laws.{LowTable, is_low}
 use Rattle.low_instructions.specs.Reading.{low_of, low_result}
 use Rattle.high_instructions.specs.Forms.{IsSupervisorUpdate}
 use Rattle.high_instructions.specs.Reading.{high_of, high_result, is_supervisor_update}
 use Rattle.high_instructions.proofs.Parts.{supervisor_back}
-use Rattle.instructions.specs.Instructions.{InstructionTable, instruction_result, of_high, of_low}
+use Rattle.instructions.specs.Instructions.{InstructionTable, IsInstruction, instruction_result, is_instruction, of_high, of_low}
 use Rattle.otp_files.specs.Upgrades.{IsAppupInstruction, IsOutOfAppups, IsOutOfRelups, IsRelupInstruction}
 use Rattle.otp_files.proofs.Scripts.{Tells, Told}
 
@@ -30,7 +32,7 @@ low_out t out = ap (λ b. result_of b (low_of t)) out
 
 pub low_tells : LowTable → Tells low_result IsRelupInstruction IsOutOfRelups
 low_tells table = record {
-  told = λ t. told_so _ _ IsOutOfRelups t (low_result t) (table.sound t);
+  told = λ t. told_so IsLow is_low IsOutOfRelups t (low_result t) (table.sound t);
   right = λ t l is. table.complete t l is.1 is.0;
   out = low_out;
 }
@@ -45,12 +47,28 @@ restart_not_high : (cs : List ℕ) → high_result (atom cs) ≡ Err Bad
 unfolding high_result high_of is_supervisor_update
 restart_not_high cs = refl
 
-sync_not_high : (ts : Trees) → high_result (tuple (more (atom (codes "sync_nodes")) ts)) ≡ Err Bad
-unfolding high_result high_of is_supervisor_update
-sync_not_high none = refl
-sync_not_high (more a none) = refl
-sync_not_high (more a (more b none)) = refl
-sync_not_high (more a (more b (more c ts))) = refl
+never : {A B : Type 0} (o : Option A) → given {A = A} {B = B} o (λ q. None) ≡ None
+never None = refl
+never (Some x) = refl
+
+abbrev syncing : Trees → Tree
+syncing ts = tuple (more (atom (codes "sync_nodes")) ts)
+
+sync_no_high : (ts : Trees) → high_of (syncing ts) ≡ None
+unfolding high_of
+sync_no_high ts = never (leading_of atom_of ts)
+
+sync_no_supervisor : (ts : Trees) → is_supervisor_update (syncing ts) ≡ false
+unfolding is_supervisor_update
+sync_no_supervisor none = refl
+sync_no_supervisor (more a none) = refl
+sync_no_supervisor (more a (more b none)) = refl
+sync_no_supervisor (more a (more b (more c ts))) = refl
+
+sync_not_high : (ts : Trees) → high_result (syncing ts) ≡ Err Bad
+unfolding high_result
+sync_not_high ts =
+    ap (λ b. result_of b (high_of (syncing ts))) (sync_no_supervisor ts) ∙ ap (λ o. result_of false o) (sync_no_high ts)
 
 out_not_high : (t : Tree) → is_out_of_profile t ≡ true → high_result t ≡ Err Bad
 out_not_high (int n) out = absurd (true≢false (sym out))
@@ -73,7 +91,7 @@ instruction_out t (inr update) = ap (λ r. of_high r (low_result t)) (supervisor
 
 pub instruction_tells : InstructionTable → Tells instruction_result IsAppupInstruction IsOutOfAppups
 instruction_tells table = record {
-  told = λ t. told_so _ _ IsOutOfAppups t (instruction_result t) (table.sound t);
+  told = λ t. told_so IsInstruction is_instruction IsOutOfAppups t (instruction_result t) (table.sound t);
   right = λ t i is. table.complete t i is.1 is.0;
   out = instruction_out;
 }

@@ -4,8 +4,7 @@ ghost use Rattle.std.specs.Option.{option_copied};
 ghost use Rattle.otp_files.specs.Distinct.{are_distinct, app_names, app_named, FindsFrom};
 
 use erl_term::Atom;
-use release_words::StartType;
-use release_words::Version;
+use release_words::{StartType, Version};
 use std::alloc::{AllocError, Global};
 use std::collections::BTreeMap;
 use std::marker::Model;

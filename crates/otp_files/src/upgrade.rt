@@ -6,8 +6,8 @@ ghost use Rattle.otp_files.specs.Entries.{entry_for};
 mod drafts;
 mod reading;
 
-use release_words::Version;
 pub(crate) use reading::upgrades_from_term;
+use release_words::Version;
 use std::alloc::{AllocError, Global};
 use values::{Duplicate, Row, Same};
 

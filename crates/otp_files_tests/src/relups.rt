@@ -3,8 +3,8 @@ use crate::texts::{REFUSED, fault_of, printed, said, term_of, text_of};
 use crate::told::{Tell, told};
 use erl_term::{Atom, Term, Terms};
 use otp_files::{
-    Direction, Entry, FileError, Low, ModuleChange, Purge, Relup, RelupEntry, Script, Suspension, Timeout,
-    Upgrades, Version, print_relup, read_appup, read_relup, relup_term,
+    Direction, Entry, FileError, Low, ModuleChange, Purge, Relup, RelupEntry, Script, Suspension,
+    Timeout, Upgrades, Version, print_relup, read_appup, read_relup, relup_term,
 };
 use std::alloc::{AllocError, Global};
 use std::process::Abort;

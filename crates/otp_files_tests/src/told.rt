@@ -5,8 +5,9 @@ use crate::texts::text_of;
 use erl_term::{Atom, Term, Terms, ToTerm, print, print_atom};
 use otp_files::{
     AppSpec, ApplicationInstruction, ApplicationWork, Applications, Appup, AppupEntry, Change,
-    Direction, High, Instruction, Low, ModuleChange, ModuleInstruction, ModuleType, ModuleWork, Purge, RelApp, RelSpec, Relup, RelupEntry, StartModule, StartType,
-    Suspension, Timeout, Version,
+    Direction, High, Instruction, Low, ModuleChange, ModuleInstruction, ModuleType, ModuleWork,
+    Purge, RelApp, RelSpec, Relup, RelupEntry, StartModule, StartType, Suspension, Timeout,
+    Version,
 };
 use std::alloc::{AllocError, Global};
 use std::test::Fail;
@@ -263,7 +264,11 @@ fn put_on_module(out: &mut Vec<u8>, on: &ModuleInstruction) -> Result<(), AllocE
             let module_type = module_type_word(module_type);
             fill(out, "{update,◇,◇,◇,", &[name, module_type, Wait(timeout)])?;
             let purges = (purge(pre_purge), purge(post_purge));
-            fill(out, "◇,◇,◇,◇}", &[State(change), purges.0, purges.1, modules])
+            fill(
+                out,
+                "◇,◇,◇,◇}",
+                &[State(change), purges.0, purges.1, modules],
+            )
         }
         ModuleWork::Load {
             pre_purge,

@@ -6,8 +6,7 @@ ghost use Rattle.otp_files.specs.Reading.{rel_app_with, rel_app_of, rel_apps_of}
 
 use crate::applications::{Applications, RelApp};
 use erl_term::{Atom, FromTerm, Term, first, one, two};
-use release_words::StartType;
-use release_words::Version;
+use release_words::{StartType, Version};
 use std::alloc::{AllocError, Global};
 use values::{Duplicate, Row};
 
