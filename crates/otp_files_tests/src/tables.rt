@@ -1,7 +1,7 @@
 // Cases, a line each, by topics.
 mod apps;
 mod appups;
-mod instructions;
+mod forms;
 mod no_files;
 mod rels;
 mod relups;
@@ -9,11 +9,11 @@ mod words;
 
 /// Each table.
 pub(crate) const TABLES: [&str; 16] = [
-    instructions::LOW,
-    instructions::HIGH,
-    instructions::OUT_OF_PROFILE,
-    instructions::WRONG,
-    instructions::WRONG_WORDS,
+    forms::LOW,
+    forms::HIGH,
+    forms::OUT_OF_PROFILE,
+    forms::WRONG,
+    forms::WRONG_WORDS,
     words::WORDS,
     words::VERSIONS,
     words::RELEASE_NAMES,
