@@ -2,10 +2,11 @@
 // the fault, with its place or number.
 //
 // A line can have several kinds, with commas between them, and several texts, with `¦` between them: each text says the
-// same as each kind. The arrow's `=` is the text itself. In a text of a file `␤` is a newline, and `▯` a byte that no text has.
+// same as each kind; what is wanted is `=` where it is the text itself. In a text of a file `␤` is a newline, and `▯` a byte
+// that no text has.
 use crate::relups::{in_appup, in_relup, large, printed_relup, read_back, term_of_relup};
 use crate::tables::TABLES;
-use crate::texts::{REFUSED, bytes_of, fault_of, printed, said, term_of};
+use crate::texts::{REFUSED, bytes_of, fault_of, said, term_of, term_told};
 use crate::told::{Tell, told};
 use crate::words::{application, applications, release_name, start_type, version, versions};
 use high_instructions::read_high;
@@ -99,12 +100,12 @@ fn low(alloc: Global, text: &str) -> Result<String, Fail> {
     read_of(alloc, read_low(alloc, &term_of(alloc, text)?)?)
 }
 
-/// The term of the low-level instruction that a text is.
+/// The term of the low-level instruction that a text is, or why there is none.
 fn term_of_low(alloc: Global, text: &str) -> Result<String, Fail> {
-    let low = read_low(alloc, &term_of(alloc, text)?)?
-        .ok()
-        .ok_or("no instruction")?;
-    printed(alloc, &low_term(alloc, &low)?)
+    match read_low(alloc, &term_of(alloc, text)?)? {
+        Ok(low) => term_told(alloc, low_term(alloc, &low)),
+        Err(fault) => Ok(format!(in alloc; "✗ {fault:?}")?),
+    }
 }
 
 /// What a text says as a high-level instruction.

@@ -1,5 +1,5 @@
 // Relups that are made, printed and read back; entries of upgrade files that count for a version; and a large file.
-use crate::texts::{REFUSED, fault_of, printed, said, term_of, text_of};
+use crate::texts::{REFUSED, fault_of, said, term_of, term_told, text_of};
 use crate::told::{Tell, told};
 use erl_term::{Atom, Term, Terms};
 use otp_files::{
@@ -128,30 +128,57 @@ fn made(alloc: Global, text: &str) -> Result<Relup, Fail> {
 pub(crate) fn printed_relup(alloc: Global, text: &str) -> Result<String, Fail> {
     let relup = made(alloc, text)?;
     let mut out = Vec::from_slice(alloc, b">")?;
-    if print_relup(&relup, &mut out).is_err() {
-        let is_left = out.as_slice() == b">".as_slice();
-        return said(alloc, if is_left { REFUSED } else { "changed" });
+    match print_relup(&relup, &mut out) {
+        Ok(()) => Ok(text_of(alloc, out.as_slice())?.replace(alloc, "\n", "␤")?),
+        Err(AllocError) => refused_behind(alloc, out.as_slice()),
     }
-    Ok(text_of(alloc, out.as_slice())?.replace(alloc, "\n", "␤")?)
+}
+
+/// What is told where memory was refused behind what was written before, which is left.
+fn refused_behind(alloc: Global, out: &[u8]) -> Result<String, Fail> {
+    said(
+        alloc,
+        if out == b">".as_slice() {
+            REFUSED
+        } else {
+            "changed"
+        },
+    )
 }
 
 /// The term of a relup.
 pub(crate) fn term_of_relup(alloc: Global, text: &str) -> Result<String, Fail> {
-    match relup_term(alloc, &made(alloc, text)?) {
-        Ok(term) => printed(alloc, &term),
-        Err(AllocError) => said(alloc, REFUSED),
+    let relup = made(alloc, text)?;
+    term_told(alloc, relup_term(alloc, &relup))
+}
+
+/// Whether what was read is this relup, or its fault.
+fn read_told(alloc: Global, relup: &Relup, read: Result<Relup, FileError>) -> Result<String, Fail> {
+    match read {
+        Ok(read) => said(
+            alloc,
+            if read.same(relup) {
+                "the same"
+            } else {
+                "another"
+            },
+        ),
+        Err(error) => fault_of(alloc, error),
     }
+}
+
+/// What is printed of a relup.
+fn text_of_relup(alloc: Global, relup: &Relup) -> Result<Vec<u8>, Fail> {
+    let mut out = Vec::new(alloc);
+    print_relup(relup, &mut out)?;
+    Ok(out)
 }
 
 /// Whether what is printed of a relup is read back as the same one, or its fault.
 pub(crate) fn read_back(alloc: Global, text: &str) -> Result<String, Fail> {
     let relup = made(alloc, text)?;
-    let mut out = Vec::new(alloc);
-    print_relup(&relup, &mut out)?;
-    match read_relup(alloc, out.as_slice()) {
-        Ok(read) => Ok(format!(in alloc; "{}", read.same(&relup))?),
-        Err(error) => fault_of(alloc, error),
-    }
+    let text = text_of_relup(alloc, &relup)?;
+    read_told(alloc, &relup, read_relup(alloc, text.as_slice()))
 }
 
 /// An appup with two entries of version 1 in each direction, the second and the third.
@@ -191,25 +218,43 @@ pub(crate) fn in_relup(alloc: Global, number: &str) -> Result<String, Fail> {
     entries_told(alloc, relup.up_from(&version), relup.down_to(&version))
 }
 
-/// How many instructions a relup of 300 kB has whose last one is this text.
-pub(crate) fn large(alloc: Global, last: &str) -> Result<String, Fail> {
+/// A relup of 300 kB whose last instruction is this text.
+fn large_text(alloc: Global, last: &str) -> Result<String, Fail> {
     let middles = "{load,{m,brutal_purge,brutal_purge}},".repeat(alloc, 8_000)?;
-    let text = ["{\"2\",[{\"1\",[],[", middles.as_str(), last, "]}],[]}.\n"].concat(alloc)?;
+    Ok(["{\"2\",[{\"1\",[],[", middles.as_str(), last, "]}],[]}.\n"].concat(alloc)?)
+}
+
+/// How many instructions the first script of a relup has.
+fn count_of(relup: &Relup) -> usize {
+    match relup.up.as_slice().first() {
+        Some(entry) => entry.instructions.as_slice().len(),
+        None => 0,
+    }
+}
+
+/// How many instructions a large relup has whose last one is this text, or its fault.
+pub(crate) fn large(alloc: Global, last: &str) -> Result<String, Fail> {
+    let text = large_text(alloc, last)?;
     match read_relup(alloc, text.as_bytes()) {
-        Ok(relup) => {
-            let entry = relup.up.as_slice().first().ok_or("no entry")?;
-            Ok(format!(in alloc; "{}", entry.instructions.as_slice().len())?)
-        }
+        Ok(relup) => Ok(format!(in alloc; "{}", count_of(&relup))?),
         Err(error) => fault_of(alloc, error),
     }
 }
 
-/// Whether the front of the relup with so many bytes is read, or no text.
-fn is_read(rt: &impl Abort, alloc: Global, front: &[u8]) -> bool {
-    match read_relup(alloc, front) {
+/// Whether a text is read as a relup, or is no text.
+fn is_read(rt: &impl Abort, alloc: Global, text: &[u8]) -> bool {
+    match read_relup(alloc, text) {
         Ok(_) => true,
         Err(FileError::Text(_)) => false,
         Err(error) => panic!(rt; "{error}"),
+    }
+}
+
+/// Sees that the fronts of a text but the empty one are no texts, but the one without its newline, which is read.
+fn expect_fronts(rt: &impl Abort, alloc: Global, text: &[u8]) {
+    for n in 1..text.len() {
+        let is_read = is_read(rt, alloc, &text[..n]);
+        assert!(rt; is_read == (n + 1 == text.len()), "{n}");
     }
 }
 
@@ -217,12 +262,7 @@ fn is_read(rt: &impl Abort, alloc: Global, front: &[u8]) -> bool {
 /// others are no texts.
 #[test]
 fn fronts_of_a_relup_are_refused(rt: HostRuntime) -> Result<(), Fail> {
-    let mut text = Vec::new(rt.alloc());
-    print_relup(&example(rt.alloc())?, &mut text)?;
-    assert_eq!(rt; read_relup(rt.alloc(), b"").err(), Some(FileError::NoTerm));
-    for n in 1..text.len() {
-        let front = text.as_slice().get(..n).ok_or("no front")?;
-        assert_eq!(rt; is_read(&rt, rt.alloc(), front), n + 1 == text.len(), "{n}");
-    }
+    let text = text_of_relup(rt.alloc(), &example(rt.alloc())?)?;
+    expect_fronts(&rt, rt.alloc(), text.as_slice());
     Ok(())
 }

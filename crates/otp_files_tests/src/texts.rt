@@ -2,7 +2,7 @@
 use erl_consult::read_terms;
 use erl_term::{Term, print};
 use otp_files::FileError;
-use std::alloc::Global;
+use std::alloc::{AllocError, Global};
 use std::str;
 use std::test::Fail;
 
@@ -40,10 +40,18 @@ pub(crate) fn term_of(alloc: Global, text: &str) -> Result<Term, Fail> {
 }
 
 /// A term as it is printed.
-pub(crate) fn printed(alloc: Global, term: &Term) -> Result<String, Fail> {
+fn printed(alloc: Global, term: &Term) -> Result<String, Fail> {
     let mut out = Vec::new(alloc);
     print(term, &mut out)?;
     text_of(alloc, out.as_slice())
+}
+
+/// A term as it is printed, if memory was not refused to it.
+pub(crate) fn term_told(alloc: Global, term: Result<Term, AllocError>) -> Result<String, Fail> {
+    match term {
+        Ok(term) => printed(alloc, &term),
+        Err(AllocError) => said(alloc, REFUSED),
+    }
 }
 
 /// A fault of a file.

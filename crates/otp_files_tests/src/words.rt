@@ -1,12 +1,12 @@
 // Words of release files: versions, ways to start, and names and applications of releases.
-use crate::texts::{printed, said, term_of};
+use crate::texts::{said, term_of, term_told};
 use crate::told::{rel_app, told};
 use erl_term::{Atom, FromTerm, Term, ToTerm};
 use high_instructions::high_forms_are_read;
 use instructions::instruction_forms_are_read;
 use low_instructions::low_forms_are_read;
 use otp_files::{
-    Applications, ReleaseName, StartType, Timeout, Version, files_are_read_one_way,
+    Applications, RelApp, ReleaseName, StartType, Timeout, Version, files_are_read_one_way,
     terms_say_one_record_or_have_one_fault,
 };
 use std::alloc::Global;
@@ -16,7 +16,7 @@ use values::{Duplicate, Row, Same};
 /// The way to start an application that a text is, as its term is printed.
 pub(crate) fn start_type(alloc: Global, text: &str) -> Result<String, Fail> {
     match StartType::from_term(alloc, &term_of(alloc, text)?)? {
-        Some(start_type) => printed(alloc, &start_type.to_term(alloc)?),
+        Some(start_type) => term_told(alloc, start_type.to_term(alloc)),
         None => said(alloc, "✗"),
     }
 }
@@ -24,28 +24,30 @@ pub(crate) fn start_type(alloc: Global, text: &str) -> Result<String, Fail> {
 /// The row of versions that a text is, as its term is printed.
 pub(crate) fn versions(alloc: Global, text: &str) -> Result<String, Fail> {
     match Row::<Version>::from_term(alloc, &term_of(alloc, text)?)? {
-        Some(row) => printed(alloc, &row.to_term(alloc)?),
+        Some(row) => term_told(alloc, row.to_term(alloc)),
         None => said(alloc, "✗"),
     }
 }
 
-/// The text of the version that is read back from the term of this one, where the two are the same.
-fn read_back(alloc: Global, version: &Version) -> Result<String, Fail> {
-    let read = Version::from_term(alloc, &version.to_term(alloc)?)?.ok_or("no version")?;
-    said(
-        alloc,
-        if read.same(version) {
-            read.as_str()
-        } else {
-            "another"
-        },
-    )
+/// The text of the version that is read from a term, where it is this one.
+fn read_back(alloc: Global, version: &Version, term: &Term) -> Result<String, Fail> {
+    match Version::from_term(alloc, term)? {
+        Some(read) => said(
+            alloc,
+            if read.same(version) {
+                read.as_str()
+            } else {
+                "another"
+            },
+        ),
+        None => said(alloc, "none"),
+    }
 }
 
 /// The version that a text is, or what is wrong with it.
 pub(crate) fn version(alloc: Global, text: &str) -> Result<String, Fail> {
     match Version::new(alloc, text) {
-        Ok(version) => read_back(alloc, &version),
+        Ok(version) => read_back(alloc, &version, &version.to_term(alloc)?),
         Err(error) => Ok(format!(in alloc; "✗ {error:?}")?),
     }
 }
@@ -56,19 +58,19 @@ pub(crate) fn release_name(alloc: Global, text: &str) -> Result<String, Fail> {
     said(alloc, name.as_str())
 }
 
-/// The applications of a release that are named with their versions, if none stands twice.
-fn applications_of(alloc: Global, text: &str) -> Result<Option<Applications>, Fail> {
+/// The permanent applications that are named with their versions.
+fn apps_of(alloc: Global, text: &str) -> Result<Vec<RelApp>, Fail> {
     let mut apps = Vec::new(alloc);
     for word in text.split_whitespace() {
         let (name, number) = word.split_once('-').ok_or("no version")?;
         apps.push(rel_app(alloc, name, number)?)?;
     }
-    Ok(Applications::new(alloc, apps)?)
+    Ok(apps)
 }
 
 /// The applications of a release that are named with their versions, or that one stands twice.
 pub(crate) fn applications(alloc: Global, text: &str) -> Result<String, Fail> {
-    match applications_of(alloc, text)? {
+    match Applications::new(alloc, apps_of(alloc, text)?)? {
         Some(apps) => told(alloc, &apps),
         None => said(alloc, "twice"),
     }
@@ -77,8 +79,13 @@ pub(crate) fn applications(alloc: Global, text: &str) -> Result<String, Fail> {
 /// The application of a name, in a copy of those that stand behind the name and a colon.
 pub(crate) fn application(alloc: Global, text: &str) -> Result<String, Fail> {
     let (name, others) = text.split_once(": ").ok_or("no colon")?;
-    let apps = applications_of(alloc, others)?.ok_or("twice")?.copy(alloc)?;
-    match apps.get(&Atom::new(alloc, name)?) {
+    let apps = Applications::new(alloc, apps_of(alloc, others)?)?.ok_or("twice")?;
+    found_in(alloc, &apps.copy(alloc)?, &Atom::new(alloc, name)?)
+}
+
+/// The application of this name, or a stroke.
+fn found_in(alloc: Global, apps: &Applications, name: &Atom) -> Result<String, Fail> {
+    match apps.get(name) {
         Some(app) => told(alloc, app),
         None => said(alloc, "-"),
     }

@@ -5,8 +5,7 @@
 pub(super) const NO_FILES: &str = r##"app,rel,appup,relup  ⟶ ✗ NoTerm
 app,rel,appup,relup  ␤  ⟶ ✗ NoTerm
 app,rel,appup,relup % nothing ⟶ ✗ NoTerm
-app,rel,appup,relup a. b. ¦ {application,a,[{vsn,"1"}]}. x. ¦ {"2",[],[]}.␤{"2",[],[]}. ⟶ ✗ ManyTerms
-app,rel,appup,relup {release,{"r","A"},{erts,"1"},[]}. 1. 2. ⟶ ✗ ManyTerms
+app,rel,appup,relup a. b. ¦ {application,a,[{vsn,"1"}]}. x. ¦ {"2",[],[]}.␤{"2",[],[]}. ¦ {release,{"r","A"},{erts,"1"},[]}. 1. 2. ⟶ ✗ ManyTerms
 app,rel,appup,relup {application,a,[ ⟶ ✗ Unclosed 15
 app,rel,appup,relup {"2",[],[]} ⟶ ✗ MissingDot 11
 app,rel,appup,relup {"2",[],[]}. x ⟶ ✗ MissingDot 14
@@ -31,9 +30,8 @@ app,rel,appup,relup {"2",[#<<,[]],[]}. ⟶ ✗ Unsupported 6
 app,rel,appup,relup =<<"a">>. ⟶ ✗ Syntax 0
 app,rel,appup,relup {"2",▯<< ⟶ ✗ NotUtf8 5
 app,rel,appup,relup X,[}▯ ¦ {<<1▯ ⟶ ✗ NotUtf8 4
-appup {"2",[{<<"1.*">>,[]}],[]}. ¦ {"2",[],[{<<"1">>,[]}]}. ¦ <<"1">>. ¦ << ¦ {"2",[{<<"1.* ¦ {"2",[{<<X,1.5 ⟶ ✗ PatternVersion
-appup {"2" <<"1">>}. ¦ {"2",[a|<<>>],[]}. ¦ {"2",[],[]}. <<>>. ¦ {"é",<<1>>}. ¦ % é␤<<. ⟶ ✗ PatternVersion
-appup {x,<<"1">>,fun,<<"2">>}. ⟶ ✗ PatternVersion
+appup {"2",[{<<"1.*">>,[]}],[]}. ¦ {"2",[],[{<<"1">>,[]}]}. ¦ <<"1">>. ¦ << ¦ {"2",[{<<"1.* ¦ {"2",[{<<X,1.5 ¦ {"2" <<"1">>}. ⟶ ✗ PatternVersion
+appup {"2",[a|<<>>],[]}. ¦ {"2",[],[]}. <<>>. ¦ {"é",<<1>>}. ¦ % é␤<<. ¦ {x,<<"1">>,fun,<<"2">>}. ⟶ ✗ PatternVersion
 app,rel,relup {"2",[{<<"1.*">>,[]}],[]}. ⟶ ✗ Unsupported 7
 app,rel,relup {"2",[],[{<<"1">>,[]}]}. ⟶ ✗ Unsupported 10
 app,rel,relup <<"1">>. ¦ << ⟶ ✗ Unsupported 0

@@ -12,9 +12,8 @@ relup {"E",[],['a ⟶ ✗ Unclosed 9
 relup {"F",[{"A",[],[{load_object_code,{ctr_app,"3",[ctr_app]}},point_of_no_return,{suspend,[ctr_app]},{load,{ctr_app,brutal_purge,brutal_purge}},{code_change,up,[{ctr_app,[]}]},{resume,[ctr_app]}]}],[{"A",[],[{load_object_code,{ctr_app,"1",[ctr_app]}},point_of_no_return,{suspend,[ctr_app]},{load,{ctr_app,brutal_purge,brutal_purge}},{code_change,down,[{ctr_app,[]}]},{resume,[ctr_app]}]}]}.␤ ⟶ {"F",[{"A",[],[{load_object_code,{ctr_app,"3",[ctr_app]}},point_of_no_return,{suspend,[ctr_app]},{load,{ctr_app,brutal_purge,brutal_purge}},{code_change,up,[{ctr_app,[]}]},{resume,[ctr_app]}]}],[{"A",[],[{load_object_code,{ctr_app,"1",[ctr_app]}},point_of_no_return,{suspend,[ctr_app]},{load,{ctr_app,brutal_purge,brutal_purge}},{code_change,down,[{ctr_app,[]}]},{resume,[ctr_app]}]}]}
 relup relup. ¦ []. ¦ {"2",[]}. ¦ {"2",[],[],[]}. ¦ ["2",[],[]]. ⟶ ✗ Shape(0)
 relup {2,[],[]}. ¦ {v,x,x}. ¦ {"",[],[]}. ¦ {"1/2",[],[]}. ⟶ ✗ Shape(1)
-relup {"2",x,[]}. ¦ {"2",x,x}. ¦ {"2",[x],[]}. ¦ {"2",[{"1",[]}],[]}. ¦ {"2",[{"1",[],[],[]}],[]}. ⟶ ✗ Shape(2)
-relup {"2",[["1",[],[]]],[]}. ¦ {"2",[{1,[],[]}],[]}. ¦ {"2",[{"",[],[]}],[]}. ¦ {"2",[{"1",[],x}],[]}. ⟶ ✗ Shape(2)
-relup {"2",[{"1",[],[]},{"0",[],{}}],[]}. ⟶ ✗ Shape(2)
+relup {"2",x,[]}. ¦ {"2",x,x}. ¦ {"2",[x],[]}. ¦ {"2",[{"1",[]}],[]}. ¦ {"2",[{"1",[],[],[]}],[]}. ¦ {"2",[["1",[],[]]],[]}. ⟶ ✗ Shape(2)
+relup {"2",[{1,[],[]}],[]}. ¦ {"2",[{"",[],[]}],[]}. ¦ {"2",[{"1",[],x}],[]}. ¦ {"2",[{"1",[],[]},{"0",[],{}}],[]}. ⟶ ✗ Shape(2)
 relup {"2",[],x}. ¦ {"2",[],[{"1",[]}]}. ¦ {"2",[],[{"1",[],[]},{"1",d,x}]}. ⟶ ✗ Shape(3)
 relup {"2",[{"1",[],[x]},x],[]}. ⟶ ✗ Shape(2)
 relup {"2",[{"1",[],[x]}],x}. ¦ {"2",[{"1",[],[restart_emulator]}],[{"1",[]}]}. ⟶ ✗ Shape(3)
@@ -34,7 +33,7 @@ relup {"2",[{"1",[],[{stop,[m]}]}],[{"1",[],[{update,m,supervisor}]}]}. ⟶ ✗ 
 pub(super) const MADE: &str =
     r##"printed example ⟶ >{"B",[{"A",[],[{load_object_code,{ctr_app,"2",[ctr]}},point_of_no_return,{suspend,[ctr]},{load,{ctr,brutal_purge,brutal_purge}},{code_change,up,[{ctr,[]}]},{resume,[ctr]}]}],[{"A",[],[{load_object_code,{ctr_app,"1",[ctr]}},point_of_no_return,{suspend,[ctr]},{code_change,down,[{ctr,[]}]},{load,{ctr,brutal_purge,brutal_purge}},{resume,[ctr]}]}]}.␤
 relup_term example ⟶ {"B",[{"A",[],[{load_object_code,{ctr_app,"2",[ctr]}},point_of_no_return,{suspend,[ctr]},{load,{ctr,brutal_purge,brutal_purge}},{code_change,up,[{ctr,[]}]},{resume,[ctr]}]}],[{"A",[],[{load_object_code,{ctr_app,"1",[ctr]}},point_of_no_return,{suspend,[ctr]},{code_change,down,[{ctr,[]}]},{load,{ctr,brutal_purge,brutal_purge}},{resume,[ctr]}]}]}
-read_back example ¦ nested 253 ⟶ true
+read_back example ¦ nested 253 ⟶ the same
 printed pid 7 ⟶ >{"B",[{"A",<0.7.0>,[]}],[]}.␤
 read_back pid 7 ⟶ ✗ Syntax 11
 read_back nested 254 ⟶ ✗ TooDeep 264
