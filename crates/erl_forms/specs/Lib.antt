@@ -1,0 +1,10 @@
+pub mod Expression
+pub mod ExpressionCode
+pub mod ExpressionFalls
+pub mod ExpressionForms
+pub mod Heights
+pub mod Module
+pub mod Pattern
+pub mod PatternCode
+pub mod PatternFalls
+pub mod PatternForms
