@@ -1,0 +1,215 @@
+-- What a job gives: the callback that a place and a message enter, and what its value means (gen_server(3), Callback
+-- Functions; Erlang Reference Manual, Receive).
+use Rattle.std.specs.Prelude.{◌≡◌, ℕ, Bool, true, false, if◌then◌else◌, List, [], ◌∷◌, ◌++◌, codes}
+use Rattle.std.specs.Prelude.{Option, None, Some, is_some}
+use Rattle.std.specs.Str.{bytes_eq}
+use Rattle.erl_term.specs.Tree as term
+use Rattle.erl_term.specs.Tree.{Tree, Trees, atom, tuple, count}
+use Rattle.erl_forms.specs.declared.function.Function.{Function}
+use Rattle.erl_forms.specs.declared.function.Definition.{Definition}
+use Rattle.erl_forms.specs.declared.function.Definition.TheVariants as definition
+use Rattle.erl_forms.specs.Expression.{Exprs, Guards, Clauses}
+use Rattle.erl_forms.specs.Module.{exported_of, function_of}
+use Rattle.erl_forms.specs.Pattern.{Pats}
+use Rattle.erl_eval.specs.State.{Instance, Place, Act, Result, fault, fault_with, value, rest, exit, server, loop, World, plain}
+use Rattle.erl_eval.specs.State.{Call, State, all_acts, with_bindings}
+use Rattle.erl_eval.specs.BuiltIns.{reply_to}
+use Rattle.erl_eval.specs.Matching.{MatchesEach}
+use Rattle.erl_eval.specs.Evaluation.{Selected, Taken, Entered, remote_function}
+
+-- What was evaluated: the acts in order, and what it ended in.
+pub record Outcome : Type 0 where
+  pub acts : List Act
+  pub ended : Result
+
+-- before all: nothing is bound, called or done
+abbrev pub fresh : State
+fresh = record { bindings = []; calls = 0; acts = []; startup = None }
+
+-- the outermost call
+abbrev pub outermost : Instance → Bool → Call
+outermost i may_rest = record { instance = i; nesting = 0; may_rest = may_rest }
+
+-- A function that is called from outside of all modules, as a start function, `init`, `code_change` or `apply`: it has to be
+-- exported by the module's current code.
+
+pub data Calls : World → List ℕ → Option (Instance × Function) → Trees → Outcome → Type 0 where
+  undefined : {w : World} {name : List ℕ} {args : Trees} {o : Outcome} →
+      o ≡ record { acts = []; ended = fault (codes "undef") } → Calls w name None args o
+  called : {w : World} {name : List ℕ} {i : Instance} {f : Function} {args : Trees} {r : Result} {s : State} {o : Outcome} →
+      Entered w (outermost i false) true name f.definition args fresh r s →
+      o ≡ record { acts = all_acts s.startup s.acts; ended = r } → Calls w name (Some (i, f)) args o
+
+-- `Evaluates w m f args o`: the call `m:f(args)` gives o.
+abbrev pub Evaluates : World → List ℕ → List ℕ → Trees → Outcome → Type 0
+Evaluates w m f args o = Calls w f (remote_function w m f (count args)) args o
+
+-- A message that a process has taken, with the place where it rested, the instance that the place is entered in, if its
+-- module has code, and the current code of the modules that it can reach.
+pub record Job : Type 0 where
+  pub pid : ℕ
+  pub place : Place
+  pub entered : Option Instance
+  pub message : Tree
+  pub code : List Instance
+
+abbrev pub world_of : Job → World
+world_of j = record { code = j.code; pid = j.pid; mode = plain }
+
+-- Which callback a message goes to: `{'$gen_call',From,T}` is a call, `{'$gen_cast',T}` a cast, all else other messages.
+
+pub data Callback : Type 0 where
+  handle_call : Tree → Tree → Callback
+  handle_cast : Tree → Callback
+  handle_info : Tree → Callback
+
+abbrev pub callback_of : Tree → Callback
+callback_of (tuple (term.more (atom cs) (term.more x (term.more y term.none)))) =
+    if bytes_eq cs (codes "$gen_call") then handle_call x y
+    else handle_info (tuple (term.more (atom cs) (term.more x (term.more y term.none))))
+callback_of (tuple (term.more (atom cs) (term.more x term.none))) =
+    if bytes_eq cs (codes "$gen_cast") then handle_cast x else handle_info (tuple (term.more (atom cs) (term.more x term.none)))
+callback_of t = handle_info t
+
+abbrev pub name_of : Callback → List ℕ
+name_of (handle_call from t) = codes "handle_call"
+name_of (handle_cast t) = codes "handle_cast"
+name_of (handle_info t) = codes "handle_info"
+
+-- `handle_call(T,From,S)`, `handle_cast(T,S)`, `handle_info(T,S)`
+abbrev pub arguments_of : Callback → Tree → Trees
+arguments_of (handle_call from t) s = term.more t (term.more from (term.more s term.none))
+arguments_of (handle_cast t) s = term.more t (term.more s term.none)
+arguments_of (handle_info t) s = term.more t (term.more s term.none)
+
+-- What the value of a callback means: what is replied, if something, and what the process ends in or where it rests.
+
+pub record Answer : Type 0 where
+  pub answered : Option Tree
+  pub ended : Result
+
+abbrev pub bad_return_value : Tree → Answer
+bad_return_value t = record { answered = None; ended = fault_with (codes "bad_return_value") t }
+
+-- `{noreply,S}` and `{stop,Reason,S}`, which every callback may give
+abbrev pub plain_answer : List ℕ → Tree → Answer
+plain_answer m (tuple (term.more (atom cs) (term.more x term.none))) =
+    if bytes_eq cs (codes "noreply") then (record { answered = None; ended = rest (server m x) })
+    else bad_return_value (tuple (term.more (atom cs) (term.more x term.none)))
+plain_answer m (tuple (term.more (atom cs) (term.more x (term.more y term.none)))) =
+    if bytes_eq cs (codes "stop") then (record { answered = None; ended = exit x })
+    else bad_return_value (tuple (term.more (atom cs) (term.more x (term.more y term.none))))
+plain_answer m t = bad_return_value t
+
+-- and `{reply,R,S}` and `{stop,Reason,R,S}`, which `handle_call` may give besides
+abbrev pub call_answer : List ℕ → Tree → Answer
+call_answer m (tuple (term.more (atom cs) (term.more x (term.more y term.none)))) =
+    if bytes_eq cs (codes "reply") then (record { answered = Some x; ended = rest (server m y) })
+    else plain_answer m (tuple (term.more (atom cs) (term.more x (term.more y term.none))))
+call_answer m (tuple (term.more (atom cs) (term.more x (term.more y (term.more z term.none))))) =
+    if bytes_eq cs (codes "stop") then (record { answered = Some y; ended = exit x })
+    else bad_return_value (tuple (term.more (atom cs) (term.more x (term.more y (term.more z term.none)))))
+call_answer m t = plain_answer m t
+
+abbrev pub answer_of : List ℕ → Callback → Tree → Answer
+answer_of m (handle_call from t) v = call_answer m v
+answer_of m (handle_cast t) v = plain_answer m v
+answer_of m (handle_info t) v = plain_answer m v
+
+abbrev pub one_act : Option Act → List Act
+one_act None = []
+one_act (Some act) = act ∷ []
+
+-- the reply of a callback, which goes to its client
+abbrev pub replied : Callback → Option Tree → List Act
+replied (handle_call from t) (Some answer) = one_act (reply_to from answer)
+replied _ _ = []
+
+-- what a callback's result gives, behind these acts: its own reply is the last
+abbrev pub served : List ℕ → Callback → List Act → Result → Outcome
+served m callback acts (value v) = record {
+  acts = acts ++ replied callback (answer_of m callback v).answered;
+  ended = (answer_of m callback v).ended;
+}
+served m callback acts r = record { acts = acts; ended = r }
+
+-- What a callback of a module gives: one that the module doesn't export is `undef`, but a message that no exported
+-- `handle_info/2` takes is dropped.
+pub data Handles : Job → List ℕ → Tree → Callback → Option Function → Instance → Outcome → Type 0 where
+  dropped : {j : Job} {m : List ℕ} {s t : Tree} {i : Instance} {o : Outcome} →
+      o ≡ record { acts = []; ended = rest (server m s) } → Handles j m s (handle_info t) None i o
+  no_call : {j : Job} {m : List ℕ} {s from t : Tree} {i : Instance} {o : Outcome} →
+      o ≡ record { acts = []; ended = fault (codes "undef") } → Handles j m s (handle_call from t) None i o
+  no_cast : {j : Job} {m : List ℕ} {s t : Tree} {i : Instance} {o : Outcome} →
+      o ≡ record { acts = []; ended = fault (codes "undef") } → Handles j m s (handle_cast t) None i o
+  handled : {j : Job} {m : List ℕ} {s : Tree} {callback : Callback} {f : Function} {i : Instance} {r : Result} {s1 : State}
+      {o : Outcome} →
+      Entered (world_of j) (outermost i false) true (name_of callback) f.definition (arguments_of callback s) fresh r s1 →
+      o ≡ served m callback s1.acts r → Handles j m s callback (Some f) i o
+
+-- What a clause of a `receive` gives: one that ends in a value ends its process with `normal`.
+abbrev pub looped : List Act → Result → Outcome
+looped acts (value v) = record { acts = acts; ended = fault (codes "normal") }
+looped acts r = record { acts = acts; ended = r }
+
+abbrev pub nowhere : Outcome
+nowhere = record { acts = []; ended = fault (codes "undef") }
+
+-- What a loop function gives for a message: its head binds the arguments, and the first clause of its `receive` that takes
+-- the message is evaluated. That it has no such clause never comes of a message that was taken, nor the last three rules of a
+-- process that rests there.
+pub data Receives : Job → List ℕ → Option Function → Trees → Instance → Outcome → Type 0 where
+  received : {j : Job} {name : List ℕ} {exported : Bool} {ps : Pats} {gs : Guards} {cs : Clauses} {args : Trees}
+      {i : Instance} {env : List Tree} {found : Option (List Tree × Exprs)} {s s1 : State} {r : Result} {o : Outcome} →
+      MatchesEach ps args [] env →
+      Selected (world_of j) (outermost i true) cs (term.more j.message term.none) (with_bindings env fresh) found s →
+      Taken (world_of j) (outermost i true) true (fault (codes "undef")) found s r s1 →
+      o ≡ looped s1.acts r →
+      Receives j name (Some (record { exported = exported; definition = definition.Loop ps gs cs })) args i o
+  other_arguments : {j : Job} {name : List ℕ} {exported : Bool} {ps : Pats} {gs : Guards} {cs : Clauses} {args : Trees}
+      {i : Instance} {o : Outcome} →
+      ((env : List Tree) → ¬ MatchesEach ps args [] env) → o ≡ nowhere →
+      Receives j name (Some (record { exported = exported; definition = definition.Loop ps gs cs })) args i o
+  no_loop : {j : Job} {name : List ℕ} {exported : Bool} {cs : Clauses} {args : Trees} {i : Instance} {o : Outcome} →
+      o ≡ nowhere → Receives j name (Some (record { exported = exported; definition = definition.Clauses cs })) args i o
+  no_function : {j : Job} {name : List ℕ} {args : Trees} {i : Instance} {o : Outcome} →
+      o ≡ nowhere → Receives j name None args i o
+
+-- the callback of a module, or the `receive` of a loop function, in the instance that the place is entered in
+abbrev pub GivesAt : Job → Place → Option Instance → Outcome → Type 0
+GivesAt j (server m s) None o = o ≡ nowhere
+GivesAt j (server m s) (Some i) o = Handles j m s (callback_of j.message)
+    (exported_of (name_of (callback_of j.message)) (count (arguments_of (callback_of j.message) s)) i.forms) i o
+GivesAt j (loop m serial name args) None o = o ≡ nowhere
+GivesAt j (loop m serial name args) (Some i) o = Receives j name (function_of name (count args) i.forms) args i o
+
+-- `GivesJob j o`: the job j gives o.
+abbrev pub GivesJob : Job → Outcome → Type 0
+GivesJob j o = GivesAt j j.place j.entered o
+
+-- Whether a place takes a message: a callback module takes every message, a loop function one that a clause of its `receive`
+-- takes.
+
+pub data Takes : Job → Option Function → Trees → Instance → Bool → Type 0 where
+  tried : {j : Job} {exported : Bool} {ps : Pats} {gs : Guards} {cs : Clauses} {args : Trees} {i : Instance} {env : List Tree}
+      {found : Option (List Tree × Exprs)} {s : State} {takes : Bool} →
+      MatchesEach ps args [] env →
+      Selected (world_of j) (outermost i true) cs (term.more j.message term.none) (with_bindings env fresh) found s →
+      takes ≡ is_some found →
+      Takes j (Some (record { exported = exported; definition = definition.Loop ps gs cs })) args i takes
+  takes_none : {j : Job} {exported : Bool} {ps : Pats} {gs : Guards} {cs : Clauses} {args : Trees} {i : Instance}
+      {takes : Bool} →
+      ((env : List Tree) → ¬ MatchesEach ps args [] env) → takes ≡ false →
+      Takes j (Some (record { exported = exported; definition = definition.Loop ps gs cs })) args i takes
+  no_receive : {j : Job} {exported : Bool} {cs : Clauses} {args : Trees} {i : Instance} {takes : Bool} →
+      takes ≡ false → Takes j (Some (record { exported = exported; definition = definition.Clauses cs })) args i takes
+  no_place : {j : Job} {args : Trees} {i : Instance} {takes : Bool} → takes ≡ false → Takes j None args i takes
+
+abbrev pub TakesAt : Job → Place → Option Instance → Bool → Type 0
+TakesAt j (server m s) entered takes = takes ≡ true
+TakesAt j (loop m serial name args) None takes = takes ≡ false
+TakesAt j (loop m serial name args) (Some i) takes = Takes j (function_of name (count args) i.forms) args i takes
+
+-- `Accepts j takes`: whether the place of j takes the message of j.
+abbrev pub Accepts : Job → Bool → Type 0
+Accepts j takes = TakesAt j j.place j.entered takes

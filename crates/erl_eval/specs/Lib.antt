@@ -1,0 +1,6 @@
+pub mod BuiltIns
+pub mod Evaluation
+pub mod Jobs
+pub mod Matching
+pub mod Operators
+pub mod State

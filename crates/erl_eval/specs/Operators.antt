@@ -1,0 +1,173 @@
+-- Operators, as total functions of the values of their operands (Erlang Reference Manual, Expressions: Unary Operators,
+-- Arithmetic Expressions, Boolean Expressions, Term Comparisons, List Operations, Send).
+use Rattle.std.specs.Prelude.{ℕ, ◌+◌, ◌^◌, ℤ, pos, negsuc, ◌+ℤ◌, ◌-ℤ◌, ◌*ℤ◌, neg_ℤ, int_div, int_rem}
+use Rattle.std.specs.Prelude.{Bool, true, false, not, ◌&&◌, ◌||◌, if◌then◌else◌, nat_lt, List, [], ◌∷◌, ◌++◌, codes}
+use Rattle.std.specs.Prelude.{Option, None, Some}
+use Rattle.std.specs.Str.{bytes_eq}
+use Rattle.std.specs.declared.cmp.Ordering.{Ordering}
+use Rattle.std.specs.declared.cmp.Ordering.TheVariants as ordering
+use Rattle.erl_term.specs.Tree.{Tree, Trees, int, atom, pid, tuple, list, none, more}
+use Rattle.erl_term.specs.Rows.{append_trees}
+use Rattle.erl_term.specs.Accessors.{int_of, one_of, two_of}
+use Rattle.erl_term.specs.Order.{tree_cmp}
+use Rattle.erl_forms.specs.declared.operation.Operator.{Operator}
+use Rattle.erl_forms.specs.declared.operation.Operator.TheVariants as operator
+use Rattle.erl_eval.specs.State.{Result, value, fault, made, Receiver, named, process, Act, send}
+
+-- Truth values are the atoms `true` and `false`.
+
+abbrev pub truth : Bool → Tree
+truth true = atom (codes "true")
+truth false = atom (codes "false")
+
+abbrev pub truth_of_atom : List ℕ → Option Bool
+truth_of_atom cs =
+    if bytes_eq cs (codes "true") then Some true else (if bytes_eq cs (codes "false") then Some false else None)
+
+abbrev pub truth_of : Tree → Option Bool
+truth_of (int n) = None
+truth_of (atom cs) = truth_of_atom cs
+truth_of (pid n) = None
+truth_of (tuple ts) = None
+truth_of (list ts) = None
+
+-- A function of one operand or of two; of another number of operands there is none, which never comes of a source.
+
+abbrev pub of_one : (Tree → Result) → Option Tree → Result
+of_one f None = fault (codes "undef")
+of_one f (Some x) = f x
+
+abbrev pub of_two : (Tree → Tree → Result) → Option (Tree × Tree) → Result
+of_two f None = fault (codes "undef")
+of_two f (Some p) = f p.0 p.1
+
+abbrev pub unary : (Tree → Result) → Trees → Result
+unary f ts = of_one f (one_of ts)
+
+abbrev pub binary : (Tree → Tree → Result) → Trees → Result
+binary f ts = of_two f (two_of ts)
+
+-- Arithmetic on integers from -2^63 to 2^63 - 1: an operand of another kind is `badarith`, a result past them a breach of
+-- the limits.
+
+abbrev pub fits : ℤ → Bool
+fits (pos n) = nat_lt n (2 ^ 63)
+fits (negsuc n) = nat_lt n (2 ^ 63)
+
+abbrev pub integer : ℤ → Result
+integer n = if fits n then value (int n) else fault (codes "system_limit")
+
+abbrev pub of_integer : (ℤ → Result) → Option ℤ → Result
+of_integer f None = fault (codes "badarith")
+of_integer f (Some m) = f m
+
+abbrev pub arithmetic : (ℤ → ℤ → Result) → Tree → Tree → Result
+arithmetic f x y = of_integer (λ m. of_integer (λ n. f m n) (int_of y)) (int_of x)
+
+abbrev pub is_zero : ℤ → Bool
+is_zero (pos n) = nat_lt n 1
+is_zero (negsuc n) = false
+
+-- `div` truncates toward zero, and `rem` has the dividend's sign; both are `badarith` where the divisor is zero.
+abbrev pub divided : (ℤ → ℤ → ℤ) → ℤ → ℤ → Result
+divided f m n = if is_zero n then fault (codes "badarith") else integer (f m n)
+
+-- Boolean operators: an operand that is no truth value is `badarg`.
+
+abbrev pub of_truth : (Bool → Result) → Option Bool → Result
+of_truth f None = fault (codes "badarg")
+of_truth f (Some b) = f b
+
+abbrev pub logical : (Bool → Bool → Bool) → Tree → Tree → Result
+logical f x y = of_truth (λ a. of_truth (λ b. value (truth (f a b))) (truth_of y)) (truth_of x)
+
+-- Comparisons by the order of terms. There are no floats, so `==` and `=:=` are one.
+
+abbrev pub is_less : Ordering → Bool
+is_less ordering.Less = true
+is_less ordering.Equal = false
+is_less ordering.Greater = false
+
+abbrev pub is_equal : Ordering → Bool
+is_equal ordering.Less = false
+is_equal ordering.Equal = true
+is_equal ordering.Greater = false
+
+abbrev pub comparison : (Ordering → Bool) → Tree → Tree → Result
+comparison f x y = value (truth (f (tree_cmp x y)))
+
+-- `++`: the left operand is a list, else `badarg`. Of the empty list and anything the latter is given, as it is; another
+-- list is given one that ends in a list, for there are no others.
+
+abbrev pub appended_to : Trees → Tree → Result
+appended_to none y = value y
+appended_to (more t ts) (list us) = made (list (append_trees (more t ts) us))
+appended_to (more t ts) _ = fault (codes "not_in_profile")
+
+abbrev pub appended : Tree → Tree → Result
+appended (list ts) y = appended_to ts y
+appended _ y = fault (codes "badarg")
+
+-- `[E1,..,En|E]`: the value of `E` is a list.
+
+abbrev pub before_tail : Tree → Result → Result
+before_tail t (value (list ts)) = value (list (more t ts))
+before_tail t r = r
+
+abbrev pub consed_row : Trees → Result
+consed_row none = fault (codes "undef")
+consed_row (more (list ts) none) = value (list ts)
+consed_row (more t none) = fault (codes "not_in_profile")
+consed_row (more t (more u ts)) = before_tail t (consed_row (more u ts))
+
+abbrev pub made_of : Result → Result
+made_of (value t) = made t
+made_of r = r
+
+abbrev pub consed : Trees → Result
+consed ts = made_of (consed_row ts)
+
+-- What an operator gives. A send is no function of its operands alone: what it gives is its message, and `receiver_of` says
+-- who gets it.
+
+abbrev pub receiver_of : Tree → Option Receiver
+receiver_of (int n) = None
+receiver_of (atom cs) = Some (named cs)
+receiver_of (pid n) = Some (process n)
+receiver_of (tuple ts) = None
+receiver_of (list ts) = None
+
+abbrev pub sent_to : Option Receiver → Tree → Result
+sent_to None message = fault (codes "badarg")
+sent_to (Some receiver) message = value message
+
+abbrev pub operated : Operator → Trees → Result
+operated operator.Negate ts = unary (λ x. of_integer (λ n. integer (neg_ℤ n)) (int_of x)) ts
+operated operator.Not ts = unary (λ x. of_truth (λ a. value (truth (not a))) (truth_of x)) ts
+operated operator.Multiply ts = binary (arithmetic (λ m n. integer (m *ℤ n))) ts
+operated operator.Divide ts = binary (arithmetic (divided int_div)) ts
+operated operator.Remainder ts = binary (arithmetic (divided int_rem)) ts
+operated operator.And ts = binary (logical (λ a b. a && b)) ts
+operated operator.Add ts = binary (arithmetic (λ m n. integer (m +ℤ n))) ts
+operated operator.Subtract ts = binary (arithmetic (λ m n. integer (m -ℤ n))) ts
+operated operator.Or ts = binary (logical (λ a b. a || b)) ts
+operated operator.Append ts = binary appended ts
+operated operator.Equal ts = binary (comparison is_equal) ts
+operated operator.NotEqual ts = binary (comparison (λ o. not (is_equal o))) ts
+operated operator.ExactlyEqual ts = binary (comparison is_equal) ts
+operated operator.ExactlyNotEqual ts = binary (comparison (λ o. not (is_equal o))) ts
+operated operator.Less ts = binary (comparison is_less) ts
+operated operator.Greater ts = binary (λ x y. comparison is_less y x) ts
+operated operator.AtMost ts = binary (λ x y. comparison (λ o. not (is_less o)) y x) ts
+operated operator.AtLeast ts = binary (comparison (λ o. not (is_less o))) ts
+operated operator.Send ts = binary (λ x y. sent_to (receiver_of x) y) ts
+
+-- and what it does: a send sends
+
+abbrev pub sent : Option Receiver → Tree → Option Act
+sent None message = None
+sent (Some receiver) message = Some (send receiver message)
+
+abbrev pub sends : Operator → Trees → Option Act
+sends operator.Send (more to (more message none)) = sent (receiver_of to) message
+sends _ ts = None

@@ -1,0 +1,2 @@
+//! What evaluating a callback is.
+#![tactic(auto)]
