@@ -1,6 +1,7 @@
 pub mod BuiltIns
 pub mod Evaluation
 pub mod Jobs
+pub mod Laws
 pub mod Matching
 pub mod Operators
 pub mod State
