@@ -8,7 +8,7 @@ use Rattle.erl_forms.specs.Pattern.{Pat}
 use Rattle.erl_forms.specs.Expression.{Exprs, Guards, Clauses}
 use Rattle.erl_eval.specs.State.{Result, World, Call, State}
 use Rattle.erl_eval.specs.Evaluation.{Values, Bound, Operands, Others, Applied, Body, Onward, Cased, Decided, Taken}
-use Rattle.erl_eval.specs.Evaluation.{Guarded, OrElseHolds, AndHold, Picked}
+use Rattle.erl_eval.specs.Evaluation.{Guarded, OrElseHolds, AndHold, Picked, Selected}
 
 pub bound_moved : {p : Pat} {q q' : Result} {s s' : State} {r : Result} {z : State} →
     q ≡ q' → s ≡ s' → Bound p q' s' r z → Bound p q s r z
@@ -87,3 +87,8 @@ pub picked_moved : {w : World} {a : Call} {ok ok' : Bool} {env env' : List Tree}
 picked_moved {w = w} {a = a} {ok = ok} {ok' = ok'} {env = env} {env' = env'} {body = body} {cs = cs} {ts = ts} {s = s} {s' = s'} {found = found} {z = z}
     ok_same env_same s_same m =
     subst (λ x. Picked w a ok env body cs ts x found z) (sym s_same) (subst (λ x. Picked w a ok x body cs ts s' found z) (sym env_same) (subst (λ x. Picked w a x env' body cs ts s' found z) (sym ok_same) (m)))
+
+pub selected_moved : {w : World} {a : Call} {cs : Clauses} {ts : Trees} {s s' : State} {found : Option (List Tree × Exprs)}
+    {z : State} → s ≡ s' → Selected w a cs ts s' found z → Selected w a cs ts s found z
+selected_moved {w = w} {a = a} {cs = cs} {ts = ts} {found = found} {z = z} s_same m =
+    subst (λ x. Selected w a cs ts x found z) (sym s_same) m

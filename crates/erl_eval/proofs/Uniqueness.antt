@@ -35,7 +35,7 @@ across : {A B : Type 0} {x y x' y' : A} {s t s' t' : B} → x' ≡ y' → s' ≡
     (x ≡ x') × (s ≡ s') → (y ≡ y') × (t ≡ t') → (x ≡ y) × (s ≡ t)
 across p q a b = (a.0 ∙ p ∙ sym b.0, a.1 ∙ q ∙ sym b.1)
 
-ap2 : {A B C : Type 0} (f : A → B → C) {x x' : A} {y y' : B} → x ≡ x' → y ≡ y' → f x y ≡ f x' y'
+pub ap2 : {A B C : Type 0} (f : A → B → C) {x x' : A} {y y' : B} → x ≡ x' → y ≡ y' → f x y ≡ f x' y'
 ap2 f p q = λ i. f (p i) (q i)
 
 abbrev Filled : {A : Type 0} → Option A → Type 0
