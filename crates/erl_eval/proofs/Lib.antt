@@ -1,3 +1,4 @@
+pub mod Examples
 pub mod Matched
 pub mod Moved
 pub mod Outcomes

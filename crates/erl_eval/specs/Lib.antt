@@ -1,5 +1,6 @@
 pub mod BuiltIns
 pub mod Evaluation
+pub mod Examples
 pub mod Jobs
 pub mod Laws
 pub mod Matching

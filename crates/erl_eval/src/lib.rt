@@ -1,6 +1,8 @@
 //! What evaluating a callback is.
 #![tactic(auto)]
 ghost use Rattle.erl_eval.specs.Laws.{OneMatch, OneResult, OneOutcome, OneJobOutcome, OneAnswer};
+ghost use Rattle.erl_eval.specs.Examples.{CallsAreAdded, ZeroDividesNothing, IntegersEnd, OneIsNoTruth, NoClauseFits};
+ghost use Rattle.erl_eval.specs.Examples.{SendsBeforeItsReply, RestsWithItsArguments, StartsWithAName};
 
 /// A term that matches a pattern binds one way.
 pub fn terms_match_one_way()
@@ -19,5 +21,19 @@ pub fn evaluation_has_one_outcome()
     ensures call { OneOutcome }
     ensures job { OneJobOutcome }
     ensures accepted { OneAnswer }
+{
+}
+
+/// The rules give what the Reference Manual says of small modules: calls that are not in tail position, exits, a send and a
+/// reply, a rest, and a process that is started and named.
+pub fn rules_hold_of_examples()
+    ensures calls { CallsAreAdded }
+    ensures divides { ZeroDividesNothing }
+    ensures ends { IntegersEnd }
+    ensures no_truth { OneIsNoTruth }
+    ensures fits_none { NoClauseFits }
+    ensures rings { SendsBeforeItsReply }
+    ensures loops { RestsWithItsArguments }
+    ensures starts { StartsWithAName }
 {
 }
