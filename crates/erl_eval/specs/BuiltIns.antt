@@ -9,11 +9,11 @@ use Rattle.erl_term.specs.Accessors.{one_of, two_of, three_of}
 use Rattle.erl_term.specs.Order.{tree_cmp}
 use Rattle.erl_forms.specs.declared.operation.BuiltIn.{BuiltIn}
 use Rattle.erl_forms.specs.declared.operation.BuiltIn.TheVariants as built_in
-use Rattle.erl_eval.specs.State.{Result, value, exit, fault, made, Receiver, Act, send, reply}
+use Rattle.erl_eval.specs.State.{Result, value, exit, exit_by, made, Receiver, Act, send, reply}
 use Rattle.erl_eval.specs.Operators.{truth, truth_of, integer, is_equal, unary, binary, receiver_of}
 
 abbrev pub badarg : Result
-badarg = fault (codes "badarg")
+badarg = exit_by (codes "badarg")
 
 abbrev pub absolute : Tree → Result
 absolute (int n) = integer (pos (nat_abs n))
@@ -76,7 +76,7 @@ size_of_tuple _ = badarg
 -- of anything but a list `lists:reverse/1` has no clause
 abbrev pub reversed : Tree → Result
 reversed (list ts) = made (list (reversed_onto ts none))
-reversed _ = fault (codes "function_clause")
+reversed _ = exit_by (codes "function_clause")
 
 abbrev pub member : Tree → Tree → Result
 member t (list ts) = value (truth (has_member t ts))
@@ -109,10 +109,10 @@ test f ts = unary (λ t. value (truth (f t))) ts
 
 abbrev pub of_none : Result → Trees → Result
 of_none r none = r
-of_none r (more t ts) = fault (codes "undef")
+of_none r (more t ts) = exit_by (codes "undef")
 
 abbrev pub of_three : (Tree → Tree → Tree → Result) → Option (Tree × Tree × Tree) → Result
-of_three f None = fault (codes "undef")
+of_three f None = exit_by (codes "undef")
 of_three f (Some p) = f p.0 p.1 p.2
 
 abbrev pub ok : Result
@@ -142,10 +142,10 @@ given self built_in.Exit ts = unary exit ts
 given self built_in.Error ts = unary exit ts
 given self built_in.Cast ts = binary (λ to message. if_receiver (receiver_of to)) ts
 given self built_in.Reply ts = binary (λ from t. ok) ts
-given self built_in.Call ts = fault (codes "not_in_profile")
+given self built_in.Call ts = exit_by (codes "not_in_profile")
 given self built_in.Reverse ts = unary reversed ts
 given self built_in.Member ts = binary member ts
-given self _ ts = fault (codes "not_in_profile")
+given self _ ts = exit_by (codes "not_in_profile")
 
 -- `{'$gen_cast',T}`
 abbrev pub cast_of : Tree → Tree

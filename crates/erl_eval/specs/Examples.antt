@@ -14,7 +14,7 @@ use Rattle.erl_forms.specs.Pattern as pattern
 use Rattle.erl_forms.specs.Pattern.{Pat, Pats}
 use Rattle.erl_forms.specs.Expression as form
 use Rattle.erl_forms.specs.Expression.{Expr, Exprs, Clauses}
-use Rattle.erl_eval.specs.State.{Instance, World, plain, start_mode, value, rest, exit, fault, fault_with, server, loop}
+use Rattle.erl_eval.specs.State.{Instance, World, plain, start_mode, value, rest, exit, exit_by, exit_by_pair, server, loop}
 use Rattle.erl_eval.specs.State as state
 use Rattle.erl_eval.specs.State.{named}
 use Rattle.erl_eval.specs.Jobs.{Outcome, Evaluates, Job, GivesJob}
@@ -141,28 +141,29 @@ CallsAreAdded = LimGives (codes "f") (n 2 ∷ []) (value (n 2))
 
 -- `q(7,0)` ends with `badarith`.
 abbrev pub ZeroDividesNothing : Type 0
-ZeroDividesNothing = LimGives (codes "q") (n 7 ∷ n 0 ∷ []) (fault (codes "badarith"))
+ZeroDividesNothing = LimGives (codes "q") (n 7 ∷ n 0 ∷ []) (exit_by (codes "badarith"))
 
 -- `p(9223372036854775807)` ends with `system_limit`.
 abbrev pub IntegersEnd : Type 0
-IntegersEnd = LimGives (codes "p") (n (2 ^ 63 - 1) ∷ []) (fault (codes "system_limit"))
+IntegersEnd = LimGives (codes "p") (n (2 ^ 63 - 1) ∷ []) (exit_by (codes "system_limit"))
 
 -- `1 andalso true` ends with `{badarg,1}`.
 abbrev pub OneIsNoTruth : Type 0
-OneIsNoTruth = LimGives (codes "t") [] (fault_with (codes "badarg") (n 1))
+OneIsNoTruth = LimGives (codes "t") [] (exit_by_pair (codes "badarg") (n 1))
 
 -- `case z of a -> b end` ends with `{case_clause,z}`.
 abbrev pub NoClauseFits : Type 0
-NoClauseFits = LimGives (codes "c") (a (codes "z") ∷ []) (fault_with (codes "case_clause") (a (codes "z")))
+NoClauseFits = LimGives (codes "c") (a (codes "z") ∷ []) (exit_by_pair (codes "case_clause") (a (codes "z")))
 
 -- A call of `bell` by client 0 with the number 5: the send comes before the callback's own reply.
 abbrev pub SendsBeforeItsReply : Type 0
 SendsBeforeItsReply = GivesJob (record {
     pid = 2;
+    turn = 0;
     place = server (codes "bell") (n 4);
-    entered = Some (instance_of 2 bell);
+    entry_serial = 2;
     message = term.tuple (row (a (codes "$gen_call") ∷ term.tuple (row (pid 0 ∷ n 5 ∷ [])) ∷ a (codes "ring") ∷ []));
-    code = loaded;
+    code = instance_of 2 bell ∷ [];
   })
   (record {
     acts = state.send (named (codes "other")) (a (codes "ding")) ∷ state.reply 5 (a (codes "ok")) ∷ [];
@@ -173,10 +174,11 @@ SendsBeforeItsReply = GivesJob (record {
 abbrev pub RestsWithItsArguments : Type 0
 RestsWithItsArguments = GivesJob (record {
     pid = 7;
+    turn = 0;
     place = loop (codes "lp") 3 (codes "loop") (row (n 0 ∷ []));
-    entered = Some (instance_of 3 lp);
+    entry_serial = 3;
     message = term.tuple (row (a (codes "set") ∷ n 9 ∷ []));
-    code = loaded;
+    code = instance_of 3 lp ∷ loaded;
   })
   (record { acts = []; ended = rest (loop (codes "lp") 3 (codes "loop") (row (n 9 ∷ []))) })
 

@@ -1,6 +1,6 @@
 -- What a job gives: the callback that a place and a message enter, and what its value means (gen_server(3), Callback
 -- Functions; Erlang Reference Manual, Receive).
-use Rattle.std.specs.Prelude.{◌≡◌, ℕ, Bool, true, false, if◌then◌else◌, List, [], ◌∷◌, ◌++◌, codes}
+use Rattle.std.specs.Prelude.{◌≡◌, ℕ, zero, suc, Bool, true, false, if◌then◌else◌, List, [], ◌∷◌, ◌++◌, codes}
 use Rattle.std.specs.Prelude.{Option, None, Some, is_some}
 use Rattle.std.specs.Str.{bytes_eq}
 use Rattle.erl_term.specs.Tree as term
@@ -8,14 +8,15 @@ use Rattle.erl_term.specs.Tree.{Tree, Trees, atom, tuple, count}
 use Rattle.erl_forms.specs.declared.function.Function.{Function}
 use Rattle.erl_forms.specs.declared.function.Definition.{Definition}
 use Rattle.erl_forms.specs.declared.function.Definition.TheVariants as definition
-use Rattle.erl_forms.specs.Expression.{Exprs, Guards, Clauses}
+use Rattle.erl_forms.specs.Expression.{Exprs, Clauses}
 use Rattle.erl_forms.specs.Module.{exported_of, function_of}
-use Rattle.erl_forms.specs.Pattern.{Pats}
-use Rattle.erl_eval.specs.State.{Instance, Place, Act, Result, fault, fault_with, value, rest, exit, server, loop, World, plain}
-use Rattle.erl_eval.specs.State.{Call, State, all_acts, with_bindings}
+use Rattle.erl_eval.specs.State.{Instance, Place, Act, Result, exit_by, exit_by_pair, value, rest, exit, server, loop, World, plain}
+use Rattle.erl_eval.specs.State.{Activation, State, all_acts, with_bindings, with_calls}
 use Rattle.erl_eval.specs.BuiltIns.{reply_to}
-use Rattle.erl_eval.specs.Matching.{MatchesEach}
-use Rattle.erl_eval.specs.Evaluation.{Selected, Taken, Entered, remote_function}
+use Rattle.erl_eval.specs.Matching.{matched_each}
+use Rattle.erl_eval.specs.Guards.{Selection, selected}
+use Rattle.erl_eval.specs.Starting.{remote_function}
+use Rattle.erl_eval.specs.Evaluation.{Entered, Body}
 
 -- What was evaluated: the acts in order, and what it ended in.
 pub record Outcome : Type 0 where
@@ -27,34 +28,48 @@ abbrev pub fresh : State
 fresh = record { bindings = []; calls = 0; acts = []; startup = None }
 
 -- the outermost call
-abbrev pub outermost : Instance → Bool → Call
+abbrev pub outermost : Instance → Bool → Activation
 outermost i may_rest = record { instance = i; nesting = 0; may_rest = may_rest }
 
 -- A function that is called from outside of all modules, as a start function, `init`, `code_change` or `apply`: it has to be
 -- exported by the module's current code.
 
-pub data Calls : World → List ℕ → Option (Instance × Function) → Trees → Outcome → Type 0 where
+pub data FromOutside : World → List ℕ → Option (Instance × Function) → Trees → Outcome → Type 0 where
   undefined : {w : World} {name : List ℕ} {args : Trees} {o : Outcome} →
-      o ≡ record { acts = []; ended = fault (codes "undef") } → Calls w name None args o
+      o ≡ record { acts = []; ended = exit_by (codes "undef") } → FromOutside w name None args o
   called : {w : World} {name : List ℕ} {i : Instance} {f : Function} {args : Trees} {r : Result} {s : State} {o : Outcome} →
       Entered w (outermost i false) true name f.definition args fresh r s →
-      o ≡ record { acts = all_acts s.startup s.acts; ended = r } → Calls w name (Some (i, f)) args o
+      o ≡ record { acts = all_acts s.startup s.acts; ended = r } → FromOutside w name (Some (i, f)) args o
 
 -- `Evaluates w m f args o`: the call `m:f(args)` gives o.
 abbrev pub Evaluates : World → List ℕ → List ℕ → Trees → Outcome → Type 0
-Evaluates w m f args o = Calls w f (remote_function w m f (count args)) args o
+Evaluates w m f args o = FromOutside w f (remote_function w m f (count args)) args o
 
--- A message that a process has taken, with the place where it rested, the instance that the place is entered in, if its
--- module has code, and the current code of the modules that it can reach.
+-- A message that a process has taken: the process, its turn, the place where it rested, the serial of the instance that the
+-- place is entered in, or 0 where its module has no code, and code: first the instance that is entered, if there is one, and
+-- then the current code of each module that the process can reach.
 pub record Job : Type 0 where
   pub pid : ℕ
+  pub turn : ℕ
   pub place : Place
-  pub entered : Option Instance
+  pub entry_serial : ℕ
   pub message : Tree
   pub code : List Instance
 
+-- the instance that is entered, and what remote calls look among
+
+abbrev pub entered_in : ℕ → List Instance → Option Instance
+entered_in zero code = None
+entered_in (suc serial) [] = None
+entered_in (suc serial) (i ∷ is) = Some i
+
+abbrev pub reached_in : ℕ → List Instance → List Instance
+reached_in zero code = code
+reached_in (suc serial) [] = []
+reached_in (suc serial) (i ∷ is) = is
+
 abbrev pub world_of : Job → World
-world_of j = record { code = j.code; pid = j.pid; mode = plain }
+world_of j = record { code = reached_in j.entry_serial j.code; pid = j.pid; mode = plain }
 
 -- Which callback a message goes to: `{'$gen_call',From,T}` is a call, `{'$gen_cast',T}` a cast, all else other messages.
 
@@ -89,7 +104,7 @@ pub record Answer : Type 0 where
   pub ended : Result
 
 abbrev pub bad_return_value : Tree → Answer
-bad_return_value t = record { answered = None; ended = fault_with (codes "bad_return_value") t }
+bad_return_value t = record { answered = None; ended = exit_by_pair (codes "bad_return_value") t }
 
 -- `{noreply,S}` and `{stop,Reason,S}`, which every callback may give
 abbrev pub plain_answer : List ℕ → Tree → Answer
@@ -133,15 +148,20 @@ served m callback acts (value v) = record {
 }
 served m callback acts r = record { acts = acts; ended = r }
 
--- What a callback of a module gives: one that the module doesn't export is `undef`, but a message that no exported
--- `handle_info/2` takes is dropped.
+-- without code there is nothing that could be evaluated
+abbrev pub nowhere : Outcome
+nowhere = record { acts = []; ended = exit_by (codes "undef") }
+
+-- A callback that the module doesn't export is `undef`, but a message that no exported `handle_info/2` takes is dropped.
+abbrev pub unexported : List ℕ → Tree → Callback → Outcome
+unexported m s (handle_call from t) = nowhere
+unexported m s (handle_cast t) = nowhere
+unexported m s (handle_info t) = record { acts = []; ended = rest (server m s) }
+
+-- what a callback of a module gives
 pub data Handles : Job → List ℕ → Tree → Callback → Option Function → Instance → Outcome → Type 0 where
-  dropped : {j : Job} {m : List ℕ} {s t : Tree} {i : Instance} {o : Outcome} →
-      o ≡ record { acts = []; ended = rest (server m s) } → Handles j m s (handle_info t) None i o
-  no_call : {j : Job} {m : List ℕ} {s from t : Tree} {i : Instance} {o : Outcome} →
-      o ≡ record { acts = []; ended = fault (codes "undef") } → Handles j m s (handle_call from t) None i o
-  no_cast : {j : Job} {m : List ℕ} {s t : Tree} {i : Instance} {o : Outcome} →
-      o ≡ record { acts = []; ended = fault (codes "undef") } → Handles j m s (handle_cast t) None i o
+  not_exported : {j : Job} {m : List ℕ} {s : Tree} {callback : Callback} {i : Instance} {o : Outcome} →
+      o ≡ unexported m s callback → Handles j m s callback None i o
   handled : {j : Job} {m : List ℕ} {s : Tree} {callback : Callback} {f : Function} {i : Instance} {r : Result} {s1 : State}
       {o : Outcome} →
       Entered (world_of j) (outermost i false) true (name_of callback) f.definition (arguments_of callback s) fresh r s1 →
@@ -149,31 +169,30 @@ pub data Handles : Job → List ℕ → Tree → Callback → Option Function �
 
 -- What a clause of a `receive` gives: one that ends in a value ends its process with `normal`.
 abbrev pub looped : List Act → Result → Outcome
-looped acts (value v) = record { acts = acts; ended = fault (codes "normal") }
+looped acts (value v) = record { acts = acts; ended = exit_by (codes "normal") }
 looped acts r = record { acts = acts; ended = r }
 
-abbrev pub nowhere : Outcome
-nowhere = record { acts = []; ended = fault (codes "undef") }
+-- What a message selects of a loop function: its head binds the arguments again, and then it is the first clause of its
+-- `receive` that takes the message.
 
--- What a loop function gives for a message: its head binds the arguments, and the first clause of its `receive` that takes
--- the message is evaluated. That it has no such clause never comes of a message that was taken, nor the last three rules of a
--- process that rests there.
-pub data Receives : Job → List ℕ → Option Function → Trees → Instance → Outcome → Type 0 where
-  received : {j : Job} {name : List ℕ} {exported : Bool} {ps : Pats} {gs : Guards} {cs : Clauses} {args : Trees}
-      {i : Instance} {env : List Tree} {found : Option (List Tree × Exprs)} {s s1 : State} {r : Result} {o : Outcome} →
-      MatchesEach ps args [] env →
-      Selected (world_of j) (outermost i true) cs (term.more j.message term.none) (with_bindings env fresh) found s →
-      Taken (world_of j) (outermost i true) true (fault (codes "undef")) found s r s1 →
-      o ≡ looped s1.acts r →
-      Receives j name (Some (record { exported = exported; definition = definition.Loop ps gs cs })) args i o
-  other_arguments : {j : Job} {name : List ℕ} {exported : Bool} {ps : Pats} {gs : Guards} {cs : Clauses} {args : Trees}
-      {i : Instance} {o : Outcome} →
-      ((env : List Tree) → ¬ MatchesEach ps args [] env) → o ≡ nowhere →
-      Receives j name (Some (record { exported = exported; definition = definition.Loop ps gs cs })) args i o
-  no_loop : {j : Job} {name : List ℕ} {exported : Bool} {cs : Clauses} {args : Trees} {i : Instance} {o : Outcome} →
-      o ≡ nowhere → Receives j name (Some (record { exported = exported; definition = definition.Clauses cs })) args i o
-  no_function : {j : Job} {name : List ℕ} {args : Trees} {i : Instance} {o : Outcome} →
-      o ≡ nowhere → Receives j name None args i o
+abbrev pub heard_in : Job → Clauses → Option (List Tree) → Selection
+heard_in j cs None = (None, 0)
+heard_in j cs (Some env) = selected j.pid env cs (term.more j.message term.none) 0
+
+abbrev pub heard_by : Job → Trees → Definition → Selection
+heard_by j args (definition.Loop ps gs cs) = heard_in j cs (matched_each ps args [])
+heard_by j args (definition.Clauses cs) = (None, 0)
+
+abbrev pub heard : Job → Trees → Option Function → Selection
+heard j args None = (None, 0)
+heard j args (Some f) = heard_by j args f.definition
+
+-- What the clause gives. That there is none never comes of a message that was taken.
+pub data Receives : Job → Instance → Selection → Outcome → Type 0 where
+  unheard : {j : Job} {i : Instance} {calls : ℕ} {o : Outcome} → o ≡ nowhere → Receives j i (None, calls) o
+  received : {j : Job} {i : Instance} {env : List Tree} {body : Exprs} {calls : ℕ} {r : Result} {s : State} {o : Outcome} →
+      Body (world_of j) (outermost i true) true body (with_calls calls (with_bindings env fresh)) r s →
+      o ≡ looped s.acts r → Receives j i (Some (env, body), calls) o
 
 -- the callback of a module, or the `receive` of a loop function, in the instance that the place is entered in
 abbrev pub GivesAt : Job → Place → Option Instance → Outcome → Type 0
@@ -181,35 +200,19 @@ GivesAt j (server m s) None o = o ≡ nowhere
 GivesAt j (server m s) (Some i) o = Handles j m s (callback_of j.message)
     (exported_of (name_of (callback_of j.message)) (count (arguments_of (callback_of j.message) s)) i.forms) i o
 GivesAt j (loop m serial name args) None o = o ≡ nowhere
-GivesAt j (loop m serial name args) (Some i) o = Receives j name (function_of name (count args) i.forms) args i o
+GivesAt j (loop m serial name args) (Some i) o = Receives j i (heard j args (function_of name (count args) i.forms)) o
 
 -- `GivesJob j o`: the job j gives o.
 abbrev pub GivesJob : Job → Outcome → Type 0
-GivesJob j o = GivesAt j j.place j.entered o
+GivesJob j o = GivesAt j j.place (entered_in j.entry_serial j.code) o
 
 -- Whether a place takes a message: a callback module takes every message, a loop function one that a clause of its `receive`
 -- takes.
 
-pub data Takes : Job → Option Function → Trees → Instance → Bool → Type 0 where
-  tried : {j : Job} {exported : Bool} {ps : Pats} {gs : Guards} {cs : Clauses} {args : Trees} {i : Instance} {env : List Tree}
-      {found : Option (List Tree × Exprs)} {s : State} {takes : Bool} →
-      MatchesEach ps args [] env →
-      Selected (world_of j) (outermost i true) cs (term.more j.message term.none) (with_bindings env fresh) found s →
-      takes ≡ is_some found →
-      Takes j (Some (record { exported = exported; definition = definition.Loop ps gs cs })) args i takes
-  takes_none : {j : Job} {exported : Bool} {ps : Pats} {gs : Guards} {cs : Clauses} {args : Trees} {i : Instance}
-      {takes : Bool} →
-      ((env : List Tree) → ¬ MatchesEach ps args [] env) → takes ≡ false →
-      Takes j (Some (record { exported = exported; definition = definition.Loop ps gs cs })) args i takes
-  no_receive : {j : Job} {exported : Bool} {cs : Clauses} {args : Trees} {i : Instance} {takes : Bool} →
-      takes ≡ false → Takes j (Some (record { exported = exported; definition = definition.Clauses cs })) args i takes
-  no_place : {j : Job} {args : Trees} {i : Instance} {takes : Bool} → takes ≡ false → Takes j None args i takes
+abbrev pub accepts_in : Job → Place → Option Instance → Bool
+accepts_in j (server m s) entered = true
+accepts_in j (loop m serial name args) None = false
+accepts_in j (loop m serial name args) (Some i) = is_some (heard j args (function_of name (count args) i.forms)).0
 
-abbrev pub TakesAt : Job → Place → Option Instance → Bool → Type 0
-TakesAt j (server m s) entered takes = takes ≡ true
-TakesAt j (loop m serial name args) None takes = takes ≡ false
-TakesAt j (loop m serial name args) (Some i) takes = Takes j (function_of name (count args) i.forms) args i takes
-
--- `Accepts j takes`: whether the place of j takes the message of j.
-abbrev pub Accepts : Job → Bool → Type 0
-Accepts j takes = TakesAt j j.place j.entered takes
+abbrev pub accepts : Job → Bool
+accepts j = accepts_in j j.place (entered_in j.entry_serial j.code)

@@ -1,8 +1,10 @@
 pub mod BuiltIns
 pub mod Evaluation
 pub mod Examples
+pub mod Guards
 pub mod Jobs
 pub mod Laws
 pub mod Matching
 pub mod Operators
+pub mod Starting
 pub mod State

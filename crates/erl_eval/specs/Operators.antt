@@ -12,7 +12,7 @@ use Rattle.erl_term.specs.Accessors.{int_of, one_of, two_of}
 use Rattle.erl_term.specs.Order.{tree_cmp}
 use Rattle.erl_forms.specs.declared.operation.Operator.{Operator}
 use Rattle.erl_forms.specs.declared.operation.Operator.TheVariants as operator
-use Rattle.erl_eval.specs.State.{Result, value, fault, made, Receiver, named, process, Act, send}
+use Rattle.erl_eval.specs.State.{Result, value, exit_by, made, Receiver, named, process, Act, send}
 
 -- Truth values are the atoms `true` and `false`.
 
@@ -34,11 +34,11 @@ truth_of (list ts) = None
 -- A function of one operand or of two; of another number of operands there is none, which never comes of a source.
 
 abbrev pub of_one : (Tree → Result) → Option Tree → Result
-of_one f None = fault (codes "undef")
+of_one f None = exit_by (codes "undef")
 of_one f (Some x) = f x
 
 abbrev pub of_two : (Tree → Tree → Result) → Option (Tree × Tree) → Result
-of_two f None = fault (codes "undef")
+of_two f None = exit_by (codes "undef")
 of_two f (Some p) = f p.0 p.1
 
 abbrev pub unary : (Tree → Result) → Trees → Result
@@ -55,10 +55,10 @@ fits (pos n) = nat_lt n (2 ^ 63)
 fits (negsuc n) = nat_lt n (2 ^ 63)
 
 abbrev pub integer : ℤ → Result
-integer n = if fits n then value (int n) else fault (codes "system_limit")
+integer n = if fits n then value (int n) else exit_by (codes "system_limit")
 
 abbrev pub of_integer : (ℤ → Result) → Option ℤ → Result
-of_integer f None = fault (codes "badarith")
+of_integer f None = exit_by (codes "badarith")
 of_integer f (Some m) = f m
 
 abbrev pub arithmetic : (ℤ → ℤ → Result) → Tree → Tree → Result
@@ -70,12 +70,12 @@ is_zero (negsuc n) = false
 
 -- `div` truncates toward zero, and `rem` has the dividend's sign; both are `badarith` where the divisor is zero.
 abbrev pub divided : (ℤ → ℤ → ℤ) → ℤ → ℤ → Result
-divided f m n = if is_zero n then fault (codes "badarith") else integer (f m n)
+divided f m n = if is_zero n then exit_by (codes "badarith") else integer (f m n)
 
 -- Boolean operators: an operand that is no truth value is `badarg`.
 
 abbrev pub of_truth : (Bool → Result) → Option Bool → Result
-of_truth f None = fault (codes "badarg")
+of_truth f None = exit_by (codes "badarg")
 of_truth f (Some b) = f b
 
 abbrev pub logical : (Bool → Bool → Bool) → Tree → Tree → Result
@@ -102,11 +102,11 @@ comparison f x y = value (truth (f (tree_cmp x y)))
 abbrev pub appended_to : Trees → Tree → Result
 appended_to none y = value y
 appended_to (more t ts) (list us) = made (list (append_trees (more t ts) us))
-appended_to (more t ts) _ = fault (codes "not_in_profile")
+appended_to (more t ts) _ = exit_by (codes "not_in_profile")
 
 abbrev pub appended : Tree → Tree → Result
 appended (list ts) y = appended_to ts y
-appended _ y = fault (codes "badarg")
+appended _ y = exit_by (codes "badarg")
 
 -- `[E1,..,En|E]`: the value of `E` is a list.
 
@@ -115,9 +115,9 @@ before_tail t (value (list ts)) = value (list (more t ts))
 before_tail t r = r
 
 abbrev pub consed_row : Trees → Result
-consed_row none = fault (codes "undef")
+consed_row none = exit_by (codes "undef")
 consed_row (more (list ts) none) = value (list ts)
-consed_row (more t none) = fault (codes "not_in_profile")
+consed_row (more t none) = exit_by (codes "not_in_profile")
 consed_row (more t (more u ts)) = before_tail t (consed_row (more u ts))
 
 abbrev pub made_of : Result → Result
@@ -138,7 +138,7 @@ receiver_of (tuple ts) = None
 receiver_of (list ts) = None
 
 abbrev pub sent_to : Option Receiver → Tree → Result
-sent_to None message = fault (codes "badarg")
+sent_to None message = exit_by (codes "badarg")
 sent_to (Some receiver) message = value message
 
 abbrev pub operated : Operator → Trees → Result

@@ -1,5 +1,5 @@
 -- What evaluating reads, and what it leaves behind.
-use Rattle.std.specs.Prelude.{ℕ, ◌+◌, Bool, true, false, ◌&&◌, if◌then◌else◌, nat_le, List, [], ◌∷◌, ◌++◌, codes}
+use Rattle.std.specs.Prelude.{ℕ, ◌+◌, Bool, true, false, ◌&&◌, if◌then◌else◌, nat_le, List, [], ◌∷◌, ◌++◌, take, drop, codes}
 use Rattle.std.specs.Prelude.{Option, None, Some}
 use Rattle.std.specs.Str.{bytes_eq}
 use Rattle.erl_term.specs.Tree.{Tree, Trees, atom, tuple, none, more, depth, size}
@@ -42,17 +42,22 @@ IsEnd (value t) = ⊥
 IsEnd (rest p) = Unit {0}
 IsEnd (exit t) = Unit {0}
 
+-- what a variable is bound to; that nothing is never comes of a source
+abbrev pub bound_to : Option Tree → Result
+bound_to None = exit (atom (codes "undef"))
+bound_to (Some t) = value t
+
 -- an exit by a reason that is an atom
-abbrev pub fault : List ℕ → Result
-fault reason = exit (atom reason)
+abbrev pub exit_by : List ℕ → Result
+exit_by reason = exit (atom reason)
 
 -- `{Left,Right}`
 abbrev pub pair : Tree → Tree → Tree
 pair left right = tuple (more left (more right none))
 
 -- an exit by `{Word,Term}`
-abbrev pub fault_with : List ℕ → Tree → Result
-fault_with reason t = exit (pair (atom reason) t)
+abbrev pub exit_by_pair : List ℕ → Tree → Result
+exit_by_pair reason t = exit (pair (atom reason) t)
 
 -- A term that is made is at most 256 deep and 65,536 large: else its making is a breach of the limits.
 
@@ -60,7 +65,7 @@ abbrev pub is_within : Tree → Bool
 is_within t = nat_le (depth t) 256 && nat_le (size t) 65536
 
 abbrev pub made : Tree → Result
-made t = if is_within t then value t else fault (codes "system_limit")
+made t = if is_within t then value t else exit_by (codes "system_limit")
 
 -- A start function is evaluated in mode `start`, all else in mode `plain`.
 pub data Mode : Type 0 where
@@ -81,26 +86,26 @@ current module_name (i ∷ is) = if bytes_eq i.name module_name then Some i else
 
 -- The call that an expression is evaluated for: the instance that its function is of, how deep the call is nested in
 -- others, and whether what it gives is what its process gives, so that the process may rest here.
-pub record Call : Type 0 where
+pub record Activation : Type 0 where
   pub instance : Instance
   pub nesting : ℕ
   pub may_rest : Bool
 
 -- the call of a function of an instance out of another: in tail position it takes the other's place
-abbrev pub callee : Call → Bool → Instance → Call
+abbrev pub callee : Activation → Bool → Instance → Activation
 callee a tail i =
     if tail then (record { instance = i; nesting = a.nesting; may_rest = a.may_rest })
     else (record { instance = i; nesting = a.nesting + 1; may_rest = false })
 
--- A process that a start function starts: the acts before it, its name and whether `register/2` gave it, and its place
--- once it has one.
+-- A process that a start function starts: how many acts were done before it, its name and whether `register/2` gave it, and
+-- its place once it has one.
 pub record Startup : Type 0 where
-  pub earlier : List Act
+  pub before : ℕ
   pub registered : Option (List ℕ × Bool)
   pub place : Option Place
 
 -- What changes while a callback is evaluated: the bindings of the variables that are bound, by place; how many calls were
--- made; the acts, or where a process is being started the acts since; and that process.
+-- made; the acts in order; and the process that is started.
 pub record State : Type 0 where
   pub bindings : List Tree
   pub calls : ℕ
@@ -110,8 +115,16 @@ pub record State : Type 0 where
 abbrev pub with_bindings : List Tree → State → State
 with_bindings env s = record s { bindings = env }
 
-abbrev pub with_act : Act → State → State
-with_act act s = record s { acts = s.acts ++ act ∷ [] }
+abbrev pub with_calls : ℕ → State → State
+with_calls calls s = record s { calls = calls }
+
+abbrev pub with_startup : Option Startup → State → State
+with_startup startup s = record s { startup = startup }
+
+-- the state behind what was done, if something was
+abbrev pub after : Option Act → State → State
+after None s = s
+after (Some act) s = record s { acts = s.acts ++ act ∷ [] }
 
 -- All acts in order. The start and the name of a process stand before the acts of what is started.
 
@@ -119,11 +132,11 @@ abbrev pub named_by : Option (List ℕ × Bool) → List Act
 named_by None = []
 named_by (Some n) = name n.0 n.1 ∷ []
 
-abbrev pub started_at : Option Place → List Act
-started_at None = []
-started_at (Some p) = start p ∷ []
+abbrev pub started_at : Option Place → Option (List ℕ × Bool) → List Act
+started_at None registered = []
+started_at (Some p) registered = start p ∷ named_by registered
 
 abbrev pub all_acts : Option Startup → List Act → List Act
 all_acts None acts = acts
 all_acts (Some startup) acts =
-    startup.earlier ++ started_at startup.place ++ named_by startup.registered ++ acts
+    take startup.before acts ++ started_at startup.place startup.registered ++ drop startup.before acts

@@ -1,14 +1,8 @@
 //! What evaluating a callback is.
 #![tactic(auto)]
-ghost use Rattle.erl_eval.specs.Laws.{OneMatch, OneResult, OneOutcome, OneJobOutcome, OneAnswer};
+ghost use Rattle.erl_eval.specs.Laws.{OneResult, OneOutcome, OneJobOutcome};
 ghost use Rattle.erl_eval.specs.Examples.{CallsAreAdded, ZeroDividesNothing, IntegersEnd, OneIsNoTruth, NoClauseFits};
 ghost use Rattle.erl_eval.specs.Examples.{SendsBeforeItsReply, RestsWithItsArguments, StartsWithAName};
-
-/// A term that matches a pattern binds one way.
-pub fn terms_match_one_way()
-    ensures { OneMatch }
-{
-}
 
 /// One result comes of an expression, and one state is left behind.
 pub fn expressions_have_one_result()
@@ -16,11 +10,10 @@ pub fn expressions_have_one_result()
 {
 }
 
-/// One outcome comes of a call from outside of all modules, and one of a job; and a place takes a message or doesn't.
+/// One outcome comes of a call from outside of all modules, and one of a job.
 pub fn evaluation_has_one_outcome()
     ensures call { OneOutcome }
     ensures job { OneJobOutcome }
-    ensures accepted { OneAnswer }
 {
 }
 
