@@ -1,4 +1,57 @@
-//! What evaluating a callback is.
+//! What evaluating a callback is: the rules, and that one outcome comes of them.
+//!
+//! The definitions are in `specs`: what is evaluated and what it leaves behind (`State`), matching (`Matching`), operators and
+//! functions that are built in (`Operators`, `BuiltIns`), guards and the selection of a clause (`Guards`), starting a process
+//! (`Starting`), expressions (`Evaluation`), jobs and calls from outside (`Jobs`). What is a function of values or of the tree
+//! is written as one; expressions, which call, are a relation: `Eval` has one constructor for each form, and the families
+//! beside it one for each thing that may come of a part. `docs/EVALUATION.md` tells the rules in prose.
+//!
+//! # Which rule says what
+//!
+//! | Sentence | Constructor or function |
+//! |---|---|
+//! | A literal is its own value; a variable's is what it is bound to | `Eval.literal`, `Eval.variable`, `bound_to` |
+//! | Operands are evaluated from left to right, before the operation; the first that ends, ends the whole | `Eval.apply`, `Operands`, `Others` |
+//! | A tuple and a list are made of the values, within the limits | `Applied.tuple`, `Applied.list`, `made` |
+//! | `[E1,..,En\|E]` needs a list behind the bar, else `not_in_profile` | `Applied.cons`, `consed` |
+//! | `P = E` binds behind it, or is `{badmatch,V}` | `Eval.match`, `Bound`, `bound` |
+//! | A bound variable compares, an unbound one is bound; `_` matches anything, a literal what is equal | `matched`, `matched_variable` |
+//! | Tuples and lists match element by element, `[..\|P]` the rest too; `P1 = P2` matches what both match | `matched_each`, `matched_front`, `matched_all` |
+//! | `begin B end` groups, and its bindings stay; a body gives its last value | `Eval.block`, `Body`, `Onward` |
+//! | `case` takes the first clause whose pattern matches and whose guard is true, else `{case_clause,V}` | `Eval.case`, `Cased`, `selected`, `Taken` |
+//! | What a clause binds is bound in it alone | `Taken.taken` |
+//! | `andalso` and `orelse` evaluate the right side only where it is needed, in tail position; it may be anything | `Eval.short_circuit`, `Decided`, `decisive` |
+//! | A left side that is no boolean is `{badarg,V}` | `Decided.no_truth` |
+//! | A guard sequence is true if one alternative is, an alternative if each test gives `true`; what fails is false, a breach of a limit too | `guarded`, `one_holds`, `all_hold`, `holds` |
+//! | Calls in guards count, those of clauses that are passed over too | `tested`, `selected` (the number beside) |
+//! | Arithmetic: `badarith` for other operands and a zero divisor; past 64 bits `system_limit` | `operated`, `arithmetic`, `divided`, `integer` |
+//! | `not`, `and`, `or` want booleans (`badarg`); comparisons go by the order of terms | `operated`, `logical`, `comparison` |
+//! | `++`: the left is a list (`badarg`); behind `[]` anything stands as it is, else a list (`not_in_profile`) | `appended` |
+//! | `Dest ! M` sends to a name or a process (`badarg`), and gives `M` | `operated`, `sends`, `receiver_of` |
+//! | What each function that is built in gives and does | `given`, `does` |
+//! | A local call stays in its instance; a remote one goes to the current instance and an export (`undef`) | `Applied.local`, `Applied.remote`, `local_function`, `remote_function` |
+//! | A call counts behind its arguments and before all else of it, one that is built in too; 10,000 are within the limits | `may_call`, `counted`, `Called.too_many`, `BuiltInCalled` |
+//! | A call in tail position takes its caller's place; any other is one deeper, 200 are within the limits | `callee`, `may_nest`, `Entered.too_deep` |
+//! | No clause takes the arguments: `function_clause` | `Entered.clauses`, `Taken.no_clause` |
+//! | A loop function rests its process where that may rest here; its head is matched first (`function_clause`) | `Entered.loop`, `rested` |
+//! | Every other call of a loop function is `not_in_profile` | `Entered.loop_elsewhere` |
+//! | Starts and names: only in a start function; then the arguments; then whether it is the first | `asked`, `in_start_mode`, `first_start`, `register_in_mode` |
+//! | What is spawned is evaluated to its rest; without one the start ends with its reason, or `normal` | `Started`, `spawned` |
+//! | `init` gives `{ok,S}`, `ignore`, `{stop,R}`, `{error,R}` or another value; without `{ok,S}` nothing was started | `initialized`, `linked_by`, `unstarted` |
+//! | What is started goes on with the counts, one deeper | `begun_by`, `first_activation` |
+//! | The start and its name stand before the acts of what is started | `all_acts` |
+//! | A call from outside needs an exported function (`undef`); both counts begin at 0 | `FromOutside`, `Evaluates`, `fresh`, `outermost` |
+//! | `'$gen_call'` goes to `handle_call/3`, `'$gen_cast'` to `handle_cast/2`, all else to `handle_info/2` | `callback_of`, `arguments_of` |
+//! | A callback that isn't exported is `undef`; a message without `handle_info/2` is dropped | `Handles.not_exported`, `unexported` |
+//! | What a callback's value means, else `{bad_return_value,V}`; its own reply is its last act | `answer_of`, `served` |
+//! | A message selects the first clause of the `receive` that takes it; a value there ends the process with `normal` | `heard`, `Receives`, `looped` |
+//! | A place takes every message in a callback module, in a loop function one that a clause takes | `accepts` |
+//!
+//! # What is proved
+//!
+//! One result and one state come of an expression ([`expressions_have_one_result`]), and one outcome of a job and of a call
+//! from outside ([`evaluation_has_one_outcome`]). The rules give what is expected of small modules
+//! ([`rules_hold_of_examples`]).
 #![tactic(auto)]
 ghost use Rattle.erl_eval.specs.Laws.{OneResult, OneOutcome, OneJobOutcome};
 ghost use Rattle.erl_eval.specs.Examples.{CallsAreAdded, ZeroDividesNothing, IntegersEnd, OneIsNoTruth, NoClauseFits};
