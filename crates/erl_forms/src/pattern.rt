@@ -49,3 +49,22 @@ impl Model for Patterns {
 
     ghost size_decreases = { λ a h. omega (arith, most_le-pats_depth a.items.items) };
 }
+
+impl Patterns {
+    ghost use Rattle.std.specs.Prelude.{◌≡◌};
+    ghost use Rattle.erl_forms.specs.PatternForms.{pats};
+
+    /// The row of these patterns. Takes no memory.
+    pub fn new(items: Vec<Pattern>) -> Patterns
+        ensures { result ≡ pats items.items }
+    {
+        Patterns { items }
+    }
+
+    /// The patterns, in order. Takes no memory.
+    pub fn as_slice(&self) -> &[Pattern]
+        ensures { pats result.now ≡ self.now }
+    {
+        self.items.as_slice()
+    }
+}
