@@ -47,7 +47,7 @@ exported_of name arity m = option_and_then if_exported (function_of name arity m
 
 abbrev pub definition_depth : Definition → ℕ
 definition_depth (definition.Clauses cs) = clauses_depth cs
-definition_depth (definition.Loop ps guard cs) = max (max (pats_depth ps) (guards_depth guard)) (1 + clauses_depth cs)
+definition_depth (definition.Loop ps gs cs) = max (max (pats_depth ps) (guards_depth gs)) (1 + clauses_depth cs)
 
 abbrev pub functions_depth : List (Key × Function) → ℕ
 functions_depth [] = 0
@@ -96,7 +96,7 @@ abbrev mutual
 
 abbrev pub called_in_definition : Definition → List (List ℕ)
 called_in_definition (definition.Clauses cs) = called_in_clauses cs
-called_in_definition (definition.Loop ps guard cs) = called_in_clauses cs
+called_in_definition (definition.Loop ps gs cs) = called_in_clauses cs
 
 abbrev pub called_in_functions : List (Key × Function) → List (List ℕ)
 called_in_functions [] = []

@@ -1,4 +1,9 @@
 // Expressions, clauses and guards.
+ghost use Rattle.std.specs.Prelude.{◌≡◌};
+
+mod copies;
+mod same;
+
 use crate::operation::{Connective, Operation};
 use crate::pattern::{Pattern, Patterns};
 use erl_term::Term;
@@ -127,7 +132,6 @@ impl Model for Clauses {
 }
 
 impl Expressions {
-    ghost use Rattle.std.specs.Prelude.{◌≡◌};
     ghost use Rattle.erl_forms.specs.ExpressionForms.{exprs};
 
     /// The row of these expressions. Takes no memory.
@@ -146,7 +150,6 @@ impl Expressions {
 }
 
 impl Guard {
-    ghost use Rattle.std.specs.Prelude.{◌≡◌};
     ghost use Rattle.erl_forms.specs.ExpressionForms.{guards};
 
     /// The row of these guards. Takes no memory.
@@ -165,7 +168,6 @@ impl Guard {
 }
 
 impl Clauses {
-    ghost use Rattle.std.specs.Prelude.{◌≡◌};
     ghost use Rattle.erl_forms.specs.ExpressionForms.{clauses};
 
     /// The row of these clauses. Takes no memory.

@@ -1,0 +1,2 @@
+pub mod ExpressionRows
+pub mod PatternRows
