@@ -1,11 +1,14 @@
 -- Lemmas on rows of expressions, guards and clauses: a row tells its items, and none of them is higher than the row.
-use Rattle.std.proofs.Common.{◌≡◌, ℕ, ◌+◌, ◌<◌, ◌≤◌, max, List, [], ◌∷◌, length, get_or, zero, suc, sym, ap, ◌∙◌, subst, refl, arith}
+use Rattle.std.proofs.Common.{◌≡◌, ℕ, ◌+◌, ◌<◌, ◌≤◌, max, List, [], ◌∷◌, ◌++◌, length, get_or, take, zero, suc, sym, ap, ◌∙◌, subst, refl, arith}
+use Rattle.std.proofs.lemmas.List.{take_more}
 use Rattle.erl_term.specs.Term.{term_of, term_of-tree}
 use Rattle.erl_forms.specs.declared.expression.Expression.{Expression}
 use Rattle.erl_forms.specs.declared.expression.Expression.TheVariants as variants
 use Rattle.erl_forms.specs.declared.expression.Clause.{Clause}
 use Rattle.erl_forms.specs.Expression.{Expr, Exprs, Guards, Clauses}
 use Rattle.erl_forms.specs.Expression.{literal, variable, apply, match, block, case, short_circuit}
+use Rattle.erl_forms.specs.Pattern.{pats_depth}
+use Rattle.erl_forms.specs.Expression.{expr_depth, exprs_depth, guards_depth, clauses_depth}
 use Rattle.erl_forms.specs.Expression.{none, more, no_guards, guard, no_clauses, clause}
 use Rattle.erl_forms.specs.ExpressionForms.{expr, exprs, guards, clauses}
 use Rattle.erl_forms.specs.Heights.{expr_height, exprs_height, guards_height, clauses_height}
@@ -100,3 +103,35 @@ pub clause_in : (items : List Clause) (i : ℕ) (c : Clause) → i < length item
     clause_height c ≤ clauses_height (clauses items)
 clause_in items i c within is =
     subst (λ d. clause_height d ≤ clauses_height (clauses items)) (sym is) (clause_at items i c within)
+
+-- one item more
+here : {A : Type 0} (items : List A) (i : ℕ) (x : A) → i < length items → x ≡ get_or items i x → take (i + 1) items ≡ take i items ++ x ∷ []
+here items i x within is = take_more items i x within ∙ ap (λ y. take i items ++ y ∷ []) (sym is)
+
+exprs_push : (es : List Expression) (e : Expression) → exprs_depth (exprs (es ++ e ∷ [])) ≡ max (exprs_depth (exprs es)) (expr_depth (expr e))
+exprs_push [] e = omega arith
+exprs_push (f ∷ fs) e = omega (arith, exprs_push fs e)
+
+pub exprs_more : (items : List Expression) (i : ℕ) (e : Expression) → i < length items → e ≡ get_or items i e →
+    exprs_depth (exprs (take (i + 1) items)) ≡ max (exprs_depth (exprs (take i items))) (expr_depth (expr e))
+exprs_more items i e within is = ap (λ es. exprs_depth (exprs es)) (here items i e within is) ∙ exprs_push (take i items) e
+
+guards_push : (gs : List Exprs) (tests : Exprs) → guards_depth (guards (gs ++ tests ∷ [])) ≡ max (guards_depth (guards gs)) (exprs_depth tests)
+guards_push [] tests = omega arith
+guards_push (g ∷ gs) tests = omega (arith, guards_push gs tests)
+
+pub guards_more : (items : List Exprs) (i : ℕ) (tests : Exprs) → i < length items → tests ≡ get_or items i tests →
+    guards_depth (guards (take (i + 1) items)) ≡ max (guards_depth (guards (take i items))) (exprs_depth tests)
+guards_more items i tests within is = ap (λ gs. guards_depth (guards gs)) (here items i tests within is) ∙ guards_push (take i items) tests
+
+-- how deep a clause is nested
+abbrev pub clause_depth : Clause → ℕ
+clause_depth c = max (max (pats_depth c.patterns) (guards_depth c.guard)) (exprs_depth c.body)
+
+clauses_push : (cs : List Clause) (c : Clause) → clauses_depth (clauses (cs ++ c ∷ [])) ≡ max (clauses_depth (clauses cs)) (clause_depth c)
+clauses_push [] c = omega arith
+clauses_push (d ∷ ds) c = omega (arith, clauses_push ds c)
+
+pub clauses_more : (items : List Clause) (i : ℕ) (c : Clause) → i < length items → c ≡ get_or items i c →
+    clauses_depth (clauses (take (i + 1) items)) ≡ max (clauses_depth (clauses (take i items))) (clause_depth c)
+clauses_more items i c within is = ap (λ cs. clauses_depth (clauses cs)) (here items i c within is) ∙ clauses_push (take i items) c

@@ -1,2 +1,3 @@
 pub mod ExpressionRows
+pub mod Noting
 pub mod PatternRows

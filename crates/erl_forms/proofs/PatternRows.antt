@@ -1,5 +1,6 @@
 -- Lemmas on rows of patterns: a row tells its patterns, and none of them is deeper than the row.
-use Rattle.std.proofs.Common.{◌≡◌, ℕ, ◌+◌, ◌<◌, ◌≤◌, List, [], ◌∷◌, length, get_or, zero, suc, sym, ap, ◌∙◌, subst, refl, arith}
+use Rattle.std.proofs.Common.{◌≡◌, ℕ, ◌+◌, ◌<◌, ◌≤◌, List, [], ◌∷◌, ◌++◌, max, length, get_or, take, zero, suc, sym, ap, ◌∙◌, subst, refl, arith}
+use Rattle.std.proofs.lemmas.List.{take_more}
 use Rattle.erl_term.specs.Term.{term_of, term_of-tree}
 use Rattle.erl_forms.specs.declared.pattern.Pattern.{Pattern}
 use Rattle.erl_forms.specs.declared.pattern.Pattern.TheVariants as patterns
@@ -45,3 +46,13 @@ pub depth_in : (items : List Pattern) (i : ℕ) (p : Pattern) → i < length ite
     pat_depth (pat p) ≤ pats_depth (pats items)
 depth_in items i p within is =
     subst (λ q. pat_depth (pat q) ≤ pats_depth (pats items)) (sym is) (depth_at items i p within)
+
+-- one pattern more
+push : (ps : List Pattern) (p : Pattern) → pats_depth (pats (ps ++ p ∷ [])) ≡ max (pats_depth (pats ps)) (pat_depth (pat p))
+push [] p = omega arith
+push (q ∷ qs) p = omega (arith, push qs p)
+
+pub depth_more : (items : List Pattern) (i : ℕ) (p : Pattern) → i < length items → p ≡ get_or items i p →
+    pats_depth (pats (take (i + 1) items)) ≡ max (pats_depth (pats (take i items))) (pat_depth (pat p))
+depth_more items i p within is =
+    ap (λ qs. pats_depth (pats qs)) (take_more items i p within ∙ ap (λ q. take i items ++ q ∷ []) (sym is)) ∙ push (take i items) p

@@ -1,6 +1,8 @@
 //! A module of Erlang as a value, as its source says.
 #![tactic(auto)]
 
+mod calls;
+mod depths;
 mod expression;
 mod function;
 mod operation;
