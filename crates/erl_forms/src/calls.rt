@@ -83,11 +83,7 @@ fn note_clauses(alloc: Global, items: &[Clause], names: &mut Names) -> Result<()
 }
 
 /// Notes the module that an operation names, if it is a remote call.
-fn note_operation(
-    alloc: Global,
-    operation: &Operation,
-    names: &mut Names,
-) -> Result<(), AllocError>
+fn note_operation(alloc: Global, operation: &Operation, names: &mut Names) -> Result<(), AllocError>
     ensures { OnOk result (names.new.keys ≡ insert_all bytes_eq names.old.keys (called_by operation.now)) }
 {
     match operation {

@@ -13,7 +13,7 @@ note_row-note_expression-requires t c =
 pub note_row-loop-expression-preserved : goal.note_row-loop-expression-preserved
 note_row-loop-expression-preserved t c =
     row_noted c.args.row.now c.loop-expression.expression-index c.expression-item.result c.args.names.now.keys c.loop-expression.names.keys c.note_expression.new.names.keys
-        c.loop-expression-test.true c.expression-item.is c.loop-expression.invariant c.in_ok-note_expression.ensures
+    c.loop-expression-test.true c.expression-item.is c.loop-expression.invariant c.in_ok-note_expression.ensures
 
 pub note_clauses-note_row-requires : goal.note_clauses-note_row-requires
 note_clauses-note_row-requires t c =
@@ -23,5 +23,5 @@ note_clauses-note_row-requires t c =
 pub note_clauses-loop-clause-preserved : goal.note_clauses-loop-clause-preserved
 note_clauses-loop-clause-preserved t c =
     clauses_noted c.args.items.now c.loop-clause.clause-index c.clause-item.result c.args.names.now.keys c.loop-clause.names.keys c.note_row.new.names.keys
-        c.loop-clause-test.true c.clause-item.is c.loop-clause.invariant
-        (c.in_ok-note_row.ensures ∙ ap (λ es. noted c.loop-clause.names.keys (called_in_row es)) c.as_slice.ensures)
+    c.loop-clause-test.true c.clause-item.is c.loop-clause.invariant
+    (c.in_ok-note_row.ensures ∙ ap (λ es. noted c.loop-clause.names.keys (called_in_row es)) c.as_slice.ensures)
