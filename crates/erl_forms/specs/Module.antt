@@ -1,8 +1,8 @@
 -- A module as its source says, as contracts see it (Erlang Reference Manual, Modules).
-use Rattle.std.specs.Prelude.{◌≡◌, ◌↔◌, ℕ, ◌+◌, max, ◌==◌, Bool, true, false, ◌&&◌, if◌then◌else◌}
+use Rattle.std.specs.Prelude.{◌≡◌, ◌↔◌, ℕ, ◌+◌, max, ◌==◌, Bool, ◌&&◌, if◌then◌else◌}
 use Rattle.std.specs.Prelude.{List, [], ◌∷◌, ◌++◌, codes, Any, Option, None, Some, option_and_then}
 use Rattle.std.specs.List.{IsDistinct}
-use Rattle.std.specs.Map.{keys_of, lookup}
+use Rattle.std.specs.Map.{lookup}
 use Rattle.std.specs.Str.{bytes_eq}
 use Rattle.erl_term.specs.declared.term.Term.{Term}
 use Rattle.erl_forms.specs.declared.operation.BuiltIn.{BuiltIn}
@@ -13,7 +13,7 @@ use Rattle.erl_forms.specs.declared.operation.Operation.TheVariants as operation
 use Rattle.erl_forms.specs.declared.function.Definition.{Definition}
 use Rattle.erl_forms.specs.declared.function.Definition.TheVariants as definition
 use Rattle.erl_forms.specs.declared.function.Function.{Function}
-use Rattle.erl_forms.specs.Pattern.{Pats, pats_depth}
+use Rattle.erl_forms.specs.Pattern.{pats_depth}
 use Rattle.erl_forms.specs.Expression as expression
 use Rattle.erl_forms.specs.Expression.{Expr, Exprs, Guards, Clauses, exprs_depth, guards_depth, clauses_depth}
 

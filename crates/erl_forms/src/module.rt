@@ -50,7 +50,14 @@ impl Model for Module {
 
     ghost Value = { Forms };
 
-    ghost coded = { Prim.hlevel (codes, terms.the_row.coded, patterns.the_row.coded, expressions.the_row.coded, guards.the_row.coded, clauses.the_row.coded) };
+    ghost coded = { Prim.hlevel (
+      codes,
+      terms.the_row.coded,
+      patterns.the_row.coded,
+      expressions.the_row.coded,
+      guards.the_row.coded,
+      clauses.the_row.coded,
+    ) };
 
     ghost view = { λ m. record {
       name = m.parts.value.name;
@@ -142,8 +149,9 @@ impl Module {
         self.parts.called.as_slice()
     }
 
-    /// How deep the module is nested, at most `2^64 - 1`: 0 where its functions are made of literals and variables alone.
-    /// Takes no memory, and the same time whatever the module.
+    /// How deep the module is nested, at most `2^64 - 1`: the greatest depth of the patterns, guards and bodies of its
+    /// functions, where the clauses of a `receive` stand one deeper. A literal counts for 0, however deep its term is. Takes
+    /// no memory, and the same time whatever the module.
     pub fn depth(&self) -> u64
         ensures { result ≡ min (functions_depth self.now.functions) (2 ^ 64 - 1) }
     {
