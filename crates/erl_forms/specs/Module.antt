@@ -1,8 +1,8 @@
 -- A module as its source says, as contracts see it (Erlang Reference Manual, Modules).
-use Rattle.std.specs.Prelude.{◌≡◌, ◌↔◌, ℕ, ◌+◌, max, ◌==◌, Bool, true, false, ◌&&◌, if◌then◌else◌}
+use Rattle.std.specs.Prelude.{◌≡◌, ◌↔◌, ℕ, ◌+◌, max, ◌==◌, Bool, ◌&&◌, if◌then◌else◌}
 use Rattle.std.specs.Prelude.{List, [], ◌∷◌, ◌++◌, codes, Any, Option, None, Some, option_and_then}
 use Rattle.std.specs.List.{IsDistinct}
-use Rattle.std.specs.Map.{keys_of, lookup}
+use Rattle.std.specs.Map.{lookup}
 use Rattle.std.specs.Str.{bytes_eq}
 use Rattle.erl_term.specs.declared.term.Term.{Term}
 use Rattle.erl_forms.specs.declared.operation.BuiltIn.{BuiltIn}
@@ -13,7 +13,7 @@ use Rattle.erl_forms.specs.declared.operation.Operation.TheVariants as operation
 use Rattle.erl_forms.specs.declared.function.Definition.{Definition}
 use Rattle.erl_forms.specs.declared.function.Definition.TheVariants as definition
 use Rattle.erl_forms.specs.declared.function.Function.{Function}
-use Rattle.erl_forms.specs.Pattern.{Pats, pats_depth}
+use Rattle.erl_forms.specs.Pattern.{pats_depth}
 use Rattle.erl_forms.specs.Expression as expression
 use Rattle.erl_forms.specs.Expression.{Expr, Exprs, Guards, Clauses, exprs_depth, guards_depth, clauses_depth}
 
@@ -47,7 +47,7 @@ exported_of name arity m = option_and_then if_exported (function_of name arity m
 
 abbrev pub definition_depth : Definition → ℕ
 definition_depth (definition.Clauses cs) = clauses_depth cs
-definition_depth (definition.Loop ps guard cs) = max (max (pats_depth ps) (guards_depth guard)) (1 + clauses_depth cs)
+definition_depth (definition.Loop ps gs cs) = max (max (pats_depth ps) (guards_depth gs)) (1 + clauses_depth cs)
 
 abbrev pub functions_depth : List (Key × Function) → ℕ
 functions_depth [] = 0
@@ -96,7 +96,7 @@ abbrev mutual
 
 abbrev pub called_in_definition : Definition → List (List ℕ)
 called_in_definition (definition.Clauses cs) = called_in_clauses cs
-called_in_definition (definition.Loop ps guard cs) = called_in_clauses cs
+called_in_definition (definition.Loop ps gs cs) = called_in_clauses cs
 
 abbrev pub called_in_functions : List (Key × Function) → List (List ℕ)
 called_in_functions [] = []

@@ -1,4 +1,9 @@
 // Expressions, clauses and guards.
+ghost use Rattle.std.specs.Prelude.{◌≡◌};
+
+mod copies;
+mod same;
+
 use crate::operation::{Connective, Operation};
 use crate::pattern::{Pattern, Patterns};
 use erl_term::Term;
@@ -124,4 +129,58 @@ impl Model for Clauses {
     ghost use Rattle.erl_forms.specs.ExpressionFalls.{most_le-clauses_height};
 
     ghost size_decreases = { λ a h. omega (arith, most_le-clauses_height a.items.items) };
+}
+
+impl Expressions {
+    ghost use Rattle.erl_forms.specs.ExpressionForms.{exprs};
+
+    /// The row of these expressions. Takes no memory.
+    pub fn new(items: Vec<Expression>) -> Expressions
+        ensures { result ≡ exprs items.items }
+    {
+        Expressions { items }
+    }
+
+    /// The expressions, in order. Takes no memory.
+    pub fn as_slice(&self) -> &[Expression]
+        ensures { exprs result.now ≡ self.now }
+    {
+        self.items.as_slice()
+    }
+}
+
+impl Guard {
+    ghost use Rattle.erl_forms.specs.ExpressionForms.{guards};
+
+    /// The row of these guards. Takes no memory.
+    pub fn new(alternatives: Vec<Expressions>) -> Guard
+        ensures { result ≡ guards alternatives.items }
+    {
+        Guard { alternatives }
+    }
+
+    /// The guards, in order. Takes no memory.
+    pub fn as_slice(&self) -> &[Expressions]
+        ensures { guards result.now ≡ self.now }
+    {
+        self.alternatives.as_slice()
+    }
+}
+
+impl Clauses {
+    ghost use Rattle.erl_forms.specs.ExpressionForms.{clauses};
+
+    /// The row of these clauses. Takes no memory.
+    pub fn new(items: Vec<Clause>) -> Clauses
+        ensures { result ≡ clauses items.items }
+    {
+        Clauses { items }
+    }
+
+    /// The clauses, in order. Takes no memory.
+    pub fn as_slice(&self) -> &[Clause]
+        ensures { clauses result.now ≡ self.now }
+    {
+        self.items.as_slice()
+    }
 }

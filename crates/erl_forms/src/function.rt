@@ -1,6 +1,8 @@
 // Functions of a module.
 use crate::expression::{Clauses, Guard};
 use crate::pattern::Patterns;
+use std::alloc::{AllocError, Global};
+use values::{Duplicate, Same};
 
 /// What a function is defined by.
 #[derive(Drop)]
@@ -25,4 +27,57 @@ pub struct Function {
     pub exported: bool,
     /// Its definition.
     pub definition: Definition,
+}
+
+impl Same for Definition {
+    fn same(&self, other: &Definition) -> bool {
+        match (self, other) {
+            (Definition::Clauses(cs), Definition::Clauses(ds)) => cs.same(ds),
+            (
+                Definition::Loop {
+                    patterns: ps,
+                    guard: g,
+                    receive: cs,
+                },
+                Definition::Loop {
+                    patterns: qs,
+                    guard: h,
+                    receive: ds,
+                },
+            ) => ps.same(qs) && g.same(h) && cs.same(ds),
+            (_, _) => false,
+        }
+    }
+}
+
+impl Duplicate for Definition {
+    fn copy(&self, alloc: Global) -> Result<Definition, AllocError> {
+        match self {
+            Definition::Clauses(clauses) => Ok(Definition::Clauses(clauses.copy(alloc)?)),
+            Definition::Loop {
+                patterns,
+                guard,
+                receive,
+            } => Ok(Definition::Loop {
+                patterns: patterns.copy(alloc)?,
+                guard: guard.copy(alloc)?,
+                receive: receive.copy(alloc)?,
+            }),
+        }
+    }
+}
+
+impl Same for Function {
+    fn same(&self, other: &Function) -> bool {
+        self.exported == other.exported && self.definition.same(&other.definition)
+    }
+}
+
+impl Duplicate for Function {
+    fn copy(&self, alloc: Global) -> Result<Function, AllocError> {
+        Ok(Function {
+            exported: self.exported,
+            definition: self.definition.copy(alloc)?,
+        })
+    }
 }

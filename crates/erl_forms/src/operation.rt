@@ -140,3 +140,95 @@ pub enum Operation {
         function: Atom,
     },
 }
+
+impl Same for Operator {
+    fn same(&self, other: &Operator) -> bool {
+        *self == *other
+    }
+}
+
+impl Duplicate for Operator {
+    fn copy(&self, _alloc: Global) -> Result<Operator, AllocError> {
+        Ok(*self)
+    }
+}
+
+impl Same for Connective {
+    fn same(&self, other: &Connective) -> bool {
+        *self == *other
+    }
+}
+
+impl Duplicate for Connective {
+    fn copy(&self, _alloc: Global) -> Result<Connective, AllocError> {
+        Ok(*self)
+    }
+}
+
+impl Same for BuiltIn {
+    fn same(&self, other: &BuiltIn) -> bool {
+        *self == *other
+    }
+}
+
+impl Duplicate for BuiltIn {
+    fn copy(&self, _alloc: Global) -> Result<BuiltIn, AllocError> {
+        Ok(*self)
+    }
+}
+
+impl Same for Operation {
+    fn same(&self, other: &Operation) -> bool {
+        match (self, other) {
+            (Operation::Tuple, Operation::Tuple) => true,
+            (Operation::List, Operation::List) => true,
+            (Operation::Cons, Operation::Cons) => true,
+            (Operation::Operator(a), Operation::Operator(b)) => a.same(b),
+            (
+                Operation::BuiltIn {
+                    function: a,
+                    qualified: p,
+                },
+                Operation::BuiltIn {
+                    function: b,
+                    qualified: q,
+                },
+            ) => a.same(b) && *p == *q,
+            (Operation::Local(a), Operation::Local(b)) => a.same(b),
+            (
+                Operation::Remote {
+                    module: a,
+                    function: f,
+                },
+                Operation::Remote {
+                    module: b,
+                    function: g,
+                },
+            ) => a.same(b) && f.same(g),
+            (_, _) => false,
+        }
+    }
+}
+
+impl Duplicate for Operation {
+    fn copy(&self, alloc: Global) -> Result<Operation, AllocError> {
+        match self {
+            Operation::Tuple => Ok(Operation::Tuple),
+            Operation::List => Ok(Operation::List),
+            Operation::Cons => Ok(Operation::Cons),
+            Operation::Operator(operator) => Ok(Operation::Operator(*operator)),
+            Operation::BuiltIn {
+                function,
+                qualified,
+            } => Ok(Operation::BuiltIn {
+                function: *function,
+                qualified: *qualified,
+            }),
+            Operation::Local(function) => Ok(Operation::Local(function.copy(alloc)?)),
+            Operation::Remote { module, function } => Ok(Operation::Remote {
+                module: module.copy(alloc)?,
+                function: function.copy(alloc)?,
+            }),
+        }
+    }
+}

@@ -1,0 +1,4 @@
+pub mod ExpressionRows
+pub mod Keys
+pub mod Noting
+pub mod PatternRows

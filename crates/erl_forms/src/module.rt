@@ -1,0 +1,248 @@
+// Modules.
+ghost use Rattle.std.specs.Prelude.{◌≡◌, ◌↔◌, ◌-◌, ◌^◌, min, is_some, slice_get, IsTrue, IfOk, MatchOption};
+ghost use Rattle.std.specs.List.{IsDistinct};
+ghost use Rattle.std.specs.Map.{keys_of};
+ghost use Rattle.std.specs.Option.{option_copied};
+ghost use Rattle.erl_forms.specs.Module.{key_eq, function_of, exported_of, functions_depth, called_in_functions, AreNamesOf};
+
+use crate::calls::{Names, note_calls};
+use crate::depths::depth_of;
+use crate::function::Function;
+use crate::name_and_arity::NameAndArity;
+use erl_term::{Atom, Term};
+use indexmap::{IndexMap, IndexSet};
+use std::alloc::{AllocError, Global};
+use std::hash::RandomState;
+use std::marker::Model;
+use std::sync::Arc;
+use values::{Duplicate, Same};
+
+/// Functions by their names and numbers of arguments, in the order of the source.
+type Functions = IndexMap<(Atom, u32), Function, RandomState>;
+
+/// A module of Erlang as its source says (Erlang Reference Manual, Modules). Its copies share it.
+#[derive(Drop)]
+pub struct Module {
+    parts: Arc<Parts>,
+}
+
+/// What the owners of a module share.
+#[derive(Drop)]
+struct Parts {
+    name: Atom,
+    vsn: Option<Term>,
+    functions: Functions,
+    /// The modules that are named in remote calls.
+    called: Names,
+    /// How deep the functions are nested, at most 2^64 - 1.
+    depth: u64,
+}
+
+impl Model for Module {
+    ghost use Rattle.std.specs.Prelude.{◌≡◌, ◌-◌, ◌^◌, min};
+    ghost use Rattle.erl_forms.specs.Module.{Forms, AreNamesOf, called_in_functions, functions_depth};
+    ghost use Rattle.std.specs.Coded.{codes};
+    ghost use Rattle.erl_term.specs.contracts.term.Terms as terms;
+    ghost use Rattle.erl_forms.specs.contracts.pattern.Patterns as patterns;
+    ghost use Rattle.erl_forms.specs.contracts.expression.Expressions as expressions;
+    ghost use Rattle.erl_forms.specs.contracts.expression.Guard as guards;
+    ghost use Rattle.erl_forms.specs.contracts.expression.Clauses as clauses;
+
+    ghost Value = { Forms };
+
+    ghost coded = { Prim.hlevel (
+      codes,
+      terms.the_row.coded,
+      patterns.the_row.coded,
+      expressions.the_row.coded,
+      guards.the_row.coded,
+      clauses.the_row.coded,
+    ) };
+
+    ghost view = { λ m. record {
+      name = m.parts.value.name;
+      vsn = m.parts.value.vsn;
+      functions = m.parts.value.functions.entries;
+    } };
+
+    ghost invariant = { λ m. AreNamesOf m.parts.value.called.keys (called_in_functions m.parts.value.functions.entries)
+        × (m.parts.value.depth ≡ min (functions_depth m.parts.value.functions.entries) (2 ^ 64 - 1)) };
+}
+
+impl Module {
+    /// The module of these functions, in this order; none where two of them have one name and one number of arguments.
+    ///
+    /// Names are hashed by `hashing`. Takes time and memory for each function and for each remote call in it.
+    ///
+    /// # Errors
+    ///
+    /// `AllocError` where memory is refused. What was passed is then dropped.
+    pub fn new(
+        alloc: Global,
+        hashing: RandomState,
+        name: Atom,
+        vsn: Option<Term>,
+        functions: Vec<((Atom, u32), Function)>,
+    ) -> Result<Option<Module>, AllocError>
+        ensures { IfOk result (λ made. MatchOption made (IsDistinct key_eq (keys_of functions.items) → ⊥)
+            (λ m. IsDistinct key_eq (keys_of functions.items)
+            × (m ≡ record { name = name; vsn = vsn; functions = functions.items }))) }
+    {
+        let called = called_modules(alloc, hashing, functions.as_slice())?;
+        let depth = greatest_depth(functions.as_slice());
+        let Some(functions) = by_name(alloc, hashing, functions)? else {
+            return Ok(None);
+        };
+        let parts = Parts {
+            name,
+            vsn,
+            functions,
+            called,
+            depth,
+        };
+        let parts = Arc::new(alloc, parts)?;
+        Ok(Some(Module { parts }))
+    }
+
+    /// The module's name. Takes no memory.
+    pub fn name(&self) -> &Atom
+        ensures { result.now ≡ self.now.name }
+    {
+        &self.parts.name
+    }
+
+    /// The term of the attribute `-vsn`, where the module has one. Takes no memory.
+    pub fn vsn(&self) -> Option<&Term>
+        ensures { option_copied result ≡ self.now.vsn }
+    {
+        self.parts.vsn.as_ref()
+    }
+
+    /// The function of a name and a number of arguments, found by key. Takes no memory.
+    pub fn function(&self, name: &Atom, arity: u32) -> Option<&Function>
+        ensures { option_copied result ≡ function_of name.now arity self.now }
+    {
+        self.parts.functions.get(NameAndArity { name, arity })
+    }
+
+    /// The function of a name and a number of arguments, where the module exports it; found by key. Takes no memory.
+    pub fn exported(&self, name: &Atom, arity: u32) -> Option<&Function>
+        ensures { option_copied result ≡ exported_of name.now arity self.now }
+    {
+        match self.function(name, arity) {
+            Some(function) if function.exported => Some(function),
+            _ => None,
+        }
+    }
+
+    /// Whether the module exports a function of a name and a number of arguments. Takes no memory.
+    pub fn exports(&self, name: &Atom, arity: u32) -> bool
+        ensures { result ≡ is_some (exported_of name.now arity self.now) }
+    {
+        self.exported(name, arity).is_some()
+    }
+
+    /// The modules that are named in remote calls, each once. Takes no memory, and the same time whatever the module.
+    pub fn remote_modules(&self) -> &[Atom]
+        ensures { AreNamesOf result.now (called_in_functions self.now.functions) }
+    {
+        self.parts.called.as_slice()
+    }
+
+    /// How deep the module is nested, at most `2^64 - 1`: the greatest depth of the patterns, guards and bodies of its
+    /// functions, where the clauses of a `receive` stand one deeper. A literal counts for 0, however deep its term is. Takes
+    /// no memory, and the same time whatever the module.
+    pub fn depth(&self) -> u64
+        ensures { result ≡ min (functions_depth self.now.functions) (2 ^ 64 - 1) }
+    {
+        self.parts.depth
+    }
+}
+
+impl Same for Module {
+    fn same(&self, other: &Module) -> bool {
+        self.name().same(other.name())
+            && self.parts.vsn.same(&other.parts.vsn)
+            && same_functions(&self.parts.functions, &other.parts.functions)
+    }
+}
+
+impl Duplicate for Module {
+    fn copy(&self, _alloc: Global) -> Result<Module, AllocError> {
+        let parts = Arc::try_clone(&self.parts)?;
+        Ok(Module { parts })
+    }
+}
+
+/// The modules that are named in the remote calls of functions.
+fn called_modules(
+    alloc: Global,
+    hashing: RandomState,
+    functions: &[((Atom, u32), Function)],
+) -> Result<Names, AllocError>
+    ensures { IfOk result (λ names. AreNamesOf names.keys (called_in_functions functions.now)) }
+{
+    let mut names = IndexSet::with_hasher(alloc, hashing);
+    for entry in functions {
+        note_calls(alloc, &entry.1.definition, &mut names)?;
+    }
+    Ok(names)
+}
+
+/// The greatest depth of functions, at most `2^64 - 1`.
+fn greatest_depth(functions: &[((Atom, u32), Function)]) -> u64
+    ensures { result ≡ min (functions_depth functions.now) (2 ^ 64 - 1) }
+{
+    let mut depth = 0;
+    for entry in functions {
+        depth = depth_of(&entry.1.definition).max(depth);
+    }
+    depth
+}
+
+/// Functions by their names and numbers of arguments; none where two have the same.
+fn by_name(
+    alloc: Global,
+    hashing: RandomState,
+    functions: Vec<((Atom, u32), Function)>,
+) -> Result<Option<Functions>, AllocError>
+    ensures { IfOk result (λ table. MatchOption table (IsDistinct key_eq (keys_of functions.items) → ⊥)
+        (λ t. IsDistinct key_eq (keys_of functions.items) × (t.entries ≡ functions.items))) }
+{
+    let mut table = IndexMap::with_capacity_and_hasher(alloc, functions.len(), hashing)?;
+    for entry in functions {
+        let (key, function) = entry;
+        if table.insert(key, function)?.is_some() {
+            return Ok(None);
+        }
+    }
+    Ok(Some(table))
+}
+
+/// Whether two tables have equal functions under equal keys, as many of them and in one order.
+fn same_functions(fs: &Functions, gs: &Functions) -> bool
+    ensures { IsTrue result ↔ (fs.now.entries ≡ gs.now.entries) }
+{
+    if fs.len() != gs.len() {
+        return false;
+    }
+    for place in 0..fs.len() {
+        if !same_at(fs, gs, place) {
+            return false;
+        }
+    }
+    true
+}
+
+/// Whether two tables have equal functions under equal keys at a place.
+fn same_at(fs: &Functions, gs: &Functions, place: usize) -> bool
+    ensures { IsTrue result ↔ (slice_get fs.now.entries place ≡ slice_get gs.now.entries place) }
+{
+    match (fs.get_index(place), gs.get_index(place)) {
+        (Some((key, f)), Some((other, g))) => {
+            key.0.same(&other.0) && key.1 == other.1 && f.same(g)
+        }
+        (None, None) => true,
+        (_, _) => false,
+    }
+}
