@@ -26,17 +26,17 @@ two d e = rule.operand d (rule.others (one e) refl)
 three : {w : World} {a : Activation} {e f g : Expr} {s s1 s2 s3 : State} {t u v : Tree} →
     Eval w a false e s (value t) s1 → Eval w a false f s1 (value u) s2 → Eval w a false g s2 (value v) s3 →
     Operands w a (form.more e (form.more f (form.more g form.none))) s
-      (all (term.more t (term.more u (term.more v term.none)))) s3
+    (all (term.more t (term.more u (term.more v term.none)))) s3
 three d e f = rule.operand d (rule.others (two e f) refl)
 
 pub calls : CallsAreAdded
 calls = job.called (rule.clauses (rule.taken (rule.last (rule.apply (two (rule.literal (refl, refl)) (rule.apply (one
     (rule.apply (two (rule.variable (refl, refl)) (rule.literal (refl, refl))) (rule.operator (refl, refl))))
     (rule.local (rule.called (rule.clauses (rule.taken (rule.last (rule.apply (two (rule.literal (refl, refl))
-      (rule.apply (one (rule.apply (two (rule.variable (refl, refl)) (rule.literal (refl, refl)))
-        (rule.operator (refl, refl))))
-      (rule.local (rule.called (rule.clauses (rule.taken (rule.last (rule.literal (refl, refl))) refl)) refl))))
-      (rule.operator (refl, refl)))) refl)) refl)))) (rule.operator (refl, refl)))) refl)) refl
+    (rule.apply (one (rule.apply (two (rule.variable (refl, refl)) (rule.literal (refl, refl)))
+    (rule.operator (refl, refl))))
+    (rule.local (rule.called (rule.clauses (rule.taken (rule.last (rule.literal (refl, refl))) refl)) refl))))
+    (rule.operator (refl, refl)))) refl)) refl)))) (rule.operator (refl, refl)))) refl)) refl
 
 pub divides : ZeroDividesNothing
 divides = job.called (rule.clauses (rule.taken (rule.last (rule.apply
@@ -58,8 +58,8 @@ pub rings : SendsBeforeItsReply
 rings = job.handled (rule.clauses (rule.taken (rule.next
     (rule.apply (two (rule.literal (refl, refl)) (rule.literal (refl, refl))) (rule.operator (refl, refl)))
     (rule.onward (rule.last (rule.apply
-      (three (rule.literal (refl, refl)) (rule.literal (refl, refl)) (rule.variable (refl, refl)))
-      (rule.tuple (refl, refl)))))) refl)) refl
+    (three (rule.literal (refl, refl)) (rule.literal (refl, refl)) (rule.variable (refl, refl)))
+    (rule.tuple (refl, refl)))))) refl)) refl
 
 pub loops : RestsWithItsArguments
 loops = job.received (rule.last (rule.apply (one (rule.variable (refl, refl)))
@@ -67,11 +67,11 @@ loops = job.received (rule.last (rule.apply (one (rule.variable (refl, refl)))
 
 pub starts : StartsWithAName
 starts = job.called (rule.clauses (rule.taken (rule.next (rule.match (rule.last (rule.apply
-        (three (rule.literal (refl, refl)) (rule.literal (refl, refl))
-          (rule.apply (one (rule.literal (refl, refl))) (rule.list (refl, refl))))
-        (rule.built_in (rule.built_in_called (rule.starts (rule.started_by (rule.loop refl (refl, refl)) (refl, refl)))))))
-        (rule.matched_to (refl, refl)))
-      (rule.onward (rule.next (rule.apply (two (rule.literal (refl, refl)) (rule.variable (refl, refl)))
-          (rule.built_in (rule.built_in_called (rule.named (refl, refl)))))
-        (rule.onward (rule.last (rule.apply (two (rule.literal (refl, refl)) (rule.variable (refl, refl)))
-          (rule.tuple (refl, refl)))))))) refl)) refl
+    (three (rule.literal (refl, refl)) (rule.literal (refl, refl))
+    (rule.apply (one (rule.literal (refl, refl))) (rule.list (refl, refl))))
+    (rule.built_in (rule.built_in_called (rule.starts (rule.started_by (rule.loop refl (refl, refl)) (refl, refl)))))))
+    (rule.matched_to (refl, refl)))
+    (rule.onward (rule.next (rule.apply (two (rule.literal (refl, refl)) (rule.variable (refl, refl)))
+    (rule.built_in (rule.built_in_called (rule.named (refl, refl)))))
+    (rule.onward (rule.last (rule.apply (two (rule.literal (refl, refl)) (rule.variable (refl, refl)))
+    (rule.tuple (refl, refl)))))))) refl)) refl

@@ -184,4 +184,4 @@ module _ (w : World) where
     started-once (started_by {starter = starter} {i = i} {s = s} d g) (started_by e h) =
         let same = entered-once d e in
         across (ap2 (λ u v. (starting.started w starter s.bindings i.name u v).0) same.0 same.1)
-            (ap2 (λ u v. (starting.started w starter s.bindings i.name u v).1) same.0 same.1) g h
+        (ap2 (λ u v. (starting.started w starter s.bindings i.name u v).1) same.0 same.1) g h

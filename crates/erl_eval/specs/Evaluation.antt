@@ -156,7 +156,7 @@ module _ (w : World) where
     pub data Cased : Activation → Bool → Clauses → Result → State → Result → State → Type 0 where
       cased : {a : Activation} {tail : Bool} {cs : Clauses} {t : Tree} {s s1 : State} {r : Result} →
           Taken a tail (exit_by_pair (codes "case_clause") t) (chosen cs (term.more t term.none) s).0
-            (tried cs (term.more t term.none) s) r s1 →
+          (tried cs (term.more t term.none) s) r s1 →
           Cased a tail cs (state.value t) s r s1
       subject_ended : {a : Activation} {tail : Bool} {cs : Clauses} {q : Result} {s : State} {r : Result} {s' : State} →
           IsEnd q → Gives r s' q s → Cased a tail cs q s r s'
@@ -250,6 +250,6 @@ module _ (w : World) where
       started_by : {a : Activation} {starter : Starter} {registered : Option (List ℕ)} {i : Instance} {name : List ℕ} {f : Function}
           {ts : Trees} {s s1 : State} {q r : Result} {s' : State} →
           Entered (first_activation a starter i) (may_nest (first_activation a starter i)) name f.definition ts (begun_by registered s)
-            q s1 →
+          q s1 →
           Gives r s' (started w starter s.bindings i.name q s1).0 (started w starter s.bindings i.name q s1).1 →
           Started a starter (begin registered i name f ts) s r s'

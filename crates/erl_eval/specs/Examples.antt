@@ -1,5 +1,5 @@
 -- Examples: that the rules give what the Reference Manual says of small modules.
-use Rattle.std.specs.Prelude.{ℕ, ◌-◌, ◌^◌, pos, Bool, true, false, List, [], ◌∷◌, codes, Option, None, Some}
+use Rattle.std.specs.Prelude.{ℕ, ◌-◌, ◌^◌, pos, true, false, List, [], ◌∷◌, codes, None}
 use Rattle.erl_term.specs.Tree as term
 use Rattle.erl_term.specs.Tree.{Tree, Trees, int, atom, pid}
 use Rattle.erl_term.specs.Conversions.{row}
@@ -17,7 +17,7 @@ use Rattle.erl_forms.specs.Expression.{Expr, Exprs, Clauses}
 use Rattle.erl_eval.specs.State.{Instance, World, plain, start_mode, value, rest, exit, exit_by, exit_by_pair, server, loop}
 use Rattle.erl_eval.specs.State as state
 use Rattle.erl_eval.specs.State.{named}
-use Rattle.erl_eval.specs.Jobs.{Outcome, Evaluates, Job, GivesJob}
+use Rattle.erl_eval.specs.Jobs.{Evaluates, GivesJob}
 
 -- How modules are written here.
 
@@ -68,18 +68,18 @@ lim = record {
   name = codes "lim";
   vsn = None;
   functions =
-    exported (codes "f") 1
+      exported (codes "f") 1
       (clause_of (pattern.literal (n 0) ∷ []) (literal (n 0) ∷ []) ∷
-       clause_of (pattern.variable 0 ∷ []) (form.apply (operation.Operator operator.Add) (exprs (literal (n 1) ∷
-         form.apply (operation.Local (codes "f")) (exprs (form.apply (operation.Operator operator.Subtract)
-           (exprs (var 0 ∷ literal (n 1) ∷ [])) ∷ [])) ∷ [])) ∷ []) ∷ []) ∷
-    exported (codes "p") 1 (clause_of (pattern.variable 0 ∷ [])
+      clause_of (pattern.variable 0 ∷ []) (form.apply (operation.Operator operator.Add) (exprs (literal (n 1) ∷
+      form.apply (operation.Local (codes "f")) (exprs (form.apply (operation.Operator operator.Subtract)
+      (exprs (var 0 ∷ literal (n 1) ∷ [])) ∷ [])) ∷ [])) ∷ []) ∷ []) ∷
+      exported (codes "p") 1 (clause_of (pattern.variable 0 ∷ [])
       (form.apply (operation.Operator operator.Add) (exprs (var 0 ∷ literal (n 1) ∷ [])) ∷ []) ∷ []) ∷
-    exported (codes "q") 2 (clause_of (pattern.variable 0 ∷ pattern.variable 1 ∷ [])
+      exported (codes "q") 2 (clause_of (pattern.variable 0 ∷ pattern.variable 1 ∷ [])
       (form.apply (operation.Operator operator.Divide) (exprs (var 0 ∷ var 1 ∷ [])) ∷ []) ∷ []) ∷
-    exported (codes "t") 0 (clause_of []
+      exported (codes "t") 0 (clause_of []
       (form.short_circuit AndAlso (exprs (literal (n 1) ∷ [])) (exprs (literal (a (codes "true")) ∷ [])) ∷ []) ∷ []) ∷
-    exported (codes "c") 1 (clause_of (pattern.variable 0 ∷ []) (form.case (exprs (var 0 ∷ []))
+      exported (codes "c") 1 (clause_of (pattern.variable 0 ∷ []) (form.case (exprs (var 0 ∷ []))
       (clauses (clause_of (pattern.literal (a (codes "a")) ∷ []) (literal (a (codes "b")) ∷ []) ∷ [])) ∷ []) ∷ []) ∷ [];
 }
 
@@ -90,10 +90,10 @@ bell = record {
   name = codes "bell";
   vsn = None;
   functions = exported (codes "handle_call") 3
-    (clause_of (pattern.literal (a (codes "ring")) ∷ pattern.anything ∷ pattern.variable 0 ∷ [])
+      (clause_of (pattern.literal (a (codes "ring")) ∷ pattern.anything ∷ pattern.variable 0 ∷ [])
       (form.apply (operation.Operator operator.Send)
-        (exprs (literal (a (codes "other")) ∷ literal (a (codes "ding")) ∷ [])) ∷
-       tuple_of (literal (a (codes "reply")) ∷ literal (a (codes "ok")) ∷ var 0 ∷ []) ∷ []) ∷ []) ∷ [];
+      (exprs (literal (a (codes "other")) ∷ literal (a (codes "ding")) ∷ [])) ∷
+      tuple_of (literal (a (codes "reply")) ∷ literal (a (codes "ok")) ∷ var 0 ∷ []) ∷ []) ∷ []) ∷ [];
 }
 
 -- -module(lp).
@@ -104,18 +104,20 @@ lp = record {
   name = codes "lp";
   vsn = None;
   functions =
-    exported (codes "start") 0 (clause_of []
+      exported (codes "start") 0 (clause_of []
       (form.match (pattern.variable 0) (exprs (form.apply (operation.BuiltIn built_in.SpawnLink false)
-        (exprs (literal (a (codes "lp")) ∷ literal (a (codes "loop")) ∷ form.apply operation.List
-          (exprs (literal (n 0) ∷ [])) ∷ [])) ∷ [])) ∷
-       form.apply (operation.BuiltIn built_in.Register false) (exprs (literal (a (codes "lp")) ∷ var 0 ∷ [])) ∷
-       tuple_of (literal (a (codes "ok")) ∷ var 0 ∷ []) ∷ []) ∷ []) ∷
-    ((codes "loop", 1), record {
-      exported = true;
-      definition = definition.Loop (pats (pattern.variable 0 ∷ [])) form.no_guards
-        (clauses (clause_of (pattern.tuple (pats (pattern.literal (a (codes "set")) ∷ pattern.variable 1 ∷ [])) ∷ [])
-          (form.apply (operation.Local (codes "loop")) (exprs (var 1 ∷ [])) ∷ []) ∷ []));
-    }) ∷ [];
+      (exprs (literal (a (codes "lp")) ∷ literal (a (codes "loop")) ∷ form.apply operation.List
+      (exprs (literal (n 0) ∷ [])) ∷ [])) ∷ [])) ∷
+      form.apply (operation.BuiltIn built_in.Register false) (exprs (literal (a (codes "lp")) ∷ var 0 ∷ [])) ∷
+      tuple_of (literal (a (codes "ok")) ∷ var 0 ∷ []) ∷ []) ∷ []) ∷ (
+        (codes "loop", 1),
+        record {
+          exported = true;
+          definition = definition.Loop (pats (pattern.variable 0 ∷ [])) form.no_guards
+              (clauses (clause_of (pattern.tuple (pats (pattern.literal (a (codes "set")) ∷ pattern.variable 1 ∷ [])) ∷ [])
+              (form.apply (operation.Local (codes "loop")) (exprs (var 1 ∷ [])) ∷ []) ∷ []));
+        },
+      ) ∷ [];
 }
 
 -- each loaded once
@@ -158,33 +160,33 @@ NoClauseFits = LimGives (codes "c") (a (codes "z") ∷ []) (exit_by_pair (codes 
 -- A call of `bell` by client 0 with the number 5: the send comes before the callback's own reply.
 abbrev pub SendsBeforeItsReply : Type 0
 SendsBeforeItsReply = GivesJob (record {
-    pid = 2;
-    turn = 0;
-    place = server (codes "bell") (n 4);
-    entry_serial = 2;
-    message = term.tuple (row (a (codes "$gen_call") ∷ term.tuple (row (pid 0 ∷ n 5 ∷ [])) ∷ a (codes "ring") ∷ []));
-    code = instance_of 2 bell ∷ [];
-  })
-  (record {
-    acts = state.send (named (codes "other")) (a (codes "ding")) ∷ state.reply 5 (a (codes "ok")) ∷ [];
-    ended = rest (server (codes "bell") (n 4));
-  })
+  pid = 2;
+  turn = 0;
+  place = server (codes "bell") (n 4);
+  entry_serial = 2;
+  message = term.tuple (row (a (codes "$gen_call") ∷ term.tuple (row (pid 0 ∷ n 5 ∷ [])) ∷ a (codes "ring") ∷ []));
+  code = instance_of 2 bell ∷ [];
+})
+    (record {
+      acts = state.send (named (codes "other")) (a (codes "ding")) ∷ state.reply 5 (a (codes "ok")) ∷ [];
+      ended = rest (server (codes "bell") (n 4));
+    })
 
 -- `{set,9}` lets `lp:loop(0)` rest in `loop(9)`.
 abbrev pub RestsWithItsArguments : Type 0
 RestsWithItsArguments = GivesJob (record {
-    pid = 7;
-    turn = 0;
-    place = loop (codes "lp") 3 (codes "loop") (row (n 0 ∷ []));
-    entry_serial = 3;
-    message = term.tuple (row (a (codes "set") ∷ n 9 ∷ []));
-    code = instance_of 3 lp ∷ loaded;
-  })
-  (record { acts = []; ended = rest (loop (codes "lp") 3 (codes "loop") (row (n 9 ∷ []))) })
+  pid = 7;
+  turn = 0;
+  place = loop (codes "lp") 3 (codes "loop") (row (n 0 ∷ []));
+  entry_serial = 3;
+  message = term.tuple (row (a (codes "set") ∷ n 9 ∷ []));
+  code = instance_of 3 lp ∷ loaded;
+})
+    (record { acts = []; ended = rest (loop (codes "lp") 3 (codes "loop") (row (n 9 ∷ []))) })
 
 -- `lp:start()` starts a process that rests in `loop(0)`, and names it.
 abbrev pub StartsWithAName : Type 0
 StartsWithAName = Evaluates start_world (codes "lp") (codes "start") term.none (record {
-    acts = state.start (loop (codes "lp") 3 (codes "loop") (row (n 0 ∷ []))) ∷ state.name (codes "lp") true ∷ [];
-    ended = value (term.tuple (row (a (codes "ok") ∷ pid 7 ∷ [])));
-  })
+  acts = state.start (loop (codes "lp") 3 (codes "loop") (row (n 0 ∷ []))) ∷ state.name (codes "lp") true ∷ [];
+  ended = value (term.tuple (row (a (codes "ok") ∷ pid 7 ∷ [])));
+})

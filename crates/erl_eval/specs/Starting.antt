@@ -147,8 +147,10 @@ abbrev pub unstarted : List Tree → State → State
 unstarted env s = record s { bindings = env; startup = None }
 
 abbrev pub linked_by : World → List Tree → List ℕ → State → Initialized → Result × State
-linked_by w env m s (begun t) = (state.value (state.pair (atom (codes "ok")) (pid w.pid)),
-    record s { bindings = env; startup = placed (state.server m t) s.startup })
+linked_by w env m s (begun t) = (
+  state.value (state.pair (atom (codes "ok")) (pid w.pid)),
+  record s { bindings = env; startup = placed (state.server m t) s.startup },
+)
 linked_by w env m s ignored = (state.value (atom (codes "ignore")), unstarted env s)
 linked_by w env m s (failed t) = (made (state.pair (atom (codes "error")) t), unstarted env s)
 
@@ -189,4 +191,3 @@ register_asked w ts s = (exit_by (codes "undef"), s)
 abbrev pub register_in_mode : World → Mode → Trees → State → Result × State
 register_in_mode w state.plain ts s = (not_in_profile, s)
 register_in_mode w state.start_mode ts s = register_asked w ts s
-

@@ -53,6 +53,7 @@
 //! from outside ([`evaluation_has_one_outcome`]). The rules give what is expected of small modules
 //! ([`rules_hold_of_examples`]).
 #![tactic(auto)]
+
 ghost use Rattle.erl_eval.specs.Laws.{OneResult, OneOutcome, OneJobOutcome};
 ghost use Rattle.erl_eval.specs.Examples.{CallsAreAdded, ZeroDividesNothing, IntegersEnd, OneIsNoTruth, NoClauseFits};
 ghost use Rattle.erl_eval.specs.Examples.{SendsBeforeItsReply, RestsWithItsArguments, StartsWithAName};
@@ -60,15 +61,13 @@ ghost use Rattle.erl_eval.specs.Examples.{SendsBeforeItsReply, RestsWithItsArgum
 /// One result comes of an expression, and one state is left behind.
 pub fn expressions_have_one_result()
     ensures { OneResult }
-{
-}
+{}
 
 /// One outcome comes of a call from outside of all modules, and one of a job.
 pub fn evaluation_has_one_outcome()
     ensures call { OneOutcome }
     ensures job { OneJobOutcome }
-{
-}
+{}
 
 /// The rules give what the Reference Manual says of small modules: calls that are not in tail position, exits, a send and a
 /// reply, a rest, and a process that is started and named.
@@ -81,5 +80,4 @@ pub fn rules_hold_of_examples()
     ensures rings { SendsBeforeItsReply }
     ensures loops { RestsWithItsArguments }
     ensures starts { StartsWithAName }
-{
-}
+{}
