@@ -1,4 +1,7 @@
+pub mod Elements
 pub mod Examples
 pub mod Moved
+pub mod Options
 pub mod Outcomes
+pub mod Rows
 pub mod Uniqueness

@@ -21,6 +21,7 @@ use Rattle.erl_eval.specs.Evaluation.{subject_ended, no_clause, taken, operands_
 use Rattle.erl_eval.specs.Evaluation.{local, remote, too_many, undefined, called, loop_elsewhere, loop_too_deep, loop}
 use Rattle.erl_eval.specs.Evaluation.{too_deep, clauses, built_in_too_many, built_in_called, worked_at_once, named, starts}
 use Rattle.erl_eval.specs.Evaluation.{refused_start, started_by}
+use Rattle.erl_eval.proofs.Options.{some_none, some_injective}
 use Rattle.erl_eval.proofs.Moved.{bound_moved, others_moved, applied_moved, onward_moved, cased_moved, decided_moved}
 
 -- two that are the same as a third
@@ -34,20 +35,6 @@ across p q a b = (a.0 ∙ p ∙ sym b.0, a.1 ∙ q ∙ sym b.1)
 
 pub ap2 : {A B C : Type 0} (f : A → B → C) {x x' : A} {y y' : B} → x ≡ x' → y ≡ y' → f x y ≡ f x' y'
 ap2 f p q = λ i. f (p i) (q i)
-
-abbrev Filled : {A : Type 0} → Option A → Type 0
-Filled None = ⊥
-Filled (Some x) = Unit {0}
-
-some-none : {A : Type 0} {x : A} → Some x ≡ None → ⊥
-some-none same = subst (λ o. Filled o) same tt
-
-abbrev held : {A : Type 0} → A → Option A → A
-held x None = x
-held x (Some y) = y
-
-some-injective : {A : Type 0} {x y : A} → Some x ≡ Some y → x ≡ y
-some-injective {x = x} same = ap (λ o. held x o) same
 
 abbrev Holds : Bool → Type 0
 Holds false = ⊥
@@ -105,16 +92,16 @@ module _ (w : World) where
     decided-once : {a : Activation} {tail : Bool} {c : Connective} {right : Exprs} {u : Result} {s : State} {r q : Result}
         {x y : State} → Decided w a tail c right u s r x → Decided w a tail c right u s q y → (r ≡ q) × (x ≡ y)
     decided-once (decided m g) (decided n h) = both g h
-    decided-once (decided m g) (undecided n other e y) = absurd (other (some-injective (sym n ∙ m)))
-    decided-once (decided m g) (no_truth n h) = absurd (some-none (sym m ∙ n))
+    decided-once (decided m g) (undecided n other e y) = absurd (other (some_injective (sym n ∙ m)))
+    decided-once (decided m g) (no_truth n h) = absurd (some_none (sym m ∙ n))
     decided-once (decided m g) (left_ended end h) = absurd end
-    decided-once (undecided m other d x) (decided n h) = absurd (other (some-injective (sym m ∙ n)))
+    decided-once (undecided m other d x) (decided n h) = absurd (other (some_injective (sym m ∙ n)))
     decided-once (undecided {s = s} m other d x) (undecided n other' e y) =
         let same = body-once d e in (same.0, x ∙ ap (λ u. with_bindings s.bindings u) same.1 ∙ sym y)
-    decided-once (undecided m other d x) (no_truth n h) = absurd (some-none (sym m ∙ n))
+    decided-once (undecided m other d x) (no_truth n h) = absurd (some_none (sym m ∙ n))
     decided-once (undecided m other d x) (left_ended end h) = absurd end
-    decided-once (no_truth m g) (decided n h) = absurd (some-none (sym n ∙ m))
-    decided-once (no_truth m g) (undecided n other e y) = absurd (some-none (sym n ∙ m))
+    decided-once (no_truth m g) (decided n h) = absurd (some_none (sym n ∙ m))
+    decided-once (no_truth m g) (undecided n other e y) = absurd (some_none (sym n ∙ m))
     decided-once (no_truth m g) (no_truth n h) = both g h
     decided-once (no_truth m g) (left_ended end h) = absurd end
     decided-once (left_ended end g) (decided n h) = absurd end

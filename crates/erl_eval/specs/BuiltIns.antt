@@ -1,15 +1,16 @@
 -- Functions that are built in, as total functions of their arguments (erlang(3), lists(3), gen_server(3)); those that start
 -- a process stand in `Evaluation`.
-use Rattle.std.specs.Prelude.{ℕ, zero, suc, pos, nat_abs, Bool, true, false}
-use Rattle.std.specs.Prelude.{if◌then◌else◌, codes, Option, None, Some, is_some}
-use Rattle.std.specs.Prelude.{option_map}
+use Rattle.std.specs.Prelude.{ℕ, zero, suc, ◌+◌, ◌-◌, ◌<◌, ℤ, pos, negsuc, nat_abs, Bool, true, false, ◌&&◌}
+use Rattle.std.specs.Prelude.{if◌then◌else◌, nat_lt, nat_le, ◌==◌, List, [], ◌∷◌, ◌++◌, codes, Option, None, Some, is_some}
+use Rattle.std.specs.Prelude.{option_and_then, option_map}
 use Rattle.erl_term.specs.Tree.{Tree, Trees, int, atom, pid, tuple, list, none, more, count}
-use Rattle.erl_term.specs.Accessors.{three_of}
+use Rattle.erl_term.specs.Rows.{append_trees}
+use Rattle.erl_term.specs.Accessors.{one_of, two_of, three_of}
 use Rattle.erl_term.specs.Order.{tree_cmp}
 use Rattle.erl_forms.specs.declared.operation.BuiltIn.{BuiltIn}
 use Rattle.erl_forms.specs.declared.operation.BuiltIn.TheVariants as built_in
 use Rattle.erl_eval.specs.State.{Result, value, exit, exit_by, made, Receiver, Act, send, reply}
-use Rattle.erl_eval.specs.Operators.{truth, truth_of, integer, is_equal, unary, binary, receiver_of}
+use Rattle.erl_eval.specs.Operators.{truth, truth_of, integer, is_equal, receiver_of}
 
 abbrev pub badarg : Result
 badarg = exit_by (codes "badarg")
@@ -48,13 +49,22 @@ abbrev pub made_or_badarg : Option Trees → Result
 made_or_badarg None = badarg
 made_or_badarg (Some ts) = made (tuple ts)
 
+-- the same at the place that a term is
+abbrev pub element_of : Tree → Trees → Option Tree
+element_of (int (pos n)) ts = nth n ts
+element_of _ ts = None
+
+abbrev pub with_element : Tree → Tree → Trees → Option Trees
+with_element (int (pos n)) u ts = with_nth n u ts
+with_element _ u ts = None
+
 abbrev pub element : Tree → Tree → Result
-element (int (pos n)) (tuple ts) = value_or_badarg (nth n ts)
-element _ _ = badarg
+element x (tuple ts) = value_or_badarg (element_of x ts)
+element x _ = badarg
 
 abbrev pub set_element : Tree → Tree → Tree → Result
-set_element (int (pos n)) (tuple ts) u = made_or_badarg (with_nth n u ts)
-set_element _ _ _ = badarg
+set_element x (tuple ts) u = made_or_badarg (with_element x u ts)
+set_element x _ u = badarg
 
 abbrev pub head : Tree → Result
 head (list (more t ts)) = value t
@@ -103,17 +113,6 @@ abbrev pub is_list : Tree → Bool
 is_list (list ts) = true
 is_list _ = false
 
-abbrev pub test : (Tree → Bool) → Trees → Result
-test f ts = unary (λ t. value (truth (f t))) ts
-
-abbrev pub of_none : Result → Trees → Result
-of_none r none = r
-of_none r (more t ts) = exit_by (codes "undef")
-
-abbrev pub of_three : (Tree → Tree → Tree → Result) → Option (Tree × Tree × Tree) → Result
-of_three f None = exit_by (codes "undef")
-of_three f (Some p) = f p.0 p.1 p.2
-
 abbrev pub ok : Result
 ok = value (atom (codes "ok"))
 
@@ -121,30 +120,69 @@ abbrev pub if_receiver : Option Receiver → Result
 if_receiver None = badarg
 if_receiver (Some receiver) = ok
 
--- What a call gives in a process. `gen_server:call` is outside of the profile.
+-- whether a term is of the kind that a test asks for
+abbrev pub is_of_kind : BuiltIn → Tree → Bool
+is_of_kind built_in.IsAtom t = is_atom t
+is_of_kind built_in.IsInteger t = is_int t
+is_of_kind built_in.IsList t = is_list t
+is_of_kind built_in.IsPid t = is_pid t
+is_of_kind built_in.IsTuple t = is_tuple t
+is_of_kind built_in.IsBoolean t = is_some (truth_of t)
+is_of_kind _ t = false
+
+abbrev pub boolean : Bool → Result
+boolean b = value (truth b)
+
+abbrev pub not_in_profile : Result
+not_in_profile = exit_by (codes "not_in_profile")
+
+-- with another number of arguments there is no such function, which never comes of a source
+abbrev pub no_function : Result
+no_function = exit_by (codes "undef")
+
+-- What a call gives in a process, by how many arguments there are
+
+abbrev pub of_none : ℕ → BuiltIn → Result
+of_none self built_in.SelfPid = value (pid self)
+of_none self _ = no_function
+
+abbrev pub of_one : BuiltIn → Tree → Result
+of_one built_in.Abs x = absolute x
+of_one built_in.Hd x = head x
+of_one built_in.Tl x = tail x
+of_one built_in.Length x = list_length x
+of_one built_in.TupleSize x = size_of_tuple x
+of_one built_in.IsAtom x = boolean (is_of_kind built_in.IsAtom x)
+of_one built_in.IsInteger x = boolean (is_of_kind built_in.IsInteger x)
+of_one built_in.IsList x = boolean (is_of_kind built_in.IsList x)
+of_one built_in.IsPid x = boolean (is_of_kind built_in.IsPid x)
+of_one built_in.IsTuple x = boolean (is_of_kind built_in.IsTuple x)
+of_one built_in.IsBoolean x = boolean (is_of_kind built_in.IsBoolean x)
+of_one built_in.Exit x = exit x
+of_one built_in.Error x = exit x
+of_one built_in.Reverse x = reversed x
+of_one _ x = no_function
+
+-- `gen_server:call` is outside of the profile
+abbrev pub of_two : BuiltIn → Tree → Tree → Result
+of_two built_in.Element x y = element x y
+of_two built_in.Member x y = member x y
+of_two built_in.Cast x y = if_receiver (receiver_of x)
+of_two built_in.Reply x y = ok
+of_two built_in.Call x y = not_in_profile
+of_two _ x y = no_function
+
+abbrev pub of_three : BuiltIn → Tree → Tree → Tree → Result
+of_three built_in.SetElement x y z = set_element x y z
+of_three built_in.Call x y z = not_in_profile
+of_three _ x y z = no_function
+
 abbrev pub given : ℕ → BuiltIn → Trees → Result
-given self built_in.Abs ts = unary absolute ts
-given self built_in.Element ts = binary element ts
-given self built_in.Hd ts = unary head ts
-given self built_in.Tl ts = unary tail ts
-given self built_in.Length ts = unary list_length ts
-given self built_in.TupleSize ts = unary size_of_tuple ts
-given self built_in.IsAtom ts = test is_atom ts
-given self built_in.IsInteger ts = test is_int ts
-given self built_in.IsList ts = test is_list ts
-given self built_in.IsPid ts = test is_pid ts
-given self built_in.IsTuple ts = test is_tuple ts
-given self built_in.IsBoolean ts = test (λ t. is_some (truth_of t)) ts
-given self built_in.SelfPid ts = of_none (value (pid self)) ts
-given self built_in.SetElement ts = of_three set_element (three_of ts)
-given self built_in.Exit ts = unary exit ts
-given self built_in.Error ts = unary exit ts
-given self built_in.Cast ts = binary (λ to message. if_receiver (receiver_of to)) ts
-given self built_in.Reply ts = binary (λ from t. ok) ts
-given self built_in.Call ts = exit_by (codes "not_in_profile")
-given self built_in.Reverse ts = unary reversed ts
-given self built_in.Member ts = binary member ts
-given self _ ts = exit_by (codes "not_in_profile")
+given self f none = of_none self f
+given self f (more x none) = of_one f x
+given self f (more x (more y none)) = of_two f x y
+given self f (more x (more y (more z none))) = of_three f x y z
+given self f ts = no_function
 
 -- `{'$gen_cast',T}`
 abbrev pub cast_of : Tree → Tree

@@ -22,11 +22,11 @@ use Rattle.erl_eval.specs.State.{Instance, Place, Result, IsEnd, exit_by, exit_b
 use Rattle.erl_eval.specs.State.{callee, State, with_bindings, with_calls, after}
 use Rattle.erl_eval.specs.State as state
 use Rattle.erl_eval.specs.Operators.{operated, sends, truth_of, consed}
-use Rattle.erl_eval.specs.BuiltIns.{given, does}
+use Rattle.erl_eval.specs.BuiltIns.{given, does, not_in_profile}
 use Rattle.erl_eval.specs.Matching.{matched}
 use Rattle.erl_eval.specs.Guards.{Values, all, stopped, with_first, decisive, Selection, selected}
 use Rattle.erl_eval.specs.Starting.{remote_function, Starter, Way, at_once, naming, starting, way_of, Request, refused, begin}
-use Rattle.erl_eval.specs.Starting.{not_in_profile, asked, begun_by, started, first_activation, register_in_mode}
+use Rattle.erl_eval.specs.Starting.{asked, begun_by, started, first_activation, register_in_mode}
 
 -- this result, and this state
 abbrev pub Gives : Result → State → Result → State → Type 0

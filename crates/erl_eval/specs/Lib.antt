@@ -1,6 +1,7 @@
 pub mod BuiltIns
 pub mod Evaluation
 pub mod Examples
+pub mod Given
 pub mod Guards
 pub mod Jobs
 pub mod Laws

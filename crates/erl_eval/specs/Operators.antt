@@ -1,7 +1,7 @@
 -- Operators, as total functions of the values of their operands (Erlang Reference Manual, Expressions: Unary Operators,
 -- Arithmetic Expressions, Boolean Expressions, Term Comparisons, List Operations, Send).
-use Rattle.std.specs.Prelude.{ℕ, ◌^◌, ℤ, pos, negsuc, ◌+ℤ◌, ◌-ℤ◌, ◌*ℤ◌, neg_ℤ, int_div, int_rem}
-use Rattle.std.specs.Prelude.{Bool, true, false, not, ◌&&◌, ◌||◌, if◌then◌else◌, nat_lt, List, codes}
+use Rattle.std.specs.Prelude.{ℕ, ◌+◌, ◌^◌, ℤ, pos, negsuc, ◌+ℤ◌, ◌-ℤ◌, ◌*ℤ◌, neg_ℤ, int_div, int_rem}
+use Rattle.std.specs.Prelude.{Bool, true, false, not, ◌&&◌, ◌||◌, if◌then◌else◌, nat_lt, List, [], ◌∷◌, ◌++◌, codes}
 use Rattle.std.specs.Prelude.{Option, None, Some}
 use Rattle.std.specs.Str.{bytes_eq}
 use Rattle.std.specs.declared.cmp.Ordering.{Ordering}
@@ -30,22 +30,6 @@ truth_of (atom cs) = truth_of_atom cs
 truth_of (pid n) = None
 truth_of (tuple ts) = None
 truth_of (list ts) = None
-
--- A function of one operand or of two; of another number of operands there is none, which never comes of a source.
-
-abbrev pub of_one : (Tree → Result) → Option Tree → Result
-of_one f None = exit_by (codes "undef")
-of_one f (Some x) = f x
-
-abbrev pub of_two : (Tree → Tree → Result) → Option (Tree × Tree) → Result
-of_two f None = exit_by (codes "undef")
-of_two f (Some p) = f p.0 p.1
-
-abbrev pub unary : (Tree → Result) → Trees → Result
-unary f ts = of_one f (one_of ts)
-
-abbrev pub binary : (Tree → Tree → Result) → Trees → Result
-binary f ts = of_two f (two_of ts)
 
 -- Arithmetic on integers from -2^63 to 2^63 - 1: an operand of another kind is `badarith`, a result past them a breach of
 -- the limits.
@@ -93,8 +77,25 @@ is_equal ordering.Less = false
 is_equal ordering.Equal = true
 is_equal ordering.Greater = false
 
-abbrev pub comparison : (Ordering → Bool) → Tree → Tree → Result
-comparison f x y = value (truth (f (tree_cmp x y)))
+abbrev pub is_greater : Ordering → Bool
+is_greater ordering.Less = false
+is_greater ordering.Equal = false
+is_greater ordering.Greater = true
+
+-- whether a comparison holds by the order of its operands
+abbrev pub holds_by : Operator → Ordering → Bool
+holds_by operator.Equal o = is_equal o
+holds_by operator.NotEqual o = not (is_equal o)
+holds_by operator.ExactlyEqual o = is_equal o
+holds_by operator.ExactlyNotEqual o = not (is_equal o)
+holds_by operator.Less o = is_less o
+holds_by operator.Greater o = is_greater o
+holds_by operator.AtMost o = not (is_greater o)
+holds_by operator.AtLeast o = not (is_less o)
+holds_by _ o = false
+
+abbrev pub compared : Operator → Tree → Tree → Result
+compared operator x y = value (truth (holds_by operator (tree_cmp x y)))
 
 -- `++`: the left operand is a list, else `badarg`. Of the empty list and anything the latter is given, as it is; another
 -- list is given one that ends in a list, for there are no others.
@@ -141,26 +142,39 @@ abbrev pub sent_to : Option Receiver → Tree → Result
 sent_to None message = exit_by (codes "badarg")
 sent_to (Some receiver) message = value message
 
+-- of another number of operands there is no operator, which never comes of a source
+abbrev pub no_operator : Result
+no_operator = exit_by (codes "undef")
+
+abbrev pub of_one : Operator → Tree → Result
+of_one operator.Negate x = of_integer (λ n. integer (neg_ℤ n)) (int_of x)
+of_one operator.Not x = of_truth (λ a. value (truth (not a))) (truth_of x)
+of_one _ x = no_operator
+
+abbrev pub of_two : Operator → Tree → Tree → Result
+of_two operator.Multiply x y = arithmetic (λ m n. integer (m *ℤ n)) x y
+of_two operator.Divide x y = arithmetic (divided int_div) x y
+of_two operator.Remainder x y = arithmetic (divided int_rem) x y
+of_two operator.And x y = logical (λ a b. a && b) x y
+of_two operator.Add x y = arithmetic (λ m n. integer (m +ℤ n)) x y
+of_two operator.Subtract x y = arithmetic (λ m n. integer (m -ℤ n)) x y
+of_two operator.Or x y = logical (λ a b. a || b) x y
+of_two operator.Append x y = appended x y
+of_two operator.Equal x y = compared operator.Equal x y
+of_two operator.NotEqual x y = compared operator.NotEqual x y
+of_two operator.ExactlyEqual x y = compared operator.ExactlyEqual x y
+of_two operator.ExactlyNotEqual x y = compared operator.ExactlyNotEqual x y
+of_two operator.Less x y = compared operator.Less x y
+of_two operator.Greater x y = compared operator.Greater x y
+of_two operator.AtMost x y = compared operator.AtMost x y
+of_two operator.AtLeast x y = compared operator.AtLeast x y
+of_two operator.Send x y = sent_to (receiver_of x) y
+of_two _ x y = no_operator
+
 abbrev pub operated : Operator → Trees → Result
-operated operator.Negate ts = unary (λ x. of_integer (λ n. integer (neg_ℤ n)) (int_of x)) ts
-operated operator.Not ts = unary (λ x. of_truth (λ a. value (truth (not a))) (truth_of x)) ts
-operated operator.Multiply ts = binary (arithmetic (λ m n. integer (m *ℤ n))) ts
-operated operator.Divide ts = binary (arithmetic (divided int_div)) ts
-operated operator.Remainder ts = binary (arithmetic (divided int_rem)) ts
-operated operator.And ts = binary (logical (λ a b. a && b)) ts
-operated operator.Add ts = binary (arithmetic (λ m n. integer (m +ℤ n))) ts
-operated operator.Subtract ts = binary (arithmetic (λ m n. integer (m -ℤ n))) ts
-operated operator.Or ts = binary (logical (λ a b. a || b)) ts
-operated operator.Append ts = binary appended ts
-operated operator.Equal ts = binary (comparison is_equal) ts
-operated operator.NotEqual ts = binary (comparison (λ o. not (is_equal o))) ts
-operated operator.ExactlyEqual ts = binary (comparison is_equal) ts
-operated operator.ExactlyNotEqual ts = binary (comparison (λ o. not (is_equal o))) ts
-operated operator.Less ts = binary (comparison is_less) ts
-operated operator.Greater ts = binary (λ x y. comparison is_less y x) ts
-operated operator.AtMost ts = binary (λ x y. comparison (λ o. not (is_less o)) y x) ts
-operated operator.AtLeast ts = binary (comparison (λ o. not (is_less o))) ts
-operated operator.Send ts = binary (λ x y. sent_to (receiver_of x) y) ts
+operated o (more x none) = of_one o x
+operated o (more x (more y none)) = of_two o x y
+operated o ts = no_operator
 
 -- and what it does: a send sends
 

@@ -12,7 +12,7 @@ use Rattle.erl_eval.specs.State.{Instance, Place, Result, exit_by, made, Mode, W
 use Rattle.erl_eval.specs.State.{with_bindings}
 use Rattle.erl_eval.specs.State as state
 use Rattle.erl_eval.specs.Operators.{truth}
-use Rattle.erl_eval.specs.BuiltIns.{badarg}
+use Rattle.erl_eval.specs.BuiltIns.{badarg, not_in_profile}
 
 -- A remote call goes to the current code of the module, and to a function that it exports.
 
@@ -45,9 +45,6 @@ way_of _ = at_once
 pub data Request : Type 0 where
   refused : Result → Request
   begin : Option (List ℕ) → Instance → List ℕ → Function → Trees → Request
-
-abbrev pub not_in_profile : Result
-not_in_profile = exit_by (codes "not_in_profile")
 
 -- the function that is asked for, where no process is being started or was started yet
 abbrev pub begin_or_undef : Option (List ℕ) → List ℕ → Trees → Option (Instance × Function) → Request

@@ -54,9 +54,15 @@
 //! ([`rules_hold_of_examples`]).
 #![tactic(auto)]
 
+mod built_ins;
+mod given;
+mod operators;
+
 ghost use Rattle.erl_eval.specs.Laws.{OneResult, OneOutcome, OneJobOutcome};
 ghost use Rattle.erl_eval.specs.Examples.{CallsAreAdded, ZeroDividesNothing, IntegersEnd, OneIsNoTruth, NoClauseFits};
 ghost use Rattle.erl_eval.specs.Examples.{SendsBeforeItsReply, RestsWithItsArguments, StartsWithAName};
+
+pub use given::{Booleans, Given};
 
 /// One result comes of an expression, and one state is left behind.
 pub fn expressions_have_one_result()
