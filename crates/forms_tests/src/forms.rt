@@ -83,7 +83,7 @@ fn outcome(alloc: Global, text: &str, is_loop: bool) -> Result<String, Fail> {
 /// What is wanted of the same expression in a `receive`: one deeper.
 fn deeper(alloc: Global, wanted: &str) -> Result<String, Fail> {
     let (depth, names) = wanted.split_once(' ').unwrap_or((wanted, ""));
-    let depth = depth.parse::<u32>()?.saturating_add(1);
+    let depth = depth.parse().unwrap_or(u32::MAX).saturating_add(1);
     let blank = if names.is_empty() { "" } else { " " };
     Ok(format!(in alloc; "{depth}{blank}{names}")?)
 }

@@ -21,7 +21,7 @@ f/0 g/0 f/1 g/0! ? f/0 ⟶ twice";
 /// A name and a number of arguments.
 fn key(alloc: Global, text: &str) -> Result<(Atom, u32), Fail> {
     let (name, arity) = text.split_once('/').ok_or("no slash")?;
-    Ok((Atom::new(alloc, name)?, arity.parse::<u32>()?))
+    Ok((Atom::new(alloc, name)?, arity.parse().unwrap_or(u32::MAX)))
 }
 
 /// The functions that a text names.

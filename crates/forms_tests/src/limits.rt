@@ -1,40 +1,46 @@
 // Deep modules; and what is answered where memory is refused.
-use crate::cases::{clauses, function, hashing, module, one};
+use crate::cases::{clauses, function, halves, hashing, module, one};
 use crate::postfix::expression;
-use erl_forms::{Expression, Expressions, Operation};
+use erl_forms::{Expression, Expressions, Function, Operation};
 use erl_term::{Atom, Term};
 use std::alloc::{AllocError, Global};
 use std::hash::RandomState;
-use std::process::Abort;
 use std::test::Fail;
 use values::{Duplicate, Same};
 
-/// A word, then a row of words so often, then another row as often, makes an expression as deep as that.
-fn deep(alloc: Global, operand: &str, word: &str, times: usize) -> Result<Expression, Fail> {
+/// Words of operands, and words that take them: as often as these stand behind `v`, so deep is the expression.
+const DEEP: &str = " ⟶  begin
+ 1 ⟶  case
+ ⟶  m:f
+ v ⟶  andalso";
+
+/// The expression of a line, so deep.
+fn deep(alloc: Global, line: &str, depth: usize) -> Result<Expression, Fail> {
+    let (operand, word) = halves(line)?;
     let mut text = String::from_str(alloc, "v")?;
-    text.push_str(operand.repeat(alloc, times)?.as_str())?;
-    text.push_str(word.repeat(alloc, times)?.as_str())?;
+    text.push_str(operand.repeat(alloc, depth)?.as_str())?;
+    text.push_str(word.repeat(alloc, depth)?.as_str())?;
     expression(alloc, text.as_str())
 }
 
-/// Sees that a module nested so deep is copied, compared and dropped.
-fn expect_deep(rt: &impl Abort, alloc: Global, operand: &str, word: &str) -> Result<(), Fail> {
-    let (key, function) = function(alloc, deep(alloc, operand, word, 255)?, true)?;
-    let copy = function.copy(alloc)?;
-    assert!(rt; copy.same(&function));
-    let module = module(alloc, hashing()?, one(alloc, (key, copy))?)?.ok_or("none")?;
-    assert_eq!(rt; module.depth(), 256);
-    assert!(rt; module.copy(alloc)?.same(&module));
-    Ok(())
+/// The depth of the module of a function that is equal to this one, if it is the same as its copy.
+fn depth_of_copy(alloc: Global, key: (Atom, u32), function: &Function) -> Result<u64, Fail> {
+    let functions = one(alloc, (key, function.copy(alloc)?))?;
+    match module(alloc, hashing()?, functions)? {
+        Some(module) if module.copy(alloc)?.same(&module) => Ok(module.depth()),
+        _ => Ok(0),
+    }
 }
 
 #[test]
 fn deep_modules(rt: HostRuntime) -> Result<(), Fail> {
     let alloc = rt.alloc();
-    expect_deep(&rt, alloc, "", " begin")?;
-    expect_deep(&rt, alloc, " 1", " case")?;
-    expect_deep(&rt, alloc, "", " m:f")?;
-    expect_deep(&rt, alloc, " v", " andalso")
+    for line in DEEP.lines() {
+        let (key, function) = function(alloc, deep(alloc, line, 255)?, true)?;
+        assert!(rt; function.copy(alloc)?.same(&function), "{line}");
+        assert_eq!(rt; depth_of_copy(alloc, key, &function)?, 256, "{line}");
+    }
+    Ok(())
 }
 
 /// Whether a module with a call is made and tells the call, and with a copy too.

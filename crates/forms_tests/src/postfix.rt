@@ -19,7 +19,10 @@ pub(crate) fn expression(alloc: Global, text: &str) -> Result<Expression, Fail> 
 
 /// The last expressions of the stack.
 fn last(stack: &mut Vec<Expression>, count: usize) -> Result<Expressions, Fail> {
-    let rest = stack.len().checked_sub(count).ok_or("too few operands")?;
+    if stack.len() < count {
+        return Err(Fail::from("too few operands"));
+    }
+    let rest = stack.len() - count;
     Ok(Expressions::new(stack.split_off(rest)?))
 }
 
