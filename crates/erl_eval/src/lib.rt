@@ -62,7 +62,9 @@ ghost use Rattle.erl_eval.specs.Laws.{OneResult, OneOutcome, OneJobOutcome};
 ghost use Rattle.erl_eval.specs.Examples.{CallsAreAdded, ZeroDividesNothing, IntegersEnd, OneIsNoTruth, NoClauseFits};
 ghost use Rattle.erl_eval.specs.Examples.{SendsBeforeItsReply, RestsWithItsArguments, StartsWithAName};
 
+pub use built_ins::call_built_in;
 pub use given::{Booleans, Given};
+pub use operators::operate;
 
 /// One result comes of an expression, and one state is left behind.
 pub fn expressions_have_one_result()
