@@ -1,13 +1,12 @@
 -- One outcome comes of a call from outside, and of a job.
 use Rattle.std.specs.Prelude.{◌≡◌, ℕ, List, Option, None, Some}
 use Rattle.std.proofs.Common.{sym, ◌∙◌}
-use Rattle.erl_term.specs.Tree.{Tree, Trees, count}
+use Rattle.erl_term.specs.Tree.{Tree, Trees}
 use Rattle.erl_forms.specs.declared.function.Function.{Function}
-use Rattle.erl_forms.specs.Module.{function_of}
-use Rattle.erl_eval.specs.State.{Instance, Place, Result, World, State, all_acts, server, loop}
+use Rattle.erl_eval.specs.State.{Instance, Place, World, all_acts, server, loop}
 use Rattle.erl_eval.specs.Guards.{Selection}
 use Rattle.erl_eval.specs.Jobs.{Outcome, FromOutside, undefined, called, Job, world_of, Callback, served, Handles, not_exported}
-use Rattle.erl_eval.specs.Jobs.{handled, looped, heard, Receives, unheard, received, GivesAt}
+use Rattle.erl_eval.specs.Jobs.{handled, looped, Receives, unheard, received, GivesAt}
 use Rattle.erl_eval.proofs.Uniqueness.{ap2, entered-once, body-once}
 
 pub from_outside-once : {w : World} {name : List ℕ} {f : Option (Instance × Function)} {args : Trees} {o p : Outcome} →

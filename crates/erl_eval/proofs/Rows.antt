@@ -1,5 +1,5 @@
 -- Rows of terms as the code has them, and operations by how many terms there are.
-use Rattle.std.specs.Prelude.{◌≡◌, ℕ, List, [], ◌∷◌, ◌++◌, refl, codes, Option, None, Some}
+use Rattle.std.specs.Prelude.{◌≡◌, ℕ, List, [], ◌∷◌, ◌++◌, refl, codes, None, Some}
 use Rattle.std.proofs.Common.{ap, sym}
 use Rattle.erl_term.specs.declared.term.Term.{Term}
 use Rattle.erl_term.specs.Accessors.{one_of, two_of, three_of}

@@ -1,5 +1,5 @@
 -- One result comes of an expression, and one of each part of its evaluation.
-use Rattle.std.specs.Prelude.{◌≡◌, ℕ, Bool, true, false, List, Option, None, Some}
+use Rattle.std.specs.Prelude.{◌≡◌, ℕ, Bool, true, false, List, Option}
 use Rattle.std.proofs.Common.{ap, sym, ◌∙◌, subst}
 use Rattle.erl_term.specs.Tree.{Tree, Trees}
 use Rattle.erl_forms.specs.declared.operation.BuiltIn.{BuiltIn}

@@ -1,11 +1,9 @@
 -- Functions that are built in, as total functions of their arguments (erlang(3), lists(3), gen_server(3)); those that start
 -- a process stand in `Evaluation`.
-use Rattle.std.specs.Prelude.{ℕ, zero, suc, ◌+◌, ◌-◌, ◌<◌, ℤ, pos, negsuc, nat_abs, Bool, true, false, ◌&&◌}
-use Rattle.std.specs.Prelude.{if◌then◌else◌, nat_lt, nat_le, ◌==◌, List, [], ◌∷◌, ◌++◌, codes, Option, None, Some, is_some}
-use Rattle.std.specs.Prelude.{option_and_then, option_map}
+use Rattle.std.specs.Prelude.{ℕ, zero, suc, pos, nat_abs, Bool, true, false}
+use Rattle.std.specs.Prelude.{if◌then◌else◌, codes, Option, None, Some, is_some}
+use Rattle.std.specs.Prelude.{option_map}
 use Rattle.erl_term.specs.Tree.{Tree, Trees, int, atom, pid, tuple, list, none, more, count}
-use Rattle.erl_term.specs.Rows.{append_trees}
-use Rattle.erl_term.specs.Accessors.{one_of, two_of, three_of}
 use Rattle.erl_term.specs.Order.{tree_cmp}
 use Rattle.erl_forms.specs.declared.operation.BuiltIn.{BuiltIn}
 use Rattle.erl_forms.specs.declared.operation.BuiltIn.TheVariants as built_in

@@ -1,5 +1,5 @@
 -- Examples: that the rules give what the Reference Manual says of small modules.
-use Rattle.std.specs.Prelude.{ℕ, ◌-◌, ◌^◌, pos, Bool, true, false, List, [], ◌∷◌, codes, Option, None, Some}
+use Rattle.std.specs.Prelude.{ℕ, ◌-◌, ◌^◌, pos, true, false, List, [], ◌∷◌, codes, None}
 use Rattle.erl_term.specs.Tree as term
 use Rattle.erl_term.specs.Tree.{Tree, Trees, int, atom, pid}
 use Rattle.erl_term.specs.Conversions.{row}
@@ -17,7 +17,7 @@ use Rattle.erl_forms.specs.Expression.{Expr, Exprs, Clauses}
 use Rattle.erl_eval.specs.State.{Instance, World, plain, start_mode, value, rest, exit, exit_by, exit_by_pair, server, loop}
 use Rattle.erl_eval.specs.State as state
 use Rattle.erl_eval.specs.State.{named}
-use Rattle.erl_eval.specs.Jobs.{Outcome, Evaluates, Job, GivesJob}
+use Rattle.erl_eval.specs.Jobs.{Evaluates, GivesJob}
 
 -- How modules are written here.
 

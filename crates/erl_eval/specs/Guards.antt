@@ -3,7 +3,7 @@
 --
 -- A guard calls no function but those that are built in, so what it gives is a function of the bindings, and of how many
 -- calls were made before it; how many were made behind it is told beside.
-use Rattle.std.specs.Prelude.{ℕ, ◌+◌, Bool, true, false, nat_lt, List, [], ◌∷◌, codes, slice_get, Option, None, Some}
+use Rattle.std.specs.Prelude.{ℕ, ◌+◌, Bool, true, false, nat_lt, List, codes, slice_get, Option, None, Some}
 use Rattle.erl_term.specs.Tree as term
 use Rattle.erl_term.specs.Tree.{Tree, Trees}
 use Rattle.erl_forms.specs.declared.operation.BuiltIn.{BuiltIn}
@@ -14,7 +14,6 @@ use Rattle.erl_forms.specs.declared.operation.Operation.{Operation}
 use Rattle.erl_forms.specs.declared.operation.Operation.TheVariants as operation
 use Rattle.erl_forms.specs.declared.operation.Operator.{Operator}
 use Rattle.erl_forms.specs.declared.operation.Operator.TheVariants as operator
-use Rattle.erl_forms.specs.Pattern.{Pats}
 use Rattle.erl_forms.specs.Expression as form
 use Rattle.erl_forms.specs.Expression.{Expr, Exprs, Guards, Clauses}
 use Rattle.erl_eval.specs.State.{Result, exit_by, exit_by_pair, made, bound_to, value, rest, exit}

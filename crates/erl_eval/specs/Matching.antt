@@ -2,7 +2,7 @@
 --
 -- `matched p t env`: where `env` is bound, what is bound behind a match of the term `t` with the pattern `p`; nothing where
 -- they don't match. Patterns are matched from left to right, and what is bound goes behind what was.
-use Rattle.std.specs.Prelude.{ℕ, Bool, ◌==◌, if◌then◌else◌, List, [], ◌∷◌, ◌++◌, length, slice_get}
+use Rattle.std.specs.Prelude.{ℕ, ◌==◌, if◌then◌else◌, List, [], ◌∷◌, ◌++◌, length, slice_get}
 use Rattle.std.specs.Prelude.{Option, None, Some, option_and_then}
 use Rattle.erl_term.specs.Tree as term
 use Rattle.erl_term.specs.Tree.{Tree, Trees}

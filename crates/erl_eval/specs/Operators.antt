@@ -1,14 +1,14 @@
 -- Operators, as total functions of the values of their operands (Erlang Reference Manual, Expressions: Unary Operators,
 -- Arithmetic Expressions, Boolean Expressions, Term Comparisons, List Operations, Send).
-use Rattle.std.specs.Prelude.{ℕ, ◌+◌, ◌^◌, ℤ, pos, negsuc, ◌+ℤ◌, ◌-ℤ◌, ◌*ℤ◌, neg_ℤ, int_div, int_rem}
-use Rattle.std.specs.Prelude.{Bool, true, false, not, ◌&&◌, ◌||◌, if◌then◌else◌, nat_lt, List, [], ◌∷◌, ◌++◌, codes}
+use Rattle.std.specs.Prelude.{ℕ, ◌^◌, ℤ, pos, negsuc, ◌+ℤ◌, ◌-ℤ◌, ◌*ℤ◌, neg_ℤ, int_div, int_rem}
+use Rattle.std.specs.Prelude.{Bool, true, false, not, ◌&&◌, ◌||◌, if◌then◌else◌, nat_lt, List, codes}
 use Rattle.std.specs.Prelude.{Option, None, Some}
 use Rattle.std.specs.Str.{bytes_eq}
 use Rattle.std.specs.declared.cmp.Ordering.{Ordering}
 use Rattle.std.specs.declared.cmp.Ordering.TheVariants as ordering
 use Rattle.erl_term.specs.Tree.{Tree, Trees, int, atom, pid, tuple, list, none, more}
 use Rattle.erl_term.specs.Rows.{append_trees}
-use Rattle.erl_term.specs.Accessors.{int_of, one_of, two_of}
+use Rattle.erl_term.specs.Accessors.{int_of}
 use Rattle.erl_term.specs.Order.{tree_cmp}
 use Rattle.erl_forms.specs.declared.operation.Operator.{Operator}
 use Rattle.erl_forms.specs.declared.operation.Operator.TheVariants as operator

@@ -49,7 +49,8 @@
 //!
 //! # What is proved
 //!
-//! One result and one state come of an expression ([`expressions_have_one_result`]), and one outcome of a job and of a call
+//! [`operate`] gives what the rules say of an operator and the values of its operands, and [`call_built_in`] of a function
+//! that is built in and its arguments, but of those that start or name a process. By the rules one result and one state come of an expression ([`expressions_have_one_result`]), and one outcome of a job and of a call
 //! from outside ([`evaluation_has_one_outcome`]). The rules give what is expected of small modules
 //! ([`rules_hold_of_examples`]).
 #![tactic(auto)]

@@ -144,7 +144,13 @@ fn around(alloc: Global, depth: usize) -> Result<Given, Fail> {
     let row = operands(alloc, "{1,{a}}")?;
     let mut operands = row.into_vec(alloc)?;
     operands.push(nested(alloc, depth)?)?;
-    Ok(call_built_in(alloc, &booleans, OWN, BuiltIn::SetElement, operands.as_slice())?)
+    Ok(call_built_in(
+        alloc,
+        &booleans,
+        OWN,
+        BuiltIn::SetElement,
+        operands.as_slice(),
+    )?)
 }
 
 #[test]

@@ -1,1 +1,0 @@
-use Rattle.erl_eval.proofs.built_ins.is_among.Goals as goal

@@ -1,4 +1,4 @@
-use Rattle.std.proofs.Common.{arith, sym, ap, ◌∙◌}
+use Rattle.std.proofs.Common.{arith, sym, ◌∙◌}
 use Rattle.std.specs.Prelude.{set}
 use Rattle.erl_term.specs.Term.{tree, trees}
 use Rattle.erl_eval.proofs.built_ins.with_nth.Goals as goal
