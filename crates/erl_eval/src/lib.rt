@@ -50,9 +50,16 @@
 //! # What is proved
 //!
 //! [`operate`] gives what the rules say of an operator and the values of its operands, and [`call_built_in`] of a function
-//! that is built in and its arguments, but of those that start or name a process. By the rules one result and one state come of an expression ([`expressions_have_one_result`]), and one outcome of a job and of a call
-//! from outside ([`evaluation_has_one_outcome`]). The rules give what is expected of small modules
+//! that is built in and its arguments, but of those that start or name a process.
+//!
+//! By the rules one result and one state come of an expression ([`expressions_have_one_result`]), and one outcome of a job
+//! and of a call from outside ([`evaluation_has_one_outcome`]). They give what is expected of small modules
 //! ([`rules_hold_of_examples`]).
+//!
+//! # What no contract says
+//!
+//! That there is memory, and what a call costs: `tl` shares what it holds with its list; what makes a tuple or a list costs its
+//! own elements, each by sharing, and the look at its depth and size costs the same whatever they are.
 #![tactic(auto)]
 
 mod built_ins;
