@@ -1,5 +1,6 @@
 pub mod Elements
 pub mod Examples
+pub mod Matches
 pub mod Moved
 pub mod Options
 pub mod Outcomes

@@ -161,7 +161,7 @@ module _ (w : World) where
       subject_ended : {a : Activation} {tail : Bool} {cs : Clauses} {q : Result} {s : State} {r : Result} {s' : State} →
           IsEnd q → Gives r s' q s → Cased a tail cs q s r s'
 
-    -- The body of the clause that was selected, or the exit_by where none was. What it binds is bound in it alone.
+    -- The body of the clause that was selected, or the failure where none was. What it binds is bound in it alone.
     pub data Taken : Activation → Bool → Result → Option (List Tree × Exprs) → State → Result → State → Type 0 where
       no_clause : {a : Activation} {tail : Bool} {failure : Result} {s : State} {r : Result} {s' : State} →
           Gives r s' failure s → Taken a tail failure None s r s'

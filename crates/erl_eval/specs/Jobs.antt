@@ -46,7 +46,7 @@ abbrev pub Evaluates : World → List ℕ → List ℕ → Trees → Outcome →
 Evaluates w m f args o = FromOutside w f (remote_function w m f (count args)) args o
 
 -- A message that a process has taken: the process, its turn, the place where it rested, the serial of the instance that the
--- place is entered in, or 0 where its module has no code, and code: first the instance that is entered, if there is one, and
+-- place is entered in, or 0 where its module has no current code, and code: first the instance that is entered, if there is one, and
 -- then the current code of each module that the process can reach.
 pub record Job : Type 0 where
   pub pid : ℕ
@@ -148,11 +148,11 @@ served m callback acts (value v) = record {
 }
 served m callback acts r = record { acts = acts; ended = r }
 
--- without code there is nothing that could be evaluated
+-- without an instance to enter there is nothing that could be evaluated
 abbrev pub nowhere : Outcome
 nowhere = record { acts = []; ended = exit_by (codes "undef") }
 
--- A callback that the module doesn't export is `undef`, but a message that no exported `handle_info/2` takes is dropped.
+-- A callback that the module doesn't export is `undef`, but where that is `handle_info/2`, the message is dropped.
 abbrev pub unexported : List ℕ → Tree → Callback → Outcome
 unexported m s (handle_call from t) = nowhere
 unexported m s (handle_cast t) = nowhere
@@ -175,17 +175,17 @@ looped acts r = record { acts = acts; ended = r }
 -- What a message selects of a loop function: its head binds the arguments again, and then it is the first clause of its
 -- `receive` that takes the message.
 
-abbrev pub heard_in : Job → Clauses → Option (List Tree) → Selection
-heard_in j cs None = (None, 0)
-heard_in j cs (Some env) = selected j.pid env cs (term.more j.message term.none) 0
+abbrev pub heard_in : ℕ → Tree → Clauses → Option (List Tree) → Selection
+heard_in self message cs None = (None, 0)
+heard_in self message cs (Some env) = selected self env cs (term.more message term.none) 0
 
-abbrev pub heard_by : Job → Trees → Definition → Selection
-heard_by j args (definition.Loop ps gs cs) = heard_in j cs (matched_each ps args [])
-heard_by j args (definition.Clauses cs) = (None, 0)
+abbrev pub heard_by : ℕ → Tree → Trees → Definition → Selection
+heard_by self message args (definition.Loop ps gs cs) = heard_in self message cs (matched_each ps args [])
+heard_by self message args (definition.Clauses cs) = (None, 0)
 
-abbrev pub heard : Job → Trees → Option Function → Selection
-heard j args None = (None, 0)
-heard j args (Some f) = heard_by j args f.definition
+abbrev pub heard : ℕ → Tree → Trees → Option Function → Selection
+heard self message args None = (None, 0)
+heard self message args (Some f) = heard_by self message args f.definition
 
 -- What the clause gives. That there is none never comes of a message that was taken.
 pub data Receives : Job → Instance → Selection → Outcome → Type 0 where
@@ -200,19 +200,16 @@ GivesAt j (server m s) None o = o ≡ nowhere
 GivesAt j (server m s) (Some i) o = Handles j m s (callback_of j.message)
     (exported_of (name_of (callback_of j.message)) (count (arguments_of (callback_of j.message) s)) i.forms) i o
 GivesAt j (loop m serial name args) None o = o ≡ nowhere
-GivesAt j (loop m serial name args) (Some i) o = Receives j i (heard j args (function_of name (count args) i.forms)) o
+GivesAt j (loop m serial name args) (Some i) o = Receives j i (heard j.pid j.message args (function_of name (count args) i.forms)) o
 
 -- `GivesJob j o`: the job j gives o.
 abbrev pub GivesJob : Job → Outcome → Type 0
 GivesJob j o = GivesAt j j.place (entered_in j.entry_serial j.code) o
 
--- Whether a place takes a message: a callback module takes every message, a loop function one that a clause of its `receive`
--- takes.
-
-abbrev pub accepts_in : Job → Place → Option Instance → Bool
-accepts_in j (server m s) entered = true
-accepts_in j (loop m serial name args) None = false
-accepts_in j (loop m serial name args) (Some i) = is_some (heard j args (function_of name (count args) i.forms)).0
-
-abbrev pub accepts : Job → Bool
-accepts j = accepts_in j j.place (entered_in j.entry_serial j.code)
+-- Whether a process takes a message where it rests: in a callback module every message, in a loop function one that a clause of
+-- its `receive` takes. The instance that is entered is the first of the code.
+abbrev pub accepts : ℕ → Place → List Instance → Tree → Bool
+accepts self (server m s) code message = true
+accepts self (loop m serial name args) [] message = false
+accepts self (loop m serial name args) (i ∷ is) message =
+    is_some (heard self message args (function_of name (count args) i.forms)).0

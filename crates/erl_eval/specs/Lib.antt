@@ -1,3 +1,4 @@
+pub mod Bindings
 pub mod BuiltIns
 pub mod Evaluation
 pub mod Examples

@@ -118,9 +118,6 @@ with_bindings env s = record s { bindings = env }
 abbrev pub with_calls : ℕ → State → State
 with_calls calls s = record s { calls = calls }
 
-abbrev pub with_startup : Option Startup → State → State
-with_startup startup s = record s { startup = startup }
-
 -- the state behind what was done, if something was
 abbrev pub after : Option Act → State → State
 after None s = s

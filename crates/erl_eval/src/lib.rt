@@ -20,29 +20,34 @@
 //! | `begin B end` groups, and its bindings stay; a body gives its last value | `Eval.block`, `Body`, `Onward` |
 //! | `case` takes the first clause whose pattern matches and whose guard is true, else `{case_clause,V}` | `Eval.case`, `Cased`, `selected`, `Taken` |
 //! | What a clause binds is bound in it alone | `Taken.taken` |
-//! | `andalso` and `orelse` evaluate the right side only where it is needed, in tail position; it may be anything | `Eval.short_circuit`, `Decided`, `decisive` |
+//! | `andalso` and `orelse` evaluate the right side only where it is needed, in tail position; it may be anything, and binds nothing behind | `Eval.short_circuit`, `Decided`, `decisive` |
 //! | A left side that is no boolean is `{badarg,V}` | `Decided.no_truth` |
 //! | A guard sequence is true if one alternative is, an alternative if each test gives `true`; what fails is false, a breach of a limit too | `guarded`, `one_holds`, `all_hold`, `holds` |
 //! | Calls in guards count, those of clauses that are passed over too | `tested`, `selected` (the number beside) |
-//! | Arithmetic: `badarith` for other operands and a zero divisor; past 64 bits `system_limit` | `operated`, `arithmetic`, `divided`, `integer` |
-//! | `not`, `and`, `or` want booleans (`badarg`); comparisons go by the order of terms | `operated`, `logical`, `comparison` |
+//! | Arithmetic: `badarith` for other operands and a zero divisor; past 64 bits `system_limit`; `div` truncates toward zero, `rem` has the dividend's sign | `operated`, `arithmetic`, `divided` (of `int_div`, `int_rem`), `integer` |
+//! | Guards have all operators but `++` and `!`, and some of the functions | `guard_operated`, `is_guard_bif`, `no_guard` |
+//! | `not`, `and`, `or` want booleans (`badarg`); comparisons go by the order of terms | `operated`, `logical`, `compared` |
 //! | `++`: the left is a list (`badarg`); behind `[]` anything stands as it is, else a list (`not_in_profile`) | `appended` |
 //! | `Dest ! M` sends to a name or a process (`badarg`), and gives `M` | `operated`, `sends`, `receiver_of` |
-//! | What each function that is built in gives and does | `given`, `does` |
+//! | What each function that is built in gives and does, `self()`, `exit/1` and `error/1` among them | `given`, `does` |
+//! | What is made is within the limits: tuples, lists, `++`, `setelement/3`, `lists:reverse/1`, errors of `start_link` | `made` in `Applied`, `consed`, `appended_to`, `made_or_badarg`, `reversed`, `linked_by` |
 //! | A local call stays in its instance; a remote one goes to the current instance and an export (`undef`) | `Applied.local`, `Applied.remote`, `local_function`, `remote_function` |
 //! | A call counts behind its arguments and before all else of it, one that is built in too; 10,000 are within the limits | `may_call`, `counted`, `Called.too_many`, `BuiltInCalled` |
-//! | A call in tail position takes its caller's place; any other is one deeper, 200 are within the limits | `callee`, `may_nest`, `Entered.too_deep` |
+//! | A call in tail position takes its caller's place; any other is one deeper, 200 are within the limits | `callee`, `may_nest`, `Entered.too_deep`, `loop_too_deep` |
 //! | No clause takes the arguments: `function_clause` | `Entered.clauses`, `Taken.no_clause` |
 //! | A loop function rests its process where that may rest here; its head is matched first (`function_clause`) | `Entered.loop`, `rested` |
 //! | Every other call of a loop function is `not_in_profile` | `Entered.loop_elsewhere` |
 //! | Starts and names: only in a start function; then the arguments; then whether it is the first | `asked`, `in_start_mode`, `first_start`, `register_in_mode` |
+//! | A first argument of `start_link/4` that isn't `{local,Name}` is `not_in_profile` | `local_name`, `named_asked` |
+//! | `register/2` names the process that is started, once | `register_in`, `registered_as` |
 //! | What is spawned is evaluated to its rest; without one the start ends with its reason, or `normal` | `Started`, `spawned` |
 //! | `init` gives `{ok,S}`, `ignore`, `{stop,R}`, `{error,R}` or another value; without `{ok,S}` nothing was started | `initialized`, `linked_by`, `unstarted` |
 //! | What is started goes on with the counts, one deeper | `begun_by`, `first_activation` |
 //! | The start and its name stand before the acts of what is started | `all_acts` |
 //! | A call from outside needs an exported function (`undef`); both counts begin at 0 | `FromOutside`, `Evaluates`, `fresh`, `outermost` |
 //! | `'$gen_call'` goes to `handle_call/3`, `'$gen_cast'` to `handle_cast/2`, all else to `handle_info/2` | `callback_of`, `arguments_of` |
-//! | A callback that isn't exported is `undef`; a message without `handle_info/2` is dropped | `Handles.not_exported`, `unexported` |
+//! | A callback that isn't exported is `undef`; a message without `handle_info/2` is dropped; without current code all are `undef` | `Handles.not_exported`, `unexported`, `GivesAt`, `nowhere` |
+//! | A job's code begins with the instance that is entered; remote calls look among the others | `entered_in`, `reached_in`, `world_of` |
 //! | What a callback's value means, else `{bad_return_value,V}`; its own reply is its last act | `answer_of`, `served` |
 //! | A message selects the first clause of the `receive` that takes it; a value there ends the process with `normal` | `heard`, `Receives`, `looped` |
 //! | A place takes every message in a callback module, in a loop function one that a clause takes | `accepts` |
@@ -64,6 +69,7 @@
 
 mod built_ins;
 mod given;
+mod matching;
 mod operators;
 
 ghost use Rattle.erl_eval.specs.Laws.{OneResult, OneOutcome, OneJobOutcome};
@@ -72,6 +78,7 @@ ghost use Rattle.erl_eval.specs.Examples.{SendsBeforeItsReply, RestsWithItsArgum
 
 pub use built_ins::call_built_in;
 pub use given::{Booleans, Given};
+pub use matching::{match_each, match_pattern};
 pub use operators::operate;
 
 /// One result comes of an expression, and one state is left behind.
