@@ -10,7 +10,8 @@ use Rattle.erl_eval.specs.Evaluation.{Eval, Operands}
 use Rattle.erl_eval.specs.Evaluation as rule
 use Rattle.erl_eval.specs.Jobs as job
 use Rattle.erl_eval.specs.Examples.{CallsAreAdded, ZeroDividesNothing, IntegersEnd, OneIsNoTruth, NoClauseFits}
-use Rattle.erl_eval.specs.Examples.{SendsBeforeItsReply, RestsWithItsArguments, StartsWithAName}
+use Rattle.erl_eval.specs.Examples.{GuardsThatFailAreFalse, VariablesCompare, StartStandsBeforeItsActs}
+use Rattle.erl_eval.specs.Examples.{OtherMessagesAreDropped, SendsBeforeItsReply, RestsWithItsArguments, StartsWithAName}
 
 -- the values of one operand, of two, and of three
 
@@ -75,3 +76,41 @@ starts = job.called (rule.clauses (rule.taken (rule.next (rule.match (rule.last 
     (rule.built_in (rule.built_in_called (rule.named (refl, refl)))))
     (rule.onward (rule.last (rule.apply (two (rule.literal (refl, refl)) (rule.variable (refl, refl)))
     (rule.tuple (refl, refl)))))))) refl)) refl
+
+pub guards_fail : GuardsThatFailAreFalse
+guards_fail = (
+  job.called (rule.clauses (rule.taken (rule.last (rule.literal (refl, refl))) refl)) refl,
+  job.called (rule.clauses (rule.taken (rule.last (rule.literal (refl, refl))) refl)) refl,
+  job.called (rule.clauses (rule.taken (rule.last (rule.literal (refl, refl))) refl)) refl,
+)
+
+pub compares : VariablesCompare
+compares = (
+  job.called (rule.clauses (rule.taken (rule.last (rule.apply (two (rule.variable (refl, refl)) (rule.variable (refl, refl)))
+      (rule.tuple (refl, refl)))) refl)) refl,
+  job.called (rule.clauses (rule.no_clause (refl, refl))) refl,
+)
+
+pub drops : OtherMessagesAreDropped
+drops = job.not_exported refl
+
+four : {w : World} {a : Activation} {e f g h : Expr} {s s1 s2 s3 s4 : State} {t u v x : Tree} →
+    Eval w a false e s (value t) s1 → Eval w a false f s1 (value u) s2 → Eval w a false g s2 (value v) s3 →
+    Eval w a false h s3 (value x) s4 →
+    Operands w a (form.more e (form.more f (form.more g (form.more h form.none)))) s
+    (all (term.more t (term.more u (term.more v (term.more x term.none))))) s4
+four d e f g = rule.operand d (rule.others (three e f g) refl)
+
+pub stands_before : StartStandsBeforeItsActs
+stands_before = job.called (rule.clauses (rule.taken
+    (rule.next (rule.apply (two (rule.literal (refl, refl)) (rule.literal (refl, refl))) (rule.operator (refl, refl)))
+    (rule.onward (rule.next (rule.match (rule.last (rule.apply
+    (four (rule.apply (two (rule.literal (refl, refl)) (rule.literal (refl, refl))) (rule.tuple (refl, refl)))
+    (rule.literal (refl, refl)) (rule.literal (refl, refl)) (rule.literal (refl, refl)))
+    (rule.built_in (rule.built_in_called (rule.starts (rule.started_by (rule.clauses (rule.taken
+    (rule.next (rule.apply (two (rule.literal (refl, refl)) (rule.literal (refl, refl))) (rule.operator (refl, refl)))
+    (rule.onward (rule.last (rule.apply (two (rule.literal (refl, refl)) (rule.literal (refl, refl)))
+    (rule.tuple (refl, refl)))))) refl)) (refl, refl)))))))
+    (rule.matched_to (refl, refl)))
+    (rule.onward (rule.next (rule.apply (two (rule.literal (refl, refl)) (rule.literal (refl, refl))) (rule.operator (refl, refl)))
+    (rule.onward (rule.last (rule.variable (refl, refl))))))))) refl)) refl

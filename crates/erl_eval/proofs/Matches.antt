@@ -1,5 +1,5 @@
 -- Rows of patterns that are matched one by one.
-use Rattle.std.specs.Prelude.{◌≡◌, ℕ, zero, suc, ◌+◌, ◌<◌, ◌≤◌, List, [], ◌∷◌, ◌++◌, length, take, drop, slice_get, refl}
+use Rattle.std.specs.Prelude.{◌≡◌, ℕ, zero, suc, ◌<◌, ◌≤◌, List, [], ◌∷◌, ◌++◌, length, take, drop, slice_get, refl}
 use Rattle.std.specs.Prelude.{Option, None, Some, option_and_then}
 use Rattle.std.proofs.Common.{arith, ap, sym, subst, ◌∙◌}
 use Rattle.erl_term.specs.declared.term.Term.{Term}
@@ -45,7 +45,7 @@ each_unequal [] (t ∷ ts) env unequal = refl
 each_unequal (p ∷ ps) [] env unequal = refl
 each_unequal (p ∷ ps) (t ∷ ts) env unequal =
     after_none (matched (pat p) (tree t) env) (λ after. matched_each (pats ps) (trees ts) after)
-      (λ after. each_unequal ps ts after (λ same. unequal (ap suc same)))
+    (λ after. each_unequal ps ts after (λ same. unequal (ap suc same)))
 
 -- what is matched of a list with a tail: its front, and then the rest
 
@@ -67,14 +67,14 @@ front_step p (q ∷ qs) last t ts env = refl
 pub front_split : (ps : List Pattern) (last : Pattern) (ts : List Term) (env : List Tree) → length ps ≤ length ts →
     matched_front (pats (ps ++ last ∷ [])) (trees ts) env ≡
     option_and_then (λ after. matched (pat last) (term.list (trees (drop (length ps) ts))) after)
-      (matched_each (pats ps) (trees (take (length ps) ts)) env)
+    (matched_each (pats ps) (trees (take (length ps) ts)) env)
 front_split [] last ts env within = refl
 front_split (p ∷ ps) last [] env within = absurd (omega (arith, within))
 front_split (p ∷ ps) last (t ∷ ts) env within =
     front_step p ps last (tree t) (trees ts) env ∙
     and_then_same (matched (pat p) (tree t) env) _ _ (λ after. front_split ps last ts after (omega (arith, within))) ∙
     sym (and_then_twice (matched (pat p) (tree t) env) (λ after. matched_each (pats ps) (trees (take (length ps) ts)) after)
-      (λ after. matched (pat last) (term.list (trees (drop (length ps) ts))) after))
+    (λ after. matched (pat last) (term.list (trees (drop (length ps) ts))) after))
 
 pub front_short : (ps : List Pattern) (last : Pattern) (ts : List Term) (env : List Tree) → length ts < length ps →
     matched_front (pats (ps ++ last ∷ [])) (trees ts) env ≡ None

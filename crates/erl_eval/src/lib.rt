@@ -55,7 +55,8 @@
 //! # What is proved
 //!
 //! [`operate`] gives what the rules say of an operator and the values of its operands, and [`call_built_in`] of a function
-//! that is built in and its arguments, but of those that start or name a process.
+//! that is built in and its arguments, but of those that start or name a process. [`match_pattern`] tells whether a term
+//! matches a pattern, and binds what the rules say.
 //!
 //! By the rules one result and one state come of an expression ([`expressions_have_one_result`]), and one outcome of a job
 //! and of a call from outside ([`evaluation_has_one_outcome`]). They give what is expected of small modules
@@ -64,7 +65,8 @@
 //! # What no contract says
 //!
 //! That there is memory, and what a call costs: `tl` shares what it holds with its list; what makes a tuple or a list costs its
-//! own elements, each by sharing, and the look at its depth and size costs the same whatever they are.
+//! own elements, each by sharing, and the look at its depth and size costs the same whatever they are. Matching recurses as deep
+//! as the pattern is nested.
 #![tactic(auto)]
 
 mod built_ins;
@@ -74,6 +76,7 @@ mod operators;
 
 ghost use Rattle.erl_eval.specs.Laws.{OneResult, OneOutcome, OneJobOutcome};
 ghost use Rattle.erl_eval.specs.Examples.{CallsAreAdded, ZeroDividesNothing, IntegersEnd, OneIsNoTruth, NoClauseFits};
+ghost use Rattle.erl_eval.specs.Examples.{GuardsThatFailAreFalse, VariablesCompare, OtherMessagesAreDropped, StartStandsBeforeItsActs};
 ghost use Rattle.erl_eval.specs.Examples.{SendsBeforeItsReply, RestsWithItsArguments, StartsWithAName};
 
 pub use built_ins::call_built_in;
@@ -92,8 +95,8 @@ pub fn evaluation_has_one_outcome()
     ensures job { OneJobOutcome }
 {}
 
-/// The rules give what the Reference Manual says of small modules: calls that are not in tail position, exits, a send and a
-/// reply, a rest, and a process that is started and named.
+/// The rules give what the Reference Manual says of small modules: calls that are not in tail position, exits, guards, a send
+/// and a reply, a rest, a message that is dropped, and processes that are started and named.
 pub fn rules_hold_of_examples()
     ensures calls { CallsAreAdded }
     ensures divides { ZeroDividesNothing }
@@ -103,4 +106,8 @@ pub fn rules_hold_of_examples()
     ensures rings { SendsBeforeItsReply }
     ensures loops { RestsWithItsArguments }
     ensures starts { StartsWithAName }
+    ensures guards_fail { GuardsThatFailAreFalse }
+    ensures compares { VariablesCompare }
+    ensures drops { OtherMessagesAreDropped }
+    ensures stands_before { StartStandsBeforeItsActs }
 {}

@@ -70,9 +70,8 @@ pub fn match_pattern(
             match_variable(alloc, *place as usize, term, base, fresh)
         }
         (Pattern::Anything, _) => Ok(true),
-        (Pattern::Tuple(patterns), Term::Tuple(row)) | (Pattern::List(patterns), Term::List(row)) => {
-            match_each(alloc, patterns.as_slice(), row.as_slice(), base, fresh)
-        }
+        (Pattern::Tuple(patterns), Term::Tuple(row)) | (Pattern::List(patterns), Term::List(row)) =>
+            { match_each(alloc, patterns.as_slice(), row.as_slice(), base, fresh) }
         (Pattern::Cons(patterns), Term::List(row)) => {
             match_front(alloc, patterns.as_slice(), row, base, fresh)
         }

@@ -1,5 +1,6 @@
 use Rattle.erl_eval.proofs.rules_hold_of_examples.Goals as goal
 use Rattle.erl_eval.proofs.Examples.{calls, divides, ends, no_truth, fits_none, rings, loops, starts}
+use Rattle.erl_eval.proofs.Examples.{guards_fail, compares, drops, stands_before}
 
 pub returns : goal.returns
 returns c = record {
@@ -11,4 +12,8 @@ returns c = record {
   rings = rings;
   loops = loops;
   starts = starts;
+  guards_fail = guards_fail;
+  compares = compares;
+  drops = drops;
+  stands_before = stands_before;
 }

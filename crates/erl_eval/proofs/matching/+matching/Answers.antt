@@ -1,6 +1,6 @@
 -- Rows of patterns: one by one, and all but the last and then the last.
 use Rattle.std.specs.Prelude.{[]}
-use Rattle.std.proofs.Common.{arith, rules, ap, sym, ◌∙◌}
+use Rattle.std.proofs.Common.{arith, rules, ap, ◌∙◌}
 use Rattle.erl_eval.specs.Bindings.{bindings, bound_if}
 use Rattle.erl_forms.proofs.PatternRows.{depth_in}
 use Rattle.erl_eval.proofs.Matches.{each_unequal, front_too_short, front_fails, front_then, front_depth, last_depth}
@@ -40,8 +40,10 @@ match_front-returns-then-not-branch t c = front_fails _ _ c.in-Some.last.now c.a
 
 pub match_front-returns : goal.match_front-returns
 match_front-returns t c =
-    rw (front_then _ _ c.in-Some.last.now c.as_slice-terms.result.now _ _
-        c.in-Some.ensures.cases.0 c.as_slice-terms.ensures (bindings c.args.base.now c.match_each.new.fresh.items)
-        (omega (arith, c.if-terms-patterns.false))
-        (c.in_ok-match_each.ensures ∙ ap (λ b. bound_if b (bindings c.args.base.now c.match_each.new.fresh.items)) c.if-not-branch.false),
-      ← c.in_ok-rest_behind.ensures) c.match_pattern.ensures
+    rw (
+      front_then _ _ c.in-Some.last.now c.as_slice-terms.result.now _ _
+          c.in-Some.ensures.cases.0 c.as_slice-terms.ensures (bindings c.args.base.now c.match_each.new.fresh.items)
+          (omega (arith, c.if-terms-patterns.false))
+          (c.in_ok-match_each.ensures ∙ ap (λ b. bound_if b (bindings c.args.base.now c.match_each.new.fresh.items)) c.if-not-branch.false),
+      ← c.in_ok-rest_behind.ensures,
+    ) c.match_pattern.ensures

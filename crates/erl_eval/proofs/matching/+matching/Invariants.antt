@@ -28,4 +28,3 @@ abbrev pub invariant-match_all-loop-pattern : goal.invariant-match_all-loop-patt
 invariant-match_all-loop-pattern l =
     matched_all (pats (drop l.pattern-index l.patterns)) (tree l.term) (bindings l.base l.fresh.items) ≡
     matched_all (pats l.initial.patterns) (tree l.initial.term) (bindings l.initial.base l.initial.fresh.items)
-
