@@ -146,9 +146,11 @@ module _ (w : World) where
           {r : Result} {s' : State} →
           truth_of t ≡ Some b → ¬ (b ≡ decisive c) → Body a tail right s r s1 → s' ≡ with_bindings s.bindings s1 →
           Decided a tail c right (state.value t) s r s'
-      no_truth : {a : Activation} {tail : Bool} {c : Connective} {right : Exprs} {t : Tree} {s : State} {r : Result} {s' : State} →
+      no_truth : {a : Activation} {tail : Bool} {c : Connective} {right : Exprs} {t : Tree} {s : State} {r : Result}
+          {s' : State} →
           truth_of t ≡ None → Gives r s' (exit_by_pair (codes "badarg") t) s → Decided a tail c right (state.value t) s r s'
-      left_ended : {a : Activation} {tail : Bool} {c : Connective} {right : Exprs} {q : Result} {s : State} {r : Result} {s' : State} →
+      left_ended : {a : Activation} {tail : Bool} {c : Connective} {right : Exprs} {q : Result} {s : State} {r : Result}
+          {s' : State} →
           IsEnd q → Gives r s' q s → Decided a tail c right q s r s'
 
     -- The clauses of a `case`, once its subject is evaluated: "If there is no matching pattern with a true guard sequence, a
@@ -247,9 +249,9 @@ module _ (w : World) where
     pub data Started : Activation → Starter → Request → State → Result → State → Type 0 where
       refused_start : {a : Activation} {starter : Starter} {q : Result} {s : State} {r : Result} {s' : State} →
           Gives r s' q s → Started a starter (refused q) s r s'
-      started_by : {a : Activation} {starter : Starter} {registered : Option (List ℕ)} {i : Instance} {name : List ℕ} {f : Function}
-          {ts : Trees} {s s1 : State} {q r : Result} {s' : State} →
-          Entered (first_activation a starter i) (may_nest (first_activation a starter i)) name f.definition ts (begun_by registered s)
-          q s1 →
+      started_by : {a : Activation} {starter : Starter} {registered : Option (List ℕ)} {i : Instance} {name : List ℕ}
+          {f : Function} {ts : Trees} {s s1 : State} {q r : Result} {s' : State} →
+          Entered (first_activation a starter i) (may_nest (first_activation a starter i)) name f.definition ts
+            (begun_by registered s) q s1 →
           Gives r s' (started w starter s.bindings i.name q s1).0 (started w starter s.bindings i.name q s1).1 →
           Started a starter (begin registered i name f ts) s r s'

@@ -10,7 +10,8 @@ use Rattle.erl_forms.specs.declared.function.Definition.{Definition}
 use Rattle.erl_forms.specs.declared.function.Definition.TheVariants as definition
 use Rattle.erl_forms.specs.Expression.{Exprs, Clauses}
 use Rattle.erl_forms.specs.Module.{exported_of, function_of}
-use Rattle.erl_eval.specs.State.{Instance, Place, Act, Result, exit_by, exit_by_pair, value, rest, exit, server, loop, World, plain}
+use Rattle.erl_eval.specs.State.{Instance, Place, Act, Result, exit_by, exit_by_pair, value, rest, exit, server, loop, World}
+use Rattle.erl_eval.specs.State.{plain}
 use Rattle.erl_eval.specs.State.{Activation, State, all_acts, with_bindings, with_calls}
 use Rattle.erl_eval.specs.BuiltIns.{reply_to}
 use Rattle.erl_eval.specs.Matching.{matched_each}
@@ -46,8 +47,8 @@ abbrev pub Evaluates : World → List ℕ → List ℕ → Trees → Outcome →
 Evaluates w m f args o = FromOutside w f (remote_function w m f (count args)) args o
 
 -- A message that a process has taken: the process, its turn, the place where it rested, the serial of the instance that the
--- place is entered in, or 0 where its module has no current code, and code: first the instance that is entered, if there is one, and
--- then the current code of each module that the process can reach.
+-- place is entered in, or 0 where its module has no current code, and code: first the instance that is entered, if there is
+-- one, and then the current code of each module that the process can reach.
 pub record Job : Type 0 where
   pub pid : ℕ
   pub turn : ℕ
@@ -200,7 +201,8 @@ GivesAt j (server m s) None o = o ≡ nowhere
 GivesAt j (server m s) (Some i) o = Handles j m s (callback_of j.message)
     (exported_of (name_of (callback_of j.message)) (count (arguments_of (callback_of j.message) s)) i.forms) i o
 GivesAt j (loop m serial name args) None o = o ≡ nowhere
-GivesAt j (loop m serial name args) (Some i) o = Receives j i (heard j.pid j.message args (function_of name (count args) i.forms)) o
+GivesAt j (loop m serial name args) (Some i) o =
+    Receives j i (heard j.pid j.message args (function_of name (count args) i.forms)) o
 
 -- `GivesJob j o`: the job j gives o.
 abbrev pub GivesJob : Job → Outcome → Type 0
