@@ -1,0 +1,16 @@
+pub mod Beginning
+pub mod Chains
+pub mod Counting
+pub mod Dealing
+pub mod Entering
+pub mod Forests
+pub mod FreeSets
+pub mod Grouping
+pub mod Leaving
+pub mod Linking
+pub mod OneDivision
+pub mod Rows
+pub mod Staying
+pub mod Takings
+pub mod Upto
+pub mod Waiting

@@ -1,0 +1,7 @@
+use Rattle.std.proofs.Common.{◌≡◌, map, take}
+use Rattle.dependency_order.specs.Dealt.{group_of}
+use Rattle.dependency_order.specs.Groups.{leaders}
+use Rattle.dependency_order.proofs.dividing.together.Given as goal
+
+abbrev pub invariant-loop-place : goal.invariant-loop-place
+invariant-loop-place l = l.groups.items ≡ map (group_of l.dependencies_first l.dependants_first) (leaders (take l.place l.firsts))

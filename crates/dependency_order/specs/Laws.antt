@@ -1,0 +1,19 @@
+-- The laws of groups and their orders.
+use Rattle.std.specs.Prelude.{◌≡◌, ◌<◌, ℕ, Bool, List, slice_index}
+use Rattle.dependency_order.specs.declared.group.Group.{Group}
+use Rattle.dependency_order.specs.Groups.{AreFirsts, IsJoined}
+use Rattle.dependency_order.specs.Orders.{AreOrderedGroups}
+
+-- Places are in one group exactly where they are joined.
+abbrev pub GroupsAreTheJoined : Type 0
+GroupsAreTheJoined =
+    (names : ℕ → ℕ → Bool) (count : ℕ) (firsts : List ℕ) → AreFirsts names count firsts →
+    (p q : ℕ) → p < count → q < count →
+    (IsJoined names p q → slice_index firsts p ≡ slice_index firsts q) ×
+    (slice_index firsts p ≡ slice_index firsts q → IsJoined names p q)
+
+-- There are no two ways to put places in groups and the groups in order.
+abbrev pub OrderedGroupsAreOne : Type 0
+OrderedGroupsAreOne =
+    (names : ℕ → ℕ → Bool) (count : ℕ) (one another : List Group) → AreOrderedGroups names count one →
+    AreOrderedGroups names count another → one ≡ another

@@ -1,0 +1,9 @@
+//! Tests of [`dependency_order`]: what no contract of it says.
+//!
+//! They see that the definitions in its contracts are those of appup(4), High-Level Instructions: which instructions belong
+//! together, and the orders in which they are carried out. The cases are lines of tables, and the values that are wanted
+//! come from the manual's rule, and never from what the program answers.
+#![tactic(auto)]
+
+#[cfg(test)]
+mod group_orders;
