@@ -1,8 +1,8 @@
 -- Orders dealt out to groups.
-use Rattle.std.proofs.Common.{◌≡◌, ◌<◌, ◌+◌, ℕ, Bool, true, false, cond, not, ◌||◌, inl, inr, List, [], ◌∷◌, ◌++◌, length, eqb, if◌then◌else◌, get_or, set, take, map, filter, sym, ap, ◌∙◌, refl, subst, arith, append_assoc, append-nil, length-append, length-set, length-take-le, get_or-set_same, get_or-set_other, add-zero, replicate}
+use Rattle.std.proofs.Common.{◌≡◌, ◌<◌, ◌+◌, ℕ, Bool, true, false, cond, not, ◌||◌, inl, inr, List, [], ◌∷◌, ◌++◌, length, eqb, if◌then◌else◌, get_or, take, map, filter, sym, ap, ◌∙◌, refl, subst, arith, append_assoc, append-nil, length-append, length-take-le, add-zero}
 use Rattle.std.specs.List.{enumerate_from, list_any, range_with_len}
-use Rattle.std.proofs.lemmas.Bool.{cases_eq, eq-eqb, eqb-true, false≢true, ne_eqb, or_cases, or_left, or_right}
-use Rattle.std.proofs.lemmas.List.{get_or-replicate, get_or_at, length-replicate, map-append, take_more}
+use Rattle.std.proofs.lemmas.Bool.{eq-eqb, eqb-true, false≢true, ne_eqb, or_cases, or_left, or_right}
+use Rattle.std.proofs.lemmas.List.{get_or_at, map-append, take_more}
 use Rattle.std.proofs.lemmas.List.Elements.{filter-append}
 use Rattle.dependency_order.specs.declared.group.Group.{Group}
 use Rattle.dependency_order.specs.Dealt.{AreDealt, group_of, is_of, part_of}
@@ -13,34 +13,6 @@ use Rattle.dependency_order.proofs.Counting.{times-filter}
 use Rattle.dependency_order.proofs.Upto.{passes}
 
 -- Dealing
-
-pub none_dealt : (firsts : List ℕ) (n : ℕ) → n ≡ length firsts → AreDealt firsts [] (replicate {A = List ℕ} n [])
-none_dealt firsts n is = record {
-  many = length-replicate {A = List ℕ} n [] ∙ is;
-  rows = λ f below. get_or-replicate {A = List ℕ} n f [] [] (omega (arith, below, is));
-}
-
-one-test : (b : Bool) (x : ℕ) (c : Bool) → b ≡ c → cond b (x ∷ []) [] ≡ cond c (x ∷ []) []
-one-test b x c e = ap (λ t. cond t (x ∷ []) []) e
-
-pub one_dealt : (firsts order : List ℕ) (lists : List (List ℕ)) (x : ℕ) → get_or firsts x 0 < length firsts → AreDealt firsts order lists →
-    AreDealt firsts (order ++ x ∷ []) (set lists (get_or firsts x 0) (row lists (get_or firsts x 0) ++ x ∷ []))
-one_dealt firsts order lists x known dealt = record {
-  many = length-set lists (get_or firsts x 0) (row lists (get_or firsts x 0) ++ x ∷ []) ∙ dealt.many;
-  rows = λ f below.
-      let many = dealt.many in
-      let g = get_or firsts x 0 in
-      elim (cases_eq f g) [
-        | inl e ↦
-            let Is : ℕ → Type 0 = λ h. row (set lists g (row lists g ++ x ∷ [])) h ≡ filter (is_of firsts h) (order ++ x ∷ []) in
-            subst Is (sym e)
-            (get_or-set_same lists g (row lists g ++ x ∷ []) [] (omega (arith, known, many)) ∙ ap (λ xs. xs ++ x ∷ []) (dealt.rows g known) ∙
-            ap (λ xs. filter (is_of firsts g) order ++ xs) (sym (one-test (eqb g g) x true (eq-eqb g g refl))) ∙ sym (filter-append (is_of firsts g) order (x ∷ [])))
-        | inr ne ↦
-            get_or-set_other lists g f (row lists g ++ x ∷ []) [] ne ∙ dealt.rows f below ∙ sym (append-nil (filter (is_of firsts f) order)) ∙
-            ap (λ xs. filter (is_of firsts f) order ++ xs) (sym (one-test (eqb g f) x false (ne_eqb g f (λ e. ne (sym e))))) ∙ sym (filter-append (is_of firsts f) order (x ∷ []))
-      ];
-}
 
 -- First members
 

@@ -54,9 +54,6 @@ ends-below (x ∷ xs) p below =
 
 -- One number after the other
 
-pub entered_none : (lists : List (List ℕ)) (item : ℕ) → IsEntered lists lists [] item
-entered_none lists item = record { many = refl; rows = λ k below. sym (append-nil (row lists k)) }
-
 row_same : (lists : List (List ℕ)) (k : ℕ) (xs : List ℕ) → k < length lists → row (set lists k xs) k ≡ xs
 row_same lists k xs below = get_or-set_same lists k xs [] below
 

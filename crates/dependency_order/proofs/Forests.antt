@@ -260,15 +260,6 @@ one_more_joining ps qs rs xs x w are is = record {
 
 -- Ties
 
-pub no_tie : (ps some others : List ℕ) → IsForest ps → ((p q : ℕ) → stands p some ≡ true → stands q others ≡ true → ⊥) → IsTie ps ps some others
-no_tie ps some others forest none = record {
-  many = refl;
-  forest = forest;
-  sound = λ names sound chains. sound;
-  full = λ label respects. respects;
-  tied = λ label respects p q one other. absurd (none p q one other);
-}
-
 pub tie_of : (ps qs rs some others : List ℕ) (a b : ℕ) → stands a some ≡ true → stands b others ≡ true → AreJoining ps qs some b → AreJoining qs rs others a → IsTie ps rs some others
 tie_of ps qs rs some others a b one other first second = record {
   many = second.many ∙ first.many;

@@ -70,13 +70,6 @@ not_gt a b is =
 
 -- Places that ask for modules
 
-pub none_offered : (free : BTreeSet ℕ) (held : List ℕ) (askers : List (List ℕ)) → AreOffered free free held [] askers
-none_offered free held askers = record {
-  kept = λ p there. there;
-  offered = λ k p never few asks. absurd (false≢true never);
-  small = λ bound before asks p there. before p there;
-}
-
 same-number : (k x p : ℕ) (askers : List (List ℕ)) → eqb x k ≡ true → stands p (row askers k) ≡ true → stands p (row askers x) ≡ true
 same-number k x p askers e there = let In : ℕ → Type 0 = λ j. stands p (row askers j) ≡ true in subst In (sym (eqb-true x k e)) there
 

@@ -135,9 +135,6 @@ module _ (asks askers gives givers : List (List ℕ)) (count : ℕ) (s : Left) (
   fewer_held : (k : ℕ) → get_or h.items k 0 ≤ get_or s.held.items k 0
   fewer_held k = let e = off k in omega (arith, e)
 
-  abbrev Waits : ℕ → ℕ → Bool
-  Waits = waits_by asks gives s.itself
-
   -- none but p gives what p asks for
   few_left : (p k : ℕ) → is_left (set s.left.items x false) p ≡ true → IsClear (waits_by asks gives s.itself) (set s.left.items x false) p → k < count → stands k (row asks p) ≡ true → get_or h.items k 0 ≤ 1
   few_left p k left' clear below asked =

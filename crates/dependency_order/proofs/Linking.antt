@@ -218,7 +218,3 @@ module _ (places : List Place) (naming namers standing on : List (List ℕ)) (nu
                     omega (arith, same, behind);
               };
         }
-
-    -- a root is a place
-    pub firsts-below : (p : ℕ) → p < length ps → parent ps p < length ps
-    firsts-below p below = let behind = flat.trees.forest p below in omega (arith, behind, below)

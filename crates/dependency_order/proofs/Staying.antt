@@ -53,9 +53,6 @@ module _ (asks gives : List (List ℕ)) (count : ℕ) (s : Left) (x to : ℕ) (f
             omega (arith, other, w)
       ]
 
-  Is_passed : ℕ → ℕ → Type 0
-  Is_passed p i = is_passed s.itself (row gives p) (get_or s.held.items (get_or (row asks p) i 0) 0) (get_or (row asks p) i 0) ≡ true
-
   passed_here : (i : ℕ) → i < to → is_passed s.itself (row gives x) (get_or s.held.items (get_or (row asks x) i 0) 0) (get_or (row asks x) i 0) ≡ true
   passed_here i below =
       elim (cases_lt i (get_or s.passed.items x 0)) [

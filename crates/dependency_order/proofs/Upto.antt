@@ -17,9 +17,6 @@ upto-more n =
     let e : 0 + n ≡ n = omega arith in
     ap upto (add-one n) ∙ range-more 0 n ∙ ap (λ k. upto n ++ k ∷ []) e
 
-if-one : (test : ℕ → Bool) (x : ℕ) → filter test (x ∷ []) ≡ (if test x then x ∷ [] else [])
-if-one test x = refl
-
 pub filter-more : (test : ℕ → Bool) (n : ℕ) → filter test (upto (n + 1)) ≡ filter test (upto n) ++ (if test n then n ∷ [] else [])
 filter-more test n = ap (filter test) (upto-more n) ∙ filter-append test (upto n) (n ∷ [])
 

@@ -12,12 +12,12 @@ use Rattle.dependency_order.proofs.Upto.{stands-upto}
 
 -- Items of lists and their places
 
-pub record Place (test : ℕ → Bool) (xs : List ℕ) : Type 0 where
+pub record Found (test : ℕ → Bool) (xs : List ℕ) : Type 0 where
   pub at' : ℕ
   pub below : at' < length xs
   pub passes : test (get_or xs at' 0) ≡ true
 
-pub place_of : (test : ℕ → Bool) (xs : List ℕ) → list_any test xs ≡ true → Place test xs
+pub place_of : (test : ℕ → Bool) (xs : List ℕ) → list_any test xs ≡ true → Found test xs
 place_of test [] is = absurd (false≢true is)
 place_of test (x ∷ xs) is =
     elim (or_cases (test x) (list_any test xs) is) [
@@ -26,10 +26,6 @@ place_of test (x ∷ xs) is =
     ]
 
 -- Counts
-
-not-both : (b : Bool) → not b ≡ false → b ≡ true
-not-both true is = refl
-not-both false is = absurd (false≢true (sym is))
 
 passed_none : (h others : ℕ) (s : Bool) → h ≡ others + (if s then 1 else 0) → ((eqb h 0) || ((eqb h 1) && s)) ≡ true → others ≡ 0
 passed_none h others true is so =

@@ -1,5 +1,6 @@
 -- Which places are left, and what is known of them: seen by this crate's own functions alone.
-use Rattle.std.specs.Prelude.{◌≡◌, ◌<◌, ◌≤◌, ◌+◌, ◌==◌, ◌&&◌, ◌||◌, ◌⊎◌, ℕ, Bool, true, false, not, if◌then◌else◌, List, ◌++◌, length, get_or, filter}
+use Rattle.std.specs.Prelude.{◌≡◌, ◌<◌, ◌≤◌, ◌+◌, ◌==◌, ◌&&◌, ◌||◌, ◌⊎◌, ℕ, Bool, true, false, not, if◌then◌else◌}
+use Rattle.std.specs.Prelude.{List, ◌++◌, length, get_or, filter}
 use Rattle.std.specs.List.{list_any}
 use Rattle.std.specs.Ordering.{nat_cmp}
 use Rattle.std.specs.BTreeSet.{BTreeSet, contains}
@@ -73,6 +74,7 @@ pub record IsBegun (waits : ℕ → ℕ → Bool) (count : ℕ) (left : List Boo
 -- those that may be free, after the places that ask for some modules were put to them
 pub record AreOffered (old new : BTreeSet ℕ) (held given : List ℕ) (askers : List (List ℕ)) : Type 0 where
   pub kept : (p : ℕ) → contains nat_cmp old p ≡ true → contains nat_cmp new p ≡ true
-  pub offered : (k p : ℕ) → stands k given ≡ true → get_or held k 0 ≤ 1 → stands p (row askers k) ≡ true → contains nat_cmp new p ≡ true
+  pub offered : (k p : ℕ) → stands k given ≡ true → get_or held k 0 ≤ 1 → stands p (row askers k) ≡ true →
+      contains nat_cmp new p ≡ true
   pub small : (bound : ℕ) → ((p : ℕ) → contains nat_cmp old p ≡ true → p < bound) →
       ((k p : ℕ) → stands p (row askers k) ≡ true → p < bound) → (p : ℕ) → contains nat_cmp new p ≡ true → p < bound

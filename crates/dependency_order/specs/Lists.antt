@@ -1,5 +1,6 @@
 -- Lists of numbers, by number: seen by this crate's own functions alone.
-use Rattle.std.specs.Prelude.{◌≡◌, ◌<◌, ◌-◌, ◌==◌, ◌++◌, ℕ, Bool, false, if◌then◌else◌, List, [], ◌∷◌, length, get_or, slice_get, filter}
+use Rattle.std.specs.Prelude.{◌≡◌, ◌<◌, ◌-◌, ◌==◌, ◌++◌, ℕ, Bool, false, if◌then◌else◌, List, [], ◌∷◌, length}
+use Rattle.std.specs.Prelude.{get_or, slice_get, filter}
 use Rattle.std.specs.List.{All, range_with_len}
 use Rattle.std.specs.Option.{option_map_or}
 use Rattle.dependency_order.specs.declared.place.Place.{Place}

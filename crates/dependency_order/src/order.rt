@@ -1,8 +1,10 @@
 // An order of places.
-ghost use Rattle.std.specs.Prelude.{◌≡◌, ◌<◌, ◌≤◌, ◌+◌, ◌||◌, ℕ, Bool, false, true, ltb, IfOk, OnOk, MatchOption, List, All, length, get_or, set, map, replicate};
+ghost use Rattle.std.specs.Prelude.{◌≡◌, ◌<◌, ◌≤◌, ◌+◌, ◌||◌, ℕ, false, true, ltb, IfOk, OnOk, MatchOption, List, All};
+ghost use Rattle.std.specs.Prelude.{length, get_or, set, map, replicate};
 ghost use Rattle.std.specs.Ordering.{nat_cmp};
 ghost use Rattle.std.specs.BTreeSet.{contains};
-ghost use Rattle.dependency_order.specs.Left.{AreBothWays, AreOffered, IsClear, IsNextOf, IsPassing, Knows, is_left, is_passed, waits_by};
+ghost use Rattle.dependency_order.specs.Left.{AreBothWays, AreOffered, IsClear, IsNextOf, IsPassing, Knows};
+ghost use Rattle.dependency_order.specs.Left.{is_left, is_passed, waits_by};
 ghost use Rattle.dependency_order.specs.Lists.{row, upto};
 ghost use Rattle.dependency_order.specs.Orders.{IsOrderOf, stands, times};
 

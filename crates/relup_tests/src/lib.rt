@@ -1,4 +1,4 @@
-//! Tests of [`dependency_order`]: what no contract of it says.
+//! Tests of [`dependency_order`] and [`relup_make`]: what no contract of theirs says.
 //!
 //! They see that the definitions in its contracts are those of appup(4), High-Level Instructions: which instructions belong
 //! together, and the orders in which they are carried out. The cases are lines of tables, and the values that are wanted
@@ -7,3 +7,5 @@
 
 #[cfg(test)]
 mod group_orders;
+#[cfg(test)]
+mod translation;

@@ -1,6 +1,5 @@
 -- Numbers below a bound.
-use Rattle.std.proofs.Common.{◌≡◌, ◌<◌, ◌≤◌, ◌+◌, ℕ, List, All, length, take, get_or, arith, subst, sym, refl, take_all}
-use Rattle.std.proofs.lemmas.List.{get_or_default}
+use Rattle.std.proofs.Common.{◌≡◌, ◌<◌, ◌+◌, ℕ, List, All, length, take, get_or, arith, subst, refl, take_all}
 use Rattle.std.proofs.lemmas.List.Elements.{All-more}
 use Rattle.dependency_order.specs.declared.place.Place.{Place}
 use Rattle.dependency_order.specs.Links.{AreNumbered, IsNumbered}

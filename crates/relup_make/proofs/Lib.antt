@@ -1,0 +1,11 @@
+pub mod OneScript
+pub mod Places
+pub mod Lookups
+pub mod Firsts
+pub mod Turns
+pub mod Linked
+pub mod Picked
+pub mod Joining
+pub mod Dealing
+pub mod Scripted
+pub mod InTarget

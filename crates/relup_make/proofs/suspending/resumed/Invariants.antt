@@ -1,0 +1,6 @@
+-- The names from here on, the last first.
+use Rattle.std.proofs.Common.{◌≡◌, drop, map, reverse}
+use Rattle.relup_make.proofs.suspending.resumed.Given as goal
+
+abbrev pub invariant-loop-place : goal.invariant-loop-place
+invariant-loop-place l = l.names.items ≡ map (λ s. s.name) (reverse (drop l.place l.suspended))

@@ -1,0 +1,14 @@
+pub mod Arranging
+pub mod Chosen
+pub mod Dealt
+pub mod Dependencies
+pub mod Indexes
+pub mod Laws
+pub mod Numbers
+pub mod Parts
+pub mod Refusals
+pub mod Releases
+pub mod Relups
+pub mod Scripts
+pub mod Ways
+pub mod Work

@@ -1,0 +1,15 @@
+// The laws of the translation.
+ghost use Rattle.std.specs.Prelude.{List, Option};
+ghost use Rattle.relup_make.specs.Laws.{AtMostOneAnswer, AtMostOneScript};
+ghost use Rattle.relup_make.specs.Work.{Appup};
+ghost use Rattle.relup_make.specs.declared.rel_apps.RelApps.{RelApps};
+
+/// A law: at most one script fits the work of one direction.
+pub fn at_most_one_script()
+    ensures { AtMostOneScript }
+{}
+
+/// A law: two releases and their appups have at most one relup, or are refused for one reason, and never both.
+pub fn at_most_one_answer()
+    ensures { (old new : RelApps) (appups : List (Option Appup)) → AtMostOneAnswer old new appups }
+{}
