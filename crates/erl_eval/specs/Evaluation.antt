@@ -252,6 +252,6 @@ module _ (w : World) where
       started_by : {a : Activation} {starter : Starter} {registered : Option (List ℕ)} {i : Instance} {name : List ℕ}
           {f : Function} {ts : Trees} {s s1 : State} {q r : Result} {s' : State} →
           Entered (first_activation a starter i) (may_nest (first_activation a starter i)) name f.definition ts
-            (begun_by registered s) q s1 →
+          (begun_by registered s) q s1 →
           Gives r s' (started w starter s.bindings i.name q s1).0 (started w starter s.bindings i.name q s1).1 →
           Started a starter (begin registered i name f ts) s r s'

@@ -110,7 +110,7 @@ choice = record {
       definition = definition.Clauses
           (form.clause (pats (pattern.variable 0 ∷ []))
           (guards (operation_of operator.Greater
-            (operation_of operator.Add (var 0 ∷ literal (n 1) ∷ []) ∷ literal (n 0) ∷ []) ∷ []))
+          (operation_of operator.Add (var 0 ∷ literal (n 1) ∷ []) ∷ literal (n 0) ∷ []) ∷ []))
           (exprs (literal (a (codes "a")) ∷ []))
           (form.clause (pats (pattern.variable 0 ∷ []))
           (guards (operation_of operator.Equal (call_of built_in.Hd (var 0 ∷ []) ∷ literal (n 1) ∷ []) ∷

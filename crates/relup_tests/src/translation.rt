@@ -35,7 +35,9 @@ fn add_application(
         return Ok(());
     }
     let modules = modules.replace(alloc, " ", ",")?;
-    let file = format!(in alloc; "{{application,{name},[{{vsn,\"{vsn}\"}},{{modules,[{modules}]}}]}}.")?;
+    let file = format!(in alloc;
+        "{{application,{name},[{{vsn,\"{vsn}\"}},{{modules,[{modules}]}}]}}."
+    )?;
     specs.push(read_app(alloc, file.as_bytes())?)?;
     Ok(())
 }
@@ -43,14 +45,20 @@ fn add_application(
 /// The release that a text stands for.
 fn release(alloc: Global, text: &str) -> Result<RelApps, Fail> {
     let mut parts = text.split(" | ");
-    let (vsn, erts) = parts.next().ok_or("no head")?.split_once(' ').ok_or("no erts")?;
+    let (vsn, erts) = parts
+        .next()
+        .ok_or("no head")?
+        .split_once(' ')
+        .ok_or("no erts")?;
     let mut listed = String::new(alloc);
     let mut specs = Vec::new(alloc);
     for part in parts {
         add_application(alloc, part, &mut listed, &mut specs)?;
     }
     let listed = listed.as_str();
-    let file = format!(in alloc; "{{release,{{\"r\",\"{vsn}\"}},{{erts,\"{erts}\"}},[{listed}]}}.")?;
+    let file = format!(in alloc;
+        "{{release,{{\"r\",\"{vsn}\"}},{{erts,\"{erts}\"}},[{listed}]}}."
+    )?;
     let rel = read_rel(alloc, file.as_bytes())?;
     let apps = Row::new(specs);
     Ok(RelApps { rel, apps })
@@ -121,12 +129,19 @@ fn wanted(alloc: Global, from: &RelApps, to: &RelApps, text: &str) -> Result<Str
         return Ok(String::from_str(alloc, text)?);
     };
     let (old, new) = (from.rel.vsn.as_str(), to.rel.vsn.as_str());
-    let short = format!(in alloc; "{{\"{new}\",[{{\"{old}\",[],{up}}}],[{{\"{old}\",[],{down}}}]}}")?;
+    let short = format!(in alloc;
+        "{{\"{new}\",[{{\"{old}\",[],{up}}}],[{{\"{old}\",[],{down}}}]}}"
+    )?;
     let long = short.as_str().replace(alloc, "•", "point_of_no_return")?;
     let long = long.as_str().replace(alloc, "«", "{load,{")?;
     let long = long.as_str().replace(alloc, "‹", "{remove,{")?;
-    let long = long.as_str().replace(alloc, "»", ",brutal_purge,brutal_purge}}")?;
-    Ok(long.as_str().replace(alloc, "›", ",brutal_purge,brutal_purge}}")?)
+    let long = long
+        .as_str()
+        .replace(alloc, "»", ",brutal_purge,brutal_purge}}")?;
+    Ok(
+        long.as_str()
+            .replace(alloc, "›", ",brutal_purge,brutal_purge}}")?,
+    )
 }
 
 /// A case: two releases, the appups, and what is wanted.

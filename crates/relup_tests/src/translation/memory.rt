@@ -8,7 +8,8 @@ use std::test::Fail;
 use values::{Duplicate, Same};
 
 /// A case that has a part of each kind.
-const CASE: &str = r##"A 1 | p 1 permanent a b | q 1 load m ⇒ B 1 | p 2 permanent a b ¦ 2 1 [{update,a,{advanced,x},[b]},{load_module,b},{apply,{m,f,[]}}] ⟶ [{load_object_code,{p,"2",[b,a]}},•,{suspend,[a]},«b»,«a»,{code_change,up,[{a,x}]},{resume,[a]},{apply,{m,f,[]}},‹m›,{purge,[m]},{apply,{application,unload,[q]}}] / [{load_object_code,{p,"1",[a,b]}},{load_object_code,{q,"1",[m]}},•,{suspend,[a]},{code_change,down,[{a,x}]},«a»,«b»,{resume,[a]},{apply,{m,f,[]}},«m»]"##;
+const CASE: &str =
+    r##"A 1 | p 1 permanent a b | q 1 load m ⇒ B 1 | p 2 permanent a b ¦ 2 1 [{update,a,{advanced,x},[b]},{load_module,b},{apply,{m,f,[]}}] ⟶ [{load_object_code,{p,"2",[b,a]}},•,{suspend,[a]},«b»,«a»,{code_change,up,[{a,x}]},{resume,[a]},{apply,{m,f,[]}},‹m›,{purge,[m]},{apply,{application,unload,[q]}}] / [{load_object_code,{p,"1",[a,b]}},{load_object_code,{q,"1",[m]}},•,{suspend,[a]},{code_change,down,[{a,x}]},«a»,«b»,{resume,[a]},{apply,{m,f,[]}},«m»]"##;
 
 /// Sees that a case is made as it is wanted, or that memory is refused to it; whether it is made.
 fn is_made(rt: &impl Abort, alloc: Global, case: &Case) -> Result<bool, Fail> {

@@ -4,17 +4,20 @@ pub(super) const TABLES: [&str; 5] = [ORDERS, PARTS, APPLICATIONS, LOW, REFUSED]
 
 /// The orders of groups: with a chain, with a circle, with names that nothing is on, and with several instructions on one
 /// module.
-const ORDERS: &str = r##"A 1 | p 1 permanent a b c ⇒ B 1 | p 2 permanent a b c ¦ 2 1 [{update,a,soft,[b]},{load_module,b},{update,c,{advanced,x},[a]}] ⟶ [{load_object_code,{p,"2",[b,a,c]}},•,{suspend,[c,a]},«b»,«a»,«c»,{code_change,up,[{c,x}]},{resume,[a,c]}] / [{load_object_code,{p,"1",[c,a,b]}},•,{suspend,[a,c]},{code_change,down,[{c,x}]},«c»,«a»,«b»,{resume,[c,a]}]
+const ORDERS: &str =
+    r##"A 1 | p 1 permanent a b c ⇒ B 1 | p 2 permanent a b c ¦ 2 1 [{update,a,soft,[b]},{load_module,b},{update,c,{advanced,x},[a]}] ⟶ [{load_object_code,{p,"2",[b,a,c]}},•,{suspend,[c,a]},«b»,«a»,«c»,{code_change,up,[{c,x}]},{resume,[a,c]}] / [{load_object_code,{p,"1",[c,a,b]}},•,{suspend,[a,c]},{code_change,down,[{c,x}]},«c»,«a»,«b»,{resume,[c,a]}]
 A 1 | p 1 permanent a b ⇒ B 1 | p 2 permanent a b ¦ 2 1 [{update,a,soft,[b]},{update,b,soft,[a]}] ⟶ [{load_object_code,{p,"2",[a,b]}},•,{suspend,[a,b]},«a»,«b»,{resume,[b,a]}] / [{load_object_code,{p,"1",[a,b]}},•,{suspend,[a,b]},«a»,«b»,{resume,[b,a]}]
 A 1 | p 1 permanent a b ⇒ B 1 | p 2 permanent a b ¦ 2 1 [{update,a,soft,[z]},{update,b,soft,[z]}] ⟶ [{load_object_code,{p,"2",[a,b]}},•,{suspend,[a]},«a»,{resume,[a]},{suspend,[b]},«b»,{resume,[b]}] / [{load_object_code,{p,"1",[a,b]}},•,{suspend,[a]},«a»,{resume,[a]},{suspend,[b]},«b»,{resume,[b]}]
 A 1 | p 1 permanent a b ⇒ B 1 | p 2 permanent a b ¦ 2 1 [{load_module,a},{load_module,b},{load_module,a}] ⟶ [{load_object_code,{p,"2",[a,b]}},•,«a»,«b»,«a»] / [{load_object_code,{p,"1",[a,b]}},•,«a»,«b»,«a»]"##;
 
 /// Parts: timeouts, kinds of modules, kinds of purge, modules that are new or gone.
-const PARTS: &str = r##"A 1 | p 1 permanent a b ⇒ B 1 | p 2 permanent a b ¦ 2 1 [{update,a,static,5000,{advanced,x},soft_purge,brutal_purge,[]},{update,b,dynamic,infinity,{advanced,y},brutal_purge,soft_purge,[a]}] ⟶ [{load_object_code,{p,"2",[a,b]}},•,{suspend,[{b,infinity},{a,5000}]},{load,{a,soft_purge,brutal_purge}},{load,{b,brutal_purge,soft_purge}},{code_change,up,[{a,x},{b,y}]},{resume,[a,b]}] / [{load_object_code,{p,"1",[b,a]}},•,{suspend,[{a,5000},{b,infinity}]},{code_change,down,[{b,y}]},{load,{b,brutal_purge,soft_purge}},{load,{a,soft_purge,brutal_purge}},{code_change,down,[{a,x}]},{resume,[b,a]}]
+const PARTS: &str =
+    r##"A 1 | p 1 permanent a b ⇒ B 1 | p 2 permanent a b ¦ 2 1 [{update,a,static,5000,{advanced,x},soft_purge,brutal_purge,[]},{update,b,dynamic,infinity,{advanced,y},brutal_purge,soft_purge,[a]}] ⟶ [{load_object_code,{p,"2",[a,b]}},•,{suspend,[{b,infinity},{a,5000}]},{load,{a,soft_purge,brutal_purge}},{load,{b,brutal_purge,soft_purge}},{code_change,up,[{a,x},{b,y}]},{resume,[a,b]}] / [{load_object_code,{p,"1",[b,a]}},•,{suspend,[{a,5000},{b,infinity}]},{code_change,down,[{b,y}]},{load,{b,brutal_purge,soft_purge}},{load,{a,soft_purge,brutal_purge}},{code_change,down,[{a,x}]},{resume,[b,a]}]
 A 1 | p 1 permanent a old ⇒ B 1 | p 2 permanent a new ¦ 2 1 [{add_module,new},{load_module,a,soft_purge,soft_purge,[new]},{delete_module,old}] / [{add_module,old},{load_module,a},{delete_module,new,[a]}] ⟶ [{load_object_code,{p,"2",[new,a]}},•,«new»,{load,{a,soft_purge,soft_purge}},‹old›,{purge,[old]}] / [{load_object_code,{p,"1",[old,a]}},•,«old»,‹new›,{purge,[new]},«a»]"##;
 
 /// Applications: added and removed, of each type; restarted; by an entry's own instructions; several in order; none.
-const APPLICATIONS: &str = r##"A 1 ⇒ B 1 | q 3 permanent m n ¦ ⟶ [{load_object_code,{q,"3",[m,n]}},•,«m»,«n»,{apply,{application,start,[q,permanent]}}] / [•,{apply,{application,stop,[q]}},‹m›,‹n›,{purge,[m,n]},{apply,{application,unload,[q]}}]
+const APPLICATIONS: &str =
+    r##"A 1 ⇒ B 1 | q 3 permanent m n ¦ ⟶ [{load_object_code,{q,"3",[m,n]}},•,«m»,«n»,{apply,{application,start,[q,permanent]}}] / [•,{apply,{application,stop,[q]}},‹m›,‹n›,{purge,[m,n]},{apply,{application,unload,[q]}}]
 A 1 ⇒ B 1 | q 3 transient m ¦ ⟶ [{load_object_code,{q,"3",[m]}},•,«m»,{apply,{application,start,[q,transient]}}] / [•,{apply,{application,stop,[q]}},‹m›,{purge,[m]},{apply,{application,unload,[q]}}]
 A 1 ⇒ B 1 | q 3 temporary m ¦ ⟶ [{load_object_code,{q,"3",[m]}},•,«m»,{apply,{application,start,[q,temporary]}}] / [•,{apply,{application,stop,[q]}},‹m›,{purge,[m]},{apply,{application,unload,[q]}}]
 A 1 ⇒ B 1 | q 3 load m ¦ ⟶ [{load_object_code,{q,"3",[m]}},•,«m»] / [•,‹m›,{purge,[m]},{apply,{application,unload,[q]}}]
@@ -29,7 +32,8 @@ A 1 | p 1 permanent | q 1 permanent m ⇒ B 1 | p 2 permanent | q 1 permanent m 
 A 1 | kernel 1 permanent | p 1 permanent a ⇒ A 1 | kernel 1 permanent | p 1 permanent a ¦ ⟶ [•] / [•]"##;
 
 /// An entry's low-level instructions: they keep their place, but for the point of no return and the object code.
-const LOW: &str = r##"A 1 | p 1 permanent a ⇒ B 1 | p 2 permanent a ¦ 2 1 [{apply,{m,f,[1]}},point_of_no_return,{load_module,a},{load_object_code,{p,"9",[z]}},{purge,[a]}] ⟶ [{load_object_code,{p,"2",[a]}},{load_object_code,{p,"9",[z]}},•,{apply,{m,f,[1]}},«a»,{purge,[a]}] / [{load_object_code,{p,"1",[a]}},{load_object_code,{p,"9",[z]}},•,{apply,{m,f,[1]}},«a»,{purge,[a]}]
+const LOW: &str =
+    r##"A 1 | p 1 permanent a ⇒ B 1 | p 2 permanent a ¦ 2 1 [{apply,{m,f,[1]}},point_of_no_return,{load_module,a},{load_object_code,{p,"9",[z]}},{purge,[a]}] ⟶ [{load_object_code,{p,"2",[a]}},{load_object_code,{p,"9",[z]}},•,{apply,{m,f,[1]}},«a»,{purge,[a]}] / [{load_object_code,{p,"1",[a]}},{load_object_code,{p,"9",[z]}},•,{apply,{m,f,[1]}},«a»,{purge,[a]}]
 A 1 | p 1 permanent a b ⇒ B 1 | p 2 permanent a b ¦ 2 1 [{load_module,a,[b]},{stop,[s]},{load_module,b},{start,[s]}] ⟶ [{load_object_code,{p,"2",[b,a]}},•,«b»,«a»,{stop,[s]},{start,[s]}] / [{load_object_code,{p,"1",[a,b]}},•,«a»,«b»,{stop,[s]},{start,[s]}]"##;
 
 /// What is refused, each reason, and which of two comes first.
