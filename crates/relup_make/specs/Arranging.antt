@@ -21,7 +21,8 @@ AreArrangements [] [] = ⊤
 AreArrangements [] (a ∷ others) = ⊥
 AreArrangements (job ∷ jobs) [] = ⊥
 AreArrangements (job ∷ jobs) (a ∷ others) =
-    (a.job.now ≡ job) × AreOrderedGroups (depends job.instructions) (length job.instructions) a.groups × AreArrangements jobs others
+    (a.job.now ≡ job) × AreOrderedGroups (depends job.instructions) (length job.instructions) a.groups ×
+    AreArrangements jobs others
 
 -- the order of a group's loads
 abbrev pub order_of_loads : Direction → Group → List ℕ

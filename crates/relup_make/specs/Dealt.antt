@@ -1,5 +1,6 @@
 -- What is loaded, application by application: the modules of one are dealt to the place where it stands first.
-use Rattle.std.specs.Prelude.{◌≡◌, ◌<◌, ◌==◌, ℕ, Bool, true, false, if◌then◌else◌, List, [], ◌∷◌, ◌++◌, length, map, filter, slice_index_or}
+use Rattle.std.specs.Prelude.{◌≡◌, ◌<◌, ◌==◌, ℕ, Bool, true, false, if◌then◌else◌, List, [], ◌∷◌, ◌++◌, length, map}
+use Rattle.std.specs.Prelude.{filter, slice_index_or}
 use Rattle.std.specs.Option.{option_map_or}
 use Rattle.std.specs.declared.vec.Vec.{Vec}
 use Rattle.high_instructions.specs.Forms.{Name, Names}
@@ -23,7 +24,8 @@ abbrev pub dealt : Names → ℕ → List (Name × Name) → Names
 dealt names place pairs = map (λ p. p.1) (filter (λ p. is_first names place p.0) pairs)
 
 -- so many piles, each with the modules that are dealt to its place
-pub record IsDealt {Z : Type 0} (names : Names) (pairs : List (Name × Name)) (count : ℕ) (piles : List (Vec Name Z)) : Type 0 where
+pub record IsDealt {Z : Type 0} (names : Names) (pairs : List (Name × Name)) (count : ℕ) (piles : List (Vec Name Z)) :
+    Type 0 where
   pub many : length piles ≡ count
   pub each : (k : ℕ) (d : Vec Name Z) → k < count → (slice_index_or piles k d).items ≡ dealt names k pairs
 

@@ -1,4 +1,18 @@
 //! A release upgrade file made of two releases: appup(4) instructions translated to a script of relup(4), up and down.
+//!
+//! The table of the translation stands in docs/RELUPS.md, and as definitions in specs/.
+//!
+//! # What is proved
+//!
+//! - [`make`] gives the relup of the table, or, want of memory aside, what stands against it first, in the order of
+//!   [`MakeError`].
+//! - [`at_most_one_script`], [`at_most_one_answer`]: there is at most one such script, and so at most one relup; and what is
+//!   refused has none, and is refused for one reason.
+//!
+//! # What no contract says
+//!
+//! That there is memory, and what a call costs: the names of applications, modules and dependencies, times the logarithm of
+//! their number, for each application that is changed and each direction.
 #![tactic(auto)]
 
 mod applying;

@@ -17,6 +17,22 @@ use std::test::Fail;
 use tables::TABLES;
 use values::{Row, Same};
 
+/// The first of the words of a text.
+fn first_word(text: &str) -> &str {
+    match text.split_once(' ') {
+        Some((word, _)) => word,
+        None => text,
+    }
+}
+
+/// What stands behind the first of the words of a text.
+fn behind_first_word(text: &str) -> &str {
+    match text.split_once(' ') {
+        Some((_, rest)) => rest,
+        None => "",
+    }
+}
+
 /// An application as it stands in a release's file and in a file of its own.
 fn add_application(
     alloc: Global,
@@ -24,13 +40,17 @@ fn add_application(
     listed: &mut String,
     specs: &mut Vec<AppSpec>,
 ) -> Result<(), Fail> {
-    let (name, rest) = text.split_once(' ').ok_or("no name")?;
-    let (vsn, rest) = rest.split_once(' ').ok_or("no version")?;
-    let (start_type, modules) = rest.split_once(' ').unwrap_or((rest, ""));
+    let name = first_word(text);
+    let numbered = behind_first_word(text);
+    let vsn = first_word(numbered);
+    let typed = behind_first_word(numbered);
+    let start_type = first_word(typed);
+    let modules = behind_first_word(typed);
+    let entry = format!(in alloc; "{{{name},\"{vsn}\",{start_type}}}")?;
     if !listed.is_empty() {
         listed.push(',')?;
     }
-    write!(listed, "{{{name},\"{vsn}\",{start_type}}}")?;
+    listed.push_str(entry.as_str())?;
     if name == "kernel" || name == "stdlib" || name == "sasl" {
         return Ok(());
     }
