@@ -8,7 +8,8 @@ const ORDERS: &str =
     r##"A 1 | p 1 permanent a b c ⇒ B 1 | p 2 permanent a b c ¦ 2 1 [{update,a,soft,[b]},{load_module,b},{update,c,{advanced,x},[a]}] ⟶ [{load_object_code,{p,"2",[b,a,c]}},•,{suspend,[c,a]},«b»,«a»,«c»,{code_change,up,[{c,x}]},{resume,[a,c]}] / [{load_object_code,{p,"1",[c,a,b]}},•,{suspend,[a,c]},{code_change,down,[{c,x}]},«c»,«a»,«b»,{resume,[c,a]}]
 A 1 | p 1 permanent a b ⇒ B 1 | p 2 permanent a b ¦ 2 1 [{update,a,soft,[b]},{update,b,soft,[a]}] ⟶ [{load_object_code,{p,"2",[a,b]}},•,{suspend,[a,b]},«a»,«b»,{resume,[b,a]}] / [{load_object_code,{p,"1",[a,b]}},•,{suspend,[a,b]},«a»,«b»,{resume,[b,a]}]
 A 1 | p 1 permanent a b ⇒ B 1 | p 2 permanent a b ¦ 2 1 [{update,a,soft,[z]},{update,b,soft,[z]}] ⟶ [{load_object_code,{p,"2",[a,b]}},•,{suspend,[a]},«a»,{resume,[a]},{suspend,[b]},«b»,{resume,[b]}] / [{load_object_code,{p,"1",[a,b]}},•,{suspend,[a]},«a»,{resume,[a]},{suspend,[b]},«b»,{resume,[b]}]
-A 1 | p 1 permanent a b ⇒ B 1 | p 2 permanent a b ¦ 2 1 [{load_module,a},{load_module,b},{load_module,a}] ⟶ [{load_object_code,{p,"2",[a,b]}},•,«a»,«b»,«a»] / [{load_object_code,{p,"1",[a,b]}},•,«a»,«b»,«a»]"##;
+A 1 | p 1 permanent a b ⇒ B 1 | p 2 permanent a b ¦ 2 1 [{load_module,a},{load_module,b},{load_module,a}] ⟶ [{load_object_code,{p,"2",[a,b]}},•,«a»,«b»,«a»] / [{load_object_code,{p,"1",[a,b]}},•,«a»,«b»,«a»]
+A 1 | kernel 1 permanent | ctr_app 1 permanent ctr_app ctr lp ⇒ B 1 | kernel 1 permanent | ctr_app 2 permanent ctr_app ctr lp ¦ 2 1 [{update,ctr,{advanced,[]}}] ⟶ [{load_object_code,{ctr_app,"2",[ctr]}},•,{suspend,[ctr]},«ctr»,{code_change,up,[{ctr,[]}]},{resume,[ctr]}] / [{load_object_code,{ctr_app,"1",[ctr]}},•,{suspend,[ctr]},{code_change,down,[{ctr,[]}]},«ctr»,{resume,[ctr]}]"##;
 
 /// Parts: timeouts, kinds of modules, kinds of purge, modules that are new or gone.
 const PARTS: &str =
