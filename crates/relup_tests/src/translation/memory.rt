@@ -1,5 +1,6 @@
 // What is answered where memory is refused: the call answers as ever, or that memory is refused, and then the next call answers
-// as ever. (Run by hand with each allocation refused in turn.)
+// as ever. (Not yet seen with an allocation inside `make` refused: the four that were refused by hand made the test fail, and
+// whether in its own set-up was not looked at.)
 use super::{Case, case_of, told};
 use relup_make::{MakeError, make};
 use std::alloc::Global;
