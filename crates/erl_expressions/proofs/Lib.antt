@@ -1,0 +1,4 @@
+pub mod ByLevels
+pub mod Rows
+pub mod Strings
+pub mod Things

@@ -1,0 +1,3 @@
+pub mod Delimiters
+pub mod Leaves
+pub mod Reading

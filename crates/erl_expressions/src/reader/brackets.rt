@@ -1,0 +1,303 @@
+// Brackets, and rows of trees in them.
+ghost use Rattle.std.specs.Prelude.{◌≡◌, IfOk, MatchResult, Some, None};
+ghost use Rattle.erl_syntax.specs.Grammar.{in_brackets as brackets_in, first_level as first_in, has as has_in};
+ghost use Rattle.erl_syntax.specs.Grammar.{is_erlang as erlang_in, calls as calls_in, calls_remote as remote_in};
+ghost use Rattle.erl_syntax.specs.Terminal.{terminals};
+ghost use Rattle.erl_expressions.specs.Delimiters.{after as after_in};
+ghost use Rattle.erl_expressions.specs.Reading.{read as read_in, row as row_in, parts as parts_in, bracketed as bracketed_in};
+ghost use Rattle.erl_expressions.specs.Reading.{made as made_in, opens as opens_in, closing as closing_in};
+ghost use Rattle.erl_expressions.specs.Reading.{parenthesized as parenthesized_in, listed as listed_in, tailed as tailed_in};
+
+use super::{Reading, read};
+use crate::deep::{Deep, DeepRow};
+use crate::delimiter::{Delimiter, after};
+use crate::operators::{MATCHES, OPERATIONS, has_operator, left_level};
+use crate::refusal::Refusal;
+use erl_scan::Spot;
+use erl_syntax::{Qualifier, Role, Shape, guard_arity, is_guard_function};
+use std::alloc::Global;
+
+/// Trees with commas between them.
+#[cycle(reading)]
+#[tactic(auto, using(crate::proofs::Things::row_begins, crate::proofs::Things::row_more, crate::proofs::Things::row_last, crate::proofs::Things::row_not, crate::proofs::Things::row_out))]
+pub(super) fn row<'a>(
+    alloc: Global,
+    levels: u32,
+    role: Role,
+    most: u32,
+    tokens: &'a [Spot],
+) -> Reading<'a, DeepRow>
+    ensures { IfOk result (λ answer. MatchResult answer
+        (λ f. row_in (read_in levels role most) (terminals tokens.now) ≡ Some (f.0, terminals f.1.now))
+        (λ _. row_in (read_in levels role most) (terminals tokens.now) ≡ None)) }
+{
+    let mut items = DeepRow::new(alloc);
+    let mut left = tokens;
+    for _turn in 0..tokens.len() {
+        let rest = match read(alloc, levels, role, most, left)? {
+            Ok((tree, rest)) => {
+                items.push(tree)?;
+                rest
+            }
+            Err(refusal) => return Ok(Err(refusal)),
+        };
+        match after(Delimiter::Comma, rest) {
+            Some(behind) => left = behind,
+            None => return Ok(Ok((items, rest))),
+        }
+    }
+    Ok(Err(Refusal::End))
+}
+
+/// Parts up to a closing bracket, which may be none.
+#[cycle(reading)]
+#[tactic(auto, unfolding(crate::specs::Reading::parts))]
+fn parts<'a>(
+    alloc: Global,
+    levels: u32,
+    role: Role,
+    most: u32,
+    close: Delimiter,
+    tokens: &'a [Spot],
+) -> Reading<'a, DeepRow>
+    ensures { IfOk result (λ answer. MatchResult answer
+        (λ f. parts_in (read_in levels role most) close (terminals tokens.now) ≡ Some (f.0, terminals f.1.now))
+        (λ _. parts_in (read_in levels role most) close (terminals tokens.now) ≡ None)) }
+{
+    if let Some(rest) = after(close, tokens) {
+        return Ok(Ok((DeepRow::new(alloc), rest)));
+    }
+    match row(alloc, levels, role, most, tokens)? {
+        Ok((items, rest)) => match after(close, rest) {
+            Some(behind) => Ok(Ok((items, behind))),
+            None => Ok(Err(Refusal::behind(rest))),
+        },
+        Err(refusal) => Ok(Err(refusal)),
+    }
+}
+
+/// A node, behind its opening bracket, which stands at a byte.
+#[cycle(reading)]
+#[tactic(auto, unfolding(crate::specs::Reading::bracketed))]
+pub(super) fn bracketed<'a>(
+    alloc: Global,
+    levels: u32,
+    role: Role,
+    shape: Shape,
+    at: usize,
+    tokens: &'a [Spot],
+) -> Reading<'a, Deep>
+    ensures { IfOk result (λ answer. MatchResult answer
+        (λ f. bracketed_in (read_in levels) role shape (terminals tokens.now) ≡ Some (f.0, terminals f.1.now))
+        (λ _. bracketed_in (read_in levels) role shape (terminals tokens.now) ≡ None)) }
+{
+    let place = place_of(&shape, at);
+    if !opens(role, &shape) {
+        return Ok(Err(Refusal::Syntax(place)));
+    }
+    let close = closing(&shape);
+    match parts(
+        alloc,
+        levels,
+        role,
+        first_level(role, &shape),
+        close,
+        tokens,
+    )? {
+        Ok((items, rest)) => Ok(made(role, shape, items, place, rest)),
+        Err(refusal) => Ok(Err(refusal.before(close, at))),
+    }
+}
+
+/// `(E)`, behind the opening bracket, which stands at a byte.
+#[cycle(reading)]
+#[tactic(auto, unfolding(crate::specs::Reading::parenthesized))]
+pub(super) fn parenthesized<'a>(
+    alloc: Global,
+    levels: u32,
+    role: Role,
+    at: usize,
+    tokens: &'a [Spot],
+) -> Reading<'a, Deep>
+    ensures { IfOk result (λ answer. MatchResult answer
+        (λ f. parenthesized_in (read_in levels) role (terminals tokens.now) ≡ Some (f.0, terminals f.1.now))
+        (λ _. parenthesized_in (read_in levels) role (terminals tokens.now) ≡ None)) }
+{
+    match read(alloc, levels, role, in_brackets(role), tokens)? {
+        Ok((tree, rest)) => match after(Delimiter::CloseParen, rest) {
+            Some(behind) => {
+                let parts = DeepRow::of(alloc, tree)?;
+                Ok(Ok((Deep::node(Shape::Parenthesized, parts), behind)))
+            }
+            None => Ok(Err(Refusal::behind(rest).within(at))),
+        },
+        Err(refusal) => Ok(Err(refusal.within(at))),
+    }
+}
+
+/// A list, behind its opening bracket, which stands at a byte.
+#[cycle(reading)]
+#[tactic(auto, unfolding(crate::specs::Reading::listed))]
+pub(super) fn listed<'a>(
+    alloc: Global,
+    levels: u32,
+    role: Role,
+    at: usize,
+    tokens: &'a [Spot],
+) -> Reading<'a, Deep>
+    ensures { IfOk result (λ answer. MatchResult answer
+        (λ f. listed_in (read_in levels) role (terminals tokens.now) ≡ Some (f.0, terminals f.1.now))
+        (λ _. listed_in (read_in levels) role (terminals tokens.now) ≡ None)) }
+{
+    if let Some(rest) = after(Delimiter::CloseBracket, tokens) {
+        return Ok(made(role, Shape::List, DeepRow::new(alloc), at, rest));
+    }
+    let (items, rest) = match row(alloc, levels, role, in_brackets(role), tokens)? {
+        Ok(found) => found,
+        Err(refusal) => return Ok(Err(refusal.within(at))),
+    };
+    if let Some(behind) = after(Delimiter::CloseBracket, rest) {
+        return Ok(made(role, Shape::List, items, at, behind));
+    }
+    match after(Delimiter::Bar, rest) {
+        Some(behind) => tailed(alloc, levels, role, items, at, behind),
+        None => Ok(Err(Refusal::behind(rest).within(at))),
+    }
+}
+
+/// A list with a tail, behind the bar.
+#[cycle(reading)]
+fn tailed<'a>(
+    alloc: Global,
+    levels: u32,
+    role: Role,
+    items: DeepRow,
+    at: usize,
+    tokens: &'a [Spot],
+) -> Reading<'a, Deep>
+    ensures { IfOk result (λ answer. MatchResult answer
+        (λ f. tailed_in (read_in levels) role items (terminals tokens.now) ≡ Some (f.0, terminals f.1.now))
+        (λ _. tailed_in (read_in levels) role items (terminals tokens.now) ≡ None)) }
+{
+    match read(alloc, levels, role, in_brackets(role), tokens)? {
+        Ok((tail, rest)) => match after(Delimiter::CloseBracket, rest) {
+            Some(behind) => {
+                let mut parts = items;
+                parts.push(tail)?;
+                Ok(made(role, Shape::Cons, parts, at, behind))
+            }
+            None => Ok(Err(Refusal::behind(rest).within(at))),
+        },
+        Err(refusal) => Ok(Err(refusal.within(at))),
+    }
+}
+
+/// A node of these parts, where there is such a node, with the tokens behind it; what is refused stands at a byte.
+pub(super) fn made<'a>(
+    role: Role,
+    shape: Shape,
+    parts: DeepRow,
+    at: usize,
+    rest: &'a [Spot],
+) -> Result<(Deep, &'a [Spot]), Refusal>
+    ensures { MatchResult result
+        (λ f. made_in role shape parts (terminals rest.now) ≡ Some (f.0, terminals f.1.now))
+        (λ _. made_in role shape parts (terminals rest.now) ≡ None) }
+{
+    if has(role, &shape, parts.len()) && parts.may_begin(&shape) {
+        Ok((Deep::node(shape, parts), rest))
+    } else {
+        Err(Refusal::Syntax(at))
+    }
+}
+
+/// Where a node is told that may not stand in a role: a call at its function's name, all others at a byte.
+fn place_of(shape: &Shape, at: usize) -> usize {
+    match shape {
+        Shape::Local(function) | Shape::Remote(_, function) => function.at,
+        _ => at,
+    }
+}
+
+/// Whether a role has such a node with some number of parts.
+fn opens(role: Role, shape: &Shape) -> bool
+    ensures { result ≡ opens_in role shape.now }
+{
+    match (role, shape) {
+        (_, Shape::Block) => matches!(role, Role::Expression),
+        (Role::Pattern, Shape::Local(_) | Shape::Remote(_, _) | Shape::Prefix(_)) => false,
+        (Role::Test, Shape::Local(function)) => guard_arity(&function.name).is_some(),
+        (Role::Test, Shape::Remote(module, function)) => {
+            is_erlang(module) && guard_arity(&function.name).is_some()
+        }
+        (_, _) => true,
+    }
+}
+
+/// Whether a role has such a node with so many parts.
+fn has(role: Role, shape: &Shape, parts: usize) -> bool
+    ensures { result ≡ has_in role shape.now parts }
+{
+    match shape {
+        Shape::Tuple | Shape::List => true,
+        Shape::Cons => 2 <= parts,
+        Shape::Parenthesized => parts == 1,
+        Shape::Block => matches!(role, Role::Expression) && 1 <= parts,
+        Shape::Local(function) => match role {
+            Role::Expression => true,
+            Role::Pattern => false,
+            Role::Test => is_guard_function(&function.name, parts),
+        },
+        Shape::Remote(module, function) => match role {
+            Role::Expression => true,
+            Role::Pattern => false,
+            Role::Test => is_erlang(module) && is_guard_function(&function.name, parts),
+        },
+        Shape::Prefix(_) => !matches!(role, Role::Pattern) && parts == 1,
+        Shape::Infix(op) => has_operator(role, *op) && parts == 2,
+    }
+}
+
+/// Whether the module of a remote call is `erlang`, by its name.
+fn is_erlang(module: &Qualifier) -> bool
+    ensures { result ≡ erlang_in module.now }
+{
+    match module {
+        Qualifier::Module(module) => module.name.is("erlang"),
+        Qualifier::ModuleName(_) => false,
+    }
+}
+
+/// What closes a node.
+fn closing(shape: &Shape) -> Delimiter
+    ensures { result ≡ closing_in shape.now }
+{
+    match shape {
+        Shape::Tuple => Delimiter::CloseBrace,
+        Shape::List | Shape::Cons => Delimiter::CloseBracket,
+        Shape::Block => Delimiter::End,
+        _ => Delimiter::CloseParen,
+    }
+}
+
+/// The greatest level of what stands in brackets.
+fn in_brackets(role: Role) -> u32
+    ensures { result ≡ brackets_in role }
+{
+    match role {
+        Role::Pattern => MATCHES,
+        Role::Expression | Role::Test => OPERATIONS,
+    }
+}
+
+/// The greatest level of the first part of a node in brackets.
+fn first_level(role: Role, shape: &Shape) -> u32
+    ensures { result ≡ first_in role shape.now }
+{
+    match shape {
+        Shape::Block => MATCHES,
+        Shape::Prefix(_) => 1,
+        Shape::Infix(op) => left_level(*op),
+        _ => in_brackets(role),
+    }
+}

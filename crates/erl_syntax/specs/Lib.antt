@@ -1,0 +1,9 @@
+pub mod Terminal
+pub mod Tree
+pub mod TreeCode
+pub mod TreeForms
+pub mod TreeFalls
+pub mod Heights
+pub mod Written
+pub mod Functions
+pub mod Grammar
