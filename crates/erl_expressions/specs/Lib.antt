@@ -1,3 +1,4 @@
 pub mod Delimiters
 pub mod Leaves
 pub mod Reading
+pub mod Readings
