@@ -18,7 +18,7 @@ unfolding read
 read_alone zero role most ts is = refl
 read_alone (suc n) role most ts is = absurd (omega (arith, is))
 
-read_next : (n : ℕ) (role : Role) (most : ℕ) (ts : List Terminal) →
+pub read_next : (n : ℕ) (role : Role) (most : ℕ) (ts : List Terminal) →
     read (suc n) role most ts ≡ and_then (begun (read n) role ts) (λ f. climbed (suc n) (read n) role most (suc n) f.0 f.1)
 unfolding read
 read_next n role most ts = refl

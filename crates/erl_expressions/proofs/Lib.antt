@@ -1,6 +1,9 @@
 pub mod ByLevels
 pub mod Inversion
 pub mod Rows
+pub mod Sound
+pub mod SoundClauses
+pub mod SoundNodes
 pub mod SoundRows
 pub mod Strings
 pub mod Things
