@@ -44,7 +44,7 @@ climbed_all zero p role most levels t ts ends = ap (λ o. ended_by o (t, ts)) en
 climbed_all (suc turns) p role most levels t ts ends =
     ap (λ o. climbed_by o p role levels t ts (climbed turns p role most levels)) ends
 
-climbed_one : (turns : ℕ) (p : Reader) (role : Role) (most levels : ℕ) (t u : Tree) (ts us : List Terminal) (op : Infix) →
+pub climbed_one : (turns : ℕ) (p : Reader) (role : Role) (most levels : ℕ) (t u : Tree) (ts us : List Terminal) (op : Infix) →
     operator_ahead role most (level t) ts ≡ Some op → joined p role levels t op ts ≡ Some (u, us) →
     climbed (suc turns) p role most levels t ts ≡ climbed turns p role most levels u us
 climbed_one turns p role most levels t u ts us op goes joins =

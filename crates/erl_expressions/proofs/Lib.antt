@@ -1,5 +1,7 @@
 pub mod ByLevels
 pub mod Inversion
+pub mod Lengths
+pub mod Levels
 pub mod Rows
 pub mod Sound
 pub mod SoundClauses
@@ -7,3 +9,6 @@ pub mod SoundNodes
 pub mod SoundRows
 pub mod Strings
 pub mod Things
+pub mod Whole
+pub mod WholeClauses
+pub mod WholeRows

@@ -173,7 +173,7 @@ begins_alike infixes.OrElse t u is = is
 begins_alike infixes.Send t u is = is
 begins_alike infixes.Match t u is = is
 
-and_true : (a b : Bool) → IsTrue a → IsTrue b → IsTrue (a && b)
+pub and_true : (a b : Bool) → IsTrue a → IsTrue b → IsTrue (a && b)
 and_true true b one two = two
 and_true false b one two = one
 
@@ -324,7 +324,7 @@ alone_sound role most ts (Some f) ahead t rest is =
     let g = inverts (leaf_read f) (λ g. ended_by (operator_ahead role most 0 g.1) g) (t, rest) is in
     alone_ended role most ts g.0 (operator_ahead role most 0 g.0.1) t rest g.2 (leaf_read_sound role most 0 ts f ahead g.0.0 g.0.1 g.1)
 
-read_zero : (role : Role) (most : ℕ) (ts : List Terminal) → read zero role most ts ≡ only_leaf (leaf_ahead ts) role most
+pub read_zero : (role : Role) (most : ℕ) (ts : List Terminal) → read zero role most ts ≡ only_leaf (leaf_ahead ts) role most
 unfolding read
 read_zero role most ts = refl
 

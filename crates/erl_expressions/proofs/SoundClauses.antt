@@ -29,7 +29,7 @@ last_and_guards : (gs : Guards) (g : Trees) (hs : Guards) → behind_guards (wit
 last_and_guards no_guards g hs = refl
 last_and_guards (guard u vs) g hs = ap (λ ws. guard u ws) (last_and_guards vs g hs)
 
-guards_of-with_guards : (gs : Guards) (hs : List Trees) → with_guards gs hs ≡ behind_guards gs (guards_of hs)
+pub guards_of-with_guards : (gs : Guards) (hs : List Trees) → with_guards gs hs ≡ behind_guards gs (guards_of hs)
 guards_of-with_guards no_guards [] = refl
 guards_of-with_guards (guard g gs) [] = ap (λ hs. guard g hs) (guards_of-with_guards gs [])
 guards_of-with_guards gs (h ∷ hs) = guards_of-with_guards (with_last_guard gs h) hs ∙ last_and_guards gs h (guards_of hs)
@@ -154,7 +154,7 @@ last_and_clauses : (cs : Clauses) (c : Tree × Arm) (ds : Clauses) →
 last_and_clauses no_clauses c ds = refl
 last_and_clauses (clause ps gs body cs) c ds = ap (λ es. clause ps gs body es) (last_and_clauses cs c ds)
 
-clauses_of-with_clauses : (cs : Clauses) (ds : List (Tree × Arm)) → with_clauses cs ds ≡ behind_clauses cs (clauses_of ds)
+pub clauses_of-with_clauses : (cs : Clauses) (ds : List (Tree × Arm)) → with_clauses cs ds ≡ behind_clauses cs (clauses_of ds)
 clauses_of-with_clauses no_clauses [] = refl
 clauses_of-with_clauses (clause ps gs body cs) [] = ap (λ es. clause ps gs body es) (clauses_of-with_clauses cs [])
 clauses_of-with_clauses cs (d ∷ ds) = clauses_of-with_clauses (with_last_clause cs d) ds ∙ last_and_clauses cs d (clauses_of ds)

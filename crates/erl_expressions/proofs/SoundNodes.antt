@@ -93,6 +93,18 @@ record AreParts (role : Role) (most levels : ℕ) (close : Delimiter) (ts : List
   pub are_well : AreWell role most most us
   pub are_deep : trees_depth us ≤ levels
 
+behind_first_written : (us : Trees) (t : Tree) (rest : List Terminal) →
+    other_parts_written shapes.Cons (with_last us t) rest ≡ others_written us (mark marks.Bar ∷ written t rest)
+behind_first_written none t rest = refl
+behind_first_written (more u none) t rest = refl
+behind_first_written (more u (more v us)) t rest =
+    ap (λ vs. mark marks.Comma ∷ written u vs) (behind_first_written (more v us) t rest)
+
+pub with_last_written : (us : Trees) (t : Tree) (rest : List Terminal) → 1 ≤ tree_count us →
+    parts_written shapes.Cons (with_last us t) rest ≡ row_written us (mark marks.Bar ∷ written t rest)
+with_last_written none t rest some = absurd (omega (arith, some))
+with_last_written (more u us) t rest some = ap (λ vs. written u vs) (behind_first_written us t rest)
+
 module _ (p : Reader) (n : ℕ) (sound : Sound p n) where
   parts_by_sound : (role : Role) (most : ℕ) → 1 ≤ most → (close : Delimiter) (ts : List Terminal) (o : Option (List Terminal))
       (us : Trees) (rest : List Terminal) → after close ts ≡ o →
@@ -174,18 +186,6 @@ module _ (p : Reader) (n : ℕ) (sound : Sound p n) where
           })
 
   -- Lists
-
-  behind_first_written : (us : Trees) (t : Tree) (rest : List Terminal) →
-      other_parts_written shapes.Cons (with_last us t) rest ≡ others_written us (mark marks.Bar ∷ written t rest)
-  behind_first_written none t rest = refl
-  behind_first_written (more u none) t rest = refl
-  behind_first_written (more u (more v us)) t rest =
-      ap (λ vs. mark marks.Comma ∷ written u vs) (behind_first_written (more v us) t rest)
-
-  with_last_written : (us : Trees) (t : Tree) (rest : List Terminal) → 1 ≤ tree_count us →
-      parts_written shapes.Cons (with_last us t) rest ≡ row_written us (mark marks.Bar ∷ written t rest)
-  with_last_written none t rest some = absurd (omega (arith, some))
-  with_last_written (more u us) t rest some = ap (λ vs. written u vs) (behind_first_written us t rest)
 
   with_last_well : (role : Role) (m : ℕ) (us : Trees) (t : Tree) → AreWell role m m us → level t ≤ m → IsWell role t →
       AreWell role m m (with_last us t)

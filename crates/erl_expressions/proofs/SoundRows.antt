@@ -64,7 +64,7 @@ last_and_row : (ts : Trees) (t : Tree) (us : Trees) → behind_row (with_last ts
 last_and_row none t us = refl
 last_and_row (more u vs) t us = ap (λ ws. more u ws) (last_and_row vs t us)
 
-row_of-with_more : (ts : Trees) (us : List Tree) → with_more ts us ≡ behind_row ts (row_of us)
+pub row_of-with_more : (ts : Trees) (us : List Tree) → with_more ts us ≡ behind_row ts (row_of us)
 row_of-with_more none [] = refl
 row_of-with_more (more t ts) [] = ap (λ us. more t us) (row_of-with_more ts [])
 row_of-with_more ts (u ∷ us) = row_of-with_more (with_last ts u) us ∙ last_and_row ts u (row_of us)
