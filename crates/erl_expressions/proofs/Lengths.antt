@@ -56,8 +56,12 @@ closed_longer (shapes.Infix op) ts = omega arith
 mutual
   pub tree_longer : (t : Tree) (ts : List Terminal) → length ts ≤ length (written t ts)
   tree_longer (leaf l) ts = leaf_longer l ts
-  tree_longer (node shape us) ts = omega (arith, opened_longer shape (parts_written shape us (closed shape ts)),
-      parts_longer shape us (closed shape ts), closed_longer shape ts)
+  tree_longer (node shape us) ts = omega (
+    arith,
+    opened_longer shape (parts_written shape us (closed shape ts)),
+    parts_longer shape us (closed shape ts),
+    closed_longer shape ts,
+  )
   tree_longer (case subject cs) ts =
       let behind = word words.Of ∷ clauses_written cs (word words.End ∷ ts) in
       omega (arith, clauses_longer cs (word words.End ∷ ts), row_longer subject behind)
@@ -91,16 +95,26 @@ mutual
   clauses_longer (clause ps gs body cs) ts =
       let others = other_clauses_written cs ts in
       let behind = mark marks.Arrow ∷ row_written body others in
-      omega (arith, row_longer ps (guards_written gs behind), guards_longer gs behind, row_longer body others,
-          other_clauses_longer cs ts)
+      omega (
+        arith,
+        row_longer ps (guards_written gs behind),
+        guards_longer gs behind,
+        row_longer body others,
+        other_clauses_longer cs ts,
+      )
 
   pub other_clauses_longer : (cs : Clauses) (ts : List Terminal) → length ts ≤ length (other_clauses_written cs ts)
   other_clauses_longer no_clauses ts = omega arith
   other_clauses_longer (clause ps gs body cs) ts =
       let others = other_clauses_written cs ts in
       let behind = mark marks.Arrow ∷ row_written body others in
-      omega (arith, row_longer ps (guards_written gs behind), guards_longer gs behind, row_longer body others,
-          other_clauses_longer cs ts)
+      omega (
+        arith,
+        row_longer ps (guards_written gs behind),
+        guards_longer gs behind,
+        row_longer body others,
+        other_clauses_longer cs ts,
+      )
 
 -- A tree has a token of its own.
 

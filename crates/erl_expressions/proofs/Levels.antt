@@ -14,22 +14,7 @@ use Rattle.erl_expressions.specs.declared.delimiter.Delimiter.{Delimiter}
 use Rattle.erl_expressions.specs.declared.delimiter.Delimiter.TheVariants as delimiters
 use Rattle.erl_expressions.specs.Delimiters.{delimiter}
 use Rattle.erl_expressions.specs.Leaves.{infix_ahead, fitting, operator_ahead}
-
--- Tokens that nothing goes on with but an operator of a higher level
-
-abbrev pub is_quiet : List Terminal → Bool
-is_quiet (string s ∷ ts) = false
-is_quiet (mark marks.OpenParen ∷ ts) = false
-is_quiet (mark marks.Colon ∷ ts) = false
-is_quiet ts = true
-
-abbrev pub is_above : ℕ → Option Infix → Bool
-is_above most None = true
-is_above most (Some op) = nat_lt most (level_of op)
-
-pub record Stops (most : ℕ) (ts : List Terminal) : Type 0 where
-  pub quiet : IsTrue (is_quiet ts)
-  pub above : IsTrue (is_above most (infix_ahead ts))
+use Rattle.erl_expressions.specs.Readings.{is_quiet, is_above, Stops}
 
 lower : (m most : ℕ) (o : Option Infix) → m ≤ most → IsTrue (is_above most o) → IsTrue (is_above m o)
 lower m most None le is = refl
@@ -125,7 +110,7 @@ pub operator_there : (role : Role) (most low : ℕ) (op : Infix) (ts : List Term
 operator_there role most low op ts allowed le left =
     ap (λ o. fitting role most low o) (infix_there op ts) ∙
     all_fit (has_operator role op) (nat_le (level_of op) most) (nat_le low (left_level op)) op allowed
-        (is_at_most (level_of op) most le) (is_at_most low (left_level op) left)
+    (is_at_most (level_of op) most le) (is_at_most low (left_level op) left)
 
 -- Levels
 

@@ -9,6 +9,7 @@ pub mod SoundNodes
 pub mod SoundRows
 pub mod Strings
 pub mod Things
-pub mod Whole
+pub mod Trees
+pub mod ReadBack
 pub mod WholeClauses
 pub mod WholeRows

@@ -76,7 +76,7 @@ leaf_sound (integer n ∷ ts) l rest is =
 leaf_sound (atom name at ∷ ts) l rest is =
     let named : Named = record { name = name; at = at } in
     ap (λ f. leaf_written f.0 f.1) (same_Some {A = Leaf × List Terminal} (leaves.Atom named, ts) (l, rest)
-        (if_not (call_ahead ts) (Some (leaves.Atom named, ts)) (l, rest) is))
+    (if_not (call_ahead ts) (Some (leaves.Atom named, ts)) (l, rest) is))
 leaf_sound (variable name at ∷ ts) l rest is =
     ap (λ f. leaf_written f.0 f.1) (same_Some {A = Leaf × List Terminal} (leaves.Variable name at, ts) (l, rest) is)
 leaf_sound (string s ∷ ts) l rest is =
@@ -91,12 +91,12 @@ leaf_read_sound : (role : Role) (most levels : ℕ) (ts : List Terminal) (f : Le
 leaf_read_sound role most levels ts f ahead t rest is =
     let found = if_some (is_leaf f.0) (Some (leaf f.0, f.1)) (t, rest) is in
     subst (λ h. BeginsWith role most levels ts h.0 h.1) (same_Some {A = Tree × List Terminal} (leaf f.0, f.1) (t, rest) found.1)
-        (record {
-          is_written = leaf_sound ts f.0 f.1 ahead;
-          is_well = found.0;
-          is_level = omega arith;
-          is_deep = omega arith;
-        })
+    (record {
+      is_written = leaf_sound ts f.0 f.1 ahead;
+      is_well = found.0;
+      is_level = omega arith;
+      is_deep = omega arith;
+    })
 
 -- Operators
 
@@ -117,12 +117,12 @@ fitting_sound role most low ts (Some it) there op is =
     let one = both (has_operator role it) (nat_le (level_of it) most && nat_le low (left_level it)) found.0 in
     let two = both (nat_le (level_of it) most) (nat_le low (left_level it)) one.1 in
     subst (λ k. Fits role most low ts k) (same_Some it op found.1)
-        (record {
-          is_there = infix_is ts it there;
-          is_allowed = one.0;
-          is_low = at_most (level_of it) most two.0;
-          is_left = at_most low (left_level it) two.1;
-        })
+    (record {
+      is_there = infix_is ts it there;
+      is_allowed = one.0;
+      is_low = at_most (level_of it) most two.0;
+      is_left = at_most low (left_level it) two.1;
+    })
 
 pub operator_sound : (role : Role) (most low : ℕ) (ts : List Terminal) (op : Infix) → operator_ahead role most low ts ≡ Some op →
     Fits role most low ts op
@@ -198,7 +198,7 @@ module _ (p : Reader) (n : ℕ) (sound : Sound p n) where
       let named : Named = record { name = name; at = at } in
       let found = if_some (paren_ahead ts) (bracketed p role (shapes.Remote m named) (behind_first ts)) (t, rest) is in
       subst (λ us. BeginsWith role most (suc n) (qualified m (atom name at ∷ us)) t rest) (sym (paren_is ts found.0))
-          (bracketed_sound p n sound role (shapes.Remote m named) (remotes role m named) most (behind_first ts) t rest found.1)
+      (bracketed_sound p n sound role (shapes.Remote m named) (remotes role m named) most (behind_first ts) t rest found.1)
   remote_sound role m most [] t rest is = absurd (none-some (t, rest) is)
   remote_sound role m most (_ ∷ ts) t rest is = absurd (none-some (t, rest) is)
 
@@ -218,8 +218,8 @@ module _ (p : Reader) (n : ℕ) (sound : Sound p n) where
       let found = if_some (bytes_eq name (codes "MODULE") && colon_ahead ts) (remote p role (qualifier.ModuleName at) (behind_first ts)) (t, rest) is in
       let name_is = both (bytes_eq name (codes "MODULE")) (colon_ahead ts) found.0 in
       subst (λ us. BeginsWith role most (suc n) (mark marks.Question ∷ us) t rest)
-          (sym (λ i. variable (same_text name (codes "MODULE") name_is.0 i) at ∷ colon_is ts name_is.1 i))
-          (remote_sound role (qualifier.ModuleName at) most (behind_first ts) t rest found.1)
+      (sym (λ i. variable (same_text name (codes "MODULE") name_is.0 i) at ∷ colon_is ts name_is.1 i))
+      (remote_sound role (qualifier.ModuleName at) most (behind_first ts) t rest found.1)
   own_called_sound role most [] t rest is = absurd (none-some (t, rest) is)
   own_called_sound role most (_ ∷ ts) t rest is = absurd (none-some (t, rest) is)
 
@@ -267,24 +267,27 @@ module _ (p : Reader) (n : ℕ) (sound : Sound p n) where
       BeginsWith role most (suc n) us u rest
   joined_sound role most us t ts left op fits u rest is =
       let deep = if_some (nat_lt (tree_depth t) (suc n)) (if begins (shapes.Infix op) (more t none) then
-          and_then (p role (right_level op) (behind_first ts)) (λ f. Some (node (shapes.Infix op) (more t (more f.0 none)), f.1)) else None) (u, rest) is in
+      and_then (p role (right_level op) (behind_first ts)) (λ f. Some (node (shapes.Infix op) (more t (more f.0 none)), f.1)) else None) (u, rest) is in
       let begun = if_some (begins (shapes.Infix op) (more t none))
-          (and_then (p role (right_level op) (behind_first ts)) (λ f. Some (node (shapes.Infix op) (more t (more f.0 none)), f.1))) (u, rest) deep.1 in
+      (and_then (p role (right_level op) (behind_first ts)) (λ f. Some (node (shapes.Infix op) (more t (more f.0 none)), f.1))) (u, rest) deep.1 in
       let f = inverts (p role (right_level op) (behind_first ts)) (λ f. Some (node (shapes.Infix op) (more t (more f.0 none)), f.1)) (u, rest) begun.1 in
       let right = sound role (right_level op) (behind_first ts) f.0.0 f.0.1 (room_right op) f.1 in
       subst (λ h. BeginsWith role most (suc n) us h.0 h.1)
-          (same_Some {A = Tree × List Terminal} (node (shapes.Infix op) (more t (more f.0.0 none)), f.0.1) (u, rest) f.2)
-          (record {
-            is_written = left.is_written ∙ ap (λ vs. written t vs) (fits.is_there ∙ ap (λ vs. infix_terminal op ∷ vs) right.is_written);
-            is_well = (and_true (has_operator role op) true fits.is_allowed refl, begins_alike op t f.0.0 begun.0,
-                (fits.is_left, left.is_well, (right.is_level, right.is_well, tt)));
-            is_level = fits.is_low;
-            is_deep = omega (arith, below (tree_depth t) (suc n) deep.0, right.is_deep);
-          })
+      (same_Some {A = Tree × List Terminal} (node (shapes.Infix op) (more t (more f.0.0 none)), f.0.1) (u, rest) f.2)
+      (record {
+        is_written = left.is_written ∙ ap (λ vs. written t vs) (fits.is_there ∙ ap (λ vs. infix_terminal op ∷ vs) right.is_written);
+        is_well = (
+          and_true (has_operator role op) true fits.is_allowed refl,
+          begins_alike op t f.0.0 begun.0,
+          (fits.is_left, left.is_well, (right.is_level, right.is_well, tt)),
+        );
+        is_level = fits.is_low;
+        is_deep = omega (arith, below (tree_depth t) (suc n) deep.0, right.is_deep);
+      })
 
   climbed_by_sound : (go : Tree → List Terminal → Found Tree) (role : Role) (most : ℕ) (us : List Terminal)
       (goes : (t : Tree) (ts : List Terminal) → BeginsWith role most (suc n) us t ts → (u : Tree) (rest : List Terminal) →
-          go t ts ≡ Some (u, rest) → BeginsWith role most (suc n) us u rest)
+      go t ts ≡ Some (u, rest) → BeginsWith role most (suc n) us u rest)
       (t : Tree) (ts : List Terminal) → BeginsWith role most (suc n) us t ts → (o : Option Infix) →
       operator_ahead role most (level t) ts ≡ o → (u : Tree) (rest : List Terminal) →
       climbed_by o p role (suc n) t ts go ≡ Some (u, rest) → BeginsWith role most (suc n) us u rest
@@ -307,7 +310,7 @@ module _ (p : Reader) (n : ℕ) (sound : Sound p n) where
   climbed_sound zero role most us t ts left u rest is = ended_sound (operator_ahead role most (level t) ts) role most us t ts left u rest is
   climbed_sound (suc k) role most us t ts left u rest is =
       climbed_by_sound (climbed k p role most (suc n)) role most us (climbed_sound k role most us) t ts left
-          (operator_ahead role most (level t) ts) refl u rest is
+      (operator_ahead role most (level t) ts) refl u rest is
 
 -- All
 
@@ -333,6 +336,6 @@ read_sound zero role most ts t rest room is =
     alone_sound role most ts (leaf_ahead ts) refl t rest (sym (read_zero role most ts) ∙ is)
 read_sound (suc n) role most ts t rest room is =
     let f = inverts (begun (read n) role ts) (λ f. climbed (suc n) (read n) role most (suc n) f.0 f.1) (t, rest)
-        (sym (read_next n role most ts) ∙ is) in
+    (sym (read_next n role most ts) ∙ is) in
     climbed_sound (read n) n (read_sound n) (suc n) role most ts f.0.0 f.0.1
-        (begun_sound (read n) n (read_sound n) role most room ts f.0.0 f.0.1 f.1) t rest f.2
+    (begun_sound (read n) n (read_sound n) role most room ts f.0.0 f.0.1 f.1) t rest f.2

@@ -78,15 +78,15 @@ module _ (p : Reader) (n : ℕ) (sound : Sound p n) where
   alternatives_sound ts gs rest is =
       let found = inverts (separated Semicolon (length ts) (row (p Test operations)) ts) (rest_of_guards no_guards) (gs, rest) is in
       let things = things_sound Semicolon (row (p Test operations)) (IsRow Test operations n)
-          (λ us g vs read. row_sound p n sound Test operations room_for_tests us g vs read) (length ts) ts found.0.0 found.0.1 found.1 in
+      (λ us g vs read. row_sound p n sound Test operations room_for_tests us g vs read) (length ts) ts found.0.0 found.0.1 found.1 in
       subst (λ g. AreAlternatives n ts g.0 g.1) (same_Some {A = Guards × List Terminal} (with_guards no_guards found.0.0, found.0.1) (gs, rest) found.2)
-          (subst (λ hs. AreAlternatives n ts hs found.0.1) (sym (guards_of-with_guards no_guards found.0.0)) (alternatives_written n things))
+      (subst (λ hs. AreAlternatives n ts hs found.0.1) (sym (guards_of-with_guards no_guards found.0.0)) (alternatives_written n things))
 
   guarded_by_sound : (ts : List Terminal) (o : Option (List Terminal)) (gs : Guards) (rest : List Terminal) → after When ts ≡ o →
       guarded_by o p ts ≡ Some (gs, rest) → AreGuards n ts gs rest
   guarded_by_sound ts None gs rest ends is =
       subst (λ g. AreGuards n ts g.0 g.1) (same_Some {A = Guards × List Terminal} (no_guards, ts) (gs, rest) is)
-          (record { are_written = refl; are_well = tt; are_deep = omega arith })
+      (record { are_written = refl; are_well = tt; are_deep = omega arith })
   guarded_by_sound ts (Some behind) gs rest begins is =
       let others = alternatives_sound behind gs rest is in
       record {
@@ -183,7 +183,7 @@ module _ (n : ℕ) where
       let parts = first.is_pattern in
       let others = clauses_are_written things in
       let text = parts.1.is_written ∙ ap (λ us. written c.0 us) (parts.2.is_written ∙
-          ap (λ us. guards_written c.1.0 (mark marks.Arrow ∷ row_written c.1.1 us)) others.are_others) in
+      ap (λ us. guards_written c.1.0 (mark marks.Arrow ∷ row_written c.1.1 us)) others.are_others) in
       record {
         are_written = text;
         are_others = ap (λ us. mark marks.Semicolon ∷ us) text;
@@ -202,5 +202,5 @@ module _ (p : Reader) (n : ℕ) (sound : Sound p n) where
       let things = things_sound Semicolon (one_clause p) (IsClause n) (clause_sound p n sound) (length ts) ts found.0.0 found.0.1 found.1 in
       let text = clauses_are_written n things in
       subst (λ g. AreClauses n ts g.0 (word words.End ∷ g.1)) (same_Some {A = Clauses × List Terminal} (with_clauses no_clauses found.0.0, end.0) (cs, rest) end.2)
-          (subst (λ ds. AreClauses n ts ds (word words.End ∷ end.0)) (sym (clauses_of-with_clauses no_clauses found.0.0))
-          (subst (λ us. AreClauses n ts (clauses_of found.0.0) us) (after_is End found.0.1 end.0 end.1) text))
+      (subst (λ ds. AreClauses n ts ds (word words.End ∷ end.0)) (sym (clauses_of-with_clauses no_clauses found.0.0))
+      (subst (λ us. AreClauses n ts (clauses_of found.0.0) us) (after_is End found.0.1 end.0 end.1) text))

@@ -111,17 +111,17 @@ module _ (p : Reader) (n : ℕ) (sound : Sound p n) where
       parts_by o (p role most) close ts ≡ Some (us, rest) → AreParts role most n close ts us rest
   parts_by_sound role most room close ts (Some behind) us rest ends is =
       subst (λ g. AreParts role most n close ts g.0 g.1) (same_Some {A = Trees × List Terminal} (none, behind) (us, rest) is)
-          (record { are_written = after_is close ts behind ends; are_well = tt; are_deep = omega arith })
+      (record { are_written = after_is close ts behind ends; are_well = tt; are_deep = omega arith })
   parts_by_sound role most room close ts None us rest ends is =
       let f = inverts (row (p role most) ts) (λ f. and_then (after close f.1) (λ vs. Some (f.0, vs))) (us, rest) is in
       let g = inverts (after close f.0.1) (λ vs. Some (f.0.0, vs)) (us, rest) f.2 in
       let found = row_sound p n sound role most room ts f.0.0 f.0.1 f.1 in
       subst (λ h. AreParts role most n close ts h.0 h.1) (same_Some {A = Trees × List Terminal} (f.0.0, g.0) (us, rest) g.2)
-          (record {
-            are_written = found.is_written ∙ ap (λ vs. row_written f.0.0 vs) (after_is close f.0.1 g.0 g.1);
-            are_well = found.are_well;
-            are_deep = found.are_deep;
-          })
+      (record {
+        are_written = found.is_written ∙ ap (λ vs. row_written f.0.0 vs) (after_is close f.0.1 g.0 g.1);
+        are_well = found.are_well;
+        are_deep = found.are_deep;
+      })
 
   parts_sound : (role : Role) (most : ℕ) → 1 ≤ most → (close : Delimiter) (ts : List Terminal) (us : Trees) (rest : List Terminal) →
       parts (p role most) close ts ≡ Some (us, rest) → AreParts role most n close ts us rest
@@ -137,14 +137,14 @@ module _ (p : Reader) (n : ℕ) (sound : Sound p n) where
       let there = parts_sound role (first_level role shape) bracket.room (closing shape) ts f.0.0 f.0.1 f.1 in
       let it = made_is role shape f.0.0 f.0.1 t rest f.2 in
       subst (λ h. BeginsWith role most (suc n) (opened shape ts) h.0 h.1) (same_Some {A = Tree × List Terminal} (node shape f.0.0, f.0.1) (t, rest) it.same)
-          (record {
-            is_written = ap (λ us. opened shape us) (there.are_written ∙
-                ap (λ us. row_written f.0.0 us) (sym (bracket.closes f.0.1)) ∙
-                sym (parts_of_bracket shape bracket.commas f.0.0 (closed shape f.0.1)));
-            is_well = (it.has_parts, it.begins_so, subst (λ m. AreWell role (first_level role shape) m f.0.0) (sym bracket.same_level) there.are_well);
-            is_level = omega (arith, bracket.flat f.0.0);
-            is_deep = omega (arith, there.are_deep);
-          })
+      (record {
+        is_written = ap (λ us. opened shape us) (there.are_written ∙
+            ap (λ us. row_written f.0.0 us) (sym (bracket.closes f.0.1)) ∙
+            sym (parts_of_bracket shape bracket.commas f.0.0 (closed shape f.0.1)));
+        is_well = (it.has_parts, it.begins_so, subst (λ m. AreWell role (first_level role shape) m f.0.0) (sym bracket.same_level) there.are_well);
+        is_level = omega (arith, bracket.flat f.0.0);
+        is_deep = omega (arith, there.are_deep);
+      })
 
   pub parenthesized_sound : (role : Role) (most : ℕ) (ts : List Terminal) (t : Tree) (rest : List Terminal) →
       parenthesized p role ts ≡ Some (t, rest) → BeginsWith role most (suc n) (mark marks.OpenParen ∷ ts) t rest
@@ -154,13 +154,13 @@ module _ (p : Reader) (n : ℕ) (sound : Sound p n) where
       let g = inverts (after CloseParen f.0.1) (λ us. Some (node shapes.Parenthesized (more f.0.0 none), us)) (t, rest) f.2 in
       let it = sound role (in_brackets role) ts f.0.0 f.0.1 (room_in_brackets role) f.1 in
       subst (λ h. BeginsWith role most (suc n) (mark marks.OpenParen ∷ ts) h.0 h.1)
-          (same_Some {A = Tree × List Terminal} (node shapes.Parenthesized (more f.0.0 none), g.0) (t, rest) g.2)
-          (record {
-            is_written = ap (λ us. mark marks.OpenParen ∷ us) (it.is_written ∙ ap (λ us. written f.0.0 us) (after_is CloseParen f.0.1 g.0 g.1));
-            is_well = (refl, refl, (it.is_level, it.is_well, tt));
-            is_level = omega arith;
-            is_deep = omega (arith, it.is_deep);
-          })
+      (same_Some {A = Tree × List Terminal} (node shapes.Parenthesized (more f.0.0 none), g.0) (t, rest) g.2)
+      (record {
+        is_written = ap (λ us. mark marks.OpenParen ∷ us) (it.is_written ∙ ap (λ us. written f.0.0 us) (after_is CloseParen f.0.1 g.0 g.1));
+        is_well = (refl, refl, (it.is_level, it.is_well, tt));
+        is_level = omega arith;
+        is_deep = omega (arith, it.is_deep);
+      })
 
   if_none : {A : Type 0} (b : Bool) (o : Option A) (y : A) → (if b then None else o) ≡ Some y → o ≡ Some y
   if_none true o y is = absurd (none-some y is)
@@ -177,13 +177,13 @@ module _ (p : Reader) (n : ℕ) (sound : Sound p n) where
       let one = sound role 1 ts f.0.0 f.0.1 (omega arith) f.1 in
       let it = made_is role (shapes.Prefix op) (more f.0.0 none) f.0.1 t rest f.2 in
       subst (λ h. BeginsWith role most (suc n) (prefix_terminal op ∷ ts) h.0 h.1)
-          (same_Some {A = Tree × List Terminal} (node (shapes.Prefix op) (more f.0.0 none), f.0.1) (t, rest) it.same)
-          (record {
-            is_written = ap (λ us. prefix_terminal op ∷ us) one.is_written;
-            is_well = (it.has_parts, it.begins_so, (one.is_level, one.is_well, tt));
-            is_level = room;
-            is_deep = omega (arith, one.is_deep);
-          })
+      (same_Some {A = Tree × List Terminal} (node (shapes.Prefix op) (more f.0.0 none), f.0.1) (t, rest) it.same)
+      (record {
+        is_written = ap (λ us. prefix_terminal op ∷ us) one.is_written;
+        is_well = (it.has_parts, it.begins_so, (one.is_level, one.is_well, tt));
+        is_level = room;
+        is_deep = omega (arith, one.is_deep);
+      })
 
   -- Lists
 
@@ -206,15 +206,15 @@ module _ (p : Reader) (n : ℕ) (sound : Sound p n) where
       let last = sound role (in_brackets role) behind f.0.0 f.0.1 (room_in_brackets role) f.1 in
       let it = made_is role shapes.Cons (with_last us f.0.0) g.0 t rest g.2 in
       subst (λ h. BeginsWith role most (suc n) (mark marks.OpenBracket ∷ ts) h.0 h.1)
-          (same_Some {A = Tree × List Terminal} (node shapes.Cons (with_last us f.0.0), g.0) (t, rest) it.same)
-          (record {
-            is_written = ap (λ vs. mark marks.OpenBracket ∷ vs) (text ∙
-                ap (λ vs. row_written us (mark marks.Bar ∷ vs)) (last.is_written ∙ ap (λ vs. written f.0.0 vs) (after_is CloseBracket f.0.1 g.0 g.1)) ∙
-                sym (with_last_written us f.0.0 (mark marks.CloseBracket ∷ g.0) some));
-            is_well = (it.has_parts, it.begins_so, with_last_well role (in_brackets role) us f.0.0 well last.is_level last.is_well);
-            is_level = omega arith;
-            is_deep = omega (arith, with_last_deep us f.0.0, deep, last.is_deep);
-          })
+      (same_Some {A = Tree × List Terminal} (node shapes.Cons (with_last us f.0.0), g.0) (t, rest) it.same)
+      (record {
+        is_written = ap (λ vs. mark marks.OpenBracket ∷ vs) (text ∙
+            ap (λ vs. row_written us (mark marks.Bar ∷ vs)) (last.is_written ∙ ap (λ vs. written f.0.0 vs) (after_is CloseBracket f.0.1 g.0 g.1)) ∙
+            sym (with_last_written us f.0.0 (mark marks.CloseBracket ∷ g.0) some));
+        is_well = (it.has_parts, it.begins_so, with_last_well role (in_brackets role) us f.0.0 well last.is_level last.is_well);
+        is_level = omega arith;
+        is_deep = omega (arith, with_last_deep us f.0.0, deep, last.is_deep);
+      })
 
   listed_whole : (role : Role) (most : ℕ) (us : Trees) → AreWell role (in_brackets role) (in_brackets role) us → trees_depth us ≤ n →
       (ts behind : List Terminal) (t : Tree) (rest : List Terminal) → ts ≡ row_written us (mark marks.CloseBracket ∷ behind) →
@@ -222,14 +222,14 @@ module _ (p : Reader) (n : ℕ) (sound : Sound p n) where
   listed_whole role most us well deep ts behind t rest text is =
       let it = made_is role shapes.List us behind t rest is in
       subst (λ h. BeginsWith role most (suc n) (mark marks.OpenBracket ∷ ts) h.0 h.1)
-          (same_Some {A = Tree × List Terminal} (node shapes.List us, behind) (t, rest) it.same)
-          (record {
-            is_written = ap (λ vs. mark marks.OpenBracket ∷ vs) (text ∙
-                sym (parts_of_bracket shapes.List (λ vs. refl) us (mark marks.CloseBracket ∷ behind)));
-            is_well = (it.has_parts, it.begins_so, well);
-            is_level = omega arith;
-            is_deep = omega (arith, deep);
-          })
+      (same_Some {A = Tree × List Terminal} (node shapes.List us, behind) (t, rest) it.same)
+      (record {
+        is_written = ap (λ vs. mark marks.OpenBracket ∷ vs) (text ∙
+            sym (parts_of_bracket shapes.List (λ vs. refl) us (mark marks.CloseBracket ∷ behind)));
+        is_well = (it.has_parts, it.begins_so, well);
+        is_level = omega arith;
+        is_deep = omega (arith, deep);
+      })
 
   list_end_sound : (role : Role) (most : ℕ) (ts : List Terminal) (us : Trees) (left : List Terminal) →
       IsRow role (in_brackets role) n ts us left → (o bar : Option (List Terminal)) → after CloseBracket left ≡ o → after Bar left ≡ bar →
@@ -237,10 +237,10 @@ module _ (p : Reader) (n : ℕ) (sound : Sound p n) where
       BeginsWith role most (suc n) (mark marks.OpenBracket ∷ ts) t rest
   list_end_sound role most ts us left found (Some behind) bar ends bars t rest is =
       listed_whole role most us found.are_well found.are_deep ts behind t rest
-          (found.is_written ∙ ap (λ vs. row_written us vs) (after_is CloseBracket left behind ends)) is
+      (found.is_written ∙ ap (λ vs. row_written us vs) (after_is CloseBracket left behind ends)) is
   list_end_sound role most ts us left found None (Some behind) ends bars t rest is =
       tailed_sound role most us found.is_some found.are_well found.are_deep ts behind t rest
-          (found.is_written ∙ ap (λ vs. row_written us vs) (after_is Bar left behind bars)) is
+      (found.is_written ∙ ap (λ vs. row_written us vs) (after_is Bar left behind bars)) is
   list_end_sound role most ts us left found None None ends bars t rest is = absurd (none-some (t, rest) is)
 
   listed_by_sound : (role : Role) (most : ℕ) (ts : List Terminal) (o : Option (List Terminal)) → after CloseBracket ts ≡ o →
@@ -251,7 +251,7 @@ module _ (p : Reader) (n : ℕ) (sound : Sound p n) where
   listed_by_sound role most ts None ends t rest is =
       let f = inverts (row (p role (in_brackets role)) ts) (λ f. list_end p role f.0 (after CloseBracket f.1) (after Bar f.1)) (t, rest) is in
       list_end_sound role most ts f.0.0 f.0.1 (row_sound p n sound role (in_brackets role) (room_in_brackets role) ts f.0.0 f.0.1 f.1)
-          (after CloseBracket f.0.1) (after Bar f.0.1) refl refl t rest f.2
+      (after CloseBracket f.0.1) (after Bar f.0.1) refl refl t rest f.2
 
   pub listed_sound : (role : Role) (most : ℕ) (ts : List Terminal) (t : Tree) (rest : List Terminal) →
       listed p role ts ≡ Some (t, rest) → BeginsWith role most (suc n) (mark marks.OpenBracket ∷ ts) t rest
@@ -271,11 +271,11 @@ module _ (p : Reader) (n : ℕ) (sound : Sound p n) where
       let subject = sound Expression matches ts f.0.0 f.0.1 (omega arith) f.1 in
       let clauses = clauses_sound p n sound o.0 g.0.0 g.0.1 g.1 in
       subst (λ h. BeginsWith role most (suc n) (word words.Case ∷ ts) h.0 h.1)
-          (same_Some {A = Tree × List Terminal} (case (more f.0.0 none) g.0.0, g.0.1) (t, rest) g.2)
-          (record {
-            is_written = ap (λ us. word words.Case ∷ us) (subject.is_written ∙ ap (λ us. written f.0.0 us)
-                (after_is Of f.0.1 o.0 o.1 ∙ ap (λ us. word words.Of ∷ us) clauses.are_written));
-            is_well = (found.0, refl, (subject.is_level, subject.is_well, tt), clauses.are_some, clauses.are_well);
-            is_level = omega arith;
-            is_deep = omega (arith, subject.is_deep, clauses.are_deep);
-          })
+      (same_Some {A = Tree × List Terminal} (case (more f.0.0 none) g.0.0, g.0.1) (t, rest) g.2)
+      (record {
+        is_written = ap (λ us. word words.Case ∷ us) (subject.is_written ∙ ap (λ us. written f.0.0 us)
+            (after_is Of f.0.1 o.0 o.1 ∙ ap (λ us. word words.Of ∷ us) clauses.are_written));
+        is_well = (found.0, refl, (subject.is_level, subject.is_well, tt), clauses.are_some, clauses.are_well);
+        is_level = omega arith;
+        is_deep = omega (arith, subject.is_deep, clauses.are_deep);
+      })

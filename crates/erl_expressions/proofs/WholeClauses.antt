@@ -11,7 +11,8 @@ use Rattle.erl_expressions.specs.declared.delimiter.Delimiter.TheVariants.{Comma
 use Rattle.erl_expressions.specs.Delimiters.{delimiter, after}
 use Rattle.erl_expressions.specs.Reading.{Found, Reader, Arm, and_then, separated, row, alternatives, guarded, guarded_by, arm, one_clause, clauses_to_end, closed, with_guards, with_clauses, rest_of_guards, rest_of_clauses}
 use Rattle.erl_expressions.proofs.Lengths.{own_tree, tree_longer, row_longer, others_longer, guards_longer, other_guards_longer, clauses_longer, other_clauses_longer}
-use Rattle.erl_expressions.proofs.Levels.{Stops, stops_before}
+use Rattle.erl_expressions.specs.Readings.{Stops, is_quiet}
+use Rattle.erl_expressions.proofs.Levels.{stops_before}
 use Rattle.erl_expressions.proofs.SoundRows.{Things, only, then_more}
 use Rattle.erl_expressions.proofs.SoundClauses.{guards_of, guards_of-with_guards, clauses_of, clauses_of-with_clauses}
 use Rattle.erl_expressions.proofs.WholeRows.{Whole, Reads, things_whole, row_whole}
@@ -55,13 +56,13 @@ module _ (p : Reader) (n : ℕ) (whole : Whole p n) where
   guards_read : (us : Trees) (gs : Guards) (rest : List Terminal) → 1 ≤ tree_count us → AreWell Test operations operations us →
       AreWellGuards gs → trees_depth us ≤ n → guards_depth gs ≤ n →
       Things Semicolon (Reads Semicolon (row (p Test operations))) (sequence_written us gs (mark marks.Arrow ∷ rest))
-          (us ∷ list_of_guards gs) (mark marks.Arrow ∷ rest)
+      (us ∷ list_of_guards gs) (mark marks.Arrow ∷ rest)
   guards_read us no_guards rest some well wells deep deeps =
       only (row_whole p n whole Test operations us (mark marks.Arrow ∷ rest) some well deep (stops_guards no_guards rest) refl)
   guards_read us (guard vs gs) rest some well wells deep deeps =
       then_more (row_whole p n whole Test operations us (other_guards_written (guard vs gs) (mark marks.Arrow ∷ rest)) some well deep
-          (stops_guards (guard vs gs) rest) (no_comma_guards (guard vs gs) rest))
-          (guards_read vs gs rest wells.0 wells.1 wells.2 (omega (arith, deeps)) (omega (arith, deeps)))
+      (stops_guards (guard vs gs) rest) (no_comma_guards (guard vs gs) rest))
+      (guards_read vs gs rest wells.0 wells.1 wells.2 (omega (arith, deeps)) (omega (arith, deeps)))
 
   alternatives_whole : (us : Trees) (gs : Guards) (rest : List Terminal) → AreWellGuards (guard us gs) → guards_depth (guard us gs) ≤ n →
       alternatives p (sequence_written us gs (mark marks.Arrow ∷ rest)) ≡ Some (guard us gs, mark marks.Arrow ∷ rest)
@@ -69,8 +70,8 @@ module _ (p : Reader) (n : ℕ) (whole : Whole p n) where
   alternatives_whole us gs rest well deep =
       let text = sequence_written us gs (mark marks.Arrow ∷ rest) in
       ap (λ o. and_then o (rest_of_guards no_guards)) (things_whole Semicolon (row (p Test operations)) (length text)
-          (guards_read us gs rest well.0 well.1 well.2 (omega (arith, deep)) (omega (arith, deep)))
-          (omega (arith, many_guards us gs (mark marks.Arrow ∷ rest), own_row us (other_guards_written gs (mark marks.Arrow ∷ rest)) well.0 well.1)) refl) ∙
+      (guards_read us gs rest well.0 well.1 well.2 (omega (arith, deep)) (omega (arith, deep)))
+      (omega (arith, many_guards us gs (mark marks.Arrow ∷ rest), own_row us (other_guards_written gs (mark marks.Arrow ∷ rest)) well.0 well.1)) refl) ∙
       ap (λ hs. guards_found hs (mark marks.Arrow ∷ rest)) (guards_of-with_guards no_guards (us ∷ list_of_guards gs) ∙ list_and_guards (guard us gs))
 
   guarded_whole : (gs : Guards) (rest : List Terminal) → AreWellGuards gs → guards_depth gs ≤ n →
@@ -87,7 +88,7 @@ module _ (p : Reader) (n : ℕ) (whole : Whole p n) where
   unfolding arm
   arm_whole gs body rest wells deeps some well deep stops ends =
       ap (λ o. and_then o (λ g. and_then (after Arrow g.1) (λ us. and_then (row (p Expression matches) us) (λ b. Some ((g.0, b.0), b.1)))))
-          (guarded_whole gs (row_written body rest) wells deeps) ∙
+      (guarded_whole gs (row_written body rest) wells deeps) ∙
       ap (λ o. and_then o (λ b. Some ((gs, b.0), b.1))) (row_whole p n whole Expression matches body rest some well deep stops ends)
 
 -- Clauses
@@ -125,8 +126,8 @@ module _ (p : Reader) (n : ℕ) (whole : Whole p n) where
   unfolding one_clause
   clause_whole t gs body rest pattern wells some well deep deeps deepest stops ends =
       ap (λ o. and_then o (λ f. and_then (arm p f.1) (arm_found f.0)))
-          (whole Pattern matches t (guards_written gs (mark marks.Arrow ∷ row_written body rest)) pattern.1 pattern.0 deep
-          (stops_before_arm gs (row_written body rest))) ∙
+      (whole Pattern matches t (guards_written gs (mark marks.Arrow ∷ row_written body rest)) pattern.1 pattern.0 deep
+      (stops_before_arm gs (row_written body rest))) ∙
       ap (λ o. and_then o (arm_found t)) (arm_whole p n whole gs body rest wells deeps some well deepest stops ends)
 
   clauses_read : (cs : Clauses) (rest : List Terminal) → IsTrue (has_clause cs) → AreWellClauses cs → clauses_depth cs ≤ n →
@@ -153,8 +154,13 @@ module _ (p : Reader) (n : ℕ) (whole : Whole p n) where
             (omega (arith, deep)) (omega (arith, deep)) (omega (arith, deep))
             (stops_clauses (clause qs hs after_body cs) rest) (no_comma_clauses (clause qs hs after_body cs) rest)) others.things;
         are_these = ap (λ ds. clause (more t none) gs body ds) others.are_these;
-        few = omega (arith, own_tree Pattern t text well.1.1, guards_longer gs (mark marks.Arrow ∷ row_written body behind),
-            row_longer body behind, others.few);
+        few = omega (
+          arith,
+          own_tree Pattern t text well.1.1,
+          guards_longer gs (mark marks.Arrow ∷ row_written body behind),
+          row_longer body behind,
+          others.few,
+        );
       }
 
   pub clauses_whole : (cs : Clauses) (rest : List Terminal) → IsTrue (has_clause cs) → AreWellClauses cs → clauses_depth cs ≤ n →
@@ -163,5 +169,5 @@ module _ (p : Reader) (n : ℕ) (whole : Whole p n) where
   clauses_whole cs rest some well deep =
       let there = clauses_read cs rest some well deep in
       ap (λ o. and_then o (rest_of_clauses no_clauses)) (things_whole Semicolon (one_clause p)
-          (length (clauses_written cs (word words.End ∷ rest))) there.things there.few refl) ∙
+      (length (clauses_written cs (word words.End ∷ rest))) there.things there.few refl) ∙
       ap (λ ds. clauses_found ds rest) (clauses_of-with_clauses no_clauses there.list ∙ there.are_these)

@@ -20,7 +20,8 @@ use Rattle.erl_expressions.specs.declared.delimiter.Delimiter.TheVariants.{Comma
 use Rattle.erl_expressions.specs.Delimiters.{delimiter, after}
 use Rattle.erl_expressions.specs.Reading.{Found, Reader, and_then, other_things, separated, row, with_more, with_last, rest_of_row}
 use Rattle.erl_expressions.proofs.Lengths.{own_tree, tree_longer, two_parts}
-use Rattle.erl_expressions.proofs.Levels.{Stops, stops_before}
+use Rattle.erl_expressions.specs.Readings.{Stops, is_quiet}
+use Rattle.erl_expressions.proofs.Levels.{stops_before}
 use Rattle.erl_expressions.proofs.SoundRows.{Things, only, then_more, row_of, row_of-with_more}
 
 -- what is written is read, by a reader of one level less
@@ -288,12 +289,12 @@ module _ (p : Reader) (n : ℕ) (whole : Whole p n) (role : Role) (most : ℕ) w
       only (whole role most t rest well.1 well.0 (omega (arith, deep)) stops)
   trees_read (more t (more u us)) rest some well deep stops =
       then_more (whole role most t (others_written (more u us) rest) well.1 well.0 (omega (arith, deep)) (stops_before Comma most (row_written (more u us) rest)))
-          (trees_read (more u us) rest (omega arith) well.2 (omega (arith, deep)) stops)
+      (trees_read (more u us) rest (omega arith) well.2 (omega (arith, deep)) stops)
 
   pub row_whole : (us : Trees) (rest : List Terminal) → 1 ≤ tree_count us → AreWell role most most us → trees_depth us ≤ n →
       Stops most rest → after Comma rest ≡ None → row (p role most) (row_written us rest) ≡ Some (us, rest)
   unfolding row
   row_whole us rest some well deep stops ends =
       ap (λ o. and_then o (rest_of_row none)) (things_whole Comma (p role most) (length (row_written us rest))
-          (trees_read us rest some well deep stops) (omega (arith, list_length us, many_tokens role most most us rest well)) ends) ∙
+      (trees_read us rest some well deep stops) (omega (arith, list_length us, many_tokens role most most us rest well)) ends) ∙
       ap (λ vs. row_found vs rest) (row_of-with_more none (list_of us) ∙ list_and_row us)

@@ -166,6 +166,14 @@ impl Deep {
         })
     }
 
+    /// The tree.
+    pub(crate) fn into_tree(self) -> SyntaxTree
+        ensures { tree_of result ≡ self }
+    {
+        let Deep { tree, depth: _ } = self;
+        tree
+    }
+
     /// Whether the tree is nested less deep than so many levels.
     pub(crate) fn is_below(&self, levels: u32) -> bool
         ensures { result ≡ nat_lt (tree_depth self.now) levels }

@@ -8,6 +8,9 @@ mod operators;
 mod patterns;
 mod reader;
 mod refusal;
+mod whole;
 
 pub use delimiter::{Delimiter, after};
+pub use reader::Reading;
 pub use refusal::Refusal;
+pub use whole::{read_tree, trees_read_one_way};

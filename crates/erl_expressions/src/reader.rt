@@ -14,7 +14,7 @@ use erl_syntax::Role;
 use std::alloc::{AllocError, Global};
 
 /// What was read and the tokens behind it, or why the tokens begin with no such thing; or memory was refused.
-pub(crate) type Reading<'a, T> = Result<Result<(T, &'a [Spot]), Refusal>, AllocError>;
+pub type Reading<'a, T> = Result<Result<(T, &'a [Spot]), Refusal>, AllocError>;
 
 /// Reads the tree of a role, of at most a level and nested at most so many levels, that tokens begin with.
 #[cycle(reading)]

@@ -31,7 +31,8 @@ use Rattle.erl_expressions.specs.Reading.{Found, Reader, and_then, row, parts, p
 use Rattle.erl_expressions.proofs.ByLevels.{read_next, climbed_all, climbed_one}
 use Rattle.erl_expressions.proofs.Inversion.{both}
 use Rattle.erl_expressions.proofs.Lengths.{two_parts}
-use Rattle.erl_expressions.proofs.Levels.{Stops, is_quiet, stops_lower, stops_before, no_operator, operator_there, above_prefix, left_at_most, end_level, end_at_most, stops_at_operator}
+use Rattle.erl_expressions.specs.Readings.{Stops, is_quiet}
+use Rattle.erl_expressions.proofs.Levels.{stops_lower, stops_before, no_operator, operator_there, above_prefix, left_at_most, end_level, end_at_most, stops_at_operator}
 use Rattle.erl_expressions.proofs.Sound.{read_zero, and_true}
 use Rattle.erl_expressions.proofs.SoundNodes.{IsBracket, tuples, blocks, locals, remotes, parts_of_bracket, with_last_written, room_in_brackets}
 use Rattle.erl_expressions.proofs.WholeRows.{Whole, after_there, no_delimiter, row_no_delimiter, row_whole}
@@ -104,7 +105,7 @@ made_whole : (role : Role) (shape : Shape) (us : Trees) (rest : List Terminal) �
     IsTrue (begins shape us) → made role shape us rest ≡ Some (node shape us, rest)
 made_whole role shape us rest has_it begins_it =
     if_true (has role shape (tree_count us) && begins shape us) (found (node shape us) rest)
-        (and_true (has role shape (tree_count us)) (begins shape us) has_it begins_it)
+    (and_true (has role shape (tree_count us)) (begins shape us) has_it begins_it)
 
 some_arity : (o : Option ℕ) (n : ℕ) → IsTrue (is_arity o n) → IsTrue (is_some o)
 some_arity None n is = absurd (true≢false (sym is))
@@ -277,7 +278,7 @@ module _ (p : Reader) (n : ℕ) (whole : Whole p n) where
       let text = row_written (more t us) (delimiter close ∷ rest) in
       ap (λ o. parts_by o (p role most) close text) (row_no_delimiter close role most most (more t us) (delimiter close ∷ rest) (omega arith) well) ∙
       ap (λ o. and_then o (λ f. and_then (after close f.1) (trees_found f.0)))
-          (row_whole p n whole role most (more t us) (delimiter close ∷ rest) (omega arith) well deep (stops_before close most rest) ends) ∙
+      (row_whole p n whole role most (more t us) (delimiter close ∷ rest) (omega arith) well deep (stops_before close most rest) ends) ∙
       ap (λ o. and_then o (trees_found (more t us))) (after_there close rest)
 
   bracketed_whole : (role : Role) (shape : Shape) → IsBracket role shape → (us : Trees) (rest : List Terminal) → IsWell role (node shape us) →
@@ -286,10 +287,10 @@ module _ (p : Reader) (n : ℕ) (whole : Whole p n) where
   unfolding bracketed
   bracketed_whole role shape bracket us rest well deep ends =
       let text : parts_written shape us (closed shape rest) ≡ row_written us (delimiter (closing shape) ∷ rest) =
-          parts_of_bracket shape bracket.commas us (closed shape rest) ∙ ap (λ vs. row_written us vs) (bracket.closes rest) in
+      parts_of_bracket shape bracket.commas us (closed shape rest) ∙ ap (λ vs. row_written us vs) (bracket.closes rest) in
       let level_is = subst (λ m. AreWell role (first_level role shape) m us) bracket.same_level well.2 in
       if_true (opens role shape) (and_then (parts (p role (first_level role shape)) (closing shape) (parts_written shape us (closed shape rest))) (λ f. made role shape f.0 f.1))
-          (opens_whole role shape (tree_count us) well.0) ∙
+      (opens_whole role shape (tree_count us) well.0) ∙
       ap (λ vs. and_then (parts (p role (first_level role shape)) (closing shape) vs) (λ f. made role shape f.0 f.1)) text ∙
       ap (λ o. and_then o (λ f. made role shape f.0 f.1)) (parts_whole role (first_level role shape) (closing shape) us rest level_is deep ends) ∙
       made_whole role shape us rest well.0 well.1
@@ -299,7 +300,7 @@ module _ (p : Reader) (n : ℕ) (whole : Whole p n) where
   unfolding parenthesized
   parenthesized_whole role t rest well low deep =
       ap (λ o. and_then o (λ f. and_then (after CloseParen f.1) (parenthesis_found f.0)))
-          (whole role (in_brackets role) t (mark marks.CloseParen ∷ rest) well low deep (stops_before CloseParen (in_brackets role) rest))
+      (whole role (in_brackets role) t (mark marks.CloseParen ∷ rest) well low deep (stops_before CloseParen (in_brackets role) rest))
 
   prefixed_whole : (role : Role) (op : Prefix) (t : Tree) (rest : List Terminal) → IsWell role (node (shapes.Prefix op) (more t none)) →
       tree_depth t ≤ n → Stops 1 rest → prefixed p role op (written t rest) ≡ Some (node (shapes.Prefix op) (more t none), rest)
@@ -323,9 +324,9 @@ module _ (p : Reader) (n : ℕ) (whole : Whole p n) where
       let text : parts_written shapes.List (more t us) tail ≡ row_written (more t us) tail = parts_of_bracket shapes.List (λ vs. refl) (more t us) tail in
       ap (λ vs. listed_by (after CloseBracket vs) p role vs) text ∙
       ap (λ o. listed_by o p role (row_written (more t us) tail))
-          (row_no_delimiter CloseBracket role (in_brackets role) (in_brackets role) (more t us) tail (omega arith) well.2) ∙
+      (row_no_delimiter CloseBracket role (in_brackets role) (in_brackets role) (more t us) tail (omega arith) well.2) ∙
       ap (λ o. and_then o (λ f. list_end p role f.0 (after CloseBracket f.1) (after Bar f.1)))
-          (row_whole p n whole role (in_brackets role) (more t us) tail (omega arith) well.2 deep (stops_before CloseBracket (in_brackets role) rest) refl) ∙
+      (row_whole p n whole role (in_brackets role) (more t us) tail (omega arith) well.2 deep (stops_before CloseBracket (in_brackets role) rest) refl) ∙
       made_whole role shapes.List (more t us) rest well.0 well.1
 
   cons_whole : (role : Role) (us : Trees) (t : Tree) (rest : List Terminal) → 1 ≤ tree_count us →
@@ -337,11 +338,11 @@ module _ (p : Reader) (n : ℕ) (whole : Whole p n) where
       let apart = well_apart role (in_brackets role) us t well.2 in
       ap (λ vs. listed_by (after CloseBracket vs) p role vs) (with_last_written us t (mark marks.CloseBracket ∷ rest) some) ∙
       ap (λ o. listed_by o p role (row_written us tail))
-          (row_no_delimiter CloseBracket role (in_brackets role) (in_brackets role) us tail some apart.0) ∙
+      (row_no_delimiter CloseBracket role (in_brackets role) (in_brackets role) us tail some apart.0) ∙
       ap (λ o. and_then o (λ f. list_end p role f.0 (after CloseBracket f.1) (after Bar f.1)))
-          (row_whole p n whole role (in_brackets role) us tail some apart.0 deep (stops_before Bar (in_brackets role) (written t (mark marks.CloseBracket ∷ rest))) refl) ∙
+      (row_whole p n whole role (in_brackets role) us tail some apart.0 deep (stops_before Bar (in_brackets role) (written t (mark marks.CloseBracket ∷ rest))) refl) ∙
       ap (λ o. and_then o (λ f. and_then (after CloseBracket f.1) (λ behind. made role shapes.Cons (with_last us f.0) behind)))
-          (whole role (in_brackets role) t (mark marks.CloseBracket ∷ rest) apart.2 apart.1 deep_last (stops_before CloseBracket (in_brackets role) rest)) ∙
+      (whole role (in_brackets role) t (mark marks.CloseBracket ∷ rest) apart.2 apart.1 deep_last (stops_before CloseBracket (in_brackets role) rest)) ∙
       made_whole role shapes.Cons (with_last us t) rest well.0 well.1
 
   -- `case`
@@ -352,8 +353,8 @@ module _ (p : Reader) (n : ℕ) (whole : Whole p n) where
   unfolding cased
   cased_whole t cs rest well low deep some wells deeps =
       ap (λ o. and_then o (λ f. and_then (after Of f.1) (λ us. and_then (clauses_to_end p us) (case_found f.0))))
-          (whole Expression matches t (word words.Of ∷ clauses_written cs (word words.End ∷ rest)) well low deep
-          (stops_before Of matches (clauses_written cs (word words.End ∷ rest)))) ∙
+      (whole Expression matches t (word words.Of ∷ clauses_written cs (word words.End ∷ rest)) well low deep
+      (stops_before Of matches (clauses_written cs (word words.End ∷ rest)))) ∙
       ap (λ o. and_then o (case_found t)) (clauses_whole p n whole cs rest some wells deeps)
 
   -- Up to the first operator
@@ -375,41 +376,41 @@ module _ (p : Reader) (n : ℕ) (whole : Whole p n) where
   begun_whole role (leaf l) rest well low deep stops = leaf_begun role l rest well stops.quiet
   begun_whole role (node shapes.Tuple us) rest well low deep stops =
       not_leaf role (written (node shapes.Tuple us) rest) (node shapes.Tuple us) rest refl
-          (bracketed_whole role shapes.Tuple (tuples role) us rest well (omega (arith, deep)) refl)
+      (bracketed_whole role shapes.Tuple (tuples role) us rest well (omega (arith, deep)) refl)
   begun_whole role (node shapes.List us) rest well low deep stops =
       not_leaf role (written (node shapes.List us) rest) (node shapes.List us) rest refl (list_whole role us rest well (omega (arith, deep)))
   begun_whole role (node shapes.Cons us) rest well low deep stops =
       let parts = last_of us (count_two (tree_count us) well.0) in
       subst (λ vs. begun p role (written (node shapes.Cons vs) rest) ≡ found (node shapes.Cons vs) rest) (sym parts.is)
-          (not_leaf role (written (node shapes.Cons (with_last parts.front parts.last)) rest) (node shapes.Cons (with_last parts.front parts.last)) rest refl
-          (cons_whole role parts.front parts.last rest parts.some (subst (λ vs. IsWell role (node shapes.Cons vs)) parts.is well)
-          (omega (arith, deep, parts.front_deep)) (omega (arith, deep, parts.last_deep))))
+      (not_leaf role (written (node shapes.Cons (with_last parts.front parts.last)) rest) (node shapes.Cons (with_last parts.front parts.last)) rest refl
+      (cons_whole role parts.front parts.last rest parts.some (subst (λ vs. IsWell role (node shapes.Cons vs)) parts.is well)
+      (omega (arith, deep, parts.front_deep)) (omega (arith, deep, parts.last_deep))))
   begun_whole role (node shapes.Parenthesized none) rest well low deep stops = absurd (true≢false (sym well.0))
   begun_whole role (node shapes.Parenthesized (more t none)) rest well low deep stops =
       not_leaf role (written (node shapes.Parenthesized (more t none)) rest) (node shapes.Parenthesized (more t none)) rest refl
-          (parenthesized_whole role t rest well.2.1 well.2.0 (omega (arith, deep)))
+      (parenthesized_whole role t rest well.2.1 well.2.0 (omega (arith, deep)))
   begun_whole role (node shapes.Parenthesized (more t (more u us))) rest well low deep stops = absurd (omega (arith, count_one (tree_count us) well.0))
   begun_whole role (node shapes.Block us) rest well low deep stops =
       not_leaf role (written (node shapes.Block us) rest) (node shapes.Block us) rest refl
-          (bracketed_whole role shapes.Block (blocks role) us rest well (omega (arith, deep)) refl)
+      (bracketed_whole role shapes.Block (blocks role) us rest well (omega (arith, deep)) refl)
   begun_whole role (node (shapes.Local f) us) rest well low deep stops =
       not_leaf role (written (node (shapes.Local f) us) rest) (node (shapes.Local f) us) rest refl
-          (bracketed_whole role (shapes.Local f) (locals role f) us rest well (omega (arith, deep)) refl)
+      (bracketed_whole role (shapes.Local f) (locals role f) us rest well (omega (arith, deep)) refl)
   begun_whole role (node (shapes.Remote (qualifier.Module m) f) us) rest well low deep stops =
       not_leaf role (written (node (shapes.Remote (qualifier.Module m) f) us) rest) (node (shapes.Remote (qualifier.Module m) f) us) rest refl
-          (bracketed_whole role (shapes.Remote (qualifier.Module m) f) (remotes role (qualifier.Module m) f) us rest well (omega (arith, deep)) refl)
+      (bracketed_whole role (shapes.Remote (qualifier.Module m) f) (remotes role (qualifier.Module m) f) us rest well (omega (arith, deep)) refl)
   begun_whole role (node (shapes.Remote (qualifier.ModuleName at) f) us) rest well low deep stops =
       not_leaf role (written (node (shapes.Remote (qualifier.ModuleName at) f) us) rest) (node (shapes.Remote (qualifier.ModuleName at) f) us) rest refl
-          (bracketed_whole role (shapes.Remote (qualifier.ModuleName at) f) (remotes role (qualifier.ModuleName at) f) us rest well (omega (arith, deep)) refl)
+      (bracketed_whole role (shapes.Remote (qualifier.ModuleName at) f) (remotes role (qualifier.ModuleName at) f) us rest well (omega (arith, deep)) refl)
   begun_whole role (node (shapes.Prefix op) none) rest well low deep stops =
       absurd (true≢false (sym (both (not (is_pattern role)) false well.0).1))
   begun_whole role (node (shapes.Prefix Negate) (more t none)) rest well low deep stops =
       not_leaf role (written (node (shapes.Prefix Negate) (more t none)) rest) (node (shapes.Prefix Negate) (more t none)) rest
-          (no_number role t rest well.2.1 well.1 well.2.0)
-          (prefixed_whole role Negate t rest well (omega (arith, deep)) stops)
+      (no_number role t rest well.2.1 well.1 well.2.0)
+      (prefixed_whole role Negate t rest well (omega (arith, deep)) stops)
   begun_whole role (node (shapes.Prefix Not) (more t none)) rest well low deep stops =
       not_leaf role (written (node (shapes.Prefix Not) (more t none)) rest) (node (shapes.Prefix Not) (more t none)) rest refl
-          (prefixed_whole role Not t rest well (omega (arith, deep)) stops)
+      (prefixed_whole role Not t rest well (omega (arith, deep)) stops)
   begun_whole role (node (shapes.Prefix op) (more t (more u us))) rest well low deep stops =
       absurd (omega (arith, count_one (tree_count us) (both (not (is_pattern role)) (1 + (1 + tree_count us) == 1) well.0).1))
   begun_whole role (node (shapes.Infix op) us) rest well low deep stops = absurd (omega (arith, above_prefix op, low))
@@ -418,7 +419,7 @@ module _ (p : Reader) (n : ℕ) (whole : Whole p n) where
   begun_whole Expression (case none cs) rest well low deep stops = absurd (omega (arith, well.1))
   begun_whole Expression (case (more t none) cs) rest well low deep stops =
       not_leaf Expression (written (case (more t none) cs) rest) (case (more t none) cs) rest refl
-          (cased_whole t cs rest well.2.1 well.2.0 (omega (arith, deep)) well.3 well.4 (omega (arith, deep)))
+      (cased_whole t cs rest well.2.1 well.2.0 (omega (arith, deep)) well.3 well.4 (omega (arith, deep)))
   begun_whole Expression (case (more t (more u us)) cs) rest well low deep stops = absurd (omega (arith, well.1))
 
   -- Operators, from the left
@@ -429,9 +430,9 @@ module _ (p : Reader) (n : ℕ) (whole : Whole p n) where
       joined p role (suc n) t op (infix_terminal op ∷ written u rest) ≡ Some (node (shapes.Infix op) (more t (more u none)), rest)
   joined_whole role t op u rest well deep stops =
       if_true (nat_lt (tree_depth t) (suc n)) (if begins (shapes.Infix op) (more t none) then
-          and_then (p role (right_level op) (written u rest)) (infix_found t op) else None) (is_less (tree_depth t) (suc n) (omega (arith, deep))) ∙
+      and_then (p role (right_level op) (written u rest)) (infix_found t op) else None) (is_less (tree_depth t) (suc n) (omega (arith, deep))) ∙
       if_true (begins (shapes.Infix op) (more t none)) (and_then (p role (right_level op) (written u rest)) (infix_found t op))
-          (begins_first op t u well.1) ∙
+      (begins_first op t u well.1) ∙
       ap (λ o. and_then o (infix_found t op)) (whole role (right_level op) u rest well.2.2.1 well.2.2.0 (omega (arith, deep)) stops)
 
   spine_whole : (role : Role) (most k : ℕ) (t : Tree) (rest : List Terminal) → IsWell role t → level t ≤ most → tree_depth t ≤ suc n →
@@ -477,11 +478,11 @@ module _ (p : Reader) (n : ℕ) (whole : Whole p n) where
       let behind = infix_terminal op ∷ written u rest in
       let it = node (shapes.Infix op) (more t (more u none)) in
       spine_whole role most k t behind well.2.1 (omega (arith, well.2.0, left_at_most op, low)) (omega (arith, deep))
-          (stops_at_operator t op (written u rest) well.2.0) (omega (arith, short)) ∙
+      (stops_at_operator t op (written u rest) well.2.0) (omega (arith, short)) ∙
       ap (λ m. climbed m p role most (suc n) t behind) {x = k - spine t} {y = suc (k - spine it)} (omega (arith, short)) ∙
       climbed_one (k - spine it) p role most (suc n) t it behind rest op
-          (operator_there role most (level t) op (written u rest) (both (has_operator role op) true well.0).0 low well.2.0)
-          (joined_whole role t op u rest well deep stops)
+      (operator_there role most (level t) op (written u rest) (both (has_operator role op) true well.0).0 low well.2.0)
+      (joined_whole role t op u rest well deep stops)
 
 -- All
 
@@ -489,7 +490,7 @@ read_one : (n : ℕ) → Whole (read n) n → Whole (read (suc n)) (suc n)
 read_one n whole role most t rest well low deep stops =
     read_next n role most (written t rest) ∙
     spine_whole (read n) n whole role most (suc n) t rest well low deep
-        (stops_lower (end_level t) most rest (omega (arith, end_at_most t, low)) stops) (omega (arith, spine_depth t, deep)) ∙
+    (stops_lower (end_level t) most rest (omega (arith, end_at_most t, low)) stops) (omega (arith, spine_depth t, deep)) ∙
     climbed_all (suc n - spine t) (read n) role most (suc n) t rest (no_operator role most (level t) rest stops)
 
 read_alone : Whole (read zero) zero
