@@ -8,4 +8,5 @@ pub mod Picked
 pub mod Joining
 pub mod Dealing
 pub mod Scripted
+pub mod Standing
 pub mod InTarget
