@@ -1,12 +1,12 @@
 -- Each instruction's parts stand in a script once.
-use Rattle.std.proofs.Common.{◌≡◌, ℕ, ◌+◌, ◌<◌, Bool, true, false, List, [], ◌∷◌, ◌++◌, length, map, filter, All, Option, None, Some, sym, ap, subst, ◌∙◌, refl, arith, append_assoc, append-nil, length-append}
+use Rattle.std.proofs.Common.{◌≡◌, ℕ, ◌+◌, ◌<◌, Bool, true, false, List, [], ◌∷◌, ◌++◌, length, map, filter, Option, None, Some, sym, ap, subst, ◌∙◌, refl, arith, append_assoc, append-nil, length-append}
 use Rattle.std.specs.Prelude.{if◌then◌else◌, reverse}
 use Rattle.std.specs.List.{cons_option, filter_map, flat_map, range_with_len, slice_get}
 use Rattle.std.specs.List.Sorted.{IsPermutation}
 use Rattle.std.specs.Option.{option_map_or, option_to_list}
 use Rattle.std.proofs.Math.Seq.{get_or-append_seam}
 use Rattle.std.proofs.lemmas.List.Concat.{flat_map-append}
-use Rattle.std.proofs.lemmas.List.Elements.{All-append, All-cons, All-map, All-nil, filter_map-append}
+use Rattle.std.proofs.lemmas.List.Elements.{filter_map-append}
 use Rattle.std.proofs.lemmas.List.Sorted.{IsPermutation-append, IsPermutation-append_left, IsPermutation-map, IsPermutation-refl, IsPermutation-reverse, IsPermutation-sym, IsPermutation-trans}
 use Rattle.std.proofs.lemmas.Option.{slice_get-get_or}
 use Rattle.std.proofs.lemmas.Simd.{map-map}
@@ -20,21 +20,20 @@ use Rattle.high_instructions.specs.declared.words.ModuleType.{ModuleType}
 use Rattle.high_instructions.specs.declared.words.ModuleType.TheVariants.{Static, Dynamic}
 use Rattle.high_instructions.specs.Forms.{Name, Names}
 use Rattle.instructions.specs.declared.instruction.Instruction.{Instruction}
-use Rattle.instructions.specs.declared.instruction.Instruction.TheVariants as levels
 use Rattle.dependency_order.specs.declared.group.Group.{Group}
 use Rattle.dependency_order.specs.Lists.{upto}
 use Rattle.dependency_order.specs.Orders.{AreOrdered, times}
 use Rattle.dependency_order.proofs.EachOnce.{groups-once}
 use Rattle.dependency_order.proofs.Permuting.{crossed, each-permuted, flat_map-permuted, joined}
 use Rattle.relup_make.specs.declared.job.Job.{Job}
-use Rattle.relup_make.specs.Alone.{IsObjectCode, alone, changed_alone, resumed_alone, suspended_alone, told_out}
+use Rattle.relup_make.specs.Alone.{alone, changed_alone, resumed_alone, suspended_alone, told_out}
 use Rattle.relup_make.specs.Dependencies.{depends}
 use Rattle.relup_make.specs.Laws.{StandsOnce}
 use Rattle.relup_make.specs.Parts.{Ordered, change_of, changes, changes_of_kind, code_change, is_kind, parts_of, resume, resume_all, suspend, suspension_of, suspensions, work_of}
-use Rattle.relup_make.specs.Scripts.{AreArranged, Arranged, IsArranged, IsScript, at, each_once, loaded_in, modules_of, object_code, own_object_code, placed}
-use Rattle.relup_make.specs.Releases.{version_in}
-use Rattle.relup_make.specs.Work.{Way, target}
+use Rattle.relup_make.specs.Scripts.{AreArranged, Arranged, IsArranged, IsScript, at, loaded_in, object_code, own_object_code, placed}
+use Rattle.relup_make.specs.Work.{Way}
 use Rattle.relup_make.proofs.Picked.{picked_all}
+use Rattle.relup_make.proofs.Shape.{object-code-alone, parts-alone}
 
 -- At all places stand all instructions
 
@@ -265,27 +264,6 @@ jobs-once direction way (j ∷ js) (a ∷ others) are =
     (IsPermutation-append (told here) (flat_map (alone direction way) j.instructions) (told rest) later
     (entry-once direction way j.instructions a.groups are.0.groups) (jobs-once direction way js others are.1))
 
--- Object code alone is read
-
-all-given : {A : Type 0} (P : A → Type 0) → ((x : A) → P x) → (xs : List A) → All P xs
-all-given P each [] = All-nil P
-all-given P each (x ∷ xs) = All-cons P x xs (each x) (all-given P each xs)
-
-all-flat : {A B : Type 0} (P : B → Type 0) (f : A → List B) → ((x : A) → All P (f x)) → (xs : List A) → All P (flat_map f xs)
-all-flat P f each [] = All-nil P
-all-flat P f each (x ∷ xs) = All-append P (f x) (flat_map f xs) (each x) (all-flat P f each xs)
-
-own-read : (i : Instruction) → All IsObjectCode (own_object_code i)
-own-read (levels.High high) = All-nil IsObjectCode
-own-read (levels.Low (lows.LoadObjectCode app vsn ms)) = All-cons IsObjectCode (lows.LoadObjectCode app vsn ms) [] tt (All-nil IsObjectCode)
-own-read (levels.Low low) = All-nil IsObjectCode
-
-object-code-read : (way : Way) (pairs : List (Name × Name)) → All IsObjectCode (object_code way pairs)
-object-code-read way pairs =
-    let apps = each_once (map (λ (p : Name × Name). p.0) pairs) in
-    let one : Name → Low = λ app. lows.LoadObjectCode app (version_in app (target way)) (modules_of app pairs) in
-    All-map IsObjectCode one apps (all-given (λ app. IsObjectCode (one app)) (λ app. tt) apps)
-
 -- A script
 
 pub stands-once : (way : Way) (jobs : List Job) (script : List Low) → IsScript way jobs script → StandsOnce way jobs script
@@ -293,9 +271,7 @@ stands-once way jobs script fits = record {
   read = object_code way (flat_map (loaded_in way) fits.arranged) ++ flat_map (λ job. flat_map own_object_code job.instructions) jobs;
   parts = flat_map (λ job. flat_map (parts_of way.direction way) job.groups) fits.arranged;
   is = fits.is;
-  reads =
-      All-append IsObjectCode (object_code way (flat_map (loaded_in way) fits.arranged)) (flat_map (λ job. flat_map own_object_code job.instructions) jobs)
-      (object-code-read way (flat_map (loaded_in way) fits.arranged))
-      (all-flat IsObjectCode (λ (job : Job). flat_map own_object_code job.instructions) (λ job. all-flat IsObjectCode own_object_code own-read job.instructions) jobs);
+  are_read = object-code-alone way (flat_map (loaded_in way) fits.arranged) jobs;
+  are_parts = parts-alone way fits.arranged;
   once = jobs-once way.direction way jobs fits.arranged fits.are;
 }

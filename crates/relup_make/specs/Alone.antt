@@ -34,6 +34,12 @@ abbrev pub alone : Direction → Way → Instruction → List Low
 alone direction way i =
     suspended_alone i ++ flat_map told_out (work_of way i) ++ changed_alone direction i ++ resumed_alone i
 
+-- what stands before the point of no return, and what stands behind it
 abbrev pub IsObjectCode : Low → Type 0
 IsObjectCode (lows.LoadObjectCode app vsn ms) = ⊤
 IsObjectCode low = ⊥
+
+abbrev pub IsPart : Low → Type 0
+IsPart (lows.LoadObjectCode app vsn ms) = ⊥
+IsPart lows.PointOfNoReturn = ⊥
+IsPart low = ⊤

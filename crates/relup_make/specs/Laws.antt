@@ -6,7 +6,7 @@ use Rattle.low_instructions.specs.declared.low.Low.TheVariants as lows
 use Rattle.otp_files.specs.declared.upgrade.Upgrades.{Upgrades}
 use Rattle.relup_make.specs.declared.error.MakeError.{MakeError}
 use Rattle.relup_make.specs.declared.rel_apps.RelApps.{RelApps}
-use Rattle.relup_make.specs.Alone.{IsObjectCode, alone, told_out}
+use Rattle.relup_make.specs.Alone.{IsObjectCode, IsPart, alone, told_out}
 use Rattle.relup_make.specs.Relups.{IsRefusal, IsTranslation}
 use Rattle.relup_make.specs.Scripts.{IsScript}
 use Rattle.relup_make.specs.declared.job.Job.{Job}
@@ -25,14 +25,15 @@ pub record AtMostOneAnswer (old new : RelApps) (appups : List (Option Appup)) : 
   pub apart : (made : Upgrades Term Low) → (error : MakeError) → IsTranslation old new appups made →
       IsRefusal old new appups error → ⊥
 
--- Each instruction of the work gives its suspension, its loads, its change and its resumption once: all that stands in a script
--- behind the object code and the point of no return, one module to a part, is what each instruction gives by itself, in another
+-- A script is object code, one point of no return, and parts. Each instruction of the work gives its suspension, its loads, its
+-- change and its resumption once: the parts, with one module to a part, are what each instruction gives by itself, in another
 -- order.
 pub record StandsOnce (way : Way) (jobs : List Job) (script : List Low) : Type 0 where
   pub read : List Low
   pub parts : List Low
   pub is : script ≡ read ++ lows.PointOfNoReturn ∷ parts
-  pub reads : All IsObjectCode read
+  pub are_read : All IsObjectCode read
+  pub are_parts : All IsPart parts
   pub once : IsPermutation (flat_map told_out parts)
       (flat_map (λ job. flat_map (alone way.direction way) job.instructions) jobs)
 

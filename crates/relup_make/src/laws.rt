@@ -14,7 +14,8 @@ pub fn at_most_one_answer()
     ensures { (old new : RelApps) (appups : List (Option Appup)) → AtMostOneAnswer old new appups }
 {}
 
-/// A law: each instruction's suspension, loads, change and resumption stand in a script once.
+/// A law: a script is object code, one point of no return, and each instruction's suspension, loads, change and resumption,
+/// each once.
 pub fn each_stands_once()
     ensures { EachStandsOnce }
 {}

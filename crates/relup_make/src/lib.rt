@@ -8,8 +8,8 @@
 //!   [`MakeError`].
 //! - [`at_most_one_script`], [`at_most_one_answer`]: there is at most one such script, and so at most one relup; and what is
 //!   refused has none, and is refused for one reason.
-//! - [`each_stands_once`]: what stands behind the point of no return is each instruction's suspension, loads, change and
-//!   resumption, each once, and nothing else.
+//! - [`each_stands_once`]: a script is object code, one point of no return, and each instruction's suspension, loads, change
+//!   and resumption, each once, and nothing else.
 //!
 //! # What no contract says
 //!
