@@ -1,15 +1,18 @@
--- Groups have each place once.
-use Rattle.std.proofs.Common.{◌≡◌, ◌<◌, ◌≤◌, ◌+◌, ℕ, Bool, true, false, inl, inr, List, [], ◌∷◌, ◌++◌, length, eqb, if◌then◌else◌, get_or, map, filter, sym, ap, ◌∙◌, refl, subst, arith}
-use Rattle.std.specs.List.{flat_map}
+-- Groups have each place once, and so have their orders.
+use Rattle.std.proofs.Common.{◌≡◌, ◌<◌, ◌≤◌, ℕ, Bool, true, false, inl, inr, List, [], ◌∷◌, length, eqb, if◌then◌else◌, get_or, sym, ap, ◌∙◌, refl, subst, arith}
+use Rattle.std.specs.List.{flat_map, range_with_len}
+use Rattle.std.specs.List.Sorted.{IsPermutation}
 use Rattle.std.proofs.lemmas.Bool.{cases_lt, eq-eqb}
 use Rattle.std.proofs.lemmas.List.Folds.{flat_map-map}
+use Rattle.dependency_order.specs.declared.group.Group.{Group}
 use Rattle.dependency_order.specs.Dealt.{is_of}
 use Rattle.dependency_order.specs.Groups.{AreFirsts, AreGroups, IsJoined, leaders, members}
 use Rattle.dependency_order.specs.Lists.{upto}
-use Rattle.dependency_order.specs.Orders.{how_many, times}
+use Rattle.dependency_order.specs.Orders.{AreOrdered, AreOrderedGroups, how_many, times}
 use Rattle.dependency_order.proofs.Chains.{first-joined}
 use Rattle.dependency_order.proofs.Counting.{how_many-agree, times-append, times-filter, times-past, times-upto}
 use Rattle.dependency_order.proofs.Dealing.{leaders-upto, members-upto}
+use Rattle.dependency_order.proofs.Permuting.{flat_map-permuted}
 
 member : (firsts : List ℕ) (f p : ℕ) → times p (members firsts f) ≡ (if is_of firsts f p then times p (upto (length firsts)) else 0)
 member firsts f p = ap (times p) (members-upto firsts f) ∙ times-filter (is_of firsts f) p (upto (length firsts))
@@ -68,3 +71,46 @@ groups-once names count groups are p =
           let many = are.are.many in
           past-all are.firsts (leaders are.firsts) p (omega (arith, past, many)) ∙ sym (times-past count p past)
     ]
+
+-- Orders of the groups, one behind the other
+
+dependencies-same : (names : ℕ → ℕ → Bool) (gs : List (List ℕ)) (os : List Group) → AreOrdered names gs os → (p : ℕ) → times p (flat_map (λ g. g) gs) ≡ times p (flat_map (λ o. o.dependencies_first) os)
+dependencies-same names [] [] are p = refl
+dependencies-same names [] (o ∷ os) are p = absurd are
+dependencies-same names (g ∷ gs) [] are p = absurd are
+dependencies-same names (g ∷ gs) (o ∷ os) are p =
+    let here = are.0.dependencies.same p in
+    let rest = dependencies-same names gs os are.1 p in
+    let one = times-append p g (flat_map (λ (h : List ℕ). h) gs) in
+    let other = times-append p o.dependencies_first (flat_map (λ (q : Group). q.dependencies_first) os) in
+    omega (arith, here, rest, one, other)
+
+dependants-same : (names : ℕ → ℕ → Bool) (gs : List (List ℕ)) (os : List Group) → AreOrdered names gs os → (p : ℕ) → times p (flat_map (λ g. g) gs) ≡ times p (flat_map (λ o. o.dependants_first) os)
+dependants-same names [] [] are p = refl
+dependants-same names [] (o ∷ os) are p = absurd are
+dependants-same names (g ∷ gs) [] are p = absurd are
+dependants-same names (g ∷ gs) (o ∷ os) are p =
+    let here = are.0.dependants.same p in
+    let rest = dependants-same names gs os are.1 p in
+    let one = times-append p g (flat_map (λ (h : List ℕ). h) gs) in
+    let other = times-append p o.dependants_first (flat_map (λ (q : Group). q.dependants_first) os) in
+    omega (arith, here, rest, one, other)
+
+singles : (xs : List ℕ) → flat_map (λ p. p ∷ []) xs ≡ xs
+singles [] = refl
+singles (x ∷ xs) = ap (λ ys. x ∷ ys) (singles xs)
+
+permuted : (xs ys : List ℕ) → ((p : ℕ) → times p xs ≡ times p ys) → IsPermutation xs ys
+permuted xs ys same =
+    let From : List ℕ → Type 0 = λ us. IsPermutation us ys in
+    let To : List ℕ → Type 0 = λ vs. IsPermutation (flat_map (λ p. p ∷ []) xs) vs in
+    subst From (singles xs) (subst To (singles ys) (flat_map-permuted (λ p. p ∷ []) xs ys same))
+
+pub each-once : (names : ℕ → ℕ → Bool) (count : ℕ) (ordered : List Group) → AreOrderedGroups names count ordered →
+    IsPermutation (range_with_len 0 count) (flat_map (λ g. g.dependencies_first) ordered) × IsPermutation (range_with_len 0 count) (flat_map (λ g. g.dependants_first) ordered)
+each-once names count ordered are = (
+  permuted (upto count) (flat_map (λ (o : Group). o.dependencies_first) ordered)
+      (λ p. sym (groups-once names count are.groups are.are p) ∙ dependencies-same names are.groups ordered are.are_ordered p),
+  permuted (upto count) (flat_map (λ (o : Group). o.dependants_first) ordered)
+      (λ p. sym (groups-once names count are.groups are.are p) ∙ dependants-same names are.groups ordered are.are_ordered p),
+)

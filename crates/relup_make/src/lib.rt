@@ -13,7 +13,8 @@
 //!
 //! # What no contract says
 //!
-//! That there is memory, and what a call costs: the names of applications, modules and dependencies, times the logarithm of
+//! That there is memory: a body that only tells of want of memory meets the contract of [`make`], and the tests alone see that
+//! it makes relups. And what a call costs: the names of applications, modules and dependencies, times the logarithm of
 //! their number, for each application that is changed and each direction.
 #![tactic(auto)]
 
