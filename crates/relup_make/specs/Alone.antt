@@ -1,4 +1,4 @@
--- What an instruction gives by itself, one module to a part.
+-- What an instruction gives by itself (appup(4), High-Level Instructions; relup(4)), one module to a part.
 use Rattle.std.specs.Prelude.{List, [], ◌∷◌, ◌++◌, map, flat_map, ⊤}
 use Rattle.std.specs.Option.{option_to_list}
 use Rattle.low_instructions.specs.declared.low.Low.{Low}
