@@ -39,17 +39,17 @@ leaders-more xs y =
     map-append first (filter test (enumerate_from 0 xs)) (filter test ((length xs, y) ∷ [])) ∙
     ap (λ ls. leaders xs ++ ls) (one-leader (eqb y (length xs)) (length xs) y)
 
--- members as a filter of all places
-pub members-among : (ys xs : List ℕ) (f : ℕ) → map (λ (e : Pair). e.0) (filter (λ (e : Pair). eqb e.1 f) (enumerate_from (length ys) xs)) ≡ filter (is_of (ys ++ xs) f) (range_with_len (length ys) (length xs))
-members-among ys [] f = refl
-members-among ys (x ∷ xs) f =
+-- places that are chosen by their first members, as a filter of all places
+placed-among : (test : ℕ → ℕ → Bool) (ys xs : List ℕ) → map (λ (e : Pair). e.0) (filter (λ (e : Pair). test e.0 e.1) (enumerate_from (length ys) xs)) ≡ filter (λ p. test p (get_or (ys ++ xs) p 0)) (range_with_len (length ys) (length xs))
+placed-among test ys [] = refl
+placed-among test ys (x ∷ xs) =
     let long : length (ys ++ x ∷ []) ≡ length ys + 1 = omega (arith, length-append ys (x ∷ [])) in
     let whole : ((ys ++ x ∷ []) ++ xs) ≡ ys ++ x ∷ xs = append_assoc ys (x ∷ []) xs in
-    let rest = members-among (ys ++ x ∷ []) xs f in
-    let Is : ℕ → List ℕ → Type 0 = λ n all. map (λ (e : Pair). e.0) (filter (λ (e : Pair). eqb e.1 f) (enumerate_from n xs)) ≡ filter (is_of all f) (range_with_len n (length xs)) in
+    let rest = placed-among test (ys ++ x ∷ []) xs in
+    let Is : ℕ → List ℕ → Type 0 = λ n all. map (λ (e : Pair). e.0) (filter (λ (e : Pair). test e.0 e.1) (enumerate_from n xs)) ≡ filter (λ p. test p (get_or all p 0)) (range_with_len n (length xs)) in
     let on = subst (Is (length ys + 1)) whole (subst (λ (n : ℕ). Is n ((ys ++ x ∷ []) ++ xs)) long rest) in
-    let here : eqb x f ≡ is_of (ys ++ x ∷ xs) f (length ys) = ap (λ z. eqb z f) (sym (get_or_at ys x xs 0 (length ys) refl)) in
-    kept (eqb x f) (is_of (ys ++ x ∷ xs) f (length ys)) (length ys) x (filter (λ (e : Pair). eqb e.1 f) (enumerate_from (length ys + 1) xs)) (filter (is_of (ys ++ x ∷ xs) f) (range_with_len (length ys + 1) (length xs))) here on
+    let here : test (length ys) x ≡ test (length ys) (get_or (ys ++ x ∷ xs) (length ys) 0) = ap (test (length ys)) (sym (get_or_at ys x xs 0 (length ys) refl)) in
+    kept (test (length ys) x) (test (length ys) (get_or (ys ++ x ∷ xs) (length ys) 0)) (length ys) x (filter (λ (e : Pair). test e.0 e.1) (enumerate_from (length ys + 1) xs)) (filter (λ p. test p (get_or (ys ++ x ∷ xs) p 0)) (range_with_len (length ys + 1) (length xs))) here on
   where
     kept : (b c : Bool) (n y : ℕ) (es : List Pair) (ps : List ℕ) → b ≡ c → map (λ (e : Pair). e.0) es ≡ ps → map (λ (e : Pair). e.0) (cond b ((n, y) ∷ es) es) ≡ cond c (n ∷ ps) ps
     kept true true n y es ps e is = ap (λ qs. n ∷ qs) is
@@ -58,7 +58,10 @@ members-among ys (x ∷ xs) f =
     kept false false n y es ps e is = is
 
 pub members-upto : (xs : List ℕ) (f : ℕ) → members xs f ≡ filter (is_of xs f) (upto (length xs))
-members-upto xs f = members-among [] xs f
+members-upto xs f = placed-among (λ p first. eqb first f) [] xs
+
+pub leaders-upto : (xs : List ℕ) → leaders xs ≡ filter (λ p. eqb (get_or xs p 0) p) (upto (length xs))
+leaders-upto xs = placed-among (λ p first. eqb first p) [] xs
 
 -- Orders of a part
 

@@ -2,6 +2,7 @@ pub mod Beginning
 pub mod Chains
 pub mod Counting
 pub mod Dealing
+pub mod EachOnce
 pub mod Entering
 pub mod Forests
 pub mod FreeSets
@@ -9,6 +10,7 @@ pub mod Grouping
 pub mod Leaving
 pub mod Linking
 pub mod OneDivision
+pub mod Permuting
 pub mod Rows
 pub mod Staying
 pub mod Takings

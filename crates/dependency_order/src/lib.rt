@@ -9,7 +9,8 @@
 //! - [`groups`] gives, in the order of their first members, the groups of all places, each in its two orders, or it wants
 //!   memory. So such groups and orders exist for all places.
 //! - [`groups_are_the_joined`]: places are in one group exactly where a chain of dependencies joins them.
-//!   [`ordered_groups_are_one`]: there are no other groups, and no other orders of them.
+//!   [`each_place_stands_once`]: the groups have each place once. [`ordered_groups_are_one`]: there are no other groups, and no
+//!   other orders of them.
 //!
 //! # How
 //!
@@ -38,5 +39,5 @@ mod relation;
 
 pub use dividing::groups;
 pub use group::Group;
-pub use laws::{groups_are_the_joined, ordered_groups_are_one};
+pub use laws::{each_place_stands_once, groups_are_the_joined, ordered_groups_are_one};
 pub use place::Place;

@@ -8,4 +8,6 @@ pub mod Picked
 pub mod Joining
 pub mod Dealing
 pub mod Scripted
+pub mod Shape
+pub mod Standing
 pub mod InTarget

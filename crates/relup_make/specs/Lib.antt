@@ -1,3 +1,4 @@
+pub mod Alone
 pub mod Arranging
 pub mod Chosen
 pub mod Dealt

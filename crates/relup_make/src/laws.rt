@@ -1,6 +1,6 @@
 // The laws of the translation.
 ghost use Rattle.std.specs.Prelude.{List, Option};
-ghost use Rattle.relup_make.specs.Laws.{AtMostOneAnswer, AtMostOneScript};
+ghost use Rattle.relup_make.specs.Laws.{AtMostOneAnswer, AtMostOneScript, EachStandsOnce};
 ghost use Rattle.relup_make.specs.Work.{Appup};
 ghost use Rattle.relup_make.specs.declared.rel_apps.RelApps.{RelApps};
 
@@ -12,4 +12,10 @@ pub fn at_most_one_script()
 /// A law: two releases and their appups have at most one relup, or are refused for one reason, and never both.
 pub fn at_most_one_answer()
     ensures { (old new : RelApps) (appups : List (Option Appup)) → AtMostOneAnswer old new appups }
+{}
+
+/// A law: a script is object code, one point of no return, and each instruction's suspension, loads, change and resumption,
+/// each once.
+pub fn each_stands_once()
+    ensures { EachStandsOnce }
 {}

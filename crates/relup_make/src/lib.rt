@@ -8,10 +8,13 @@
 //!   [`MakeError`].
 //! - [`at_most_one_script`], [`at_most_one_answer`]: there is at most one such script, and so at most one relup; and what is
 //!   refused has none, and is refused for one reason.
+//! - [`each_stands_once`]: a script is object code, one point of no return, and each instruction's suspension, loads, change
+//!   and resumption, each once, and nothing else.
 //!
 //! # What no contract says
 //!
-//! That there is memory, and what a call costs: the names of applications, modules and dependencies, times the logarithm of
+//! That there is memory: a body that only tells of want of memory meets the contract of [`make`], and the tests alone see that
+//! it makes relups. And what a call costs: the names of applications, modules and dependencies, times the logarithm of
 //! their number, for each application that is changed and each direction.
 #![tactic(auto)]
 
@@ -35,6 +38,6 @@ mod way;
 mod working;
 
 pub use error::MakeError;
-pub use laws::{at_most_one_answer, at_most_one_script};
+pub use laws::{at_most_one_answer, at_most_one_script, each_stands_once};
 pub use making::make;
 pub use rel_apps::RelApps;

@@ -8,4 +8,6 @@
 #[cfg(test)]
 mod group_orders;
 #[cfg(test)]
+mod laws;
+#[cfg(test)]
 mod translation;
