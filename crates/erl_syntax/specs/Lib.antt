@@ -7,3 +7,4 @@ pub mod Heights
 pub mod Written
 pub mod Functions
 pub mod Grammar
+pub mod Forms

@@ -1,6 +1,6 @@
 // The forms of a module.
 use crate::leaf::Named;
-use crate::tree::{ClauseTree, ClauseTrees, GuardTrees, SyntaxTree, SyntaxTrees};
+use crate::tree::{ClauseTree, ClauseTrees, GuardTrees, SyntaxTrees};
 use erl_term::Atom;
 use values::Row;
 
@@ -49,8 +49,8 @@ pub struct LoopTree {
 pub enum FormTree {
     /// `-export([F/A,..]).`
     Export(Row<Exported>),
-    /// `-vsn(T).`, as the term is written.
-    Version(SyntaxTree),
+    /// `-vsn(T).`: the row is the term alone, as it is written.
+    Version(SyntaxTrees),
     /// An attribute that says nothing here.
     Skipped,
     /// A function.
