@@ -15,9 +15,10 @@ use std::hash::RandomState;
 
 /// The static fault of a module that stands first in its source; none where it has none.
 ///
-/// Names are hashed by `hashing`. Takes time for each part of the module, once more for each block, match, subject of a
-/// `case` and left side of `andalso` or `orelse` that the part stands in, and memory for each function, and for each
-/// variable that is bound at one place. It recurses as deep as the trees are nested.
+/// Names are hashed by `hashing`. Takes time for each part of the module, and what an expression binds is looked for once
+/// more in each body and block, and in each subject of a `case` and left side of `andalso` or `orelse`, that it stands
+/// in. Takes memory for each function, and for each variable that is bound at one place. Recurses as deep as the trees are
+/// nested.
 ///
 /// # Errors
 ///
@@ -27,7 +28,7 @@ pub fn first_fault(
     hashing: RandomState,
     module: &ModuleTree,
 ) -> Result<Option<StaticFault>, AllocError>
-    ensures { IfOk result (λ found. IsFirstFault found (faults_of module.now)) }
+    ensures { IfOk result (λ found. IsFirstFault found (faults_of «module».now)) }
 {
     first_of_all(alloc, hashing, module)
 }
@@ -38,7 +39,7 @@ fn first_of_all(
     hashing: RandomState,
     module: &ModuleTree,
 ) -> Result<Option<StaticFault>, AllocError>
-    ensures { IfOk result (λ found. found ≡ soonest None (faults_of module.now)) }
+    ensures { IfOk result (λ found. found ≡ soonest None (faults_of «module».now)) }
 {
     let forms = module.forms.as_slice();
     let mut functions = IndexSet::with_hasher(alloc, hashing);
