@@ -4,13 +4,13 @@ use Rattle.std.proofs.lemmas.List.{take_more}
 use Rattle.erl_syntax.specs.declared.tree.SyntaxTree.{SyntaxTree}
 use Rattle.erl_syntax.specs.declared.tree.ClauseTree.{ClauseTree}
 use Rattle.erl_syntax.specs.declared.form.FormTree.{FormTree}
-use Rattle.erl_syntax.specs.Tree.{Tree, Trees, tree_count}
+use Rattle.erl_syntax.specs.Tree.{Trees, tree_count}
 use Rattle.erl_syntax.specs.TreeForms.{tree, trees, guards, clauses}
 use Rattle.erl_syntax.specs.Heights.{tree_height, trees_height, guards_height, clauses_height}
 use Rattle.erl_lint.specs.declared.fault.StaticFault.{StaticFault}
 use Rattle.erl_lint.specs.First.{sooner, soonest}
 use Rattle.erl_lint.specs.Keys.{Key, heading_of, heading_faults, with_form, with_forms, duplicates}
-use Rattle.erl_lint.specs.Scopes.{Names, with_names, pattern_names, pattern_names_in, binds, binds_in}
+use Rattle.erl_lint.specs.Scopes.{pattern_names, pattern_names_in, binds, binds_in}
 
 -- heights
 

@@ -1,5 +1,5 @@
 -- What is found last is the first fault of all.
-use Rattle.std.proofs.Common.{◌≡◌, ℕ, ◌≤◌, ◌<◌, nat_le, Result, Ok, Err, IfOk, sym, subst, Bool, true, false, if◌then◌else◌, List, [], ◌∷◌, ◌++◌, Option, None, Some, Contains, All, length, get_or, zero, suc, inl, inr, refl, arith}
+use Rattle.std.proofs.Common.{◌≡◌, ◌≤◌, nat_le, Result, Ok, Err, IfOk, sym, subst, Bool, true, false, if◌then◌else◌, List, [], ◌∷◌, Option, None, Some, All, zero, suc, inl, inr, refl, arith}
 use Rattle.std.proofs.lemmas.Bool.{leb-true, leb-false}
 use Rattle.std.proofs.lemmas.List.Elements.{Contains-get_or, Contains-append_left, Contains-append_right, Contains-append_cases}
 use Rattle.erl_lint.specs.declared.fault.StaticFault.{StaticFault}

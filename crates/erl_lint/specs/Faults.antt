@@ -1,6 +1,6 @@
 -- The static faults of a module beside functions that are defined twice: variables that are not bound where they are used,
 -- and local calls and exports of functions that there are not (Erlang Reference Manual, Expressions; Modules).
-use Rattle.std.specs.Prelude.{ℕ, Bool, ◌||◌, if◌then◌else◌, List, [], ◌∷◌, ◌++◌}
+use Rattle.std.specs.Prelude.{ℕ, ◌||◌, if◌then◌else◌, List, [], ◌∷◌, ◌++◌}
 use Rattle.erl_syntax.specs.declared.leaf.Leaf.{Leaf}
 use Rattle.erl_syntax.specs.declared.leaf.Leaf.TheVariants as leaves
 use Rattle.erl_syntax.specs.declared.shape.Shape.{Shape}

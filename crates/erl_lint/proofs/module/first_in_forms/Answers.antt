@@ -1,5 +1,4 @@
 -- One form more.
-use Rattle.std.proofs.Common.{rules}
 use Rattle.erl_lint.proofs.Walking.{forms_found}
 use Rattle.erl_lint.proofs.module.first_in_forms.Goals as goal
 
