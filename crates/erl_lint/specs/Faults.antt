@@ -20,7 +20,7 @@ use Rattle.erl_lint.specs.declared.scoping.Scoping.{Scoping}
 use Rattle.erl_lint.specs.Keys.{Key, is_among, is_built_in, with_forms, duplicates}
 use Rattle.erl_lint.specs.Scopes.{Names, is_bound, with_names, pattern_names_in, binds, binds_in, scoping_of, by_scoping}
 
--- a variable that is used has to be bound; `_` never is
+-- a variable that is used has to be bound; `_` never is, since no pattern binds it
 abbrev pub leaf_faults : Names → Leaf → List StaticFault
 leaf_faults bound (leaves.Variable name at) = if is_bound bound name then [] else UnboundVariable at ∷ []
 leaf_faults bound l = []
@@ -31,7 +31,8 @@ call_faults functions (shapes.Local f) n =
     if is_among functions (f.name, n) || is_built_in (f.name, n) then [] else UndefinedLocal f.at ∷ []
 call_faults functions shape n = []
 
--- The faults of an expression or of a test, in a module with these functions and where these variables are bound.
+-- The faults of an expression or of a test, in a module with these functions and where these variables are bound. Calls
+-- with a module are not looked at.
 abbrev mutual
   pub faults_in : List Key → Names → Tree → List StaticFault
   faults_in functions bound (leaf l) = leaf_faults bound l
@@ -53,7 +54,7 @@ abbrev mutual
   faults_in_turn functions bound (more t ts) =
       faults_in functions bound t ++ faults_in_turn functions (with_names bound (binds t)) ts
 
-  -- those behind a pattern, in which no variable is unbound
+  -- Those behind a pattern. A pattern has no fault: it has no calls, and a variable in it that is bound is compared.
   pub faults_behind : List Key → Names → Trees → List StaticFault
   faults_behind functions bound none = []
   faults_behind functions bound (more p es) = faults_apart functions bound es
