@@ -16,9 +16,8 @@ use std::hash::RandomState;
 /// The static fault of a module that stands first in its source; none where it has none.
 ///
 /// Names are hashed by `hashing`. Takes time for each part of the module, and what an expression binds is looked for once
-/// more in each body and block, and in each subject of a `case` and left side of `andalso` or `orelse`, that it stands
-/// in. Takes memory for each function, and for each variable that is bound at one place. Recurses as deep as the trees are
-/// nested.
+/// more in each body, block, subject of a `case` and side of `andalso` or `orelse` that it stands in. Takes memory for each
+/// function, and for each variable that is bound at one place. Recurses as deep as the trees are nested.
 ///
 /// # Errors
 ///
