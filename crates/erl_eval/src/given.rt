@@ -4,9 +4,9 @@ ghost use Rattle.erl_term.specs.Ascii.{is_ascii_text};
 ghost use Rattle.erl_term.specs.Term.{tree};
 ghost use Rattle.erl_eval.specs.Given.{result_of};
 ghost use Rattle.erl_eval.specs.Operators.{truth};
-ghost use Rattle.erl_eval.specs.State.{exit_by, made};
+ghost use Rattle.erl_eval.specs.State.{exit_by, exit_by_pair, made};
 
-use erl_term::{Atom, Term};
+use erl_term::{Atom, Term, Terms};
 use std::alloc::{AllocError, Global};
 use std::marker::Model;
 use values::Duplicate;
@@ -34,6 +34,18 @@ pub(crate) fn exit_by(alloc: Global, reason: &str) -> Result<Given, AllocError>
 {
     let reason = Atom::word(alloc, reason)?;
     Ok(Given::Exit(Term::Atom(reason)))
+}
+
+/// An exit by a reason `{Word,Term}`.
+pub(crate) fn exit_by_pair(alloc: Global, word: &str, term: Term) -> Result<Given, AllocError>
+    requires ascii { IsTrue (is_ascii_text word.now) }
+    requires short { length word.now ≤ 255 }
+    ensures { IfOk result (λ it. result_of it ≡ exit_by_pair word.now (tree term)) }
+{
+    let mut pair = Vec::with_capacity(alloc, 2)?;
+    pair.push(Term::Atom(Atom::word(alloc, word)?))?;
+    pair.push(term)?;
+    Ok(Given::Exit(Term::Tuple(Terms::new(alloc, pair)?)))
 }
 
 /// A term that an expression makes, where it is within the limits: else a breach of them.
