@@ -27,7 +27,11 @@ pub enum Given {
 }
 
 /// An exit by a reason that is an atom.
-pub(crate) fn exit_by(alloc: Global, reason: &str) -> Result<Given, AllocError>
+///
+/// # Errors
+///
+/// `AllocError` where memory is refused.
+pub fn exit_by(alloc: Global, reason: &str) -> Result<Given, AllocError>
     requires ascii { IsTrue (is_ascii_text reason.now) }
     requires short { length reason.now ≤ 255 }
     ensures { IfOk result (λ it. result_of it ≡ exit_by reason.now) }
@@ -37,7 +41,11 @@ pub(crate) fn exit_by(alloc: Global, reason: &str) -> Result<Given, AllocError>
 }
 
 /// An exit by a reason `{Word,Term}`.
-pub(crate) fn exit_by_pair(alloc: Global, word: &str, term: Term) -> Result<Given, AllocError>
+///
+/// # Errors
+///
+/// `AllocError` where memory is refused.
+pub fn exit_by_pair(alloc: Global, word: &str, term: Term) -> Result<Given, AllocError>
     requires ascii { IsTrue (is_ascii_text word.now) }
     requires short { length word.now ≤ 255 }
     ensures { IfOk result (λ it. result_of it ≡ exit_by_pair word.now (tree term)) }
@@ -49,7 +57,11 @@ pub(crate) fn exit_by_pair(alloc: Global, word: &str, term: Term) -> Result<Give
 }
 
 /// A term that an expression makes, where it is within the limits: else a breach of them.
-pub(crate) fn made(alloc: Global, term: Term) -> Result<Given, AllocError>
+///
+/// # Errors
+///
+/// `AllocError` where memory is refused.
+pub fn made(alloc: Global, term: Term) -> Result<Given, AllocError>
     ensures { IfOk result (λ it. result_of it ≡ made (tree term)) }
 {
     if term.is_within(DEEPEST, LARGEST) {

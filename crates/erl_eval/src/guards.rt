@@ -22,7 +22,7 @@ use std::alloc::{AllocError, Global};
 use values::Duplicate;
 
 /// How many calls a callback may make.
-const MOST_CALLS: u32 = 10_000;
+pub const MOST_CALLS: u32 = 10_000;
 
 /// What all that a process evaluates is given.
 #[derive(Drop)]
@@ -261,8 +261,8 @@ fn test_connective(
     }
 }
 
-/// What a connective decides by its left side alone.
-pub(crate) fn decisive(connective: Connective) -> bool
+/// What a connective decides by its left side alone: `andalso` by `false`, `orelse` by `true`.
+pub fn decisive(connective: Connective) -> bool
     ensures { result ≡ decisive connective }
 {
     match connective {
@@ -350,7 +350,12 @@ fn is_guarded(
     one_holds(setting, bound, alternatives, calls)
 }
 
-/// What a clause binds of terms, where its patterns match them and its guard sequence is true.
+/// What a clause binds of terms, where its patterns match them and its guard sequence is true; none where it doesn't take
+/// them. Calls in its guards count among `calls`.
+///
+/// # Errors
+///
+/// `AllocError` where memory is refused; some calls may have been counted.
 pub fn try_clause(
     setting: &Setting<'_>,
     base: &[Term],

@@ -84,10 +84,10 @@ ghost use Rattle.erl_eval.specs.Examples.{SendsBeforeItsReply, RestsWithItsArgum
 
 pub use acts::{Act, Place, Receiver, does, reply_to, sends};
 pub use built_ins::call_built_in;
-pub use given::{Booleans, Given};
-pub use guards::{Selected, Setting, select, try_clause};
-pub use matching::{match_each, match_pattern};
-pub use operators::operate;
+pub use given::{Booleans, Given, exit_by, exit_by_pair, made};
+pub use guards::{MOST_CALLS, Selected, Setting, decisive, select, try_clause};
+pub use matching::{bound, match_each, match_pattern};
+pub use operators::{cons, operate, truth_of};
 
 /// One result comes of an expression, and one state is left behind.
 pub fn expressions_have_one_result()

@@ -16,8 +16,8 @@ use std::alloc::{AllocError, Global};
 use std::cmp::Ordering;
 use values::Duplicate;
 
-/// Whether a term is `true` or `false`; none where it is neither.
-pub(crate) fn truth_of(term: &Term) -> Option<bool>
+/// Whether a term is `true` or `false`; none where it is neither. Takes no memory.
+pub fn truth_of(term: &Term) -> Option<bool>
     ensures { result ≡ truth_of (tree term.now) }
 {
     let atom = term.as_atom()?;
@@ -162,7 +162,11 @@ fn joined(alloc: Global, front: &Terms, back: &Terms) -> Result<Terms, AllocErro
 }
 
 /// `[E1,..,En|E]`: the list of the values of `E1` to `En`, and behind them the elements of the list that `E` gives.
-pub(crate) fn cons(alloc: Global, operands: Vec<Term>) -> Result<Given, AllocError>
+///
+/// # Errors
+///
+/// `AllocError` where memory is refused.
+pub fn cons(alloc: Global, operands: Vec<Term>) -> Result<Given, AllocError>
     ensures { IfOk result (λ it. result_of it ≡ consed (trees operands.items)) }
 {
     let mut items = operands;

@@ -1,0 +1,109 @@
+// Evaluating to the end.
+ghost use Rattle.std.specs.Prelude.{◌≡◌, ℕ, IfOk, None, Some, map, []};
+ghost use Rattle.erl_term.specs.Term.{trees};
+ghost use Rattle.erl_eval.specs.Acts.{act_of};
+ghost use Rattle.erl_eval.specs.Jobs.{Evaluates, FromOutside, fresh, nowhere, outermost};
+ghost use Rattle.erl_machine.specs.Leading.{Comes};
+ghost use Rattle.erl_machine.specs.Views.{control_of, end_of, instance, machine_of, outcome_of, world_of};
+
+use crate::machine::{Control, End, Machine};
+use crate::stack::{Activation, Stack};
+use crate::steps::arity_of;
+use crate::world::{Callee, Instance, World, remote_function};
+use erl_eval::Act;
+use erl_term::{Atom, Term};
+use std::alloc::{AllocError, Global};
+use values::Row;
+
+/// What was evaluated.
+#[derive(Drop)]
+pub struct Outcome {
+    /// What was done, in order.
+    pub acts: Row<Act>,
+    /// What it ended in.
+    pub end: End,
+}
+
+impl<'a> Machine<'a> {
+    /// A machine that does nothing yet, in the outermost call.
+    fn new(alloc: Global, item: &'a Instance, may_rest: bool) -> Machine<'a>
+        ensures { machine_of result ≡ record { activation = outermost (instance item.now) may_rest; frames = []; state = fresh } }
+    {
+        Machine {
+            activation: Activation {
+                instance: item,
+                nesting: 0,
+                may_rest,
+            },
+            bindings: Vec::new(alloc),
+            calls: 0,
+            acts: Vec::new(alloc),
+            frames: Stack::new(alloc),
+        }
+    }
+
+    /// Makes steps, to the end.
+    fn finish(mut self, world: &World<'a>, control: Control<'a>) -> Result<Outcome, AllocError>
+        ensures { IfOk result (λ it. (calls : ℕ) × Comes (world_of world.now) (control_of control.entry) (machine_of self.entry) (end_of it.end, record { bindings = []; calls = calls; acts = map act_of it.acts; startup = None })) }
+    {
+        let mut next = control;
+        for _ in 0..u64::MAX {
+            match next {
+                Control::End(end) => {
+                    return Ok(Outcome {
+                        acts: Row::new(self.acts),
+                        end,
+                    });
+                }
+                next_step => next = self.step(world, next_step)?,
+            }
+        }
+        Err(AllocError)
+    }
+}
+
+/// Calls a function of an instance from outside of all modules.
+fn call<'a>(
+    world: &World<'a>,
+    name: &Atom,
+    callee: &Callee<'a>,
+    arguments: Vec<Term>,
+) -> Result<Outcome, AllocError>
+    ensures { IfOk result (λ it. FromOutside (world_of world.now) name.now (Some (instance callee.now.instance.now, callee.now.function.now)) (trees arguments.items) (outcome_of it)) }
+{
+    let mut machine = Machine::new(world.setting.alloc, callee.instance, false);
+    let next = machine.enter(world, name, &callee.function.definition, arguments)?;
+    machine.finish(world, next)
+}
+
+/// What the call `module_name:name(arguments)` gives, from outside of all modules, as a start function, `init`, `code_change` or
+/// `apply`, in mode plain: the function has to be exported by the module's current code.
+///
+/// # Errors
+///
+/// `AllocError` where memory is refused, and where a step has no number.
+pub fn evaluate(
+    world: &World<'_>,
+    module_name: &Atom,
+    name: &Atom,
+    arguments: Vec<Term>,
+) -> Result<Outcome, AllocError>
+    ensures { IfOk result (λ it. Evaluates (world_of world.now) module_name.now name.now (trees arguments.items) (outcome_of it)) }
+{
+    let arity = arity_of(arguments.as_slice())?;
+    match remote_function(world, module_name, name, arity) {
+        Some(callee) => call(world, name, &callee, arguments),
+        None => undefined(world.setting.alloc),
+    }
+}
+
+/// An exit with `undef`, where nothing was done.
+fn undefined(alloc: Global) -> Result<Outcome, AllocError>
+    ensures { IfOk result (λ it. outcome_of it ≡ nowhere) }
+{
+    let reason = Term::Atom(Atom::word(alloc, "undef")?);
+    Ok(Outcome {
+        acts: Row::new(Vec::new(alloc)),
+        end: End::Exit(reason),
+    })
+}
