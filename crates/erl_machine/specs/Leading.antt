@@ -1,9 +1,12 @@
 -- What may still come of the machine: what the rules say of what is left to be done.
-use Rattle.std.specs.Prelude.{◌≡◌, List, [], ◌∷◌, take}
-use Rattle.erl_term.specs.Tree.{Trees, none, more}
-use Rattle.erl_eval.specs.State.{Result, World, Activation, State, with_bindings, value}
+use Rattle.std.specs.Prelude.{◌≡◌, ℕ, true, false, List, [], ◌∷◌, take, None}
+use Rattle.erl_term.specs.Tree.{Tree, Trees, none, more}
+use Rattle.erl_eval.specs.State.{Instance, Result, World, Activation, State, with_bindings, with_calls, value}
 use Rattle.erl_eval.specs.Guards.{Values, with_first}
-use Rattle.erl_eval.specs.Evaluation.{Eval, Body, Bound, Others, Applied, Onward, Cased, Decided}
+use Rattle.erl_forms.specs.declared.function.Function.{Function}
+use Rattle.erl_forms.specs.Expression.{Exprs}
+use Rattle.erl_eval.specs.Jobs.{Outcome, fresh, looped, outermost}
+use Rattle.erl_eval.specs.Evaluation.{Entered, Eval, Body, Bound, Others, Applied, Onward, Cased, Decided}
 use Rattle.erl_machine.specs.Machine.{Frame, operands, onward, binding, cases, deciding, scope, caller, is_tail}
 use Rattle.erl_machine.specs.Machine.{Control, evaluate, run, give, end, Machine}
 
@@ -40,3 +43,18 @@ Comes w (run es) m f = (r : Result) × (s : State) ×
     Body w m.activation (is_tail m.frames) es m.state r s × Resumes w m.activation m.frames r s f
 Comes w (give t) m f = Resumes w m.activation m.frames (value t) m.state f
 Comes w (end r) m f = f ≡ (r, with_bindings [] m.state)
+
+-- what comes of a function that is called in the outermost call
+abbrev pub ComesOf : World → Instance → List ℕ → Function → Trees → Outcome → Type 0
+ComesOf w i name f ts o = (s : State) × Entered w (outermost i false) true name f.definition ts fresh o.ended s ×
+    (s.acts ≡ o.acts) × (s.startup ≡ None)
+
+-- what comes of a body in the outermost call, where this is bound and so many calls were made
+abbrev pub BodyComes : World → Instance → List Tree → ℕ → Exprs → Outcome → Type 0
+BodyComes w i env calls body o = (s : State) ×
+    Body w (outermost i true) true body (with_calls calls (with_bindings env fresh)) o.ended s × (s.acts ≡ o.acts)
+
+-- what comes of the clause of a `receive`
+abbrev pub LoopComes : World → Instance → List Tree → ℕ → Exprs → Outcome → Type 0
+LoopComes w i env calls body o = (r : Result) × (s : State) ×
+    Body w (outermost i true) true body (with_calls calls (with_bindings env fresh)) r s × (o ≡ looped s.acts r)

@@ -1,5 +1,5 @@
 -- The code's values, as contracts see them.
-use Rattle.std.specs.Prelude.{List, [], ◌∷◌, map, Option, None, Some}
+use Rattle.std.specs.Prelude.{List, [], ◌∷◌, map, Option, None, Some, option_map}
 use Rattle.erl_term.specs.Term.{tree, trees}
 use Rattle.erl_forms.specs.ExpressionForms.{expr, exprs, clauses}
 use Rattle.erl_forms.specs.PatternForms.{pat}
@@ -14,7 +14,11 @@ use Rattle.erl_machine.specs.declared.stack.Frame.{Frame}
 use Rattle.erl_machine.specs.declared.stack.Frame.TheVariants as frames
 use Rattle.erl_machine.specs.declared.stack.Stack.{Stack}
 use Rattle.erl_eval.specs.Jobs as jobs
+use Rattle.erl_machine.specs.declared.callbacks.Answer.{Answer}
+use Rattle.erl_machine.specs.declared.callbacks.Callback.{Callback}
+use Rattle.erl_machine.specs.declared.callbacks.Callback.TheVariants as callbacks
 use Rattle.erl_machine.specs.declared.evaluation.Outcome.{Outcome}
+use Rattle.erl_machine.specs.declared.jobs.Job.{Job}
 use Rattle.erl_machine.specs.declared.machine.Control.{Control}
 use Rattle.erl_machine.specs.declared.machine.Control.TheVariants as controls
 use Rattle.erl_machine.specs.declared.machine.End.{End}
@@ -78,3 +82,21 @@ callee_of (Some c) = Some (instance c.instance.now, c.function.now)
 
 abbrev pub outcome_of : Outcome → jobs.Outcome
 outcome_of o = record { acts = map act_of o.acts; ended = end_of o.end }
+
+abbrev pub callback : Callback → jobs.Callback
+callback (callbacks.Call from t) = jobs.handle_call (tree from.now) (tree t.now)
+callback (callbacks.Cast t) = jobs.handle_cast (tree t.now)
+callback (callbacks.Info t) = jobs.handle_info (tree t.now)
+
+abbrev pub answer_view : Answer → jobs.Answer
+answer_view a = record { answered = option_map tree a.answered; ended = end_of a.end }
+
+abbrev pub job_of : Job → jobs.Job
+job_of j = record {
+  pid = j.pid;
+  turn = j.turn;
+  place = place j.place;
+  entry_serial = j.entry_serial;
+  message = tree j.message;
+  code = map instance j.code;
+}

@@ -1,9 +1,9 @@
 // Evaluating to the end.
-ghost use Rattle.std.specs.Prelude.{◌≡◌, ℕ, IfOk, None, Some, map, []};
-ghost use Rattle.erl_term.specs.Term.{trees};
+ghost use Rattle.std.specs.Prelude.{◌≡◌, ℕ, IfOk, None, map, []};
+ghost use Rattle.erl_term.specs.Term.{tree, trees};
 ghost use Rattle.erl_eval.specs.Acts.{act_of};
-ghost use Rattle.erl_eval.specs.Jobs.{Evaluates, FromOutside, fresh, nowhere, outermost};
-ghost use Rattle.erl_machine.specs.Leading.{Comes};
+ghost use Rattle.erl_eval.specs.Jobs.{Evaluates, fresh, nowhere, outermost};
+ghost use Rattle.erl_machine.specs.Leading.{BodyComes, Comes, ComesOf};
 ghost use Rattle.erl_machine.specs.Views.{control_of, end_of, instance, machine_of, outcome_of, world_of};
 
 use crate::machine::{Control, End, Machine};
@@ -11,6 +11,7 @@ use crate::stack::{Activation, Stack};
 use crate::steps::arity_of;
 use crate::world::{Callee, Instance, World, remote_function};
 use erl_eval::Act;
+use erl_forms::Expressions;
 use erl_term::{Atom, Term};
 use std::alloc::{AllocError, Global};
 use values::Row;
@@ -62,18 +63,34 @@ impl<'a> Machine<'a> {
     }
 }
 
-/// Calls a function of an instance from outside of all modules.
-fn call<'a>(
+/// Calls a function of an instance in the outermost call, and evaluates it to its end.
+pub fn call_outermost<'a>(
     world: &World<'a>,
     name: &Atom,
     callee: &Callee<'a>,
     arguments: Vec<Term>,
 ) -> Result<Outcome, AllocError>
-    ensures { IfOk result (λ it. FromOutside (world_of world.now) name.now (Some (instance callee.now.instance.now, callee.now.function.now)) (trees arguments.items) (outcome_of it)) }
+    ensures { IfOk result (λ it. ComesOf (world_of world.now) (instance callee.now.instance.now) name.now callee.now.function.now (trees arguments.items) (outcome_of it)) }
 {
     let mut machine = Machine::new(world.setting.alloc, callee.instance, false);
     let next = machine.enter(world, name, &callee.function.definition, arguments)?;
     machine.finish(world, next)
+}
+
+/// Evaluates a body in the outermost call to its end, where this is bound and so many calls were made.
+pub fn run_outermost<'a>(
+    world: &World<'a>,
+    item: &'a Instance,
+    bindings: Vec<Term>,
+    calls: u32,
+    body: &'a Expressions,
+) -> Result<Outcome, AllocError>
+    ensures { IfOk result (λ it. BodyComes (world_of world.now) (instance item.now) (map tree bindings.items) calls body.now (outcome_of it)) }
+{
+    let mut machine = Machine::new(world.setting.alloc, item, true);
+    machine.bindings = bindings;
+    machine.calls = calls;
+    machine.finish(world, Control::Run(body.as_slice()))
 }
 
 /// What the call `module_name:name(arguments)` gives, from outside of all modules, as a start function, `init`, `code_change` or
@@ -92,13 +109,13 @@ pub fn evaluate(
 {
     let arity = arity_of(arguments.as_slice())?;
     match remote_function(world, module_name, name, arity) {
-        Some(callee) => call(world, name, &callee, arguments),
+        Some(callee) => call_outermost(world, name, &callee, arguments),
         None => undefined(world.setting.alloc),
     }
 }
 
 /// An exit with `undef`, where nothing was done.
-fn undefined(alloc: Global) -> Result<Outcome, AllocError>
+pub fn undefined(alloc: Global) -> Result<Outcome, AllocError>
     ensures { IfOk result (λ it. outcome_of it ≡ nowhere) }
 {
     let reason = Term::Atom(Atom::word(alloc, "undef")?);

@@ -1,12 +1,13 @@
 // What is given to all that is evaluated: the code, and the process.
 ghost use Rattle.std.specs.Prelude.{◌≡◌, MatchOption, None, Some, map};
 ghost use Rattle.erl_eval.specs.Starting.{exported_by, remote_function};
-ghost use Rattle.erl_eval.specs.State.{current};
+ghost use Rattle.erl_eval.specs.State.{current, plain};
 ghost use Rattle.erl_machine.specs.Views.{callee_of, instance, world_of};
 
-use erl_eval::Setting;
+use erl_eval::{Booleans, Setting};
 use erl_forms::{Function, Module};
 use erl_term::Atom;
+use std::alloc::Global;
 use values::Same;
 
 /// An instance of a module.
@@ -27,6 +28,20 @@ pub struct World<'a> {
     pub setting: Setting<'a>,
     /// The current code of each module that a remote call can reach.
     pub code: &'a [Instance],
+}
+
+impl<'a> World<'a> {
+    /// What is given to all that a process evaluates, where this is the current code.
+    pub fn new(alloc: Global, booleans: &'a Booleans, own: u64, code: &'a [Instance]) -> World<'a>
+        ensures { world_of result ≡ record { code = map instance code.now; pid = own; mode = plain } }
+    {
+        let setting = Setting {
+            alloc,
+            booleans,
+            own,
+        };
+        World { setting, code }
+    }
 }
 
 /// A function that is called, of an instance.

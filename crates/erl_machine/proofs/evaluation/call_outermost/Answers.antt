@@ -1,19 +1,18 @@
 -- The function is entered, and what comes of it is the outcome.
-use Rattle.std.proofs.Common.{refl, ◌∙◌, ap, Some, ℕ}
+use Rattle.std.proofs.Common.{refl, ◌∙◌, ap, ℕ}
 use Rattle.erl_term.specs.Term.{trees}
-use Rattle.erl_eval.specs.Jobs.{FromOutside}
-use Rattle.erl_machine.specs.Leading.{Comes}
+use Rattle.erl_machine.specs.Leading.{Comes, ComesOf}
 use Rattle.erl_machine.specs.Machine.{entered}
 use Rattle.erl_machine.specs.Views.{control_of, instance, machine_of, outcome_of, world_of}
-use Rattle.erl_machine.proofs.Finishing.{called_outside, if_ok, final}
-use Rattle.erl_machine.proofs.evaluation.call.Goals as goal
+use Rattle.erl_machine.proofs.Finishing.{comes_of, if_ok, final}
+use Rattle.erl_machine.proofs.evaluation.call_outermost.Goals as goal
 
 pub returns : goal.returns
 returns c = if_ok
     (λ it. (calls : ℕ) × Comes (world_of c.args.world.now) (control_of c.in_ok-next.next) (machine_of c.enter.new.self) (final calls it.acts it.end))
-    (λ it. FromOutside (world_of c.args.world.now) c.args.name.now (Some (instance c.args.callee.now.instance.now, c.args.callee.now.function.now))
+    (λ it. ComesOf (world_of c.args.world.now) (instance c.args.callee.now.instance.now) c.args.name.now c.args.callee.now.function.now
     (trees c.args.arguments.items) (outcome_of it)) c.finish.result
-    (λ it d. called_outside (world_of c.args.world.now) refl c.args.name.now (instance c.args.callee.now.instance.now)
+    (λ it d. comes_of (world_of c.args.world.now) refl c.args.name.now (instance c.args.callee.now.instance.now)
     c.args.callee.now.function.now (trees c.args.arguments.items) (control_of c.in_ok-next.next) (machine_of c.enter.new.self)
     it.acts it.end (c.in_ok-next.ensures ∙ ap (λ m. entered (world_of c.args.world.now) c.args.name.now
     c.args.callee.now.function.now.definition (trees c.args.arguments.items) m) c.new-machine.ensures) d)
