@@ -5,7 +5,7 @@ use Rattle.erl_term.specs.Tree.{Tree, Trees, count}
 use Rattle.erl_forms.specs.declared.function.Function.{Function}
 use Rattle.erl_forms.specs.Expression.{Exprs}
 use Rattle.erl_forms.specs.Module.{exported_of}
-use Rattle.erl_eval.specs.State.{Instance, World, Place, server, loop}
+use Rattle.erl_eval.specs.State.{Act, Startup, Result, Instance, World, Place, server, loop}
 use Rattle.erl_eval.specs.Evaluation.{Entered}
 use Rattle.erl_eval.specs.Guards.{Selection}
 use Rattle.erl_eval.specs.Jobs.{Outcome, Job, world_of, Callback, name_of, arguments_of, unexported, served, Handles, not_exported}
@@ -51,17 +51,17 @@ module _ (j : Job) (i : Instance) where
         subst (λ c. Handles j m s c (exported_of (name_of c) (count (arguments_of c s)) i.forms) i o) same
         (subst (λ f. Handles j m s seen f i o) (sym (found_is ∙ none)) (not_exported is))
 
-    pub handled_by : (w : World) (fn : Function) (given o : Outcome) → w ≡ world_of j → found ≡ Some fn →
-        ComesOf w i name fn args given → o ≡ served m seen given.acts given.ended →
+    pub handled_by : (w : World) (fn : Function) (acts : List Act) (startup : Option Startup) (r : Result) (o : Outcome) →
+        w ≡ world_of j → found ≡ Some fn → ComesOf w i name fn args acts startup r → o ≡ served m seen acts r →
         Handles j m s cb (exported_of (name_of cb) (count (arguments_of cb s)) i.forms) i o
-    handled_by w fn given o in_world there (u, d, done, none) is =
+    handled_by w fn acts startup r o in_world there (u, d, done, is_started) is =
         subst (λ c. Handles j m s c (exported_of (name_of c) (count (arguments_of c s)) i.forms) i o) same
         (subst (λ f. Handles j m s seen f i o) (sym (found_is ∙ there))
-        (handled (subst (λ v. Entered v (outermost i false) true (name_of seen) fn.definition (arguments_of seen s) fresh given.ended u)
+        (handled (subst (λ v. Entered v (outermost i false) true (name_of seen) fn.definition (arguments_of seen s) fresh r u)
         in_world
-        (subst (λ n. Entered w (outermost i false) true n fn.definition (arguments_of seen s) fresh given.ended u) is_name
-        (subst (λ ts. Entered w (outermost i false) true name fn.definition ts fresh given.ended u) are_args d)))
-        (is ∙ ap (λ a. served m seen a given.ended) (sym done))))
+        (subst (λ n. Entered w (outermost i false) true n fn.definition (arguments_of seen s) fresh r u) is_name
+        (subst (λ ts. Entered w (outermost i false) true name fn.definition ts fresh r u) are_args d)))
+        (is ∙ ap (λ a. served m seen a r) (sym done))))
 
 -- the instance that is entered, and the code that is reached
 

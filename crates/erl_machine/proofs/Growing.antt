@@ -1,6 +1,6 @@
 -- Evaluation keeps what is bound: more is bound behind it.
 use Rattle.std.specs.Prelude.{◌≡◌, ◌==◌, ℕ, Bool, true, false, if◌then◌else◌, List, [], ◌∷◌, ◌++◌, length, slice_get, refl}
-use Rattle.std.specs.Prelude.{Option, None, Some, option_and_then}
+use Rattle.std.specs.Prelude.{Option, None, Some, option_and_then, is_some, nat_le, ◌&&◌}
 use Rattle.std.proofs.Common.{ap, sym, ◌∙◌}
 use Rattle.std.proofs.lemmas.List.{append-nil, append_assoc}
 use Rattle.erl_term.specs.Tree as term
@@ -15,13 +15,13 @@ use Rattle.erl_forms.specs.Expression.{Expr, Exprs, Guards, Clauses}
 use Rattle.erl_forms.specs.Pattern as pattern
 use Rattle.erl_forms.specs.Pattern.{Pat, Pats}
 use Rattle.erl_eval.specs.State as state
-use Rattle.erl_eval.specs.State.{Instance, Result, World, Activation, Mode, plain, start_mode, State, with_bindings, Act, after}
+use Rattle.erl_eval.specs.State.{Instance, Result, Startup, World, Activation, Mode, plain, start_mode, State, with_bindings, Act, after}
 use Rattle.erl_eval.specs.Operators.{is_equal, sends}
 use Rattle.erl_eval.specs.BuiltIns.{does}
 use Rattle.erl_eval.specs.Matching.{matched_variable, matched, matched_each, matched_front, matched_all}
 use Rattle.erl_eval.specs.Guards.{Values, guarded, Selection, picked, picked_where, selected}
 use Rattle.erl_eval.specs.Starting.{Starter, spawn, start_link, Way, Request, Initialized, begun, ignored, failed, initialized}
-use Rattle.erl_eval.specs.Starting.{linked_by, started, register_in_mode}
+use Rattle.erl_eval.specs.Starting.{linked_by, started, register_in, register_asked, register_in_mode}
 use Rattle.erl_eval.specs.Evaluation as rule
 use Rattle.erl_eval.specs.Evaluation.{Bound, bound, Eval, Operands, Others, Body, Onward, Decided, Cased, Taken, Applied, Called}
 use Rattle.erl_eval.specs.Evaluation.{BuiltInCalled, Worked, Started}
@@ -164,7 +164,48 @@ start_keeps w start_link env m (state.value t) s = linked_keeps w env m s (initi
 start_keeps w start_link env m (state.rest p) s = refl
 start_keeps w start_link env m (state.exit t) s = refl
 
-module _ (w : World) (mode : w.mode ≡ plain) where
+either_keeps : (b : Bool) (p q : Result × State) (env : List Tree) → p.1.bindings ≡ env → q.1.bindings ≡ env →
+    (if◌then◌else◌ {A = Result × State} b p q).1.bindings ≡ env
+either_keeps true p q env first second = first
+either_keeps false p q env first second = second
+
+registered_keeps : (b : Bool) (name : List ℕ) (o : Option Startup) (s : State) → (register_in name b o s).1.bindings ≡ s.bindings
+registered_keeps b name None s = refl
+registered_keeps false name (Some u) s = refl
+registered_keeps true name (Some u) s = either_keeps (is_some u.registered) _ _ s.bindings refl refl
+
+asked_keeps : (w : World) (ts : Trees) (s : State) → (register_asked w ts s).1.bindings ≡ s.bindings
+asked_keeps w term.none s = refl
+asked_keeps w (term.more (term.int t) term.none) s = refl
+asked_keeps w (term.more (term.atom t) term.none) s = refl
+asked_keeps w (term.more (term.pid t) term.none) s = refl
+asked_keeps w (term.more (term.tuple t) term.none) s = refl
+asked_keeps w (term.more (term.list t) term.none) s = refl
+asked_keeps w (term.more (term.atom name) (term.more (term.pid n) term.none)) s =
+    registered_keeps (nat_le n w.pid && nat_le w.pid n) name s.startup s
+asked_keeps w (term.more (term.atom name) (term.more (term.int n) term.none)) s = refl
+asked_keeps w (term.more (term.atom name) (term.more (term.atom n) term.none)) s = refl
+asked_keeps w (term.more (term.atom name) (term.more (term.tuple n) term.none)) s = refl
+asked_keeps w (term.more (term.atom name) (term.more (term.list n) term.none)) s = refl
+asked_keeps w (term.more (term.int name) (term.more u term.none)) s = refl
+asked_keeps w (term.more (term.pid name) (term.more u term.none)) s = refl
+asked_keeps w (term.more (term.tuple name) (term.more u term.none)) s = refl
+asked_keeps w (term.more (term.list name) (term.more u term.none)) s = refl
+asked_keeps w (term.more (term.int t) (term.more u (term.more v ts))) s = refl
+asked_keeps w (term.more (term.pid t) (term.more u (term.more v ts))) s = refl
+asked_keeps w (term.more (term.tuple t) (term.more u (term.more v ts))) s = refl
+asked_keeps w (term.more (term.list t) (term.more u (term.more v ts))) s = refl
+asked_keeps w (term.more (term.atom t) (term.more (term.int u) (term.more v ts))) s = refl
+asked_keeps w (term.more (term.atom t) (term.more (term.atom u) (term.more v ts))) s = refl
+asked_keeps w (term.more (term.atom t) (term.more (term.pid u) (term.more v ts))) s = refl
+asked_keeps w (term.more (term.atom t) (term.more (term.tuple u) (term.more v ts))) s = refl
+asked_keeps w (term.more (term.atom t) (term.more (term.list u) (term.more v ts))) s = refl
+
+register_keeps : (w : World) (k : Mode) (ts : Trees) (s : State) → (register_in_mode w k ts s).1.bindings ≡ s.bindings
+register_keeps w plain ts s = refl
+register_keeps w start_mode ts s = asked_keeps w ts s
+
+module _ (w : World) where
   started_keeps : {a : Activation} {starter : Starter} {request : Request} {s s' : State} {r : Result} →
       Started w a starter request s r s' → Extends s.bindings s'.bindings
   started_keeps (rule.refused_start (g, h)) = same_grows h
@@ -176,8 +217,10 @@ module _ (w : World) (mode : w.mode ≡ plain) where
   worked_keeps : {a : Activation} {way : Way} {f : BuiltIn} {ts : Trees} {s s' : State} {r : Result} →
       Worked w a way f ts s r s' → Extends s.bindings s'.bindings
   worked_keeps (rule.worked_at_once {f = f} {ts = ts} {s = s} (g, h)) = moved h (act_keeps (does f ts) s)
-  worked_keeps (rule.named {ts = ts} {s = s} (g, h)) =
-      same_grows (h ∙ ap (λ k. (register_in_mode w k ts s).1) mode)
+  worked_keeps (rule.named {ts = ts} {s = s} (g, h)) = record {
+    rest = [];
+    is = ap (λ u. u.bindings) h ∙ register_keeps w w.mode ts s ∙ sym (append-nil s.bindings);
+  }
   worked_keeps (rule.starts d) = started_keeps d
 
   built_in_keeps : {a : Activation} {within : Bool} {f : BuiltIn} {ts : Trees} {s s' : State} {r : Result} →

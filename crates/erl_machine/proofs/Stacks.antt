@@ -22,6 +22,7 @@ tail_of_top (machine.cases cs) fs = refl
 tail_of_top (machine.deciding c right) fs = refl
 tail_of_top (machine.scope n) fs = refl
 tail_of_top (machine.caller env a) fs = refl
+tail_of_top (machine.starter st env a m) fs = refl
 
 none_there : {A : Type 0} (xs : List A) → length xs ≡ 0 → xs ≡ []
 none_there [] none = refl

@@ -17,17 +17,18 @@ use Rattle.erl_forms.specs.Expression as form
 use Rattle.erl_forms.specs.Expression.{Expr, Exprs, Guards, Clauses}
 use Rattle.erl_forms.specs.Pattern.{Pat, Pats}
 use Rattle.erl_eval.specs.State as state
-use Rattle.erl_eval.specs.State.{Instance, Result, exit_by, exit_by_pair, made, bound_to, World, Activation, callee, State}
+use Rattle.erl_eval.specs.State.{Instance, Place, Result, exit_by, exit_by_pair, made, bound_to, World, Activation, callee, State}
 use Rattle.erl_eval.specs.State.{with_bindings, after}
 use Rattle.erl_eval.specs.Operators.{operated, sends, truth_of, consed}
 use Rattle.erl_eval.specs.BuiltIns.{given, does, not_in_profile}
 use Rattle.erl_eval.specs.Matching.{matched}
-use Rattle.erl_eval.specs.Starting.{remote_function, Way, at_once, naming, starting, way_of}
+use Rattle.erl_eval.specs.Starting.{remote_function, Way, at_once, naming, starting, way_of, Starter}
+use Rattle.erl_eval.specs.Starting.{Request, refused, begin, asked, begun_by, first_activation, started, register_in_mode}
 use Rattle.erl_eval.specs.Evaluation.{may_call, counted, may_nest, local_function, rested, head_of, chosen, tried}
 
 -- What is to be done with a value: it is an operand, behind the values of others and before other operands; or the rest of a
 -- body is evaluated; a pattern is matched with it; a clause is selected by it; it decides a connective, or its right side
--- does; a clause ends, and only so many variables stay bound; or a call ends.
+-- does; a clause ends, and only so many variables stay bound; a call ends; or what starts a process does.
 pub data Frame : Type 0 where
   operands : Operation → Trees → Exprs → Frame
   onward : Exprs → Frame
@@ -36,6 +37,7 @@ pub data Frame : Type 0 where
   deciding : Connective → Exprs → Frame
   scope : ℕ → Frame
   caller : List Tree → Activation → Frame
+  starter : Starter → List Tree → Activation → List ℕ → Frame
 
 -- nothing is left to be done for the call
 abbrev pub is_tail : List Frame → Bool
@@ -47,12 +49,15 @@ is_tail (cases cs ∷ fs) = false
 is_tail (deciding c right ∷ fs) = false
 is_tail (scope n ∷ fs) = false
 is_tail (caller env a ∷ fs) = true
+is_tail (starter st env a m ∷ fs) = true
 
--- what comes next: an expression is evaluated, or a body; a value is given to what waits for it; or evaluating has ended
+-- what comes next: an expression is evaluated, or a body; a value is given to what waits for it; the process rests, and who
+-- started it is told; or evaluating has ended
 pub data Control : Type 0 where
   evaluate : Expr → Control
   run : Exprs → Control
   give : Tree → Control
+  settle : Place → Control
   end : Result → Control
 
 -- the call that is evaluated, what is left to be done, and what changes
@@ -66,7 +71,7 @@ Next = Control × Machine
 
 abbrev pub of_result : Result → Control
 of_result (state.value t) = give t
-of_result (state.rest p) = end (state.rest p)
+of_result (state.rest p) = settle p
 of_result (state.exit t) = end (state.exit t)
 
 abbrev pub pushed : Frame → Machine → Machine
@@ -74,6 +79,10 @@ pushed f m = record m { frames = f ∷ m.frames }
 
 abbrev pub in_state : State → Machine → Machine
 in_state s m = record m { state = s }
+
+-- a result and a state that are given at once
+abbrev pub given_by : Result × State → Machine → Next
+given_by given m = (of_result given.0, in_state given.1 m)
 
 -- What a clause or a right side binds is bound in it alone; where nothing is left to be done for the call, nobody asks.
 
@@ -98,7 +107,7 @@ abbrev pub resting : Bool → Bool → World → List ℕ → Pats → Guards �
 resting false nests w name ps gs ts m = (end not_in_profile, m)
 resting true false w name ps gs ts m = (end (exit_by (codes "system_limit")), m)
 resting true true w name ps gs ts m = (
-  end (rested m.activation name ts (chosen w (head_of ps gs) ts m.state).0),
+  of_result (rested m.activation name ts (chosen w (head_of ps gs) ts m.state).0),
   in_state (tried w (head_of ps gs) ts m.state) m,
 )
 
@@ -129,12 +138,31 @@ calling false w name f ts m = (end (exit_by (codes "system_limit")), m)
 calling true w name None ts m = (end (exit_by (codes "undef")), in_state (counted m.state) m)
 calling true w name (Some (i, f)) ts m = entered w name f.definition ts (into i (in_state (counted m.state) m))
 
+-- a process is started: its function is entered, and what comes of it is what the start gives
+
+abbrev pub beginner : Starter → Option (List ℕ) → Instance → Machine → Machine
+beginner st registered i m = record {
+  activation = first_activation m.activation st i;
+  frames = starter st m.state.bindings m.activation i.name ∷ m.frames;
+  state = begun_by registered m.state;
+}
+
+abbrev pub starting_by : World → Starter → Request → Machine → Next
+starting_by w st (refused q) m = (of_result q, m)
+starting_by w st (begin registered i name f ts) m = entered w name f.definition ts (beginner st registered i m)
+
+abbrev pub settled_by : World → Starter → List Tree → Activation → List ℕ → Result → Machine → Next
+settled_by w st env a name r m = (
+  of_result (started w st env name r m.state).0,
+  record { activation = a; frames = m.frames; state = (started w st env name r m.state).1 },
+)
+
 -- a function that is built in is called
 
 abbrev pub working : World → Way → BuiltIn → Trees → Machine → Next
 working w at_once f ts m = (of_result (given w.pid f ts), in_state (after (does f ts) m.state) m)
-working w naming f ts m = (end not_in_profile, m)
-working w (starting starter) f ts m = (end not_in_profile, m)
+working w naming f ts m = given_by (register_in_mode w w.mode ts m.state) m
+working w (starting st) f ts m = starting_by w st (asked w st m.state.startup ts) m
 
 abbrev pub calling_built_in : Bool → World → BuiltIn → Trees → Machine → Next
 calling_built_in false w f ts m = (end (exit_by (codes "system_limit")), m)
@@ -195,6 +223,24 @@ resuming w (deciding c right) t m = decided_by (truth_of t) c right t m
 resuming w (scope n) t m = (give t, in_state (with_bindings (take n m.state.bindings) m.state) m)
 resuming w (caller env a) t m =
     (give t, record { activation = a; frames = m.frames; state = with_bindings env m.state })
+resuming w (starter st env a name) t m = settled_by w st env a name (state.value t) m
+
+-- the process rests: nothing waits for that but who started it
+
+abbrev pub settling_at : World → Frame → Place → Machine → Next
+settling_at w (operands op ts es) p m = (settle p, m)
+settling_at w (onward es) p m = (settle p, m)
+settling_at w (binding q) p m = (settle p, m)
+settling_at w (cases cs) p m = (settle p, m)
+settling_at w (deciding c right) p m = (settle p, m)
+settling_at w (scope n) p m = (settle p, in_state (with_bindings (take n m.state.bindings) m.state) m)
+settling_at w (caller env a) p m =
+    (settle p, record { activation = a; frames = m.frames; state = with_bindings env m.state })
+settling_at w (starter st env a name) p m = settled_by w st env a name (state.rest p) m
+
+abbrev pub settling : World → Place → List Frame → Machine → Next
+settling w p [] m = (end (state.rest p), m)
+settling w p (f ∷ fs) m = settling_at w f p (record m { frames = fs })
 
 abbrev pub giving : World → Tree → List Frame → Machine → Next
 giving w t [] m = (end (state.value t), m)
@@ -204,4 +250,5 @@ abbrev pub stepping : World → Control → Machine → Next
 stepping w (evaluate e) m = beginning w e m
 stepping w (run es) m = running es m
 stepping w (give t) m = giving w t m.frames m
+stepping w (settle p) m = settling w p m.frames m
 stepping w (end r) m = (end r, m)

@@ -8,7 +8,18 @@ use Rattle.erl_eval.specs.State as state
 use Rattle.erl_forms.specs.declared.function.Function.{Function}
 use Rattle.erl_machine.specs.declared.world.Callee.{Callee}
 use Rattle.erl_machine.specs.declared.world.Instance.{Instance}
+use Rattle.erl_machine.specs.declared.world.Mode.{Mode}
+use Rattle.erl_machine.specs.declared.world.Mode.TheVariants as modes
 use Rattle.erl_machine.specs.declared.world.World.{World}
+use Rattle.erl_machine.specs.declared.stack.Starter.{Starter}
+use Rattle.erl_machine.specs.declared.stack.Starter.TheVariants as starters
+use Rattle.erl_machine.specs.declared.machine.Startup.{Startup}
+use Rattle.erl_eval.specs.Given.{result_of}
+use Rattle.erl_eval.specs.Starting as starting
+use Rattle.erl_machine.specs.declared.starts.Initialized.{Initialized}
+use Rattle.erl_machine.specs.declared.starts.Initialized.TheVariants as initials
+use Rattle.erl_machine.specs.declared.starts.Request.{Request}
+use Rattle.erl_machine.specs.declared.starts.Request.TheVariants as requests
 use Rattle.erl_machine.specs.declared.stack.Activation.{Activation}
 use Rattle.erl_machine.specs.declared.stack.Frame.{Frame}
 use Rattle.erl_machine.specs.declared.stack.Frame.TheVariants as frames
@@ -29,11 +40,19 @@ use Rattle.erl_machine.specs.Machine as machine
 abbrev pub instance : Instance → state.Instance
 instance i = record { name = i.name; serial = i.serial; forms = i.module }
 
+abbrev pub mode_of : Mode → state.Mode
+mode_of modes.Plain = state.plain
+mode_of modes.Start = state.start_mode
+
 abbrev pub world_of : World → state.World
-world_of w = record { code = map instance w.code.now; pid = w.setting.own; mode = state.plain }
+world_of w = record { code = map instance w.code.now; pid = w.setting.own; mode = mode_of w.mode }
 
 abbrev pub activation_of : Activation → state.Activation
 activation_of a = record { instance = instance a.instance.now; nesting = a.nesting; may_rest = a.may_rest }
+
+abbrev pub starter_of : Starter → starting.Starter
+starter_of starters.Spawn = starting.spawn
+starter_of starters.StartLink = starting.start_link
 
 abbrev pub frame_of : Frame → machine.Frame
 frame_of (frames.Operands op values rest) = machine.operands op.now (trees values.items) (exprs rest.now)
@@ -43,6 +62,8 @@ frame_of (frames.Cases cs) = machine.cases (clauses cs.now)
 frame_of (frames.Deciding c right) = machine.deciding c (exprs right.now)
 frame_of (frames.Scope n) = machine.scope n
 frame_of (frames.Caller bindings a) = machine.caller (map tree bindings.items) (activation_of a)
+frame_of (frames.Starter st bindings a m) =
+    machine.starter (starter_of st) (map tree bindings.items) (activation_of a) m
 
 -- what is to be done, the next first
 
@@ -62,6 +83,7 @@ abbrev pub control_of : Control → machine.Control
 control_of (controls.Evaluate e) = machine.evaluate (expr e.now)
 control_of (controls.Run es) = machine.run (exprs es.now)
 control_of (controls.Give t) = machine.give (tree t)
+control_of (controls.Settle p) = machine.settle (place p)
 control_of (controls.End end) = machine.end (end_of end)
 
 -- what comes next, or a failure where there is nothing
@@ -69,11 +91,14 @@ abbrev pub control_or : state.Result → Option Control → machine.Control
 control_or failure None = machine.end failure
 control_or failure (Some c) = control_of c
 
+abbrev pub startup_of : Startup → state.Startup
+startup_of u = record { before = u.before; registered = u.registered; place = option_map place u.place }
+
 abbrev pub machine_of : Machine → machine.Machine
 machine_of m = record {
   activation = activation_of m.activation;
   frames = stack m.frames;
-  state = record { bindings = map tree m.bindings.items; calls = m.calls; acts = map act_of m.acts.items; startup = None };
+  state = record { bindings = map tree m.bindings.items; calls = m.calls; acts = map act_of m.acts.items; startup = option_map startup_of m.startup };
 }
 
 abbrev pub callee_of : Option Callee → Option (state.Instance × Function)
@@ -100,3 +125,13 @@ job_of j = record {
   message = tree j.message;
   code = map instance j.code;
 }
+
+abbrev pub request_of : Request → starting.Request
+request_of (requests.Refused given) = starting.refused (result_of given)
+request_of (requests.Begin registered c name args) =
+    starting.begin registered (instance c.instance.now) name c.function.now (trees args.items)
+
+abbrev pub initialized_of : Initialized → starting.Initialized
+initialized_of (initials.Begun t) = starting.begun (tree t)
+initialized_of initials.Ignored = starting.ignored
+initialized_of (initials.Failed t) = starting.failed (tree t)

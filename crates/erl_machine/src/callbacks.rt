@@ -40,7 +40,7 @@ struct Answer {
 }
 
 /// The first element of a tuple, where it is an atom, and the others.
-fn tag(term: &Term) -> Option<(&Atom, &[Term])>
+pub fn tag(term: &Term) -> Option<(&Atom, &[Term])>
     ensures { MatchOption result (tag_of (tree term.now) ≡ None) (λ r. tag_of (tree term.now) ≡ Some (r.0.now, trees r.1.now)) }
 {
     let (tag, rest) = first(term.as_tuple()?.as_slice())?;

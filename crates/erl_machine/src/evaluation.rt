@@ -1,16 +1,18 @@
 // Evaluating to the end.
-ghost use Rattle.std.specs.Prelude.{◌≡◌, ℕ, IfOk, None, map, []};
+ghost use Rattle.std.specs.Prelude.{◌≡◌, ◌++◌, ℕ, IfOk, OnOk, None, Some, map, option_map, []};
 ghost use Rattle.erl_term.specs.Term.{tree, trees};
+ghost use Rattle.erl_eval.specs.Acts as told_as;
 ghost use Rattle.erl_eval.specs.Acts.{act_of};
+ghost use Rattle.erl_eval.specs.State.{all_acts, named_by};
 ghost use Rattle.erl_eval.specs.Jobs.{Evaluates, fresh, nowhere, outermost};
-ghost use Rattle.erl_machine.specs.Leading.{BodyComes, Comes, ComesOf};
-ghost use Rattle.erl_machine.specs.Views.{control_of, end_of, instance, machine_of, outcome_of, world_of};
+ghost use Rattle.erl_machine.specs.Leading.{BodyComes, CallComes, Comes, ComesOf};
+ghost use Rattle.erl_machine.specs.Views.{control_of, end_of, instance, machine_of, outcome_of, startup_of, world_of};
 
-use crate::machine::{Control, End, Machine};
+use crate::machine::{Control, End, Machine, Startup};
 use crate::stack::{Activation, Stack};
 use crate::steps::arity_of;
 use crate::world::{Callee, Instance, World, remote_function};
-use erl_eval::Act;
+use erl_eval::{Act, Place};
 use erl_forms::Expressions;
 use erl_term::{Atom, Term};
 use std::alloc::{AllocError, Global};
@@ -21,6 +23,17 @@ use values::Row;
 pub struct Outcome {
     /// What was done, in order.
     pub acts: Row<Act>,
+    /// What it ended in.
+    pub end: End,
+}
+
+/// What evaluating left behind.
+#[derive(Drop)]
+pub struct Ended {
+    /// What was done, in order.
+    pub acts: Vec<Act>,
+    /// The process that was started, if one was.
+    pub startup: Option<Startup>,
     /// What it ended in.
     pub end: End,
 }
@@ -39,20 +52,22 @@ impl<'a> Machine<'a> {
             bindings: Vec::new(alloc),
             calls: 0,
             acts: Vec::new(alloc),
+            startup: None,
             frames: Stack::new(alloc),
         }
     }
 
     /// Makes steps, to the end.
-    fn finish(mut self, world: &World<'a>, control: Control<'a>) -> Result<Outcome, AllocError>
-        ensures { IfOk result (λ it. (calls : ℕ) × Comes (world_of world.now) (control_of control.entry) (machine_of self.entry) (end_of it.end, record { bindings = []; calls = calls; acts = map act_of it.acts; startup = None })) }
+    fn finish(mut self, world: &World<'a>, control: Control<'a>) -> Result<Ended, AllocError>
+        ensures { IfOk result (λ it. (calls : ℕ) × Comes (world_of world.now) (control_of control.entry) (machine_of self.entry) (end_of it.end, record { bindings = []; calls = calls; acts = map act_of it.acts.items; startup = option_map startup_of it.startup })) }
     {
         let mut next = control;
         for _ in 0..u64::MAX {
             match next {
                 Control::End(end) => {
-                    return Ok(Outcome {
-                        acts: Row::new(self.acts),
+                    return Ok(Ended {
+                        acts: self.acts,
+                        startup: self.startup,
                         end,
                     });
                 }
@@ -69,8 +84,8 @@ pub fn call_outermost<'a>(
     name: &Atom,
     callee: &Callee<'a>,
     arguments: Vec<Term>,
-) -> Result<Outcome, AllocError>
-    ensures { IfOk result (λ it. ComesOf (world_of world.now) (instance callee.now.instance.now) name.now callee.now.function.now (trees arguments.items) (outcome_of it)) }
+) -> Result<Ended, AllocError>
+    ensures { IfOk result (λ it. ComesOf (world_of world.now) (instance callee.now.instance.now) name.now callee.now.function.now (trees arguments.items) (map act_of it.acts.items) (option_map startup_of it.startup) (end_of it.end)) }
 {
     let mut machine = Machine::new(world.setting.alloc, callee.instance, false);
     let next = machine.enter(world, name, &callee.function.definition, arguments)?;
@@ -84,8 +99,8 @@ pub fn run_outermost<'a>(
     bindings: Vec<Term>,
     calls: u32,
     body: &'a Expressions,
-) -> Result<Outcome, AllocError>
-    ensures { IfOk result (λ it. BodyComes (world_of world.now) (instance item.now) (map tree bindings.items) calls body.now (outcome_of it)) }
+) -> Result<Ended, AllocError>
+    ensures { IfOk result (λ it. BodyComes (world_of world.now) (instance item.now) (map tree bindings.items) calls body.now (map act_of it.acts.items) (end_of it.end)) }
 {
     let mut machine = Machine::new(world.setting.alloc, item, true);
     machine.bindings = bindings;
@@ -93,8 +108,83 @@ pub fn run_outermost<'a>(
     machine.finish(world, Control::Run(body.as_slice()))
 }
 
+/// Acts with the start of a process and its name, before the acts of what was started.
+fn with_start(
+    acts: Vec<Act>,
+    before: usize,
+    place: Place,
+    registered: Option<(Atom, bool)>,
+) -> Result<Vec<Act>, AllocError>
+    ensures { IfOk result (λ it. map act_of it.items ≡ all_acts (Some (record { before = before; registered = registered; place = Some (told_as.place place) })) (map act_of acts.items)) }
+{
+    let mut all = acts;
+    let count = all.len().min(before);
+    let mut rest = all.split_off(count)?;
+    all.push(Act::Start { place })?;
+    push_name(&mut all, registered)?;
+    all.append(&mut rest)?;
+    Ok(all)
+}
+
+/// The act of a name, if there is one, behind acts.
+fn push_name(acts: &mut Vec<Act>, registered: Option<(Atom, bool)>) -> Result<(), AllocError>
+    ensures { OnOk result (map act_of acts.new.items ≡ map act_of acts.old.items ++ named_by registered) }
+{
+    match registered {
+        Some((name, by_register)) => {
+            acts.push(Act::Name { name, by_register })?;
+            Ok(())
+        }
+        None => Ok(()),
+    }
+}
+
+/// All acts in order, those of a start too.
+#[tactic(auto, using(crate::proofs::Finishing::told_none))]
+fn all_acts(acts: Vec<Act>, startup: Option<Startup>) -> Result<Vec<Act>, AllocError>
+    ensures { IfOk result (λ it. map act_of it.items ≡ all_acts (option_map startup_of startup) (map act_of acts.items)) }
+{
+    let Some(startup) = startup else {
+        return Ok(acts);
+    };
+    let Startup {
+        before,
+        registered,
+        place,
+    } = startup;
+    match place {
+        Some(place) => with_start(acts, before, place, registered),
+        None => Ok(acts),
+    }
+}
+
+/// What is told of what was left behind.
+fn told(ended: Ended) -> Result<Outcome, AllocError>
+    ensures { IfOk result (λ it. outcome_of it ≡ record { acts = all_acts (option_map startup_of ended.startup) (map act_of ended.acts.items); ended = end_of ended.end }) }
+{
+    let Ended { acts, startup, end } = ended;
+    let acts = all_acts(acts, startup)?;
+    Ok(Outcome {
+        acts: Row::new(acts),
+        end,
+    })
+}
+
+/// What a function that was called gives.
+fn call<'a>(
+    world: &World<'a>,
+    name: &Atom,
+    callee: &Callee<'a>,
+    arguments: Vec<Term>,
+) -> Result<Outcome, AllocError>
+    ensures { IfOk result (λ it. CallComes (world_of world.now) (instance callee.now.instance.now) name.now callee.now.function.now (trees arguments.items) (outcome_of it)) }
+{
+    let ended = call_outermost(world, name, callee, arguments)?;
+    told(ended)
+}
+
 /// What the call `module_name:name(arguments)` gives, from outside of all modules, as a start function, `init`, `code_change` or
-/// `apply`, in mode plain: the function has to be exported by the module's current code.
+/// `apply`, in either mode: the function has to be exported by the module's current code.
 ///
 /// # Errors
 ///
@@ -109,7 +199,7 @@ pub fn evaluate(
 {
     let arity = arity_of(arguments.as_slice())?;
     match remote_function(world, module_name, name, arity) {
-        Some(callee) => call_outermost(world, name, &callee, arguments),
+        Some(callee) => call(world, name, &callee, arguments),
         None => undefined(world.setting.alloc),
     }
 }

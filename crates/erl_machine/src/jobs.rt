@@ -16,7 +16,7 @@ use crate::callbacks::callback_of;
 use crate::evaluation::{Outcome, call_outermost, run_outermost, undefined};
 use crate::machine::End;
 use crate::steps::arity_of;
-use crate::world::{Callee, Instance, World};
+use crate::world::{Callee, Instance, Mode, World};
 use erl_eval::{Booleans, Place, Setting, match_each, select};
 use erl_forms::{Clause, Definition, Expressions, Function};
 use erl_term::{Atom, Term, Terms};
@@ -139,7 +139,11 @@ fn receive<'a>(
 ) -> Result<Outcome, AllocError>
     ensures { IfOk result (λ it. LoopComes (world_of world.now) (instance item.now) (map tree heard.entry.bindings.items) heard.entry.calls heard.entry.body.now (outcome_of it)) }
 {
-    let outcome = run_outermost(world, item, heard.bindings, heard.calls, heard.body)?;
+    let ended = run_outermost(world, item, heard.bindings, heard.calls, heard.body)?;
+    let outcome = Outcome {
+        acts: Row::new(ended.acts),
+        end: ended.end,
+    };
     ended_loop(world.setting.alloc, outcome)
 }
 
@@ -187,7 +191,11 @@ impl Job {
             instance: item,
             function,
         };
-        let outcome = call_outermost(world, &name, &callee, arguments)?;
+        let ended = call_outermost(world, &name, &callee, arguments)?;
+        let outcome = Outcome {
+            acts: Row::new(ended.acts),
+            end: ended.end,
+        };
         callback.serve(alloc, module_name, outcome)
     }
 
@@ -213,7 +221,7 @@ impl Job {
             return undefined(alloc);
         };
         let booleans = Booleans::new(alloc)?;
-        let world = World::new(alloc, &booleans, self.pid, code);
+        let world = World::new(alloc, &booleans, self.pid, Mode::Plain, code);
         self.give_in(&world, item)
     }
 

@@ -1,7 +1,7 @@
 //! What jobs and calls from outside give: a machine that evaluates them.
 //!
-//! [`Job::run`] evaluates a message that a process has taken, and [`evaluate`] a call from outside of all modules, as a start
-//! function, `init`, `code_change` or `apply`, in mode plain. [`matches`] tells whether a process takes a message where it
+//! [`Job::run`] evaluates a message that a process has taken, and [`evaluate`] a call from outside of all modules: a start
+//! function in [`Mode::Start`], and `init`, `code_change` or `apply` in [`Mode::Plain`]. [`matches`] tells whether a process takes a message where it
 //! rests. The rules of what comes of them are the definitions of [`erl_eval`], which `docs/EVALUATION.md` tells in prose.
 //!
 //! What is left to be done stands on a stack of the machine's own: so nothing recurses as deep as a program's expressions or
@@ -25,10 +25,11 @@ mod evaluation;
 mod jobs;
 mod machine;
 mod stack;
+mod starts;
 mod steps;
 mod world;
 
 pub use evaluation::{Outcome, evaluate};
 pub use jobs::{Done, Job, matches};
 pub use machine::End;
-pub use world::{Instance, World};
+pub use world::{Instance, Mode, World};

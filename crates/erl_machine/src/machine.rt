@@ -11,7 +11,7 @@ ghost use Rattle.erl_machine.specs.Views.{control_of};
 use crate::stack::{Activation, Stack};
 use erl_eval::{Act, Given, Place, exit_by, exit_by_pair};
 use erl_forms::Expression;
-use erl_term::Term;
+use erl_term::{Atom, Term};
 use std::alloc::{AllocError, Global};
 
 /// What evaluating ended in.
@@ -34,8 +34,21 @@ pub enum Control<'a> {
     Run(&'a [Expression]),
     /// It gives a value to what waits for it.
     Give(Term),
+    /// The process rests: it tells who started it, if somebody did.
+    Settle(Place),
     /// Nothing: evaluating has ended.
     End(End),
+}
+
+/// A process that a start function starts.
+#[derive(Drop)]
+pub struct Startup {
+    /// How many acts were done before it.
+    pub before: usize,
+    /// Its name, and whether `register/2` gave it.
+    pub registered: Option<(Atom, bool)>,
+    /// Its place, once it has one.
+    pub place: Option<Place>,
 }
 
 /// What changes while a callback is evaluated.
@@ -49,6 +62,8 @@ pub struct Machine<'a> {
     pub calls: u32,
     /// What was done, in order.
     pub acts: Vec<Act>,
+    /// The process that is started, if one is.
+    pub startup: Option<Startup>,
     /// What is to be done with the value.
     pub frames: Stack<'a>,
 }

@@ -5,7 +5,7 @@ ghost use Rattle.erl_machine.specs.Views.{frame_of, stack};
 
 use crate::world::Instance;
 use erl_forms::{Clause, Connective, Expression, Operation, Pattern};
-use erl_term::Term;
+use erl_term::{Atom, Term};
 use std::alloc::{AllocError, Global};
 
 /// The call that an expression is evaluated for.
@@ -48,6 +48,26 @@ pub enum Frame<'a> {
         /// The call of the caller.
         activation: Activation<'a>,
     },
+    /// What starts a process does: the process rests, or its function has ended.
+    Starter {
+        /// What starts it.
+        starter: Starter,
+        /// What is bound where it is started.
+        bindings: Vec<Term>,
+        /// The call in which it is started.
+        activation: Activation<'a>,
+        /// The module of its function.
+        module_name: Atom,
+    },
+}
+
+/// What starts a process.
+#[derive(Clone, Copy, Debug, PartialEq, Eq)]
+pub enum Starter {
+    /// `spawn` and its kin.
+    Spawn,
+    /// `gen_server:start_link`
+    StartLink,
 }
 
 /// What is to be done, the next on top.
@@ -97,7 +117,7 @@ fn ends_a_call(frame: &Frame<'_>) -> bool
     ensures { result ≡ is_tail (frame_of frame.now ∷ []) }
 {
     match frame {
-        Frame::Caller { .. } => true,
+        Frame::Caller { .. } | Frame::Starter { .. } => true,
         Frame::Operands { .. }
         | Frame::Onward(_)
         | Frame::Binding(_)

@@ -6,18 +6,18 @@ ghost use Rattle.erl_term.specs.Tree.{count, more, none};
 ghost use Rattle.erl_forms.specs.declared.operation.Operation.TheVariants as operation;
 ghost use Rattle.erl_forms.specs.ExpressionForms.{expr, exprs, clauses};
 ghost use Rattle.erl_forms.specs.PatternForms.{pat};
-ghost use Rattle.erl_eval.specs.Acts.{act_of};
+ghost use Rattle.erl_eval.specs.Acts.{act_of, place};
 ghost use Rattle.erl_eval.specs.Evaluation.{chosen, head_of, local_function, may_call, may_nest, tried};
 ghost use Rattle.erl_eval.specs.Matching.{matched};
 ghost use Rattle.erl_eval.specs.Operators as operators;
 ghost use Rattle.erl_eval.specs.Starting.{at_once};
 ghost use Rattle.erl_eval.specs.State as state;
 ghost use Rattle.erl_machine.specs.Machine as machine;
-ghost use Rattle.erl_machine.specs.Machine.{applying, beginning, bound_by, calling, calling_built_in, decided_by, entered, giving, going_on, in_state, into, of_result, resting, resuming, running, scoped, selecting, stepping, working};
+ghost use Rattle.erl_machine.specs.Machine.{applying, beginning, bound_by, calling, calling_built_in, decided_by, entered, giving, going_on, in_state, into, of_result, resting, resuming, running, scoped, selecting, settling, settling_at, stepping, working};
 ghost use Rattle.erl_machine.specs.Views.{callee_of, control_of, control_or, frame_of, instance, machine_of, world_of};
 
 use crate::machine::{Control, End, Machine, exit, exit_with, next_of};
-use crate::stack::{Activation, Frame};
+use crate::stack::{Activation, Frame, Starter};
 use crate::world::{Callee, Instance, World, remote_function};
 use erl_eval::{
     Act, MOST_CALLS, Place, call_built_in, cons, decisive, does, made, match_pattern, operate,
@@ -176,15 +176,15 @@ impl<'a> Machine<'a> {
         name: &Atom,
         arguments: Vec<Term>,
     ) -> Result<Control<'a>, AllocError>
-        ensures { IfOk result (λ it. control_of it ≡ machine.end (state.rest (state.loop self.now.activation.instance.now.name self.now.activation.instance.now.serial name.now (trees arguments.items)))) }
+        ensures { IfOk result (λ it. control_of it ≡ machine.settle (state.loop self.now.activation.instance.now.name self.now.activation.instance.now.serial name.now (trees arguments.items))) }
     {
         let instance = self.activation.instance;
-        Ok(Control::End(End::Rest(Place::Loop {
+        Ok(Control::Settle(Place::Loop {
             module: instance.name.copy(world.setting.alloc)?,
             serial: instance.serial,
             function: name.copy(world.setting.alloc)?,
             args: Terms::new(world.setting.alloc, arguments)?,
-        })))
+        }))
     }
 
     /// Enters a function.
@@ -282,11 +282,11 @@ impl<'a> Machine<'a> {
         }
         self.calls += 1;
         match function {
-            BuiltIn::Register
-            | BuiltIn::Spawn
-            | BuiltIn::SpawnLink
-            | BuiltIn::ProcLibSpawnLink
-            | BuiltIn::StartLink => exit(world.setting.alloc, "not_in_profile"),
+            BuiltIn::Register => self.register(world, arguments),
+            BuiltIn::Spawn | BuiltIn::SpawnLink | BuiltIn::ProcLibSpawnLink => {
+                self.start(world, Starter::Spawn, arguments)
+            }
+            BuiltIn::StartLink => self.start(world, Starter::StartLink, arguments),
             _ => self.work_at_once(world, function, arguments),
         }
     }
@@ -532,10 +532,64 @@ impl<'a> Machine<'a> {
                 bindings,
                 activation,
             } => {
-                self.bindings = bindings;
-                self.activation = activation;
+                self.return_to(bindings, activation);
                 Ok(Control::Give(value))
             }
+            Frame::Starter {
+                starter,
+                bindings,
+                activation,
+                module_name,
+            } => { self.return_with(world, starter, bindings, activation, module_name, value) }
+        }
+    }
+
+    /// Tells who waits that the process rests: nobody asks for that but who started it.
+    #[tactic(auto, using(crate::proofs::Worlds::bindings_cut))]
+    fn settle_at(
+        &mut self,
+        world: &World<'a>,
+        frame: Frame<'a>,
+        resting: Place,
+    ) -> Result<Control<'a>, AllocError>
+        ensures { IfOk result (λ it. (control_of it, machine_of self.new) ≡ settling_at (world_of world.now) (frame_of frame.entry) (place resting) (machine_of self.old)) }
+    {
+        match frame {
+            Frame::Scope(count) => {
+                self.bindings.truncate(count);
+                Ok(Control::Settle(resting))
+            }
+            Frame::Caller {
+                bindings,
+                activation,
+            } => {
+                self.return_to(bindings, activation);
+                Ok(Control::Settle(resting))
+            }
+            Frame::Starter {
+                starter,
+                bindings,
+                activation,
+                module_name,
+            } => {
+                self.return_to(bindings, activation);
+                self.rest_started(world, starter, &module_name, resting)
+            }
+            Frame::Operands { .. }
+            | Frame::Onward(_)
+            | Frame::Binding(_)
+            | Frame::Cases(_)
+            | Frame::Deciding(_, _) => Ok(Control::Settle(resting)),
+        }
+    }
+
+    /// The process rests: who started it is told, if somebody did.
+    fn settle(&mut self, world: &World<'a>, resting: Place) -> Result<Control<'a>, AllocError>
+        ensures { IfOk result (λ it. (control_of it, machine_of self.new) ≡ settling (world_of world.now) (place resting) (machine_of self.old).frames (machine_of self.old)) }
+    {
+        match self.frames.pop() {
+            Some(frame) => self.settle_at(world, frame, resting),
+            None => Ok(Control::End(End::Rest(resting))),
         }
     }
 
@@ -561,6 +615,7 @@ impl<'a> Machine<'a> {
             Control::Evaluate(expression) => self.begin(world, expression),
             Control::Run(body) => self.run(world.setting.alloc, body),
             Control::Give(value) => self.give(world, value),
+            Control::Settle(resting) => self.settle(world, resting),
             Control::End(end) => Ok(Control::End(end)),
         }
     }

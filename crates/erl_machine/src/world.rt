@@ -1,8 +1,8 @@
 // What is given to all that is evaluated: the code, and the process.
 ghost use Rattle.std.specs.Prelude.{◌≡◌, MatchOption, None, Some, map};
 ghost use Rattle.erl_eval.specs.Starting.{exported_by, remote_function};
-ghost use Rattle.erl_eval.specs.State.{current, plain};
-ghost use Rattle.erl_machine.specs.Views.{callee_of, instance, world_of};
+ghost use Rattle.erl_eval.specs.State.{current};
+ghost use Rattle.erl_machine.specs.Views.{callee_of, instance, mode_of, world_of};
 
 use erl_eval::{Booleans, Setting};
 use erl_forms::{Function, Module};
@@ -21,26 +21,47 @@ pub struct Instance {
     pub module: Module,
 }
 
-/// What is given to all that is evaluated in mode plain.
+/// A start function is evaluated in mode `Start`, all else in mode `Plain`.
+#[derive(Clone, Copy, Debug, PartialEq, Eq)]
+pub enum Mode {
+    /// A callback, or a call from outside that starts nothing.
+    Plain,
+    /// A start function.
+    Start,
+}
+
+/// What is given to all that is evaluated.
 #[derive(Drop)]
 pub struct World<'a> {
     /// The allocator and the process that evaluates.
     pub setting: Setting<'a>,
+    /// The mode.
+    pub mode: Mode,
     /// The current code of each module that a remote call can reach.
     pub code: &'a [Instance],
 }
 
 impl<'a> World<'a> {
     /// What is given to all that a process evaluates, where this is the current code.
-    pub fn new(alloc: Global, booleans: &'a Booleans, own: u64, code: &'a [Instance]) -> World<'a>
-        ensures { world_of result ≡ record { code = map instance code.now; pid = own; mode = plain } }
+    pub fn new(
+        alloc: Global,
+        booleans: &'a Booleans,
+        own: u64,
+        mode: Mode,
+        code: &'a [Instance],
+    ) -> World<'a>
+        ensures { world_of result ≡ record { code = map instance code.now; pid = own; mode = mode_of mode } }
     {
         let setting = Setting {
             alloc,
             booleans,
             own,
         };
-        World { setting, code }
+        World {
+            setting,
+            mode,
+            code,
+        }
     }
 }
 
