@@ -1,7 +1,8 @@
 -- What may still come of the machine: what the rules say of what is left to be done.
 use Rattle.std.specs.Prelude.{◌≡◌, ℕ, true, false, List, [], ◌∷◌, take, Option}
 use Rattle.erl_term.specs.Tree.{Tree, Trees, none, more}
-use Rattle.erl_eval.specs.State.{Instance, Act, Startup, all_acts, Result, World, Activation, State, with_bindings, with_calls, value, rest}
+use Rattle.erl_eval.specs.State.{Instance, Act, Startup, all_acts, Result, World}
+use Rattle.erl_eval.specs.State.{Activation, State, with_bindings, with_calls, value, rest}
 use Rattle.erl_eval.specs.Guards.{Values, with_first}
 use Rattle.erl_forms.specs.declared.function.Function.{Function}
 use Rattle.erl_forms.specs.Expression.{Exprs}

@@ -98,7 +98,12 @@ abbrev pub machine_of : Machine → machine.Machine
 machine_of m = record {
   activation = activation_of m.activation;
   frames = stack m.frames;
-  state = record { bindings = map tree m.bindings.items; calls = m.calls; acts = map act_of m.acts.items; startup = option_map startup_of m.startup };
+  state = record {
+    bindings = map tree m.bindings.items;
+    calls = m.calls;
+    acts = map act_of m.acts.items;
+    startup = option_map startup_of m.startup;
+  };
 }
 
 abbrev pub callee_of : Option Callee → Option (state.Instance × Function)

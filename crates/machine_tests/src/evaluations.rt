@@ -1,7 +1,7 @@
 // Calls at the limits, and a job.
 use crate::modules::{instance, term};
 use erl_eval::{Act, Booleans, Place};
-use erl_machine::{End, Instance, Job, Outcome, World, evaluate, matches};
+use erl_machine::{End, Instance, Job, Mode, Outcome, World, evaluate, matches};
 use erl_term::{Atom, Term, Terms, print, two};
 use std::alloc::Global;
 use std::str;
@@ -33,8 +33,11 @@ const CALLS: &str = "\
 {h,[]} ⟶ exit undef
 {p,[1,2]} ⟶ exit undef";
 
-/// `handle_call(bump,_,N) -> {reply,N+1,N+1}.`
+/// `handle_call(bump,_,N) -> {reply,N+1,N+1}. init(N) -> {ok,N}.
+/// start(N) -> gen_server:start_link({local,counter},ctr,N,[]).`
 const CTR: &str = "[
+{init,1,[{[{v,0}],[ok,{v,0},{t,2}]}]},
+{start,1,[{[{v,0}],[{local,counter},ctr,{v,0},[],{start_link,4}]}]},
 {handle_call,3,[{[bump,{v,0},{v,1}],[reply,{v,1},1,{o,'+',2},{v,1},1,{o,'+',2},{t,3}]}]}]";
 
 /// The text of a term.
@@ -66,7 +69,7 @@ fn called(alloc: Global, code: &[Instance], text: &str) -> Result<String, Fail> 
     let call = term(alloc, text)?;
     let (name, row) = two(call.as_tuple().ok_or("no call")?.as_slice()).ok_or("no pair")?;
     let booleans = Booleans::new(alloc)?;
-    let world = World::new(alloc, &booleans, 0, code);
+    let world = World::new(alloc, &booleans, 0, Mode::Plain, code);
     let arguments = copied_slice(alloc, row.as_list().ok_or("no arguments")?.as_slice())?;
     let name = name.as_atom().ok_or("no name")?;
     let outcome = evaluate(&world, &Atom::new(alloc, "lim")?, name, arguments)?;
@@ -86,17 +89,39 @@ fn limits(rt: HostRuntime) -> Result<(), Fail> {
     Ok(())
 }
 
-/// The text of an outcome whose acts are replies.
+/// The text of a reply.
+fn replied(alloc: Global, number: u64, term: &Term) -> Result<String, Fail> {
+    let term = printed(alloc, term)?;
+    Ok(format!(in alloc; "reply {number} {term}, ")?)
+}
+
+/// The text of a start in a module.
+fn started(alloc: Global, module: &Atom, state: &Term) -> Result<String, Fail> {
+    let name = module.as_str();
+    let state = printed(alloc, state)?;
+    Ok(format!(in alloc; "start {name} {state}, ")?)
+}
+
+/// The text of an act.
+fn act(alloc: Global, act: &Act) -> Result<String, Fail> {
+    match act {
+        Act::Reply { number, term } => replied(alloc, *number, term),
+        Act::Start {
+            place: Place::Server { module, state },
+        } => started(alloc, module, state),
+        Act::Name { name, .. } => {
+            let name = name.as_str();
+            Ok(format!(in alloc; "name {name}, ")?)
+        }
+        _ => Err("another act")?,
+    }
+}
+
+/// The text of an outcome.
 fn told(alloc: Global, outcome: &Outcome) -> Result<String, Fail> {
     let mut text = String::new(alloc);
-    for act in outcome.acts.as_slice() {
-        match act {
-            Act::Reply { number, term } => {
-                let term = printed(alloc, term)?;
-                text.push_str(&format!(in alloc; "reply {number} {term}, ")?)?;
-            }
-            _ => Err("another act")?,
-        }
+    for item in outcome.acts.as_slice() {
+        text.push_str(&act(alloc, item)?)?;
     }
     text.push_str(&ended(alloc, &outcome.end)?)?;
     Ok(text)
@@ -143,5 +168,20 @@ fn a_call_is_replied_to(rt: HostRuntime) -> Result<(), Fail> {
         "reply 1 5, rest ctr 5"
     );
     assert_eq!(&rt; done.job().turn, 0);
+    Ok(())
+}
+
+#[test]
+fn a_server_is_started(rt: HostRuntime) -> Result<(), Fail> {
+    let alloc = rt.alloc();
+    let mut code = Vec::new(alloc);
+    code.push(instance(alloc, "ctr", 2, CTR)?)?;
+    let booleans = Booleans::new(alloc)?;
+    let arguments = vec![in alloc; Term::Int(4)]?;
+    let world = World::new(alloc, &booleans, 9, Mode::Start, code.as_slice());
+    let start = Atom::new(alloc, "start")?;
+    let outcome = evaluate(&world, &Atom::new(alloc, "ctr")?, &start, arguments)?;
+    let wanted = "start ctr 4, name counter, {ok,<0.9.0>}";
+    assert_eq!(&rt; told(alloc, &outcome)?.as_str(), wanted);
     Ok(())
 }

@@ -2,11 +2,11 @@
 //
 // A module is a list of functions `{Name,Arity,[Clause,..]}`, all exported; a clause is `{[Pattern,..],[X,..]}`, where what is
 // made of operands stands behind them. `{v,N}` is the variable of place N, `{t,N}` a tuple of the N before it, `{o,Op,N}` an
-// operator, `{f,Name,N}` a local call, and all else a literal.
+// operator, `{f,Name,N}` a local call, `{start_link,N}` one of `gen_server:start_link`, and all else a literal.
 use erl_consult::read_terms;
 use erl_forms::{
-    Clause, Clauses, Definition, Expression, Expressions, Function, Guard, Module, Operation,
-    Operator, Pattern, Patterns,
+    BuiltIn, Clause, Clauses, Definition, Expression, Expressions, Function, Guard, Module,
+    Operation, Operator, Pattern, Patterns,
 };
 use erl_machine::Instance;
 use erl_term::{Atom, Term, three, two};
@@ -69,6 +69,13 @@ fn operation(alloc: Global, term: &Term) -> Result<Option<(Operation, &Term)>, F
     }
     if let Some((word, count)) = marked(term, "o") {
         return Ok(Some((Operation::Operator(operator(word)?), count)));
+    }
+    if let Some(count) = behind(term, "start_link") {
+        let operation = Operation::BuiltIn {
+            function: BuiltIn::StartLink,
+            qualified: true,
+        };
+        return Ok(Some((operation, count)));
     }
     match marked(term, "f") {
         Some((name, count)) => {
