@@ -1,5 +1,5 @@
 -- Reading, by how many levels are left.
-use Rattle.std.proofs.Common.{◌≡◌, ℕ, zero, suc, ◌+◌, ◌-◌, ◌<◌, List, Option, Some, None, ap, subst, sym, ◌∙◌, refl, arith}
+use Rattle.std.proofs.Common.{◌≡◌, ℕ, zero, suc, ◌+◌, ◌-◌, ◌<◌, List, Some, None, ap, subst, sym, ◌∙◌, refl, arith}
 use Rattle.erl_syntax.specs.declared.role.Role.{Role}
 use Rattle.erl_syntax.specs.Terminal.{Terminal}
 use Rattle.erl_syntax.specs.Tree.{Tree}
@@ -7,7 +7,7 @@ use Rattle.erl_syntax.specs.Grammar.{level}
 use Rattle.erl_syntax.specs.declared.shape.Infix.{Infix}
 use Rattle.erl_expressions.specs.Reading.{climbed_by, ended_by}
 use Rattle.erl_expressions.specs.Leaves.{leaf_ahead, operator_ahead}
-use Rattle.erl_expressions.specs.Reading.{Found, Reader, read, begun, climbed, joined, only_leaf, and_then}
+use Rattle.erl_expressions.specs.Reading.{Reader, read, begun, climbed, joined, only_leaf, and_then}
 
 -- a level, and the one below it
 above : (n : ℕ) → ¬ (n ≡ 0) → n ≡ suc (n - 1)

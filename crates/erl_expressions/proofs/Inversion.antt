@@ -1,5 +1,5 @@
 -- What an answer tells of the steps that it came by.
-use Rattle.std.proofs.Common.{◌≡◌, ℕ, Bool, true, false, ◌&&◌, if◌then◌else◌, IsTrue, List, [], ◌∷◌, Option, Some, None, ap, sym, ◌∙◌, refl, true≢false, rules}
+use Rattle.std.proofs.Common.{◌≡◌, Bool, true, false, ◌&&◌, if◌then◌else◌, IsTrue, List, [], ◌∷◌, Option, Some, None, ap, sym, refl, true≢false, rules}
 use Rattle.std.proofs.lemmas.Option.{none-some, same_Some}
 use Rattle.erl_syntax.specs.Terminal.{Terminal, mark, word}
 use Rattle.erl_scan.specs.declared.mark.Mark.{Mark}

@@ -1,41 +1,37 @@
 -- What is written of a tree is read as that tree.
-use Rattle.std.proofs.Common.{◌≡◌, ℕ, zero, suc, ◌+◌, ◌-◌, ◌≤◌, max, nat_lt, nat_le, ◌==◌, Bool, true, false, ◌&&◌, not, if◌then◌else◌, IsTrue, is_some, List, [], ◌∷◌, length, codes, Option, Some, None, ap, subst, sym, ◌∙◌, refl, arith, rules, true≢false}
-use Rattle.std.specs.Str.{bytes_eq}
+use Rattle.std.proofs.Common.{◌≡◌, ℕ, zero, suc, ◌+◌, ◌-◌, ◌≤◌, nat_lt, nat_le, ◌==◌, Bool, true, false, ◌&&◌, not, if◌then◌else◌, IsTrue, is_some, List, [], ◌∷◌, Option, Some, None, ap, subst, sym, ◌∙◌, refl, arith, rules, true≢false}
 use Rattle.erl_scan.specs.declared.mark.Mark.TheVariants as marks
 use Rattle.erl_scan.specs.declared.word.Word.TheVariants as words
-use Rattle.erl_syntax.specs.declared.leaf.Sign.{Sign}
 use Rattle.erl_syntax.specs.declared.leaf.Sign.TheVariants as signs
 use Rattle.erl_syntax.specs.declared.leaf.Leaf.{Leaf}
 use Rattle.erl_syntax.specs.declared.leaf.Leaf.TheVariants as leaves
-use Rattle.erl_syntax.specs.declared.leaf.Named.{Named}
 use Rattle.erl_syntax.specs.declared.role.Role.{Role}
 use Rattle.erl_syntax.specs.declared.role.Role.TheVariants.{Expression, Pattern, Test}
 use Rattle.erl_syntax.specs.declared.shape.Infix.{Infix}
 use Rattle.erl_syntax.specs.declared.shape.Infix.TheVariants as infixes
 use Rattle.erl_syntax.specs.declared.shape.Prefix.{Prefix}
 use Rattle.erl_syntax.specs.declared.shape.Prefix.TheVariants.{Negate, Not}
-use Rattle.erl_syntax.specs.declared.shape.Qualifier.{Qualifier}
 use Rattle.erl_syntax.specs.declared.shape.Qualifier.TheVariants as qualifier
 use Rattle.erl_syntax.specs.declared.shape.Shape.{Shape}
 use Rattle.erl_syntax.specs.declared.shape.Shape.TheVariants as shapes
 use Rattle.erl_syntax.specs.Functions.{guard_arity, is_arity, is_guard_function}
-use Rattle.erl_syntax.specs.Terminal.{Terminal, integer, float, atom, word, variable, string, mark, dot}
+use Rattle.erl_syntax.specs.Terminal.{Terminal, word, string, mark}
 use Rattle.erl_syntax.specs.Tree.{Tree, Trees, Clauses, leaf, node, case, none, more, tree_count, tree_depth, trees_depth, clauses_depth}
-use Rattle.erl_syntax.specs.Grammar.{level, level_of, left_level, right_level, matches, in_brackets, first_level, other_level, has, has_operator, begins, is_unsigned, is_expression, is_pattern, is_erlang, is_leaf, IsWell, AreWell, AreWellClauses, has_clause}
-use Rattle.erl_syntax.specs.Written.{written, leaf_written, strings_written, infix_terminal, prefix_terminal, opened, closed, parts_written, other_parts_written, row_written, clauses_written, others_written}
+use Rattle.erl_syntax.specs.Grammar.{level, right_level, matches, in_brackets, first_level, has, has_operator, begins, is_unsigned, is_pattern, is_erlang, is_leaf, IsWell, AreWell, AreWellClauses, has_clause}
+use Rattle.erl_syntax.specs.Written.{written, leaf_written, strings_written, infix_terminal, closed, parts_written, row_written, clauses_written}
 use Rattle.erl_expressions.specs.declared.delimiter.Delimiter.{Delimiter}
 use Rattle.erl_expressions.specs.declared.delimiter.Delimiter.TheVariants.{Comma, CloseParen, CloseBracket, Bar, Of}
 use Rattle.erl_expressions.specs.Delimiters.{delimiter, after}
 use Rattle.erl_expressions.specs.Leaves.{leaf_ahead, number_ahead, strings_ahead, after_strings, call_ahead, colon_ahead, operator_ahead}
-use Rattle.erl_expressions.specs.Reading.{Found, Reader, and_then, row, parts, parts_by, closing, opens, made, bracketed, parenthesized, tailed, list_end, listed_by, listed, prefixed, remote, called, own_called, cased, clauses_to_end, construct, leaf_read, begun_by, begun, joined, climbed, climbed_by, ended_by, only_leaf, read, with_last}
+use Rattle.erl_expressions.specs.Reading.{Found, Reader, and_then, parts, parts_by, closing, opens, made, bracketed, parenthesized, list_end, listed_by, listed, prefixed, remote, called, own_called, cased, clauses_to_end, construct, leaf_read, begun_by, begun, joined, climbed, ended_by, only_leaf, read, with_last}
 use Rattle.erl_expressions.proofs.ByLevels.{read_next, climbed_all, climbed_one}
 use Rattle.erl_expressions.proofs.Inversion.{both}
 use Rattle.erl_expressions.proofs.Lengths.{two_parts}
 use Rattle.erl_expressions.specs.Readings.{Stops, is_quiet}
 use Rattle.erl_expressions.proofs.Levels.{stops_lower, stops_before, no_operator, operator_there, above_prefix, left_at_most, end_level, end_at_most, stops_at_operator}
 use Rattle.erl_expressions.proofs.Sound.{read_zero, and_true}
-use Rattle.erl_expressions.proofs.SoundNodes.{IsBracket, tuples, blocks, locals, remotes, parts_of_bracket, with_last_written, room_in_brackets}
-use Rattle.erl_expressions.proofs.WholeRows.{Whole, after_there, no_delimiter, row_no_delimiter, row_whole}
+use Rattle.erl_expressions.proofs.SoundNodes.{IsBracket, tuples, blocks, locals, remotes, parts_of_bracket, with_last_written}
+use Rattle.erl_expressions.proofs.WholeRows.{Whole, after_there, row_no_delimiter, row_whole}
 use Rattle.erl_expressions.proofs.WholeClauses.{clauses_whole}
 
 abbrev trees_found : Trees → List Terminal → Found Trees

@@ -1,9 +1,9 @@
 -- Rows of trees.
-use Rattle.std.proofs.Common.{◌≡◌, ℕ, zero, suc, ◌+◌, ◌<◌, ◌≤◌, max, Bool, ◌&&◌, List, [], ◌∷◌, ◌++◌, length, get_or, drop, ap, sym, subst, ◌∙◌, refl, arith}
+use Rattle.std.proofs.Common.{◌≡◌, ℕ, zero, suc, ◌+◌, ◌<◌, ◌≤◌, max, ◌&&◌, List, [], ◌∷◌, ◌++◌, length, get_or, drop, ap, sym, subst, ◌∙◌, refl, arith}
 use Rattle.erl_syntax.specs.Grammar.{fits_pattern, fit_pattern}
 use Rattle.erl_syntax.specs.declared.tree.SyntaxTree.{SyntaxTree}
 use Rattle.erl_syntax.specs.declared.tree.ClauseTree.{ClauseTree}
-use Rattle.erl_syntax.specs.Tree.{Tree, Trees, none, more, tree_count, tree_depth, trees_depth, Guards, Clauses, guards_depth, clauses_depth, guard, clause}
+use Rattle.erl_syntax.specs.Tree.{Tree, Trees, none, more, tree_count, tree_depth, trees_depth, Guards, guards_depth, clauses_depth, guard, clause}
 use Rattle.erl_syntax.specs.TreeForms.{tree, trees, guards, clauses}
 use Rattle.erl_expressions.specs.Reading.{with_last, with_last_guard, with_last_clause}
 

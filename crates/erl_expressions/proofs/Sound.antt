@@ -1,5 +1,5 @@
 -- What is read as a tree is written as that tree.
-use Rattle.std.proofs.Common.{◌≡◌, ℕ, zero, suc, ◌+◌, ◌-◌, ◌≤◌, max, nat_lt, nat_le, ◌==◌, Bool, true, false, ◌&&◌, not, if◌then◌else◌, IsTrue, List, [], ◌∷◌, length, codes, Option, Some, None, ap, subst, sym, ◌∙◌, refl, arith, rules, true≢false}
+use Rattle.std.proofs.Common.{◌≡◌, ℕ, zero, suc, ◌≤◌, nat_lt, nat_le, Bool, true, false, ◌&&◌, not, if◌then◌else◌, IsTrue, List, [], ◌∷◌, codes, Option, Some, None, ap, subst, sym, ◌∙◌, refl, arith, rules, true≢false}
 use Rattle.std.proofs.lemmas.Option.{none-some, same_Some}
 use Rattle.std.proofs.lemmas.Slice.Eq.{bytes_eq-Decides}
 use Rattle.std.specs.Str.{bytes_eq}
@@ -19,11 +19,11 @@ use Rattle.erl_syntax.specs.declared.shape.Prefix.TheVariants.{Negate, Not}
 use Rattle.erl_syntax.specs.declared.shape.Qualifier.{Qualifier}
 use Rattle.erl_syntax.specs.declared.shape.Qualifier.TheVariants as qualifier
 use Rattle.erl_syntax.specs.declared.shape.Shape.TheVariants as shapes
-use Rattle.erl_syntax.specs.Terminal.{Terminal, integer, float, atom, word, variable, string, mark, dot}
-use Rattle.erl_syntax.specs.Tree.{Tree, Trees, leaf, node, none, more, tree_depth}
-use Rattle.erl_syntax.specs.Grammar.{level, level_of, left_level, right_level, has_operator, is_leaf, begins, IsWell}
+use Rattle.erl_syntax.specs.Terminal.{Terminal, integer, atom, word, variable, string, mark}
+use Rattle.erl_syntax.specs.Tree.{Tree, leaf, node, none, more, tree_depth}
+use Rattle.erl_syntax.specs.Grammar.{level, level_of, left_level, right_level, has_operator, is_leaf, begins}
 use Rattle.erl_syntax.specs.Written.{written, leaf_written, strings_written, infix_terminal, qualified, signed}
-use Rattle.erl_expressions.specs.Leaves.{leaf_ahead, leaf_behind, number_ahead, module_ahead, atom_ahead, joined_strings, strings_ahead, after_strings, call_ahead, colon_ahead, paren_ahead, infix_ahead, fitting, operator_ahead}
+use Rattle.erl_expressions.specs.Leaves.{leaf_ahead, leaf_behind, number_ahead, module_ahead, strings_ahead, after_strings, call_ahead, colon_ahead, paren_ahead, infix_ahead, fitting, operator_ahead}
 use Rattle.erl_expressions.specs.Reading.{Found, Reader, and_then, behind_first, bracketed, remote, called, own_called, begun_by_mark, begun_by_word, construct, leaf_read, begun_by, begun, joined, climbed_by, climbed, ended_by, only_leaf, read}
 use Rattle.erl_expressions.specs.Readings.{BeginsWith}
 use Rattle.erl_expressions.proofs.ByLevels.{read_next}

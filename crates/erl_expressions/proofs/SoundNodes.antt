@@ -1,31 +1,27 @@
 -- What is read as a node is written as that node.
-use Rattle.std.proofs.Common.{◌≡◌, ℕ, zero, suc, ◌+◌, ◌-◌, ◌≤◌, max, nat_lt, nat_le, Bool, true, false, ◌&&◌, if◌then◌else◌, IsTrue, List, [], ◌∷◌, length, codes, Option, Some, None, ap, subst, sym, ◌∙◌, refl, arith, rules, true≢false}
+use Rattle.std.proofs.Common.{◌≡◌, ℕ, suc, ◌≤◌, max, Bool, true, false, ◌&&◌, if◌then◌else◌, IsTrue, List, ◌∷◌, Option, Some, None, ap, subst, sym, ◌∙◌, refl, arith}
 use Rattle.std.proofs.lemmas.Option.{none-some, same_Some}
-use Rattle.erl_scan.specs.declared.mark.Mark.{Mark}
 use Rattle.erl_scan.specs.declared.mark.Mark.TheVariants as marks
-use Rattle.erl_scan.specs.declared.word.Word.{Word}
 use Rattle.erl_scan.specs.declared.word.Word.TheVariants as words
 use Rattle.erl_syntax.specs.declared.leaf.Named.{Named}
 use Rattle.erl_syntax.specs.declared.role.Role.{Role}
 use Rattle.erl_syntax.specs.declared.role.Role.TheVariants.{Expression, Pattern, Test}
 use Rattle.erl_syntax.specs.declared.shape.Prefix.{Prefix}
-use Rattle.erl_syntax.specs.declared.shape.Prefix.TheVariants.{Negate, Not}
 use Rattle.erl_syntax.specs.declared.shape.Qualifier.{Qualifier}
-use Rattle.erl_syntax.specs.declared.shape.Qualifier.TheVariants as qualifier
 use Rattle.erl_syntax.specs.declared.shape.Shape.{Shape}
 use Rattle.erl_syntax.specs.declared.shape.Shape.TheVariants as shapes
-use Rattle.erl_syntax.specs.Terminal.{Terminal, mark, word, atom}
-use Rattle.erl_syntax.specs.Tree.{Tree, Trees, Guards, Clauses, node, case, none, more, tree_count, tree_depth, trees_depth, clauses_depth}
-use Rattle.erl_syntax.specs.Grammar.{level, matches, operations, in_brackets, first_level, other_level, has, begins, is_expression, is_pattern, IsWell, AreWell, has_clause}
-use Rattle.erl_syntax.specs.Written.{written, row_written, others_written, parts_written, other_parts_written, before_part, opened, closed, prefix_terminal, qualified}
+use Rattle.erl_syntax.specs.Terminal.{Terminal, mark, word}
+use Rattle.erl_syntax.specs.Tree.{Tree, Trees, node, case, none, more, tree_count, tree_depth, trees_depth}
+use Rattle.erl_syntax.specs.Grammar.{level, matches, in_brackets, first_level, other_level, has, begins, is_expression, is_pattern, IsWell, AreWell}
+use Rattle.erl_syntax.specs.Written.{written, row_written, others_written, parts_written, other_parts_written, before_part, opened, closed, prefix_terminal}
 use Rattle.erl_expressions.specs.declared.delimiter.Delimiter.{Delimiter}
-use Rattle.erl_expressions.specs.declared.delimiter.Delimiter.TheVariants.{Comma, CloseParen, CloseBracket, Bar, Of}
+use Rattle.erl_expressions.specs.declared.delimiter.Delimiter.TheVariants.{CloseParen, CloseBracket, Bar, Of}
 use Rattle.erl_expressions.specs.Delimiters.{delimiter, after}
 use Rattle.erl_expressions.specs.Reading.{Found, Reader, and_then, row, parts, parts_by, closing, opens, made, bracketed, parenthesized, tailed, list_end, listed_by, listed, prefixed, cased, clauses_to_end, with_last}
 use Rattle.erl_expressions.specs.Readings.{BeginsWith}
 use Rattle.erl_expressions.proofs.Inversion.{inverts, if_some, both, after_is}
 use Rattle.erl_expressions.proofs.SoundRows.{Sound, IsRow, row_sound}
-use Rattle.erl_expressions.proofs.SoundClauses.{AreClauses, clauses_sound}
+use Rattle.erl_expressions.proofs.SoundClauses.{clauses_sound}
 
 pub room_in_brackets : (role : Role) → 1 ≤ in_brackets role
 room_in_brackets Expression = omega arith

@@ -1,17 +1,16 @@
 -- What is read in a row is written in a row.
-use Rattle.std.proofs.Common.{◌≡◌, ℕ, zero, suc, ◌+◌, ◌≤◌, max, Bool, true, false, IsTrue, List, [], ◌∷◌, length, Option, Some, None, ap, subst, sym, ◌∙◌, refl, arith, rules}
+use Rattle.std.proofs.Common.{◌≡◌, ℕ, zero, suc, ◌≤◌, List, [], ◌∷◌, length, Option, Some, None, ap, subst, sym, ◌∙◌, refl, arith}
 use Rattle.std.proofs.lemmas.Option.{none-some, same_Some}
 use Rattle.erl_scan.specs.declared.mark.Mark.TheVariants as marks
 use Rattle.erl_syntax.specs.declared.role.Role.{Role}
-use Rattle.erl_syntax.specs.declared.role.Role.TheVariants.{Expression, Pattern, Test}
 use Rattle.erl_syntax.specs.Terminal.{Terminal, mark}
-use Rattle.erl_syntax.specs.Tree.{Tree, Trees, Guards, Clauses, none, more, no_guards, guard, no_clauses, clause, tree_count, tree_depth, trees_depth, guards_depth, clauses_depth}
-use Rattle.erl_syntax.specs.Grammar.{level, matches, operations, IsWell, AreWell, AreWellGuards, AreWellClauses, has_clause}
-use Rattle.erl_syntax.specs.Written.{written, row_written, others_written, guards_written, other_guards_written, clauses_written, other_clauses_written}
+use Rattle.erl_syntax.specs.Tree.{Tree, Trees, none, more, tree_count, trees_depth}
+use Rattle.erl_syntax.specs.Grammar.{AreWell}
+use Rattle.erl_syntax.specs.Written.{written, row_written, others_written}
 use Rattle.erl_expressions.specs.declared.delimiter.Delimiter.{Delimiter}
-use Rattle.erl_expressions.specs.declared.delimiter.Delimiter.TheVariants.{Comma, Semicolon, Arrow, When, End}
+use Rattle.erl_expressions.specs.declared.delimiter.Delimiter.TheVariants.{Comma}
 use Rattle.erl_expressions.specs.Delimiters.{delimiter, after}
-use Rattle.erl_expressions.specs.Reading.{Found, Reader, Arm, and_then, other_things, separated, row, alternatives, guarded, guarded_by, arm, one_clause, clauses_to_end, closed, with_more, with_last, with_guards, with_last_guard, with_clauses, with_last_clause, rest_of_row, rest_of_guards, rest_of_clauses}
+use Rattle.erl_expressions.specs.Reading.{Found, Reader, other_things, separated, row, with_more, with_last, rest_of_row}
 use Rattle.erl_expressions.specs.Readings.{BeginsWith}
 use Rattle.erl_expressions.proofs.Inversion.{inverts, after_is}
 

@@ -1,5 +1,5 @@
 -- Things in a row: one more of them, the last, and none.
-use Rattle.std.proofs.Common.{◌≡◌, ℕ, zero, suc, ◌+◌, ◌-◌, ◌<◌, ◌≤◌, List, [], ◌∷◌, length, Option, Some, None, ap, subst, sym, ◌∙◌, refl, arith}
+use Rattle.std.proofs.Common.{◌≡◌, ℕ, zero, suc, ◌+◌, ◌-◌, ◌<◌, ◌≤◌, List, [], ◌∷◌, length, Option, Some, None, ap, ◌∙◌, refl, arith}
 use Rattle.erl_scan.specs.declared.token.Spot.{Spot}
 use Rattle.erl_syntax.specs.declared.role.Role.TheVariants.{Test}
 use Rattle.erl_syntax.specs.Grammar.{operations}

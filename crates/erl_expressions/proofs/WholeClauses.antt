@@ -1,5 +1,5 @@
 -- What is written as clauses is read as those clauses.
-use Rattle.std.proofs.Common.{◌≡◌, ℕ, zero, suc, ◌+◌, ◌≤◌, max, Bool, true, false, IsTrue, List, [], ◌∷◌, length, Option, Some, None, ap, subst, sym, ◌∙◌, refl, arith, rules, true≢false}
+use Rattle.std.proofs.Common.{◌≡◌, ℕ, suc, ◌≤◌, IsTrue, List, [], ◌∷◌, length, Some, None, ap, sym, ◌∙◌, refl, arith, true≢false}
 use Rattle.erl_scan.specs.declared.mark.Mark.TheVariants as marks
 use Rattle.erl_scan.specs.declared.word.Word.TheVariants as words
 use Rattle.erl_syntax.specs.declared.role.Role.TheVariants.{Expression, Pattern, Test}
@@ -8,10 +8,10 @@ use Rattle.erl_syntax.specs.Tree.{Tree, Trees, Guards, Clauses, none, more, no_g
 use Rattle.erl_syntax.specs.Grammar.{matches, operations, AreWell, AreWellGuards, AreWellClauses, has_clause}
 use Rattle.erl_syntax.specs.Written.{written, row_written, others_written, guards_written, other_guards_written, clauses_written, other_clauses_written}
 use Rattle.erl_expressions.specs.declared.delimiter.Delimiter.TheVariants.{Comma, Semicolon, Arrow, When, End}
-use Rattle.erl_expressions.specs.Delimiters.{delimiter, after}
-use Rattle.erl_expressions.specs.Reading.{Found, Reader, Arm, and_then, separated, row, alternatives, guarded, guarded_by, arm, one_clause, clauses_to_end, closed, with_guards, with_clauses, rest_of_guards, rest_of_clauses}
-use Rattle.erl_expressions.proofs.Lengths.{own_tree, tree_longer, row_longer, others_longer, guards_longer, other_guards_longer, clauses_longer, other_clauses_longer}
-use Rattle.erl_expressions.specs.Readings.{Stops, is_quiet}
+use Rattle.erl_expressions.specs.Delimiters.{after}
+use Rattle.erl_expressions.specs.Reading.{Found, Reader, Arm, and_then, row, alternatives, guarded, arm, one_clause, clauses_to_end, rest_of_guards, rest_of_clauses}
+use Rattle.erl_expressions.proofs.Lengths.{own_tree, row_longer, others_longer, guards_longer}
+use Rattle.erl_expressions.specs.Readings.{Stops}
 use Rattle.erl_expressions.proofs.Levels.{stops_before}
 use Rattle.erl_expressions.proofs.SoundRows.{Things, only, then_more}
 use Rattle.erl_expressions.proofs.SoundClauses.{guards_of, guards_of-with_guards, clauses_of, clauses_of-with_clauses}

@@ -1,7 +1,5 @@
 -- What is written in a row is read as that row.
-use Rattle.std.proofs.Common.{◌≡◌, ℕ, zero, suc, ◌+◌, ◌≤◌, max, Bool, true, false, IsTrue, List, [], ◌∷◌, length, Option, Some, None, ap, subst, sym, ◌∙◌, refl, arith, rules, true≢false}
-use Rattle.erl_scan.specs.declared.mark.Mark.TheVariants as marks
-use Rattle.erl_scan.specs.declared.word.Word.TheVariants as words
+use Rattle.std.proofs.Common.{◌≡◌, ℕ, zero, suc, ◌≤◌, IsTrue, List, [], ◌∷◌, length, Some, None, ap, sym, ◌∙◌, refl, arith, true≢false}
 use Rattle.erl_syntax.specs.declared.leaf.Sign.TheVariants as signs
 use Rattle.erl_syntax.specs.declared.leaf.Leaf.{Leaf}
 use Rattle.erl_syntax.specs.declared.leaf.Leaf.TheVariants as leaves
@@ -9,18 +7,17 @@ use Rattle.erl_syntax.specs.declared.role.Role.{Role}
 use Rattle.erl_syntax.specs.declared.shape.Prefix.TheVariants.{Negate, Not}
 use Rattle.erl_syntax.specs.declared.shape.Qualifier.TheVariants as qualifier
 use Rattle.erl_syntax.specs.declared.shape.Shape.TheVariants as shapes
-use Rattle.erl_syntax.specs.declared.shape.Infix.{Infix}
-use Rattle.erl_syntax.specs.Terminal.{Terminal, mark, word, integer, atom, variable, string}
+use Rattle.erl_syntax.specs.Terminal.{Terminal}
 use Rattle.erl_syntax.specs.Tree.{Tree, Trees, leaf, node, case, none, more, tree_count, tree_depth, trees_depth}
-use Rattle.erl_syntax.specs.Grammar.{level, is_leaf, has, has_operator, IsWell, AreWell}
+use Rattle.erl_syntax.specs.Grammar.{level, is_leaf, has_operator, IsWell, AreWell}
 use Rattle.erl_syntax.specs.Written.{written, leaf_written, row_written, others_written, other_parts_written}
 use Rattle.erl_expressions.specs.declared.delimiter.Delimiter.{Delimiter}
 use Rattle.erl_expressions.specs.declared.delimiter.Delimiter.TheVariants as delimiters
 use Rattle.erl_expressions.specs.declared.delimiter.Delimiter.TheVariants.{Comma}
 use Rattle.erl_expressions.specs.Delimiters.{delimiter, after}
-use Rattle.erl_expressions.specs.Reading.{Found, Reader, and_then, other_things, separated, row, with_more, with_last, rest_of_row}
-use Rattle.erl_expressions.proofs.Lengths.{own_tree, tree_longer, two_parts}
-use Rattle.erl_expressions.specs.Readings.{Stops, is_quiet}
+use Rattle.erl_expressions.specs.Reading.{Found, Reader, and_then, other_things, separated, row, rest_of_row}
+use Rattle.erl_expressions.proofs.Lengths.{own_tree, two_parts}
+use Rattle.erl_expressions.specs.Readings.{Stops}
 use Rattle.erl_expressions.proofs.Levels.{stops_before}
 use Rattle.erl_expressions.proofs.SoundRows.{Things, only, then_more, row_of, row_of-with_more}
 

@@ -1,6 +1,6 @@
 -- Reading as a function of tokens: the tree that tokens begin with, and what is left behind it, if they begin with one. Each
 -- function has as an argument the reader of trees that are nested one level less.
-use Rattle.std.specs.Prelude.{ℕ, zero, suc, Bool, true, false, ◌&&◌, nat_lt, if◌then◌else◌, is_some, List, [], ◌∷◌, ◌++◌, length}
+use Rattle.std.specs.Prelude.{ℕ, zero, suc, Bool, true, false, ◌&&◌, nat_lt, if◌then◌else◌, is_some, List, [], ◌∷◌, length}
 use Rattle.std.specs.Prelude.{codes, Option, None, Some}
 use Rattle.std.specs.Str.{bytes_eq}
 use Rattle.erl_scan.specs.declared.mark.Mark.{Mark}
@@ -19,10 +19,10 @@ use Rattle.erl_syntax.specs.declared.shape.Qualifier.TheVariants as qualifier
 use Rattle.erl_syntax.specs.declared.shape.Shape.{Shape}
 use Rattle.erl_syntax.specs.declared.shape.Shape.TheVariants as shapes
 use Rattle.erl_syntax.specs.Functions.{guard_arity}
-use Rattle.erl_syntax.specs.Terminal.{Terminal, integer, atom, variable, string, mark, word}
+use Rattle.erl_syntax.specs.Terminal.{Terminal, atom, variable, mark, word}
 use Rattle.erl_syntax.specs.Tree.{Tree, Trees, Guards, Clauses, leaf, node, case, none, more, no_guards, guard, no_clauses, clause}
 use Rattle.erl_syntax.specs.Tree.{tree_count, tree_depth}
-use Rattle.erl_syntax.specs.Grammar.{matches, operations, level, left_level, right_level, in_brackets, first_level, is_leaf, has}
+use Rattle.erl_syntax.specs.Grammar.{matches, operations, level, right_level, in_brackets, first_level, is_leaf, has}
 use Rattle.erl_syntax.specs.Grammar.{begins, is_expression, is_pattern, is_erlang}
 use Rattle.erl_expressions.specs.declared.delimiter.Delimiter.{Delimiter}
 use Rattle.erl_expressions.specs.declared.delimiter.Delimiter.TheVariants.{Comma, Semicolon, Bar, Arrow, CloseParen, CloseBrace}

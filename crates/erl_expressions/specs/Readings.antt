@@ -1,5 +1,5 @@
 -- What it is that tokens begin with a tree.
-use Rattle.std.specs.Prelude.{◌≡◌, ℕ, ◌≤◌, nat_lt, Bool, true, false, IsTrue, List, [], ◌∷◌, Option, None, Some}
+use Rattle.std.specs.Prelude.{◌≡◌, ℕ, ◌≤◌, nat_lt, Bool, true, false, IsTrue, List, ◌∷◌, Option, None, Some}
 use Rattle.erl_scan.specs.declared.mark.Mark.TheVariants as marks
 use Rattle.erl_syntax.specs.declared.role.Role.{Role}
 use Rattle.erl_syntax.specs.declared.role.Role.TheVariants.{Expression, Pattern, Test}

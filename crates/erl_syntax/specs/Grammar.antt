@@ -1,15 +1,15 @@
 -- Which syntax trees are expressions, patterns and tests: what may stand where (Erlang Reference Manual, Expressions;
 -- erl_parse.yrl of OTP 25).
-use Rattle.std.specs.Prelude.{◌≡◌, ℕ, ◌+◌, ◌-◌, ◌*◌, ◌≤◌, ◌==◌, nat_le, Bool, true, false, ◌&&◌, ◌||◌, not, if◌then◌else◌}
-use Rattle.std.specs.Prelude.{IsTrue, ⊤, List, [], ◌∷◌, codes}
+use Rattle.std.specs.Prelude.{◌≡◌, ℕ, ◌-◌, ◌≤◌, ◌==◌, nat_le, Bool, true, false, ◌&&◌, not}
+use Rattle.std.specs.Prelude.{IsTrue, ⊤, List, [], codes}
 use Rattle.std.specs.Str.{bytes_eq}
 use Rattle.erl_syntax.specs.declared.leaf.Sign.{Sign}
-use Rattle.erl_syntax.specs.declared.leaf.Sign.TheVariants.{Unsigned, Plus, Minus}
+use Rattle.erl_syntax.specs.declared.leaf.Sign.TheVariants.{Unsigned, Minus}
 use Rattle.erl_syntax.specs.declared.leaf.Leaf.{Leaf}
 use Rattle.erl_syntax.specs.declared.leaf.Leaf.TheVariants as leaves
 use Rattle.erl_syntax.specs.declared.role.Role.{Role}
 use Rattle.erl_syntax.specs.declared.role.Role.TheVariants.{Expression, Pattern, Test}
-use Rattle.erl_syntax.specs.declared.shape.Prefix.TheVariants.{Negate, Not}
+use Rattle.erl_syntax.specs.declared.shape.Prefix.TheVariants.{Negate}
 use Rattle.erl_syntax.specs.declared.shape.Infix.{Infix}
 use Rattle.erl_syntax.specs.declared.shape.Infix.TheVariants as operators
 use Rattle.erl_syntax.specs.declared.shape.Qualifier.{Qualifier}

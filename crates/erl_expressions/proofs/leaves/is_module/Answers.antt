@@ -1,7 +1,7 @@
 -- Bytes are compared, which are the characters' own.
 use Rattle.std.proofs.Common.{ap, ◌∙◌, refl, List, ℕ, [], ◌∷◌, rules}
 use Rattle.std.proofs.lemmas.Str.{IsUtf8-from_ascii}
-use Rattle.std.specs.Str.{bytes_eq, chars}
+use Rattle.std.specs.Str.{bytes_eq}
 use Rattle.erl_term.proofs.Ascii.{is_word}
 use Rattle.erl_expressions.proofs.leaves.is_module.Goals as goal
 

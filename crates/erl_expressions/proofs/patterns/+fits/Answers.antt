@@ -1,6 +1,6 @@
 -- A part is no deeper than its row, and fits where what is left does.
 use Rattle.std.proofs.Common.{rules}
-use Rattle.erl_expressions.proofs.Rows.{tree_in, fit_in, fit_end}
+use Rattle.erl_expressions.proofs.Rows.{tree_in}
 use Rattle.erl_expressions.proofs.patterns.+fits.Goals as goal
 
 pub fit_pattern-fits_pattern-requires : goal.fit_pattern-fits_pattern-requires

@@ -1,7 +1,5 @@
 -- Each call goes down, a level or within it; and what is kept from turn to turn.
-use Rattle.std.proofs.Common.{◌≡◌, ℕ, ◌+◌, ◌-◌, ◌*◌, length, Some}
-use Rattle.erl_scan.specs.declared.token.Spot.{Spot}
-use Rattle.erl_syntax.specs.Grammar.{level}
+use Rattle.std.proofs.Common.{◌≡◌, ◌+◌, ◌-◌, ◌*◌, length}
 use Rattle.erl_syntax.specs.Terminal.{terminals}
 use Rattle.erl_syntax.specs.declared.role.Role.TheVariants.{Test}
 use Rattle.erl_expressions.specs.declared.delimiter.Delimiter.TheVariants.{Comma, Semicolon}
