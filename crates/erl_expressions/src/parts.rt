@@ -2,6 +2,7 @@
 ghost use Rattle.std.specs.Prelude.{◌≡◌, IfOk, MatchResult, Some, None};
 ghost use Rattle.erl_syntax.specs.Grammar.{matches as matches_in};
 ghost use Rattle.erl_syntax.specs.Terminal.{terminals};
+ghost use Rattle.erl_syntax.specs.TreeForms.{tree as tree_of};
 ghost use Rattle.erl_syntax.specs.declared.role.Role.TheVariants.{Expression as an_expression, Pattern as a_pattern};
 ghost use Rattle.erl_expressions.specs.Reading.{read as read_in, parts as parts_in, guarded as guarded_in, row as row_in};
 ghost use Rattle.erl_expressions.specs.Reading.{clauses_to_end as clauses_in};
@@ -9,11 +10,11 @@ ghost use Rattle.erl_expressions.specs.declared.delimiter.Delimiter.TheVariants.
 
 use crate::delimiter::Delimiter;
 use crate::operators::MATCHES;
-use crate::reader::Reading;
 use crate::reader::brackets::{parts, row};
 use crate::reader::clauses::{clauses_to_end, guarded};
+use crate::reader::{Reading, read};
 use erl_scan::Spot;
-use erl_syntax::{ClauseTrees, GuardTrees, Role, SyntaxTrees};
+use erl_syntax::{ClauseTrees, GuardTrees, Role, SyntaxTree, SyntaxTrees};
 use std::alloc::Global;
 
 /// Reads patterns in a row, which may be none, up to a closing parenthesis.
@@ -21,17 +22,36 @@ use std::alloc::Global;
 /// # Errors
 ///
 /// As [`read_tree`](crate::read_tree).
-pub fn read_patterns<'a>(
-    alloc: Global,
-    levels: u32,
-    tokens: &'a [Spot],
-) -> Reading<'a, SyntaxTrees>
+pub fn read_patterns<'a>(alloc: Global, levels: u32, tokens: &'a [Spot]) -> Reading<'a, SyntaxTrees>
     ensures { IfOk result (λ answer. MatchResult answer
         (λ f. parts_in (read_in levels a_pattern matches_in) close_paren (terminals tokens.now) ≡ Some (f.0, terminals f.1.now))
         (λ _. parts_in (read_in levels a_pattern matches_in) close_paren (terminals tokens.now) ≡ None)) }
 {
-    match parts(alloc, levels, Role::Pattern, MATCHES, Delimiter::CloseParen, tokens)? {
+    match parts(
+        alloc,
+        levels,
+        Role::Pattern,
+        MATCHES,
+        Delimiter::CloseParen,
+        tokens,
+    )? {
         Ok((items, rest)) => Ok(Ok((items.into_trees(), rest))),
+        Err(refusal) => Ok(Err(refusal)),
+    }
+}
+
+/// Reads a pattern.
+///
+/// # Errors
+///
+/// As [`read_tree`](crate::read_tree).
+pub fn read_pattern<'a>(alloc: Global, levels: u32, tokens: &'a [Spot]) -> Reading<'a, SyntaxTree>
+    ensures { IfOk result (λ answer. MatchResult answer
+        (λ f. read_in levels a_pattern matches_in (terminals tokens.now) ≡ Some (tree_of f.0, terminals f.1.now))
+        (λ _. read_in levels a_pattern matches_in (terminals tokens.now) ≡ None)) }
+{
+    match read(alloc, levels, Role::Pattern, MATCHES, tokens)? {
+        Ok((tree, rest)) => Ok(Ok((tree.into_tree(), rest))),
         Err(refusal) => Ok(Err(refusal)),
     }
 }
@@ -73,11 +93,7 @@ pub fn read_body<'a>(alloc: Global, levels: u32, tokens: &'a [Spot]) -> Reading<
 /// # Errors
 ///
 /// As [`read_tree`](crate::read_tree).
-pub fn read_clauses<'a>(
-    alloc: Global,
-    levels: u32,
-    tokens: &'a [Spot],
-) -> Reading<'a, ClauseTrees>
+pub fn read_clauses<'a>(alloc: Global, levels: u32, tokens: &'a [Spot]) -> Reading<'a, ClauseTrees>
     ensures { IfOk result (λ answer. MatchResult answer
         (λ f. clauses_in (read_in levels) (terminals tokens.now) ≡ Some (f.0, terminals f.1.now))
         (λ _. clauses_in (read_in levels) (terminals tokens.now) ≡ None)) }

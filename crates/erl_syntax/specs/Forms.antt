@@ -76,6 +76,11 @@ is_list (node shapes.List ts) = true
 is_list (node shapes.Cons ts) = true
 is_list t = false
 
+abbrev pub ends_with_list : Trees → Bool
+ends_with_list none = true
+ends_with_list (more t none) = is_list t
+ends_with_list (more t (more u us)) = ends_with_list (more u us)
+
 abbrev mutual
   pub is_term : Tree → Bool
   is_term (leaf (leaves.Variable name at)) = false
@@ -83,7 +88,7 @@ abbrev mutual
   is_term (leaf l) = true
   is_term (node shapes.Tuple ts) = are_terms ts
   is_term (node shapes.List ts) = are_terms ts
-  is_term (node shapes.Cons ts) = are_terms_with_list ts
+  is_term (node shapes.Cons ts) = are_terms ts && ends_with_list ts
   is_term (node shape ts) = false
   is_term (case subject cs) = false
 
@@ -91,16 +96,14 @@ abbrev mutual
   are_terms none = true
   are_terms (more t ts) = is_term t && are_terms ts
 
-  pub are_terms_with_list : Trees → Bool
-  are_terms_with_list none = true
-  are_terms_with_list (more t none) = is_term t && is_list t
-  are_terms_with_list (more t (more u us)) = is_term t && are_terms_with_list (more u us)
+abbrev pub is_dot : Terminal → Bool
+is_dot dot = true
+is_dot t = false
 
 -- what is left behind the first dot
 abbrev pub after_dot : List Terminal → Option (List Terminal)
 after_dot [] = None
-after_dot (dot ∷ ts) = Some ts
-after_dot (t ∷ ts) = after_dot ts
+after_dot (t ∷ ts) = if is_dot t then Some ts else after_dot ts
 
 -- Functions
 
