@@ -1,3 +1,4 @@
+pub mod Doing
 pub mod Elements
 pub mod Examples
 pub mod Matches
@@ -5,4 +6,5 @@ pub mod Moved
 pub mod Options
 pub mod Outcomes
 pub mod Rows
+pub mod Tests
 pub mod Uniqueness

@@ -1,18 +1,19 @@
 -- Rows of terms as the code has them, and operations by how many terms there are.
 use Rattle.std.specs.Prelude.{◌≡◌, ℕ, List, [], ◌∷◌, ◌++◌, refl, codes, None, Some}
-use Rattle.std.proofs.Common.{ap, sym}
+use Rattle.std.proofs.Common.{ap, sym, ◌∙◌}
 use Rattle.erl_term.specs.declared.term.Term.{Term}
+use Rattle.erl_term.specs.declared.term.Term.TheVariants as variants
 use Rattle.erl_term.specs.Accessors.{one_of, two_of, three_of}
 use Rattle.erl_term.specs.Rows.{append_trees}
 use Rattle.erl_term.specs.Term.{tree, trees}
-use Rattle.erl_term.specs.Tree.{Tree, Trees, none, more}
+use Rattle.erl_term.specs.Tree.{Tree, Trees, list, none, more}
 use Rattle.erl_forms.specs.declared.operation.Operator.{Operator}
-use Rattle.erl_eval.specs.State.{exit_by}
+use Rattle.erl_eval.specs.State.{value, exit_by, made}
 use Rattle.erl_forms.specs.declared.operation.BuiltIn.{BuiltIn}
 use Rattle.erl_eval.specs.BuiltIns as built_ins
 use Rattle.erl_eval.specs.BuiltIns.{given}
 use Rattle.erl_eval.proofs.Options.{some_none, some_injective}
-use Rattle.erl_eval.specs.Operators.{operated, of_one, of_two}
+use Rattle.erl_eval.specs.Operators.{operated, of_one, of_two, before_tail, consed_row, made_of, consed}
 
 pub trees_append : (ts us : List Term) → trees (ts ++ us) ≡ append_trees (trees ts) (trees us)
 trees_append [] us = refl
@@ -69,3 +70,34 @@ given_else own f (more t none) some no_one no_two no_three = absurd (some_none n
 given_else own f (more t (more u none)) some no_one no_two no_three = absurd (some_none no_two)
 given_else own f (more t (more u (more v none))) some no_one no_two no_three = absurd (some_none no_three)
 given_else own f (more t (more u (more v (more v' ts)))) some no_one no_two no_three = refl
+
+-- a list with a tail, by its last value
+
+consed_row_list : (ts : List Term) (row : Trees) →
+    consed_row (trees (ts ++ variants.List row ∷ [])) ≡ value (list (append_trees (trees ts) row))
+consed_row_list [] row = refl
+consed_row_list (t ∷ []) row = refl
+consed_row_list (t ∷ u ∷ us) row = ap (before_tail (tree t)) (consed_row_list (u ∷ us) row)
+
+consed_row_else : (ts : List Term) (last : Term) → ((row : Trees) → last ≡ variants.List row → ⊥) →
+    consed_row (trees (ts ++ last ∷ [])) ≡ exit_by (codes "not_in_profile")
+consed_row_else [] (variants.Int n) no_list = refl
+consed_row_else [] (variants.Atom n) no_list = refl
+consed_row_else [] (variants.Pid n) no_list = refl
+consed_row_else [] (variants.Tuple n) no_list = refl
+consed_row_else [] (variants.List row) no_list = absurd (no_list row refl)
+consed_row_else (t ∷ []) last no_list = ap (before_tail (tree t)) (consed_row_else [] last no_list)
+consed_row_else (t ∷ u ∷ us) last no_list = ap (before_tail (tree t)) (consed_row_else (u ∷ us) last no_list)
+
+pub consed_list : (all ts back us : List Term) (last : Term) (row made_row : Trees) → all ≡ ts ++ last ∷ [] →
+    last ≡ variants.List row → trees back ≡ row → us ≡ ts ++ back → made_row ≡ trees us →
+    consed (trees all) ≡ made (list made_row)
+consed_list all ts back us last row made_row split is same joined gives =
+    ap (λ us. consed (trees us)) (split ∙ ap (λ u. ts ++ u ∷ []) is) ∙ ap made_of (consed_row_list ts row) ∙
+    ap (λ us. made (list us)) (ap (λ r. append_trees (trees ts) r) (sym same) ∙ sym (trees_append ts back) ∙
+    ap trees (sym joined) ∙ sym gives)
+
+pub consed_else : (all ts : List Term) (last : Term) → all ≡ ts ++ last ∷ [] →
+    ((row : Trees) → last ≡ variants.List row → ⊥) → consed (trees all) ≡ exit_by (codes "not_in_profile")
+consed_else all ts last split no_list =
+    ap (λ us. consed (trees us)) split ∙ ap made_of (consed_row_else ts last no_list)

@@ -1,3 +1,4 @@
+pub mod Acts
 pub mod Bindings
 pub mod BuiltIns
 pub mod Evaluation

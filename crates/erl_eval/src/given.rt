@@ -4,9 +4,9 @@ ghost use Rattle.erl_term.specs.Ascii.{is_ascii_text};
 ghost use Rattle.erl_term.specs.Term.{tree};
 ghost use Rattle.erl_eval.specs.Given.{result_of};
 ghost use Rattle.erl_eval.specs.Operators.{truth};
-ghost use Rattle.erl_eval.specs.State.{exit_by, made};
+ghost use Rattle.erl_eval.specs.State.{exit_by, exit_by_pair, made};
 
-use erl_term::{Atom, Term};
+use erl_term::{Atom, Term, Terms};
 use std::alloc::{AllocError, Global};
 use std::marker::Model;
 use values::Duplicate;
@@ -27,7 +27,11 @@ pub enum Given {
 }
 
 /// An exit by a reason that is an atom.
-pub(crate) fn exit_by(alloc: Global, reason: &str) -> Result<Given, AllocError>
+///
+/// # Errors
+///
+/// `AllocError` where memory is refused.
+pub fn exit_by(alloc: Global, reason: &str) -> Result<Given, AllocError>
     requires ascii { IsTrue (is_ascii_text reason.now) }
     requires short { length reason.now ≤ 255 }
     ensures { IfOk result (λ it. result_of it ≡ exit_by reason.now) }
@@ -36,8 +40,28 @@ pub(crate) fn exit_by(alloc: Global, reason: &str) -> Result<Given, AllocError>
     Ok(Given::Exit(Term::Atom(reason)))
 }
 
+/// An exit by a reason `{Word,Term}`.
+///
+/// # Errors
+///
+/// `AllocError` where memory is refused.
+pub fn exit_by_pair(alloc: Global, word: &str, term: Term) -> Result<Given, AllocError>
+    requires ascii { IsTrue (is_ascii_text word.now) }
+    requires short { length word.now ≤ 255 }
+    ensures { IfOk result (λ it. result_of it ≡ exit_by_pair word.now (tree term)) }
+{
+    let mut pair = Vec::with_capacity(alloc, 2)?;
+    pair.push(Term::Atom(Atom::word(alloc, word)?))?;
+    pair.push(term)?;
+    Ok(Given::Exit(Term::Tuple(Terms::new(alloc, pair)?)))
+}
+
 /// A term that an expression makes, where it is within the limits: else a breach of them.
-pub(crate) fn made(alloc: Global, term: Term) -> Result<Given, AllocError>
+///
+/// # Errors
+///
+/// `AllocError` where memory is refused.
+pub fn made(alloc: Global, term: Term) -> Result<Given, AllocError>
     ensures { IfOk result (λ it. result_of it ≡ made (tree term)) }
 {
     if term.is_within(DEEPEST, LARGEST) {

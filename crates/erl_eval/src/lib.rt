@@ -55,8 +55,9 @@
 //! # What is proved
 //!
 //! [`operate`] gives what the rules say of an operator and the values of its operands, and [`call_built_in`] of a function
-//! that is built in and its arguments, but of those that start or name a process. [`match_pattern`] tells whether a term
-//! matches a pattern, and binds what the rules say.
+//! that is built in and its arguments, but of those that start or name a process; [`sends`] and [`does`] give what they do.
+//! [`match_pattern`] tells whether a term matches a pattern, and binds what the rules say. [`select`] selects the clause that
+//! the rules select, with what it binds, and counts the calls in guards; [`try_clause`] tries one clause.
 //!
 //! By the rules one result and one state come of an expression ([`expressions_have_one_result`]), and one outcome of a job
 //! and of a call from outside ([`evaluation_has_one_outcome`]). They give what is expected of small modules
@@ -66,11 +67,13 @@
 //!
 //! That there is memory, and what a call costs: `tl` shares what it holds with its list; what makes a tuple or a list costs its
 //! own elements, each by sharing, and the look at its depth and size costs the same whatever they are. Matching recurses as deep
-//! as the pattern is nested.
+//! as the pattern is nested, and a guard as deep as its expressions are.
 #![tactic(auto)]
 
+mod acts;
 mod built_ins;
 mod given;
+mod guards;
 mod matching;
 mod operators;
 
@@ -79,10 +82,12 @@ ghost use Rattle.erl_eval.specs.Examples.{CallsAreAdded, ZeroDividesNothing, Int
 ghost use Rattle.erl_eval.specs.Examples.{GuardsThatFailAreFalse, VariablesCompare, OtherMessagesAreDropped, StartStandsBeforeItsActs};
 ghost use Rattle.erl_eval.specs.Examples.{SendsBeforeItsReply, RestsWithItsArguments, StartsWithAName};
 
+pub use acts::{Act, Place, Receiver, does, reply_to, sends};
 pub use built_ins::call_built_in;
-pub use given::{Booleans, Given};
-pub use matching::{match_each, match_pattern};
-pub use operators::operate;
+pub use given::{Booleans, Given, exit_by, exit_by_pair, made};
+pub use guards::{MOST_CALLS, Selected, Setting, decisive, select, try_clause};
+pub use matching::{bound, match_each, match_pattern};
+pub use operators::{cons, operate, truth_of};
 
 /// One result comes of an expression, and one state is left behind.
 pub fn expressions_have_one_result()

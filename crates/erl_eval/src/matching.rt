@@ -12,8 +12,8 @@ use std::alloc::{AllocError, Global};
 use std::cmp::Ordering;
 use values::Duplicate;
 
-/// The term at a place of the bindings.
-fn bound<'a>(base: &'a [Term], fresh: &'a [Term], place: usize) -> Option<&'a Term>
+/// The term at a place of the bindings: of `base`, and of `fresh` behind it. Takes no memory.
+pub fn bound<'a>(base: &'a [Term], fresh: &'a [Term], place: usize) -> Option<&'a Term>
     ensures { MatchOption result (slice_get (bindings base.now fresh.now) place ≡ None)
         (λ t. slice_get (bindings base.now fresh.now) place ≡ Some (tree t.now)) }
 {

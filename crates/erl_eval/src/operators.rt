@@ -7,7 +7,7 @@ ghost use Rattle.erl_term.specs.Rows.{append_trees};
 ghost use Rattle.erl_eval.specs.Given.{result_of};
 ghost use Rattle.erl_eval.specs.State as state;
 ghost use Rattle.erl_forms.specs.declared.operation.Operator.TheVariants as operator;
-ghost use Rattle.erl_eval.specs.Operators.{truth, truth_of, of_one, of_two, operated, integer, holds_by};
+ghost use Rattle.erl_eval.specs.Operators.{truth, truth_of, of_one, of_two, operated, integer, holds_by, consed};
 
 use crate::given::{Booleans, Given, exit_by, made};
 use erl_forms::Operator;
@@ -16,8 +16,8 @@ use std::alloc::{AllocError, Global};
 use std::cmp::Ordering;
 use values::Duplicate;
 
-/// Whether a term is `true` or `false`; none where it is neither.
-pub(crate) fn truth_of(term: &Term) -> Option<bool>
+/// Whether a term is `true` or `false`; none where it is neither. Takes no memory.
+pub fn truth_of(term: &Term) -> Option<bool>
     ensures { result ≡ truth_of (tree term.now) }
 {
     let atom = term.as_atom()?;
@@ -159,6 +159,25 @@ fn joined(alloc: Global, front: &Terms, back: &Terms) -> Result<Terms, AllocErro
     extend_copies(alloc, &mut items, front)?;
     extend_copies(alloc, &mut items, back)?;
     Terms::new(alloc, items)
+}
+
+/// `[E1,..,En|E]`: the list of the values of `E1` to `En`, and behind them the elements of the list that `E` gives.
+///
+/// # Errors
+///
+/// `AllocError` where memory is refused.
+pub fn cons(alloc: Global, operands: Vec<Term>) -> Result<Given, AllocError>
+    ensures { IfOk result (λ it. result_of it ≡ consed (trees operands.items)) }
+{
+    let mut items = operands;
+    let Some(last) = items.pop() else {
+        return exit_by(alloc, "undef");
+    };
+    let Term::List(row) = last else {
+        return exit_by(alloc, "not_in_profile");
+    };
+    extend_copies(alloc, &mut items, row.as_slice())?;
+    made(alloc, Term::List(Terms::new(alloc, items)?))
 }
 
 /// Copies of terms, behind the terms that are there.

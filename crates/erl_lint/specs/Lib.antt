@@ -1,0 +1,4 @@
+pub mod First
+pub mod Scopes
+pub mod Keys
+pub mod Faults

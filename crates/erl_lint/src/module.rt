@@ -1,0 +1,144 @@
+// The first fault of a module.
+ghost use Rattle.std.specs.Prelude.{◌≡◌, [], IfOk, OnOk};
+ghost use Rattle.erl_lint.specs.First.{soonest, IsFirstFault};
+ghost use Rattle.erl_lint.specs.Faults.{faults_in_function, faults_in_loop, export_faults, exports_faults, faults_in_form, faults_in_forms, faults_of};
+
+use crate::binding::bind_patterns;
+use crate::fault::{StaticFault, sooner};
+use crate::functions::{Functions, has, note_functions};
+use crate::scope::Scope;
+use crate::walk::{First, first_in_clause, first_in_clauses, first_in_guards};
+use erl_syntax::{Exported, FormTree, FunctionClause, LoopTree, ModuleTree};
+use indexmap::IndexSet;
+use std::alloc::{AllocError, Global};
+use std::hash::RandomState;
+
+/// The static fault of a module that stands first in its source; none where it has none.
+///
+/// Names are hashed by `hashing`. Takes time for each part of the module, and what an expression binds is looked for once
+/// more in each body, block, subject of a `case` and side of `andalso` or `orelse` that it stands in. Takes memory for each
+/// function, and for each variable that is bound at one place. Recurses as deep as the trees are nested.
+///
+/// # Errors
+///
+/// `AllocError` where memory is refused.
+pub fn first_fault(
+    alloc: Global,
+    hashing: RandomState,
+    module: &ModuleTree,
+) -> Result<Option<StaticFault>, AllocError>
+    ensures { IfOk result (λ found. IsFirstFault found (faults_of «module».now)) }
+{
+    first_of_all(alloc, hashing, module)
+}
+
+/// The static fault of a module that stands first, by going over all of them.
+fn first_of_all(
+    alloc: Global,
+    hashing: RandomState,
+    module: &ModuleTree,
+) -> Result<Option<StaticFault>, AllocError>
+    ensures { IfOk result (λ found. found ≡ soonest None (faults_of «module».now)) }
+{
+    let forms = module.forms.as_slice();
+    let mut functions = IndexSet::with_hasher(alloc, hashing);
+    let found = note_functions(alloc, forms, &mut functions, None)?;
+    let mut scope = Scope::new(alloc, hashing);
+    first_in_forms(&functions, forms, &mut scope, found)
+}
+
+/// The first fault with those of forms.
+fn first_in_forms(
+    functions: &Functions,
+    forms: &[FormTree],
+    scope: &mut Scope,
+    first: First,
+) -> Result<First, AllocError>
+    requires { scope.old ≡ [] }
+    ensures { IfOk result (λ r. r ≡ soonest first (faults_in_forms functions.now.keys forms.now)) }
+{
+    let mut found = first;
+    for form in forms {
+        found = first_in_form(functions, form, scope, found)?;
+    }
+    Ok(found)
+}
+
+/// The first fault with those of a form.
+fn first_in_form(
+    functions: &Functions,
+    form: &FormTree,
+    scope: &mut Scope,
+    first: First,
+) -> Result<First, AllocError>
+    requires { scope.old ≡ [] }
+    ensures found { IfOk result (λ r. r ≡ soonest first (faults_in_form functions.now.keys form.now)) }
+    ensures kept { OnOk result (scope.new ≡ []) }
+{
+    match form {
+        FormTree::Export(entries) => Ok(first_in_exports(functions, entries.as_slice(), first)),
+        FormTree::Function(function) => {
+            first_in_function(functions, function.clauses.as_slice(), scope, first)
+        }
+        FormTree::Loop(function) => first_in_loop(functions, function, scope, first),
+        _ => Ok(first),
+    }
+}
+
+/// The first fault with those of the entries of an `-export`.
+fn first_in_exports(functions: &Functions, entries: &[Exported], first: First) -> First
+    ensures { result ≡ soonest first (exports_faults functions.now.keys entries.now) }
+{
+    let mut found = first;
+    for entry in entries {
+        found = first_in_export(functions, entry, found);
+    }
+    found
+}
+
+/// The first fault with that of an entry of an `-export`: a function that the module hasn't.
+fn first_in_export(functions: &Functions, entry: &Exported, first: First) -> First
+    ensures { result ≡ soonest first (export_faults functions.now.keys entry.now) }
+{
+    if has(functions, &entry.function.name, entry.arity as usize) {
+        first
+    } else {
+        sooner(first, StaticFault::UndefinedLocal(entry.function.at))
+    }
+}
+
+/// The first fault with those of a function.
+fn first_in_function(
+    functions: &Functions,
+    clauses: &[FunctionClause],
+    scope: &mut Scope,
+    first: First,
+) -> Result<First, AllocError>
+    requires { scope.old ≡ [] }
+    ensures found { IfOk result (λ r. r ≡ soonest first (faults_in_function functions.now.keys clauses.now)) }
+    ensures kept { OnOk result (scope.new ≡ []) }
+{
+    let mut found = first;
+    for clause in clauses {
+        found = first_in_clause(functions, &clause.clause, scope, found)?;
+    }
+    Ok(found)
+}
+
+/// The first fault with those of a loop function.
+fn first_in_loop(
+    functions: &Functions,
+    function: &LoopTree,
+    scope: &mut Scope,
+    first: First,
+) -> Result<First, AllocError>
+    requires { scope.old ≡ [] }
+    ensures found { IfOk result (λ r. r ≡ soonest first (faults_in_loop functions.now.keys function.now)) }
+    ensures kept { OnOk result (scope.new ≡ []) }
+{
+    bind_patterns(function.patterns.as_slice(), scope)?;
+    let found = first_in_guards(functions, function.guard.as_slice(), scope, first)?;
+    let found = first_in_clauses(functions, function.receive.as_slice(), scope, found)?;
+    scope.keep_first(0);
+    Ok(found)
+}

@@ -1,0 +1,40 @@
+-- The callback isn't exported, or it is entered.
+use Rattle.std.proofs.Common.{◌≡◌, ap, ◌∙◌, map, option_map}
+use Rattle.std.specs.Option.{option_copied}
+use Rattle.erl_term.specs.Term.{tree, trees}
+use Rattle.erl_term.specs.Tree.{count}
+use Rattle.erl_forms.specs.Module.{exported_of}
+use Rattle.erl_eval.specs.Acts.{act_of}
+use Rattle.erl_eval.specs.Jobs.{Handles, arguments_of, callback_of, name_of, served, unexported}
+use Rattle.erl_machine.specs.Views.{callback, end_of, startup_of, instance, job_of, outcome_of, world_of}
+use Rattle.erl_machine.proofs.Finishing.{if_ok}
+use Rattle.erl_machine.proofs.Gives.{not_exported_by, handled_by}
+use Rattle.erl_machine.proofs.jobs.Job.handle.Goals as goal
+
+pub returns-in_default : goal.returns-in_default
+returns-in_default c = if_ok
+    (λ it. outcome_of it ≡ unexported c.args.module_name.now (tree c.args.state.now) (callback c.callback_of-callback.result))
+    (λ it. Handles (job_of c.args.self.now) c.args.module_name.now (tree c.args.state.now) (callback_of (tree c.args.self.now.message))
+    (exported_of (name_of (callback_of (tree c.args.self.now.message))) (count (arguments_of (callback_of (tree c.args.self.now.message))
+    (tree c.args.state.now))) c.args.item.now.«module») (instance c.args.item.now) (outcome_of it)) c.unexported.result
+    (λ it is. not_exported_by (job_of c.args.self.now) (instance c.args.item.now) c.args.module_name.now (tree c.args.state.now)
+    (callback_of (tree c.args.self.now.message)) (callback c.callback_of-callback.result) (option_copied c.exported.result) c.in_ok-name.name
+    (trees c.in_ok-arguments.arguments.items) c.in_ok-arity.arity c.callback_of-callback.ensures c.in_ok-name.ensures c.in_ok-arguments.ensures
+    (c.in_ok-arity.ensures ∙ ap (λ ts. count (trees ts)) c.as_slice.ensures.value) c.exported.ensures
+    (outcome_of it) (ap option_copied c.in_default.is) is) c.unexported.ensures
+
+pub returns : goal.returns
+returns c = if_ok
+    (λ it. outcome_of it ≡ served c.args.module_name.now (callback c.callback_of-callback.result) (map act_of c.new.result)
+    (end_of c.in_ok-ended.ended.end))
+    (λ it. Handles (job_of c.args.self.now) c.args.module_name.now (tree c.args.state.now) (callback_of (tree c.args.self.now.message))
+    (exported_of (name_of (callback_of (tree c.args.self.now.message))) (count (arguments_of (callback_of (tree c.args.self.now.message))
+    (tree c.args.state.now))) c.args.item.now.«module») (instance c.args.item.now) (outcome_of it)) c.serve.result
+    (λ it is. handled_by (job_of c.args.self.now) (instance c.args.item.now) c.args.module_name.now (tree c.args.state.now)
+    (callback_of (tree c.args.self.now.message)) (callback c.callback_of-callback.result) (option_copied c.exported.result) c.in_ok-name.name
+    (trees c.in_ok-arguments.arguments.items) c.in_ok-arity.arity c.callback_of-callback.ensures c.in_ok-name.ensures c.in_ok-arguments.ensures
+    (c.in_ok-arity.ensures ∙ ap (λ ts. count (trees ts)) c.as_slice.ensures.value) c.exported.ensures
+    (world_of c.args.world.now) c.in-Some.function.now (map act_of c.in_ok-ended.ended.acts.items) (option_map startup_of c.in_ok-ended.ended.startup) (end_of c.in_ok-ended.ended.end) (outcome_of it) c.requires
+    (ap option_copied c.in-Some.is) c.in_ok-ended.ensures
+    (is ∙ ap (λ acts. served c.args.module_name.now (callback c.callback_of-callback.result) (map act_of acts) (end_of c.in_ok-ended.ended.end))
+    c.new.ensures)) c.serve.ensures

@@ -1,0 +1,4 @@
+pub mod Leading
+pub mod Machine
+pub mod Tags
+pub mod Views

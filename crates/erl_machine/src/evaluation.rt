@@ -1,0 +1,216 @@
+// Evaluating to the end.
+ghost use Rattle.std.specs.Prelude.{◌≡◌, ◌++◌, ℕ, IfOk, OnOk, None, Some, map, option_map, []};
+ghost use Rattle.erl_term.specs.Term.{tree, trees};
+ghost use Rattle.erl_eval.specs.Acts as told_as;
+ghost use Rattle.erl_eval.specs.Acts.{act_of};
+ghost use Rattle.erl_eval.specs.State.{all_acts, named_by};
+ghost use Rattle.erl_eval.specs.Jobs.{Evaluates, fresh, nowhere, outermost};
+ghost use Rattle.erl_machine.specs.Leading.{BodyComes, CallComes, Comes, ComesOf};
+ghost use Rattle.erl_machine.specs.Views.{control_of, end_of, instance, machine_of, outcome_of, startup_of, world_of};
+
+use crate::machine::{Control, End, Machine, Startup};
+use crate::stack::{Activation, Stack};
+use crate::steps::arity_of;
+use crate::world::{Callee, Instance, World, remote_function};
+use erl_eval::{Act, Place};
+use erl_forms::Expressions;
+use erl_term::{Atom, Term};
+use std::alloc::{AllocError, Global};
+use values::Row;
+
+/// What was evaluated.
+#[derive(Drop)]
+pub struct Outcome {
+    /// What was done, in order.
+    pub acts: Row<Act>,
+    /// What it ended in.
+    pub end: End,
+}
+
+/// What evaluating left behind.
+#[derive(Drop)]
+pub struct Ended {
+    /// What was done, in order.
+    pub acts: Vec<Act>,
+    /// The process that was started, if one was.
+    pub startup: Option<Startup>,
+    /// What it ended in.
+    pub end: End,
+}
+
+impl<'a> Machine<'a> {
+    /// A machine that does nothing yet, in the outermost call.
+    fn new(alloc: Global, item: &'a Instance, may_rest: bool) -> Machine<'a>
+        ensures { machine_of result ≡ record { activation = outermost (instance item.now) may_rest; frames = []; state = fresh } }
+    {
+        Machine {
+            activation: Activation {
+                instance: item,
+                nesting: 0,
+                may_rest,
+            },
+            bindings: Vec::new(alloc),
+            calls: 0,
+            acts: Vec::new(alloc),
+            startup: None,
+            frames: Stack::new(alloc),
+        }
+    }
+
+    /// Makes steps, to the end.
+    fn finish(mut self, world: &World<'a>, control: Control<'a>) -> Result<Ended, AllocError>
+        ensures { IfOk result (λ it. (calls : ℕ) × Comes (world_of world.now) (control_of control.entry) (machine_of self.entry) (end_of it.end, record { bindings = []; calls = calls; acts = map act_of it.acts.items; startup = option_map startup_of it.startup })) }
+    {
+        let mut next = control;
+        for _ in 0..u64::MAX {
+            match next {
+                Control::End(end) => {
+                    return Ok(Ended {
+                        acts: self.acts,
+                        startup: self.startup,
+                        end,
+                    });
+                }
+                next_step => next = self.step(world, next_step)?,
+            }
+        }
+        Err(AllocError)
+    }
+}
+
+/// Calls a function of an instance in the outermost call, and evaluates it to its end.
+pub fn call_outermost<'a>(
+    world: &World<'a>,
+    name: &Atom,
+    callee: &Callee<'a>,
+    arguments: Vec<Term>,
+) -> Result<Ended, AllocError>
+    ensures { IfOk result (λ it. ComesOf (world_of world.now) (instance callee.now.instance.now) name.now callee.now.function.now (trees arguments.items) (map act_of it.acts.items) (option_map startup_of it.startup) (end_of it.end)) }
+{
+    let mut machine = Machine::new(world.setting.alloc, callee.instance, false);
+    let next = machine.enter(world, name, &callee.function.definition, arguments)?;
+    machine.finish(world, next)
+}
+
+/// Evaluates a body in the outermost call to its end, where this is bound and so many calls were made.
+pub fn run_outermost<'a>(
+    world: &World<'a>,
+    item: &'a Instance,
+    bindings: Vec<Term>,
+    calls: u32,
+    body: &'a Expressions,
+) -> Result<Ended, AllocError>
+    ensures { IfOk result (λ it. BodyComes (world_of world.now) (instance item.now) (map tree bindings.items) calls body.now (map act_of it.acts.items) (end_of it.end)) }
+{
+    let mut machine = Machine::new(world.setting.alloc, item, true);
+    machine.bindings = bindings;
+    machine.calls = calls;
+    machine.finish(world, Control::Run(body.as_slice()))
+}
+
+/// Acts with the start of a process and its name, before the acts of what was started.
+fn with_start(
+    acts: Vec<Act>,
+    before: usize,
+    place: Place,
+    registered: Option<(Atom, bool)>,
+) -> Result<Vec<Act>, AllocError>
+    ensures { IfOk result (λ it. map act_of it.items ≡ all_acts (Some (record { before = before; registered = registered; place = Some (told_as.place place) })) (map act_of acts.items)) }
+{
+    let mut all = acts;
+    let count = all.len().min(before);
+    let mut rest = all.split_off(count)?;
+    all.push(Act::Start { place })?;
+    push_name(&mut all, registered)?;
+    all.append(&mut rest)?;
+    Ok(all)
+}
+
+/// The act of a name, if there is one, behind acts.
+fn push_name(acts: &mut Vec<Act>, registered: Option<(Atom, bool)>) -> Result<(), AllocError>
+    ensures { OnOk result (map act_of acts.new.items ≡ map act_of acts.old.items ++ named_by registered) }
+{
+    match registered {
+        Some((name, by_register)) => {
+            acts.push(Act::Name { name, by_register })?;
+            Ok(())
+        }
+        None => Ok(()),
+    }
+}
+
+/// All acts in order, those of a start too.
+#[tactic(auto, using(crate::proofs::Finishing::told_none))]
+fn all_acts(acts: Vec<Act>, startup: Option<Startup>) -> Result<Vec<Act>, AllocError>
+    ensures { IfOk result (λ it. map act_of it.items ≡ all_acts (option_map startup_of startup) (map act_of acts.items)) }
+{
+    let Some(startup) = startup else {
+        return Ok(acts);
+    };
+    let Startup {
+        before,
+        registered,
+        place,
+    } = startup;
+    match place {
+        Some(place) => with_start(acts, before, place, registered),
+        None => Ok(acts),
+    }
+}
+
+/// What is told of what was left behind.
+fn told(ended: Ended) -> Result<Outcome, AllocError>
+    ensures { IfOk result (λ it. outcome_of it ≡ record { acts = all_acts (option_map startup_of ended.startup) (map act_of ended.acts.items); ended = end_of ended.end }) }
+{
+    let Ended { acts, startup, end } = ended;
+    let acts = all_acts(acts, startup)?;
+    Ok(Outcome {
+        acts: Row::new(acts),
+        end,
+    })
+}
+
+/// What a function that was called gives.
+fn call<'a>(
+    world: &World<'a>,
+    name: &Atom,
+    callee: &Callee<'a>,
+    arguments: Vec<Term>,
+) -> Result<Outcome, AllocError>
+    ensures { IfOk result (λ it. CallComes (world_of world.now) (instance callee.now.instance.now) name.now callee.now.function.now (trees arguments.items) (outcome_of it)) }
+{
+    let ended = call_outermost(world, name, callee, arguments)?;
+    told(ended)
+}
+
+/// What the call `module_name:name(arguments)` gives, from outside of all modules, as a start function, `init`, `code_change` or
+/// `apply`, in either mode: the function has to be exported by the module's current code.
+///
+/// # Errors
+///
+/// `AllocError` where memory is refused, and where a step has no number.
+pub fn evaluate(
+    world: &World<'_>,
+    module_name: &Atom,
+    name: &Atom,
+    arguments: Vec<Term>,
+) -> Result<Outcome, AllocError>
+    ensures { IfOk result (λ it. Evaluates (world_of world.now) module_name.now name.now (trees arguments.items) (outcome_of it)) }
+{
+    let arity = arity_of(arguments.as_slice())?;
+    match remote_function(world, module_name, name, arity) {
+        Some(callee) => call(world, name, &callee, arguments),
+        None => undefined(world.setting.alloc),
+    }
+}
+
+/// An exit with `undef`, where nothing was done.
+pub fn undefined(alloc: Global) -> Result<Outcome, AllocError>
+    ensures { IfOk result (λ it. outcome_of it ≡ nowhere) }
+{
+    let reason = Term::Atom(Atom::word(alloc, "undef")?);
+    Ok(Outcome {
+        acts: Row::new(Vec::new(alloc)),
+        end: End::Exit(reason),
+    })
+}
