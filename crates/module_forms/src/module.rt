@@ -1,8 +1,9 @@
 // Whole modules.
-ghost use Rattle.std.specs.Prelude.{◌≡◌, IfOk, MatchResult, Some, None};
-ghost use Rattle.erl_syntax.specs.Forms.{Attribute, attribute as attribute_in, is_among, unsupported_names};
+ghost use Rattle.std.specs.Prelude.{◌≡◌, ⊤, IfOk, MatchResult, Some, None};
+ghost use Rattle.erl_syntax.specs.Forms.{Attribute, attribute as attribute_in, is_among, unsupported_names, IsModule, OneModule};
+ghost use Rattle.erl_syntax.specs.declared.form.ModuleTree.{ModuleTree};
 ghost use Rattle.erl_syntax.specs.Terminal.{terminals};
-ghost use Rattle.module_forms.specs.FormReading.{form as form_in, module_head as head_in, by_attribute, whole_module, all_forms, is_end as is_end_in};
+ghost use Rattle.module_forms.specs.FormReading.{form as form_in, module_head as head_in, by_attribute, whole_module as whole_in, all_forms, is_end as is_end_in};
 
 use crate::attributes::{after_dot, exported, versioned};
 use crate::functions::function;
@@ -15,16 +16,36 @@ use erl_term::Atom;
 use std::alloc::{AllocError, Global};
 use values::Row;
 
-/// Reads the tokens of a whole source as the module that they are.
+/// Reads the tokens of a whole source as the module that they are: `-module` first, and then its other forms.
+///
+/// Trees nest at most 256 deep, the clauses of a `receive` at most 255. Recurses as deep. Takes time and memory for each token.
 ///
 /// # Errors
 ///
 /// `AllocError` where memory is refused; a [`Refusal`] inside where the tokens are no module.
-#[tactic(auto, unfolding(crate::specs::FormReading::whole_module))]
+#[tactic(auto, using(crate::proofs::Modules::is_module, crate::proofs::Modules::none_read))]
 pub fn read_forms(alloc: Global, tokens: &[Spot]) -> Result<Result<ModuleTree, Refusal>, AllocError>
+    ensures found { IfOk result (λ answer. MatchResult answer (λ m. IsModule (terminals tokens.now) m) (λ _. ⊤)) }
+    ensures refused { IfOk result (λ answer. MatchResult answer (λ _. ⊤)
+        (λ _. (m : ModuleTree) → IsModule (terminals tokens.now) m → ⊥)) }
+{
+    match whole_module(alloc, tokens)? {
+        Ok(whole) => Ok(Ok(whole)),
+        Err(refusal) => Ok(Err(refusal)),
+    }
+}
+
+/// Tokens are one module.
+pub fn modules_read_one_way()
+    ensures { OneModule }
+{}
+
+/// The module that tokens are.
+#[tactic(auto, unfolding(crate::specs::FormReading::whole_module))]
+fn whole_module(alloc: Global, tokens: &[Spot]) -> Result<Result<ModuleTree, Refusal>, AllocError>
     ensures { IfOk result (λ answer. MatchResult answer
-        (λ m. whole_module (terminals tokens.now) ≡ Some m)
-        (λ _. whole_module (terminals tokens.now) ≡ None)) }
+        (λ m. whole_in (terminals tokens.now) ≡ Some m)
+        (λ _. whole_in (terminals tokens.now) ≡ None)) }
 {
     let (name, rest) = match module_head(alloc, tokens)? {
         Ok(found) => found,
