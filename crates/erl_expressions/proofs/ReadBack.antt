@@ -93,7 +93,7 @@ leaf_read_whole l rest is = ap (λ b. if b then found (leaf l) rest else None) i
 
 -- Nodes
 
-if_true : {A : Type 0} (b : Bool) (o : Option A) → IsTrue b → (if b then o else None) ≡ o
+pub if_true : {A : Type 0} (b : Bool) (o : Option A) → IsTrue b → (if b then o else None) ≡ o
 if_true true o is = refl
 if_true false o is = absurd (true≢false (sym is))
 
@@ -264,7 +264,7 @@ begins_first infixes.Send t u is = is
 begins_first infixes.Match t u is = is
 
 module _ (p : Reader) (n : ℕ) (whole : Whole p n) where
-  parts_whole : (role : Role) (most : ℕ) (close : Delimiter) (us : Trees) (rest : List Terminal) → AreWell role most most us →
+  pub parts_whole : (role : Role) (most : ℕ) (close : Delimiter) (us : Trees) (rest : List Terminal) → AreWell role most most us →
       trees_depth us ≤ n → after Comma (delimiter close ∷ rest) ≡ None →
       parts (p role most) close (row_written us (delimiter close ∷ rest)) ≡ Some (us, rest)
   unfolding parts

@@ -84,7 +84,7 @@ pub parts_of_bracket : (shape : Shape) → ((us : Trees) → before_part shape u
 parts_of_bracket shape commas none rest = refl
 parts_of_bracket shape commas (more t ts) rest = ap (λ us. written t us) (others_of_bracket shape commas ts rest)
 
-record AreParts (role : Role) (most levels : ℕ) (close : Delimiter) (ts : List Terminal) (us : Trees) (rest : List Terminal) : Type 0 where
+pub record AreParts (role : Role) (most levels : ℕ) (close : Delimiter) (ts : List Terminal) (us : Trees) (rest : List Terminal) : Type 0 where
   pub are_written : ts ≡ row_written us (delimiter close ∷ rest)
   pub are_well : AreWell role most most us
   pub are_deep : trees_depth us ≤ levels
@@ -119,7 +119,7 @@ module _ (p : Reader) (n : ℕ) (sound : Sound p n) where
         are_deep = found.are_deep;
       })
 
-  parts_sound : (role : Role) (most : ℕ) → 1 ≤ most → (close : Delimiter) (ts : List Terminal) (us : Trees) (rest : List Terminal) →
+  pub parts_sound : (role : Role) (most : ℕ) → 1 ≤ most → (close : Delimiter) (ts : List Terminal) (us : Trees) (rest : List Terminal) →
       parts (p role most) close ts ≡ Some (us, rest) → AreParts role most n close ts us rest
   unfolding parts
   parts_sound role most room close ts us rest is = parts_by_sound role most room close ts (after close ts) us rest refl is

@@ -25,7 +25,7 @@ module _ {A B : Type 0} (d : Delimiter) (n i : ℕ) (read : List Terminal → Fo
   twice None x = refl
   twice (Some f) x = refl
 
-  things_more : (x : A) (rest more : List Terminal) → i < n → read ts ≡ Some (x, rest) → after d rest ≡ Some more →
+  pub things_more : (x : A) (rest more : List Terminal) → i < n → read ts ≡ Some (x, rest) → after d rest ≡ Some more →
       and_then (separated d (n - i) read ts) go ≡ and_then (separated d (n - (i + 1)) read more) (λ f. go (x ∷ f.0, f.1))
   things_more x rest more within found others =
       ap (λ k. and_then (separated d k read ts) go) (left n i within) ∙
@@ -33,19 +33,19 @@ module _ {A B : Type 0} (d : Delimiter) (n i : ℕ) (read : List Terminal → Fo
       ap (λ o. and_then (other_things (x, rest) o (separated d (n - (i + 1)) read)) go) others ∙
       twice (separated d (n - (i + 1)) read more) x
 
-  things_last : (x : A) (rest : List Terminal) → i < n → read ts ≡ Some (x, rest) → after d rest ≡ None →
+  pub things_last : (x : A) (rest : List Terminal) → i < n → read ts ≡ Some (x, rest) → after d rest ≡ None →
       and_then (separated d (n - i) read ts) go ≡ go (x ∷ [], rest)
   things_last x rest within found others =
       ap (λ k. and_then (separated d k read ts) go) (left n i within) ∙
       ap (λ o. and_then (and_then o (λ f. other_things f (after d f.1) (separated d (n - (i + 1)) read))) go) found ∙
       ap (λ o. and_then (other_things (x, rest) o (separated d (n - (i + 1)) read)) go) others
 
-  things_not : i < n → read ts ≡ None → and_then (separated d (n - i) read ts) go ≡ None
+  pub things_not : i < n → read ts ≡ None → and_then (separated d (n - i) read ts) go ≡ None
   things_not within found =
       ap (λ k. and_then (separated d k read ts) go) (left n i within) ∙
       ap (λ o. and_then (and_then o (λ f. other_things f (after d f.1) (separated d (n - (i + 1)) read))) go) found
 
-  things_out : n ≤ i → and_then (separated d (n - i) read ts) go ≡ None
+  pub things_out : n ≤ i → and_then (separated d (n - i) read ts) go ≡ None
   things_out is = ap (λ k. and_then (separated d k read ts) go) (past n i is)
 
 -- trees with commas between them

@@ -74,7 +74,7 @@ module _ (p : Reader) (n : ℕ) (whole : Whole p n) where
       (omega (arith, many_guards us gs (mark marks.Arrow ∷ rest), own_row us (other_guards_written gs (mark marks.Arrow ∷ rest)) well.0 well.1)) refl) ∙
       ap (λ hs. guards_found hs (mark marks.Arrow ∷ rest)) (guards_of-with_guards no_guards (us ∷ list_of_guards gs) ∙ list_and_guards (guard us gs))
 
-  guarded_whole : (gs : Guards) (rest : List Terminal) → AreWellGuards gs → guards_depth gs ≤ n →
+  pub guarded_whole : (gs : Guards) (rest : List Terminal) → AreWellGuards gs → guards_depth gs ≤ n →
       guarded p (guards_written gs (mark marks.Arrow ∷ rest)) ≡ Some (gs, mark marks.Arrow ∷ rest)
   unfolding guarded
   guarded_whole no_guards rest well deep = refl

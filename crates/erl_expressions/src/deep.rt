@@ -213,6 +213,14 @@ impl DeepRow {
         Ok(())
     }
 
+    /// The trees.
+    pub(crate) fn into_trees(self) -> SyntaxTrees
+        ensures { result ≡ self }
+    {
+        let DeepRow { items, depth: _ } = self;
+        SyntaxTrees::new(items)
+    }
+
     /// Whether a node may begin with the row's first tree, the tree's level aside.
     pub(crate) fn may_begin(&self, shape: &Shape) -> bool
         ensures { result ≡ begins_in shape.now self.now }
@@ -240,6 +248,17 @@ impl DeepGuards {
         }
     }
 
+    /// The guards.
+    pub(crate) fn into_trees(self) -> GuardTrees
+        ensures { result ≡ self }
+    {
+        let DeepGuards {
+            alternatives,
+            depth: _,
+        } = self;
+        GuardTrees::new(alternatives)
+    }
+
     /// Puts a guard behind the others.
     #[tactic(auto, using(crate::proofs::Rows::guards_push, crate::proofs::Rows::guards_depth_push))]
     pub(crate) fn push(&mut self, tests: DeepRow) -> Result<(), AllocError>
@@ -261,6 +280,14 @@ impl DeepClauses {
             clauses: Vec::new(alloc),
             depth: 0,
         }
+    }
+
+    /// The clauses.
+    pub(crate) fn into_trees(self) -> ClauseTrees
+        ensures { result ≡ self }
+    {
+        let DeepClauses { clauses, depth: _ } = self;
+        ClauseTrees::new(clauses)
     }
 
     /// Puts a clause behind the others.

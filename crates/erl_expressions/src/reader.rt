@@ -3,8 +3,8 @@ ghost use Rattle.std.specs.Prelude.{◌≡◌, IfOk, MatchResult, Some, None};
 ghost use Rattle.erl_syntax.specs.Terminal.{terminals};
 ghost use Rattle.erl_expressions.specs.Reading.{read as read_in};
 
-mod brackets;
-mod clauses;
+pub(crate) mod brackets;
+pub(crate) mod clauses;
 mod operands;
 
 use crate::deep::Deep;

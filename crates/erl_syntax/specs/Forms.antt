@@ -189,3 +189,7 @@ AreForms (f ∷ fs) ts = (rest : List Terminal) × BeginsForm f ts rest × AreFo
 -- Tokens are a module: `-module` first, and then its other forms.
 abbrev pub IsModule : List Terminal → ModuleTree → Type 0
 IsModule ts m = (word_at : ℕ) × (rest : List Terminal) × (ts ≡ module_written m.name.name m.name.at word_at rest) × AreForms m.forms rest
+
+-- The law: tokens are one module.
+abbrev pub OneModule : Type 0
+OneModule = (ts : List Terminal) → (m n : ModuleTree) → IsModule ts m → IsModule ts n → m ≡ n

@@ -20,7 +20,7 @@ use std::alloc::Global;
 /// Trees with commas between them.
 #[cycle(reading)]
 #[tactic(auto, using(crate::proofs::Things::row_begins, crate::proofs::Things::row_more, crate::proofs::Things::row_last, crate::proofs::Things::row_not, crate::proofs::Things::row_out))]
-pub(super) fn row<'a>(
+pub(crate) fn row<'a>(
     alloc: Global,
     levels: u32,
     role: Role,
@@ -52,7 +52,7 @@ pub(super) fn row<'a>(
 /// Parts up to a closing bracket, which may be none.
 #[cycle(reading)]
 #[tactic(auto, unfolding(crate::specs::Reading::parts))]
-fn parts<'a>(
+pub(crate) fn parts<'a>(
     alloc: Global,
     levels: u32,
     role: Role,

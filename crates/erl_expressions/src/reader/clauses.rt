@@ -17,7 +17,7 @@ use std::alloc::Global;
 /// A guard sequence, if there is one.
 #[cycle(reading)]
 #[tactic(auto, unfolding(crate::specs::Reading::guarded))]
-fn guarded<'a>(alloc: Global, levels: u32, tokens: &'a [Spot]) -> Reading<'a, DeepGuards>
+pub(crate) fn guarded<'a>(alloc: Global, levels: u32, tokens: &'a [Spot]) -> Reading<'a, DeepGuards>
     ensures { IfOk result (λ answer. MatchResult answer
         (λ f. guarded_in (read_in levels) (terminals tokens.now) ≡ Some (f.0, terminals f.1.now))
         (λ _. guarded_in (read_in levels) (terminals tokens.now) ≡ None)) }
@@ -96,7 +96,7 @@ fn one_clause<'a>(alloc: Global, levels: u32, tokens: &'a [Spot]) -> Reading<'a,
 /// Clauses of a `case` or of a `receive`, up to the word behind them.
 #[cycle(reading)]
 #[tactic(auto, using(crate::proofs::Things::clauses_begin, crate::proofs::Things::clauses_more, crate::proofs::Things::clauses_last, crate::proofs::Things::clauses_not, crate::proofs::Things::clauses_out))]
-pub(super) fn clauses_to_end<'a>(
+pub(crate) fn clauses_to_end<'a>(
     alloc: Global,
     levels: u32,
     tokens: &'a [Spot],

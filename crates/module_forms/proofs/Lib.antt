@@ -1,0 +1,5 @@
+pub mod Rows
+pub mod Terms
+pub mod Sound
+pub mod ReadBack
+pub mod Modules

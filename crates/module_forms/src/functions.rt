@@ -1,0 +1,235 @@
+// Functions of a module.
+ghost use Rattle.std.specs.Prelude.{◌≡◌, IfOk, MatchResult, Some, None};
+ghost use Rattle.erl_syntax.specs.Terminal.{terminals};
+ghost use Rattle.module_forms.specs.FormReading.{head as head_in, front as front_in, one_clause as one_clause_in};
+ghost use Rattle.module_forms.specs.FormReading.{clause_like as like_in, function_from as from_in, looped as looped_in};
+ghost use Rattle.module_forms.specs.FormReading.{function as function_in, ended as ended_in, clause_of as clause_in};
+ghost use Rattle.erl_syntax.specs.Tree.{tree_count};
+
+use crate::opening::{Opening, behind};
+use crate::tokens::{expected, named_ahead};
+use erl_expressions::{
+    Delimiter, Reading, Refusal, after, read_body, read_clauses, read_guard, read_patterns,
+};
+use erl_scan::Spot;
+use erl_syntax::{
+    ClauseTree, FormTree, FunctionClause, FunctionTree, GuardTrees, LoopTree, Named, SyntaxTrees,
+};
+use erl_term::Atom;
+use std::alloc::Global;
+use values::Row;
+
+/// What stands before the body of a clause, its name aside: patterns, and a guard sequence.
+#[derive(Drop)]
+struct ClauseFront {
+    patterns: SyntaxTrees,
+    guard: GuardTrees,
+}
+
+/// The patterns of a clause, behind its name.
+fn head<'a>(alloc: Global, tokens: &'a [Spot]) -> Reading<'a, SyntaxTrees>
+    ensures { IfOk result (λ answer. MatchResult answer
+        (λ f. head_in (terminals tokens.now) ≡ Some (f.0, terminals f.1.now))
+        (λ _. head_in (terminals tokens.now) ≡ None)) }
+{
+    match expected(Opening::OpenParen, tokens) {
+        Ok(rest) => match read_patterns(alloc, 256, rest)? {
+            Ok(found) => Ok(Ok(found)),
+            Err(refusal) => Ok(Err(refusal.within(crate::attributes::first_byte(tokens)))),
+        },
+        Err(refusal) => Ok(Err(refusal)),
+    }
+}
+
+/// The patterns of a clause, its guard sequence and the arrow, behind its name.
+#[tactic(auto, unfolding(crate::specs::FormReading::front))]
+fn front<'a>(alloc: Global, tokens: &'a [Spot]) -> Reading<'a, ClauseFront>
+    ensures { IfOk result (λ answer. MatchResult answer
+        (λ f. front_in (terminals tokens.now) ≡ Some ((f.0.patterns, f.0.guard), terminals f.1.now))
+        (λ _. front_in (terminals tokens.now) ≡ None)) }
+{
+    let (patterns, rest) = match head(alloc, tokens)? {
+        Ok(found) => found,
+        Err(refusal) => return Ok(Err(refusal)),
+    };
+    let (guard, rest) = match read_guard(alloc, 256, rest)? {
+        Ok(found) => found,
+        Err(refusal) => return Ok(Err(refusal)),
+    };
+    match after(Delimiter::Arrow, rest) {
+        Some(behind) => Ok(Ok((ClauseFront { patterns, guard }, behind))),
+        None => Ok(Err(Refusal::behind(rest))),
+    }
+}
+
+/// A clause, behind its name, which stands at a byte.
+#[tactic(auto, unfolding(crate::specs::FormReading::one_clause))]
+fn one_clause<'a>(alloc: Global, at: usize, tokens: &'a [Spot]) -> Reading<'a, FunctionClause>
+    ensures { IfOk result (λ answer. MatchResult answer
+        (λ f. one_clause_in at (terminals tokens.now) ≡ Some (f.0, terminals f.1.now))
+        (λ _. one_clause_in at (terminals tokens.now) ≡ None)) }
+{
+    let (front, rest) = match front(alloc, tokens)? {
+        Ok(found) => found,
+        Err(refusal) => return Ok(Err(refusal)),
+    };
+    match read_body(alloc, 256, rest)? {
+        Ok((body, behind)) => Ok(Ok((clause_of(at, front, body), behind))),
+        Err(refusal) => Ok(Err(refusal)),
+    }
+}
+
+/// A clause of these parts.
+fn clause_of(at: usize, front: ClauseFront, body: SyntaxTrees) -> FunctionClause
+    ensures { result ≡ clause_in at front.patterns front.guard body }
+{
+    let ClauseFront { patterns, guard } = front;
+    FunctionClause {
+        at,
+        clause: ClauseTree {
+            patterns,
+            guard,
+            body,
+        },
+    }
+}
+
+/// A clause of a function of this name and so many arguments.
+#[tactic(auto, unfolding(crate::specs::FormReading::clause_like))]
+fn clause_like<'a>(
+    alloc: Global,
+    name: &Atom,
+    arity: usize,
+    tokens: &'a [Spot],
+) -> Reading<'a, FunctionClause>
+    ensures { IfOk result (λ answer. MatchResult answer
+        (λ f. like_in name.now arity (terminals tokens.now) ≡ Some (f.0, terminals f.1.now))
+        (λ _. like_in name.now arity (terminals tokens.now) ≡ None)) }
+{
+    let (named, rest) = match named_ahead(alloc, tokens)? {
+        Ok(found) => found,
+        Err(refusal) => return Ok(Err(refusal)),
+    };
+    if named.name != *name {
+        return Ok(Err(Refusal::Syntax(named.at)));
+    }
+    match one_clause(alloc, named.at, rest)? {
+        Ok((clause, behind)) => {
+            if count(&clause.clause.patterns) == arity {
+                Ok(Ok((clause, behind)))
+            } else {
+                Ok(Err(Refusal::Syntax(named.at)))
+            }
+        }
+        Err(refusal) => Ok(Err(refusal)),
+    }
+}
+
+/// How many trees a row has.
+#[tactic(auto, using(crate::proofs::Rows::count_of))]
+fn count(row: &SyntaxTrees) -> usize
+    ensures { result ≡ tree_count row.now }
+{
+    row.as_slice().len()
+}
+
+/// A function, behind its first clause.
+#[tactic(auto, using(crate::proofs::Rows::clauses_begin, crate::proofs::Rows::clauses_more, crate::proofs::Rows::clauses_last, crate::proofs::Rows::clauses_not, crate::proofs::Rows::clauses_out))]
+fn function_from<'a>(
+    alloc: Global,
+    name: Named,
+    first: FunctionClause,
+    tokens: &'a [Spot],
+) -> Reading<'a, FormTree>
+    ensures { IfOk result (λ answer. MatchResult answer
+        (λ f. from_in name first (terminals tokens.now) ≡ Some (f.0, terminals f.1.now))
+        (λ _. from_in name first (terminals tokens.now) ≡ None)) }
+{
+    let Named { name, at: _ } = name;
+    let arity = count(&first.clause.patterns);
+    let mut clauses = Vec::new(alloc);
+    clauses.push(first)?;
+    let mut left = tokens;
+    for _turn in 0..=tokens.len() {
+        let Some(behind) = after(Delimiter::Semicolon, left) else {
+            return Ok(ended(name, clauses, left));
+        };
+        match clause_like(alloc, &name, arity, behind)? {
+            Ok((clause, rest)) => {
+                clauses.push(clause)?;
+                left = rest;
+            }
+            Err(refusal) => return Ok(Err(refusal)),
+        }
+    }
+    Ok(Err(Refusal::End))
+}
+
+/// A function of these clauses, where a dot stands behind them.
+fn ended<'a>(
+    name: Atom,
+    clauses: Vec<FunctionClause>,
+    tokens: &'a [Spot],
+) -> Result<(FormTree, &'a [Spot]), Refusal>
+    ensures { MatchResult result
+        (λ f. ended_in name clauses.items (terminals tokens.now) ≡ Some (f.0, terminals f.1.now))
+        (λ _. ended_in name clauses.items (terminals tokens.now) ≡ None) }
+{
+    let rest = expected(Opening::Dot, tokens)?;
+    let clauses = Row::new(clauses);
+    Ok((FormTree::Function(FunctionTree { name, clauses }), rest))
+}
+
+/// A loop function, behind its `receive`.
+#[tactic(auto, unfolding(crate::specs::FormReading::looped))]
+fn looped<'a>(
+    alloc: Global,
+    name: Named,
+    front: ClauseFront,
+    tokens: &'a [Spot],
+) -> Reading<'a, FormTree>
+    ensures { IfOk result (λ answer. MatchResult answer
+        (λ f. looped_in name front.patterns front.guard (terminals tokens.now) ≡ Some (f.0, terminals f.1.now))
+        (λ _. looped_in name front.patterns front.guard (terminals tokens.now) ≡ None)) }
+{
+    let (receive, rest) = match read_clauses(alloc, 255, tokens)? {
+        Ok(found) => found,
+        Err(refusal) => return Ok(Err(refusal)),
+    };
+    let ClauseFront { patterns, guard } = front;
+    match expected(Opening::Dot, rest) {
+        Ok(behind) => Ok(Ok((
+            FormTree::Loop(LoopTree {
+                name,
+                patterns,
+                guard,
+                receive,
+            }),
+            behind,
+        ))),
+        Err(refusal) => Ok(Err(refusal)),
+    }
+}
+
+/// A function, behind the name of its first clause.
+#[tactic(auto, unfolding(crate::specs::FormReading::function))]
+pub(crate) fn function<'a>(alloc: Global, name: Named, tokens: &'a [Spot]) -> Reading<'a, FormTree>
+    ensures { IfOk result (λ answer. MatchResult answer
+        (λ f. function_in name (terminals tokens.now) ≡ Some (f.0, terminals f.1.now))
+        (λ _. function_in name (terminals tokens.now) ≡ None)) }
+{
+    let (front, rest) = match front(alloc, tokens)? {
+        Ok(found) => found,
+        Err(refusal) => return Ok(Err(refusal)),
+    };
+    if let Some(behind) = behind(Opening::Receive, rest) {
+        return looped(alloc, name, front, behind);
+    }
+    match read_body(alloc, 256, rest)? {
+        Ok((body, behind)) => {
+            let first = clause_of(name.at, front, body);
+            function_from(alloc, name, first, behind)
+        }
+        Err(refusal) => Ok(Err(refusal)),
+    }
+}

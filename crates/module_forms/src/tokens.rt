@@ -1,0 +1,54 @@
+// Steps over tokens.
+ghost use Rattle.std.specs.Prelude.{◌≡◌, IfOk, MatchOption, MatchResult, Some, None};
+ghost use Rattle.erl_syntax.specs.Terminal.{terminals};
+ghost use Rattle.module_forms.specs.FormReading.{named_ahead as named_in, closed_form as closed_in};
+ghost use Rattle.module_forms.specs.Openings.{behind as behind_in};
+
+use crate::opening::{Opening, behind};
+use erl_expressions::{Delimiter, Reading, Refusal, after};
+use erl_scan::{Spot, Token};
+use erl_syntax::Named;
+use erl_term::Atom;
+use std::alloc::{AllocError, Global};
+
+/// The atom that tokens begin with.
+pub(crate) fn named_ahead<'a>(alloc: Global, tokens: &'a [Spot]) -> Reading<'a, Named>
+    ensures { IfOk result (λ answer. MatchResult answer
+        (λ f. named_in (terminals tokens.now) ≡ Some (f.0, terminals f.1.now))
+        (λ _. named_in (terminals tokens.now) ≡ None)) }
+{
+    let Some((first, rest)) = tokens.split_first() else {
+        return Ok(Err(Refusal::End));
+    };
+    match &first.what {
+        Token::Atom(name) => match Atom::new(alloc, name.as_str()) {
+            Ok(name) => Ok(Ok((Named { name, at: first.at }, rest))),
+            Err(_) => Err(AllocError),
+        },
+        _ => Ok(Err(Refusal::Syntax(first.at))),
+    }
+}
+
+/// The tokens behind one that has to come first.
+pub(crate) fn expected<'a>(opening: Opening, tokens: &'a [Spot]) -> Result<&'a [Spot], Refusal>
+    ensures { MatchResult result
+        (λ rest. behind_in opening (terminals tokens.now) ≡ Some (terminals rest.now))
+        (λ _. behind_in opening (terminals tokens.now) ≡ None) }
+{
+    match behind(opening, tokens) {
+        Some(rest) => Ok(rest),
+        None => Err(Refusal::behind(tokens)),
+    }
+}
+
+/// The tokens behind the end of an attribute.
+pub(crate) fn closed_form<'a>(tokens: &'a [Spot]) -> Result<&'a [Spot], Refusal>
+    ensures { MatchResult result
+        (λ rest. closed_in (terminals tokens.now) ≡ Some (terminals rest.now))
+        (λ _. closed_in (terminals tokens.now) ≡ None) }
+{
+    match after(Delimiter::CloseParen, tokens) {
+        Some(rest) => expected(Opening::Dot, rest),
+        None => Err(Refusal::behind(tokens)),
+    }
+}
