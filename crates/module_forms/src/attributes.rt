@@ -176,7 +176,7 @@ pub(crate) fn first_byte(tokens: &[Spot]) -> usize {
 }
 
 /// The refusal of tokens that should close an attribute: inside its bracket where not even that stands there.
-fn closing(refusal: Refusal, tokens: &[Spot], opening: &[Spot]) -> Refusal {
+pub(crate) fn closing(refusal: Refusal, tokens: &[Spot], opening: &[Spot]) -> Refusal {
     match tokens.first() {
         Some(_) => refusal,
         None => refusal.within(first_byte(opening)),

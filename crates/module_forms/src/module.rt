@@ -5,12 +5,12 @@ ghost use Rattle.erl_syntax.specs.declared.form.ModuleTree.{ModuleTree};
 ghost use Rattle.erl_syntax.specs.Terminal.{terminals};
 ghost use Rattle.module_forms.specs.FormReading.{form as form_in, module_head as head_in, by_attribute, whole_module as whole_in, all_forms, is_end as is_end_in};
 
-use crate::attributes::{after_dot, exported, versioned};
+use crate::attributes::{after_dot, closing, exported, first_byte, versioned};
 use crate::functions::function;
 use crate::opening::{Opening, behind};
 use crate::tokens::{closed_form, expected, named_ahead};
 use erl_expressions::{Reading, Refusal};
-use erl_scan::Spot;
+use erl_scan::{Spot, Token, Word};
 use erl_syntax::{FormTree, ModuleTree, Named};
 use erl_term::Atom;
 use std::alloc::{AllocError, Global};
@@ -81,11 +81,11 @@ fn module_head<'a>(alloc: Global, tokens: &'a [Spot]) -> Reading<'a, Named>
     };
     let (name, behind) = match named_ahead(alloc, open)? {
         Ok(found) => found,
-        Err(refusal) => return Ok(Err(refusal)),
+        Err(refusal) => return Ok(Err(refusal.within(first_byte(rest)))),
     };
     match closed_form(behind) {
         Ok(left) => Ok(Ok((name, left))),
-        Err(refusal) => Ok(Err(refusal)),
+        Err(refusal) => Ok(Err(closing(refusal, behind, rest))),
     }
 }
 
@@ -137,24 +137,35 @@ fn form<'a>(alloc: Global, tokens: &'a [Spot]) -> Reading<'a, FormTree>
         };
     };
     match named_ahead(alloc, rest)? {
-        Ok((name, behind)) => attribute(alloc, &name.name, tokens, behind),
-        Err(refusal) => Ok(Err(refusal)),
+        Ok((name, behind)) => attribute(alloc, &name, first_byte(tokens), behind),
+        Err(refusal) => Ok(Err(no_attribute(tokens, rest, refusal))),
     }
 }
 
-/// An attribute, behind its name; the form begins with the first of some tokens.
+/// The refusal of what should be an attribute's name, which `if` is, but a reserved word.
+fn no_attribute(form: &[Spot], tokens: &[Spot], refusal: Refusal) -> Refusal {
+    match tokens.first() {
+        Some(first) if matches!(first.what, Token::Word(Word::If)) => {
+            Refusal::Unsupported(first_byte(form))
+        }
+        _ => refusal,
+    }
+}
+
+/// An attribute, behind its name; the form begins at a byte.
 fn attribute<'a>(
     alloc: Global,
-    name: &Atom,
-    form: &[Spot],
+    named: &Named,
+    at: usize,
     tokens: &'a [Spot],
 ) -> Reading<'a, FormTree>
     ensures { IfOk result (λ answer. MatchResult answer
-        (λ f. by_attribute (attribute_in name.now) (terminals tokens.now) ≡ Some (f.0, terminals f.1.now))
-        (λ _. by_attribute (attribute_in name.now) (terminals tokens.now) ≡ None)) }
+        (λ f. by_attribute (attribute_in named.now.name) (terminals tokens.now) ≡ Some (f.0, terminals f.1.now))
+        (λ _. by_attribute (attribute_in named.now.name) (terminals tokens.now) ≡ None)) }
 {
+    let name = &named.name;
     if name.is("module") {
-        return Ok(Err(Refusal::Syntax(crate::attributes::first_byte(form))));
+        return Ok(Err(Refusal::Syntax(named.at)));
     }
     if name.is("export") {
         return exported(alloc, tokens);
@@ -163,7 +174,7 @@ fn attribute<'a>(
         return versioned(alloc, tokens);
     }
     if is_unsupported(name) {
-        return Ok(Err(Refusal::Unsupported(crate::attributes::first_byte(form))));
+        return Ok(Err(Refusal::Unsupported(at)));
     }
     match after_dot(tokens) {
         Some(rest) => Ok(Ok((FormTree::Skipped, rest))),
