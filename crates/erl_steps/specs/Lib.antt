@@ -1,0 +1,6 @@
+pub mod Laws
+pub mod Leading
+pub mod Machine
+pub mod Tags
+pub mod Views
+pub mod Work
