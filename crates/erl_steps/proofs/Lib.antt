@@ -1,6 +1,7 @@
 pub mod Asking
 pub mod Callees
 pub mod Calls
+pub mod Ends
 pub mod Falls
 pub mod Growing
 pub mod Leads

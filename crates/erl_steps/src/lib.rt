@@ -9,7 +9,9 @@
 //! [`Machine::step`] does what the machine of the definitions does (`stepping`), which is a function of what comes next and of
 //! what is left to be done. What by the rules of [`erl_eval`] comes of what a step leaves, comes of what was there before it
 //! ([`each_step_keeps_to_the_rules`]); and each step leaves less to do, until evaluating has ended
-//! ([`each_step_leaves_less_to_do`]): so evaluating ends, whatever is evaluated, within as many steps as there was to do.
+//! ([`each_step_leaves_less_to_do`]): so evaluating ends, whatever is evaluated, within as many steps as there was to do. By the
+//! rules, then, something comes of each call from outside and of each job ([`each_evaluation_has_an_outcome`]), and by a law of
+//! [`erl_eval`] one thing alone.
 //!
 //! [`Instance`] and [`End`] are compared and copied by value; a copy shares its terms and its module.
 //!
@@ -29,6 +31,7 @@ mod tags;
 mod world;
 
 ghost use Rattle.erl_steps.specs.Laws.{StepsKeepToTheRules, StepsLeaveLess};
+ghost use Rattle.erl_steps.specs.Outcomes.{EachCallHasAnOutcome, EachJobHasAnOutcome};
 
 pub use machine::{Control, End, Machine, Startup};
 pub use stack::{Activation, Frame, Stack, Starter};
@@ -44,4 +47,10 @@ pub fn each_step_keeps_to_the_rules()
 /// A step leaves less to do, until evaluating has ended: calls that were not made yet, and what stands on the stack.
 pub fn each_step_leaves_less_to_do()
     ensures { StepsLeaveLess }
+{}
+
+/// What is evaluated ends: by the rules an outcome comes of each call from outside of all modules, and of each job.
+pub fn each_evaluation_has_an_outcome()
+    ensures call { EachCallHasAnOutcome }
+    ensures job { EachJobHasAnOutcome }
 {}
