@@ -4,9 +4,9 @@ use Rattle.erl_steps.specs.Views.{control_of, machine_of, world_of}
 use Rattle.erl_steps.specs.Work.{work_left}
 use Rattle.erl_machine.proofs.evaluation.finish.Given as goal
 
-abbrev pub invariant-loop : goal.invariant-loop
-invariant-loop l = (f : Final) → Comes (world_of l.world) (control_of l.next) (machine_of l.machine) f →
+abbrev pub invariant-loop-next : goal.invariant-loop-next
+invariant-loop-next l = (f : Final) → Comes (world_of l.world) (control_of l.next) (machine_of l.machine) f →
     Comes (world_of l.world) (control_of l.fn.control) (machine_of l.fn.machine) f
 
-abbrev pub decreases-loop : goal.decreases-loop
-decreases-loop l = work_left (world_of l.world) (control_of l.next) (machine_of l.machine)
+abbrev pub decreases-loop-next : goal.decreases-loop-next
+decreases-loop-next l = work_left (world_of l.world) (control_of l.next) (machine_of l.machine)
