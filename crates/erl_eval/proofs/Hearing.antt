@@ -1,7 +1,7 @@
 -- What takes a message, and what a place accepts.
 use Rattle.std.specs.Prelude.{◌≡◌, ◌↔◌, ◌<◌, ℕ, zero, suc, true, false, List, [], ◌∷◌, None, Some, is_some, IsTrue, refl}
-use Rattle.std.proofs.Common.{arith, ap, sym, subst, ◌∙◌, true≢false}
-use Rattle.erl_term.specs.Tree.{Tree, Trees, count}
+use Rattle.std.proofs.Common.{arith, ap, sym, subst, true≢false}
+use Rattle.erl_term.specs.Tree.{count}
 use Rattle.erl_forms.specs.Module.{function_of}
 use Rattle.erl_eval.specs.State.{Instance, Place, server, loop}
 use Rattle.erl_eval.specs.Guards.{Selection}

@@ -1,7 +1,7 @@
 -- Messages and values by their tags.
 use Rattle.std.specs.Prelude.{◌≡◌, ℕ, if◌then◌else◌, List, codes, refl, None, Some}
 use Rattle.std.specs.Str.{bytes_eq}
-use Rattle.std.proofs.Common.{sym, subst}
+use Rattle.std.proofs.Common.{subst}
 use Rattle.erl_term.specs.Accessors.{one_of, two_of, three_of}
 use Rattle.erl_term.specs.Tree.{Tree, Trees, int, atom, pid, tuple, list, none, more}
 use Rattle.erl_eval.specs.State.{rest, server, exit}

@@ -1,7 +1,6 @@
 -- The calls that were made are never forgotten.
-use Rattle.std.specs.Prelude.{◌≡◌, ◌≤◌, ℕ, ◌+◌, max, Bool, true, false, nat_lt, List, Option, None, Some, refl}
-use Rattle.std.proofs.Common.{arith, ap}
-use Rattle.erl_term.specs.Tree as term
+use Rattle.std.specs.Prelude.{◌≡◌, ◌≤◌, ℕ, max, Bool, true, false, nat_lt, List, Option, None, Some, refl}
+use Rattle.std.proofs.Common.{arith}
 use Rattle.erl_term.specs.Tree.{Tree, Trees}
 use Rattle.erl_forms.specs.declared.operation.BuiltIn.{BuiltIn}
 use Rattle.erl_forms.specs.declared.operation.Connective.{Connective}
@@ -10,7 +9,6 @@ use Rattle.erl_forms.specs.declared.operation.Operation.{Operation}
 use Rattle.erl_forms.specs.declared.operation.Operation.TheVariants as operation
 use Rattle.erl_forms.specs.Expression as form
 use Rattle.erl_forms.specs.Expression.{Expr, Exprs, Guards, Clauses}
-use Rattle.erl_eval.specs.State as state
 use Rattle.erl_eval.specs.State.{Act, Result, World, State, after, value, rest, exit}
 use Rattle.erl_eval.specs.Operators.{truth_of}
 use Rattle.erl_eval.specs.Matching.{matched_each}

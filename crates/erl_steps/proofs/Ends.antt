@@ -1,5 +1,5 @@
 -- Evaluating ends, so that by the rules something comes of each call and of each job.
-use Rattle.std.specs.Prelude.{◌≡◌, ◌<◌, ℕ, ◌+◌, zero, suc, true, false, List, [], Option, None, Some, refl}
+use Rattle.std.specs.Prelude.{◌<◌, ℕ, ◌+◌, zero, suc, true, false, List, [], Option, None, Some, refl}
 use Rattle.std.proofs.Common.{arith}
 use Rattle.erl_term.specs.Tree.{Tree, Trees, count}
 use Rattle.erl_forms.specs.declared.function.Function.{Function}
@@ -8,14 +8,13 @@ use Rattle.erl_forms.specs.Expression.{Exprs}
 use Rattle.erl_forms.specs.Module.{exported_of, function_of}
 use Rattle.erl_eval.specs.State.{Instance, Place, server, loop, Result, World, Activation, State, with_bindings, with_calls, all_acts}
 use Rattle.erl_eval.specs.Guards.{Selection}
-use Rattle.erl_eval.specs.Evaluation.{Body, Entered, may_nest}
+use Rattle.erl_eval.specs.Evaluation.{Body, Entered}
 use Rattle.erl_eval.specs.Jobs.{Outcome, FromOutside, undefined, called, Job, GivesAt, Callback, callback_of, name_of, arguments_of}
 use Rattle.erl_eval.specs.Jobs.{served, unexported, Handles, not_exported, handled, heard, looped, nowhere, Receives, unheard}
 use Rattle.erl_eval.specs.Jobs.{received, world_of, fresh, outermost}
 use Rattle.erl_steps.specs.Machine as machine
 use Rattle.erl_steps.specs.Machine.{Control, Machine, is_tail, entered, stepping}
 use Rattle.erl_steps.specs.Leading.{Final, Comes}
-use Rattle.erl_steps.specs.Laws.{HasEnded}
 use Rattle.erl_steps.specs.Work.{work_left}
 use Rattle.erl_steps.proofs.Falls.{step_falls}
 use Rattle.erl_steps.proofs.Leads.{step_leads, entered_leads}

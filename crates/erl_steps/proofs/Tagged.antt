@@ -1,5 +1,5 @@
 -- Terms by their tags.
-use Rattle.std.specs.Prelude.{◌≡◌, ℕ, List, None, Some}
+use Rattle.std.specs.Prelude.{◌≡◌, ℕ, List, Some}
 use Rattle.std.proofs.Common.{ap, sym, subst}
 use Rattle.erl_term.specs.Accessors.{one_of, two_of, three_of}
 use Rattle.erl_term.specs.Tree.{Tree, Trees, int, atom, pid, tuple, list, none, more}

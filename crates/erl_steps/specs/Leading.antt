@@ -1,6 +1,6 @@
 -- What may still come of the machine: what the rules say of what is left to be done.
 use Rattle.std.specs.Prelude.{◌≡◌, List, [], ◌∷◌, take}
-use Rattle.erl_term.specs.Tree.{Tree, Trees, none, more}
+use Rattle.erl_term.specs.Tree.{Trees, none, more}
 use Rattle.erl_eval.specs.State.{Result, World, Activation, State, with_bindings, value, rest}
 use Rattle.erl_eval.specs.Guards.{Values, with_first}
 use Rattle.erl_eval.specs.Evaluation.{Eval, Body, Bound, Others, Applied, Onward, Cased, Decided}
