@@ -40,22 +40,46 @@ fn expect_calls(
 
 #[test]
 fn evaluation_limits(rt: HostRuntime) -> Result<(), Fail> {
-    expect_calls(&rt, rt.alloc(), Mode::Plain, &[calls::LIM], calls::LIM_CALLS)
+    expect_calls(
+        &rt,
+        rt.alloc(),
+        Mode::Plain,
+        &[calls::LIM],
+        calls::LIM_CALLS,
+    )
 }
 
 #[test]
 fn calls_in_tail_position(rt: HostRuntime) -> Result<(), Fail> {
-    expect_calls(&rt, rt.alloc(), Mode::Plain, &[calls::TAILS], calls::TAIL_CALLS)
+    expect_calls(
+        &rt,
+        rt.alloc(),
+        Mode::Plain,
+        &[calls::TAILS],
+        calls::TAIL_CALLS,
+    )
 }
 
 #[test]
 fn calls_are_counted(rt: HostRuntime) -> Result<(), Fail> {
-    expect_calls(&rt, rt.alloc(), Mode::Plain, &[calls::COUNTED], calls::COUNTED_CALLS)
+    expect_calls(
+        &rt,
+        rt.alloc(),
+        Mode::Plain,
+        &[calls::COUNTED],
+        calls::COUNTED_CALLS,
+    )
 }
 
 #[test]
 fn terms_are_bounded(rt: HostRuntime) -> Result<(), Fail> {
-    expect_calls(&rt, rt.alloc(), Mode::Plain, &[calls::SIZES], calls::SIZE_CALLS)
+    expect_calls(
+        &rt,
+        rt.alloc(),
+        Mode::Plain,
+        &[calls::SIZES],
+        calls::SIZE_CALLS,
+    )
 }
 
 #[test]

@@ -62,7 +62,12 @@ pub fn body_outcome(
 }
 
 /// What a call that is written out gives.
-pub fn call_outcome(alloc: Global, mode: Mode, code: &[Instance], text: &str) -> Result<String, Fail> {
+pub fn call_outcome(
+    alloc: Global,
+    mode: Mode,
+    code: &[Instance],
+    text: &str,
+) -> Result<String, Fail> {
     let (module, call) = text.split_once(':').ok_or("no module")?;
     evaluated(alloc, mode, code, module, call)
 }
@@ -120,7 +125,13 @@ pub fn job(alloc: Global, code: &[Instance], text: &str) -> Result<Job, Fail> {
 /// What comes of a job.
 pub fn job_outcome(alloc: Global, code: &[Instance], text: &str) -> Result<String, Fail> {
     let job = job(alloc, code, text)?;
-    if !matches(alloc, job.pid, &job.place, job.code.as_slice(), &job.message)? {
+    if !matches(
+        alloc,
+        job.pid,
+        &job.place,
+        job.code.as_slice(),
+        &job.message,
+    )? {
         return Ok(String::from_str(alloc, "waits")?);
     }
     told(alloc, job.run(alloc)?.outcome())

@@ -65,12 +65,29 @@ fn one_bump(rt: HostRuntime) -> Result<(), Fail> {
     let alloc = rt.alloc();
     let code = vec![in alloc; instance(alloc, 2, example::CTR_1)?]?;
     let done = job(alloc, code.as_slice(), "4 ← call bump")?.run(alloc)?;
-    let Job { pid, turn, entry_serial, .. } = done.job();
+    let Job {
+        pid,
+        turn,
+        entry_serial,
+        ..
+    } = done.job();
     assert_eq!(&rt; (*pid, *turn, *entry_serial), (7, 3, 2));
-    let [Act::Reply { number: 1, term: Term::Int(5) }] = done.outcome().acts.as_slice() else {
+    let [
+        Act::Reply {
+            number: 1,
+            term: Term::Int(5),
+        },
+    ] = done.outcome().acts.as_slice()
+    else {
         return Err("no reply")?;
     };
-    let End::Rest(Place::Server { module, state: Term::Int(5) }) = &done.outcome().end else {
+    let End::Rest(
+        Place::Server {
+            module,
+            state: Term::Int(5),
+        },
+    ) = &done.outcome().end
+    else {
         return Err("no rest")?;
     };
     assert_eq!(&rt; module.as_str(), "ctr");
@@ -94,7 +111,11 @@ fn without_current_code_all_is_undefined(rt: HostRuntime) -> Result<(), Fail> {
             code: Row::new(Vec::new(alloc)),
         };
         assert!(&rt; matches(alloc, 1, &job.place, &[], &job.message)?, "{text}");
-        assert_eq!(&rt; told(alloc, job.run(alloc)?.outcome())?.as_str(), "✗ undef", "{text}");
+        assert_eq!(&rt;
+            told(alloc, job.run(alloc)?.outcome())?.as_str(),
+            "✗ undef",
+            "{text}"
+        );
     }
     Ok(())
 }

@@ -35,7 +35,8 @@ is_boolean(a) ¦ is_boolean(1) ¦ is_boolean([]) ¦ is_boolean({true}) ¦ is_boo
 self() ¦ erlang:self() ⟶ <0.9.0>"##;
 
 /// Those that bodies alone have.
-pub(crate) const BODIES_ALONE: &str = r##"setelement(1,{a,b},c) ¦ erlang:setelement(1,{a,b},c) ⟶ {c,b}
+pub(crate) const BODIES_ALONE: &str =
+    r##"setelement(1,{a,b},c) ¦ erlang:setelement(1,{a,b},c) ⟶ {c,b}
 setelement(2,{a,b},c) ⟶ {a,c}
 setelement(1,{a},{a}) ⟶ {{a}}
 setelement(1,{a},self()) ⟶ {<0.9.0>}
@@ -62,14 +63,16 @@ gen_server:reply(x,y) ¦ gen_server:reply({self(),1},y) ¦ gen_server:reply({a,1
 gen_server:call(s,m) ¦ gen_server:call(s,m,1) ¦ gen_server:call(1,m) ¦ gen_server:call(s,m,infinity) ⟶ ✗ not_in_profile"##;
 
 /// Functions that are looked for in a module of their name, and aren't there.
-pub(crate) const UNKNOWN: &str = r##"lists:nth(1,[a]) ¦ lists:reverse([],[]) ¦ lists:member(a) ¦ lists:append([]) ¦ nope:f() ¦ nope:hd([a]) ⟶ ✗ undef
+pub(crate) const UNKNOWN: &str =
+    r##"lists:nth(1,[a]) ¦ lists:reverse([],[]) ¦ lists:member(a) ¦ lists:append([]) ¦ nope:f() ¦ nope:hd([a]) ⟶ ✗ undef
 erlang:time() ¦ erlang:'+'(1,2) ¦ erlang:'!'(p,m) ¦ erlang:hd() ¦ erlang:hd([a],b) ¦ erlang:apply(m,id,[1]) ¦ erlang:self(1) ⟶ ✗ undef
 gen_server:stop(p) ¦ gen_server:cast(p) ¦ gen_server:call(p) ¦ gen_server:start(m,[],[]) ¦ proc_lib:spawn(m,t,[]) ⟶ ✗ undef
 m:say(1) ¦ ?MODULE:say(1) ¦ m:nope() ¦ m:id() ¦ m:id(1,2) ¦ m:c(1,2) ⟶ ✗ undef"##;
 
 /// What starts or names a process is for start functions alone: that is looked at before its arguments, and after they are
 /// evaluated.
-pub(crate) const STARTS_ALONE: &str = r##"spawn(m,t,[]) ¦ spawn_link(m,t,[]) ¦ erlang:spawn(m,t,[]) ¦ erlang:spawn_link(m,t,[]) ¦ proc_lib:spawn_link(m,t,[]) ⟶ ✗ not_in_profile
+pub(crate) const STARTS_ALONE: &str =
+    r##"spawn(m,t,[]) ¦ spawn_link(m,t,[]) ¦ erlang:spawn(m,t,[]) ¦ erlang:spawn_link(m,t,[]) ¦ proc_lib:spawn_link(m,t,[]) ⟶ ✗ not_in_profile
 register(n,self()) ¦ erlang:register(n,self()) ¦ gen_server:start_link(m,[],[]) ¦ gen_server:start_link({local,n},m,[],[]) ⟶ ✗ not_in_profile
 spawn(1,2,3) ¦ spawn_link(nope,f,[]) ¦ register(1,2) ¦ gen_server:start_link(1,2,3) ¦ gen_server:start_link(1,2,3,4) ⟶ ✗ not_in_profile
 spawn(exit(r),f,[]) ¦ spawn(m,f,exit(r)) ¦ register(n,exit(r)) ¦ gen_server:start_link(exit(r),1,2) ⟶ ✗ r"##;

@@ -50,7 +50,8 @@ lp:loop(0) ⟶ ✗ not_in_profile
 ctr:code_change(x,4,[]) ⟶ ✗ undef";
 
 /// What is called in version 2.
-pub(crate) const CALLED: &str = r#"ctr_app:init([]) ⟶ {ok,{{one_for_one,1,1},[{ctr,{ctr,start_link,[]},permanent,1000,worker,[ctr]},{lp,{lp,start,[]},permanent,1000,worker,[lp]}]}}
+pub(crate) const CALLED: &str =
+    r#"ctr_app:init([]) ⟶ {ok,{{one_for_one,1,1},[{ctr,{ctr,start_link,[]},permanent,1000,worker,[ctr]},{lp,{lp,start,[]},permanent,1000,worker,[lp]}]}}
 ctr_app:init(x) ⟶ ✗ function_clause
 ctr:code_change("1",4,[]) ⟶ {ok,{n,4}}
 ctr:code_change({down,"1"},{n,4},[]) ⟶ {ok,4}

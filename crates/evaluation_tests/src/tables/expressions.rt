@@ -20,7 +20,8 @@ a ¦ 'a' ⟶ a
 id(x) ¦ m:id(x) ¦ ?MODULE:id(x) ¦ id(id(x)) ¦ 'id'(x) ¦ m:id(?MODULE:id(id(x))) ⟶ x"##;
 
 /// `P = E`.
-pub(crate) const MATCHES: &str = r##"X = 1 ¦ X = 1, X ¦ X = 1, X = 1 ¦ X = Y = 1, Y ¦ {X,X} = {1,1}, X ¦ _ = 1 ¦ 1 = 1 ¦ +1 = 1 ⟶ 1
+pub(crate) const MATCHES: &str =
+    r##"X = 1 ¦ X = 1, X ¦ X = 1, X = 1 ¦ X = Y = 1, Y ¦ {X,X} = {1,1}, X ¦ _ = 1 ¦ 1 = 1 ¦ +1 = 1 ⟶ 1
 X = 1, Y = X + 1, X + Y ¦ {X,Y} = {1,2}, X + Y ¦ [X|[Y]] = [1,2], X + Y ¦ begin X = 1, Y = 2 end, X + Y ⟶ 3
 X = Y = 3, {X,Y} ¦ {X,Y} = {3,3} ⟶ {3,3}
 [H|T] = [1,2,3], {H,T} ¦ [H,A,B] = [1,2,3], T = [A,B], {H,T} ⟶ {1,[2,3]}
@@ -43,7 +44,8 @@ X = p ! m, X ⟶ p ! m; m
 {begin X = 1, X end,begin X = 2, X end}, X ⟶ ✗ {badmatch,2}"##;
 
 /// `case`.
-pub(crate) const CASES: &str = r##"case 1 of 1 -> a end ¦ case 2 of 1 -> b; 2 -> a end ¦ case 3 of 1 -> b; 2 -> c; _ -> a end ¦ case a of X -> X end ⟶ a
+pub(crate) const CASES: &str =
+    r##"case 1 of 1 -> a end ¦ case 2 of 1 -> b; 2 -> a end ¦ case 3 of 1 -> b; 2 -> c; _ -> a end ¦ case a of X -> X end ⟶ a
 case 1 of 1 -> a; 1 -> b; _ -> c end ¦ case 1 of X -> a; 1 -> b end ¦ case 1 of _ -> b, a end ⟶ a
 case [] of [] -> a; _ -> b end ¦ case {} of [] -> b; {} -> a end ¦ case "x" of [_|_] -> a; [] -> b end ⟶ a
 case c of a -> b end ¦ case c of a -> 1; b -> 2 end ¦ case c of {} -> a end ¦ case c of c when false -> a end ⟶ ✗ {case_clause,c}
@@ -66,7 +68,8 @@ case say(1) of 2 -> a; X -> say(X + 1) end ⟶ log ! 1; log ! 2; 2
 case say(c) of a -> say(b) end ⟶ log ! c; ✗ {case_clause,c}"##;
 
 /// What stands in `case {1,a,[],{b,c},[x,y],self(),true} of {I,A,N,T,L,P,B} when .. -> yes; _ -> no end`.
-pub(crate) const GUARDS: &str = r##"true ¦ B ¦ I == 1 ¦ I =:= 1 ¦ A == a ¦ N == [] ¦ T == {b,c} ¦ L == [x,y] ¦ P == self() ¦ P == erlang:self() ¦ I /= A ⟶ yes
+pub(crate) const GUARDS: &str =
+    r##"true ¦ B ¦ I == 1 ¦ I =:= 1 ¦ A == a ¦ N == [] ¦ T == {b,c} ¦ L == [x,y] ¦ P == self() ¦ P == erlang:self() ¦ I /= A ⟶ yes
 false ¦ I ¦ A ¦ N ¦ T ¦ L ¦ P ¦ 1 ¦ "true" ¦ {true} ¦ not B ¦ I == 2 ¦ A =/= a ¦ I + 1 ¦ hd(L) ⟶ no
 is_atom(A) ¦ is_atom(B) ¦ is_integer(I) ¦ is_list(N) ¦ is_list(L) ¦ is_pid(P) ¦ is_tuple(T) ¦ is_boolean(B) ¦ erlang:is_atom(A) ⟶ yes
 is_atom(I) ¦ is_integer(A) ¦ is_list(T) ¦ is_pid(I) ¦ is_tuple(L) ¦ is_boolean(A) ¦ erlang:is_atom(I) ⟶ no
@@ -86,7 +89,8 @@ hd(N), B ¦ B, hd(N) ¦ hd(N); I ¦ B, I; I, B ⟶ no
 I < A, A < P, P < T, T < N, N < L ¦ L > N, N > T, T > P, P > A, A > I ¦ I =< I, A >= A ⟶ yes"##;
 
 /// Of two ends the left one comes, and what was done before it stays done. `say(X)` is `log ! X`.
-pub(crate) const ORDER: &str = r##"{exit(a),exit(b)} ¦ [exit(a),exit(b)] ¦ [exit(a)|exit(b)] ¦ [1,exit(a)|exit(b)] ¦ {1,exit(a),exit(b)} ¦ [1,2|exit(a)] ⟶ ✗ a
+pub(crate) const ORDER: &str =
+    r##"{exit(a),exit(b)} ¦ [exit(a),exit(b)] ¦ [exit(a)|exit(b)] ¦ [1,exit(a)|exit(b)] ¦ {1,exit(a),exit(b)} ¦ [1,2|exit(a)] ⟶ ✗ a
 exit(a) + exit(b) ¦ exit(a) - exit(b) ¦ exit(a) * exit(b) ¦ exit(a) div exit(b) ¦ exit(a) rem exit(b) ¦ exit(a) div 0 ⟶ ✗ a
 exit(a) and exit(b) ¦ exit(a) or exit(b) ¦ exit(a) andalso exit(b) ¦ exit(a) orelse exit(b) ¦ not exit(a) ¦ -exit(a) ⟶ ✗ a
 exit(a) == exit(b) ¦ exit(a) < exit(b) ¦ exit(a) =/= exit(b) ¦ exit(a) ++ exit(b) ¦ exit(a) ! exit(b) ¦ p ! exit(a) ⟶ ✗ a

@@ -1,7 +1,8 @@
 // Operators, on operands of each kind.
 
 /// Numbers: signs, `div` and `rem` of each sign, and precedence.
-pub(crate) const ARITHMETIC: &str = r##"1 + 2 ¦ 5 - 2 ¦ 1 * 3 ¦ -1 * -3 ¦ 9 div 3 ¦ 7 rem 4 ¦ -(-3) ¦ - -3 ¦ 0 - -3 ¦ 1 - -2 ¦ +3 ¦ 2 + +1 ⟶ 3
+pub(crate) const ARITHMETIC: &str =
+    r##"1 + 2 ¦ 5 - 2 ¦ 1 * 3 ¦ -1 * -3 ¦ 9 div 3 ¦ 7 rem 4 ¦ -(-3) ¦ - -3 ¦ 0 - -3 ¦ 1 - -2 ¦ +3 ¦ 2 + +1 ⟶ 3
 2 - 5 ¦ 2 -5 ¦ - 3 ¦ 3 * -1 ¦ -(3) ¦ -9 div 3 ¦ 9 div -3 ¦ -7 div 2 ¦ 7 div -2 ¦ -7 rem 4 ¦ -7 rem -4 ⟶ -3
 7 div 2 ¦ -7 div -2 ¦ 7 rem -4 ¦ 3 rem 7 ¦ 3 rem -7 ⟶ 3
 -3 rem 7 ¦ -3 rem -7 ⟶ -3
@@ -26,7 +27,8 @@ pub(crate) const ARITHMETIC: &str = r##"1 + 2 ¦ 5 - 2 ¦ 1 * 3 ¦ -1 * -3 ¦ 9 
 1 div 0 ¦ 1 rem 0 ¦ 0 div 0 ¦ 0 rem 0 ¦ -1 div 0 ¦ -1 rem 0 ¦ -9223372036854775808 div 0 ¦ -9223372036854775808 rem 0 ⟶ ✗ badarith"##;
 
 /// Operands that are no numbers.
-pub(crate) const NO_NUMBERS: &str = r##"1 + a ¦ a + 1 ¦ 1 + [] ¦ [] + 1 ¦ 1 + {} ¦ {1} + 1 ¦ 1 + self() ¦ self() + 1 ¦ a + b ¦ "a" + 1 ¦ 1 + true ⟶ ✗ badarith
+pub(crate) const NO_NUMBERS: &str =
+    r##"1 + a ¦ a + 1 ¦ 1 + [] ¦ [] + 1 ¦ 1 + {} ¦ {1} + 1 ¦ 1 + self() ¦ self() + 1 ¦ a + b ¦ "a" + 1 ¦ 1 + true ⟶ ✗ badarith
 1 - a ¦ a - 1 ¦ 1 - [] ¦ [] - 1 ¦ 1 - {} ¦ {1} - 1 ¦ 1 - self() ¦ self() - 1 ¦ a - a ¦ [1] - [1] ⟶ ✗ badarith
 1 * a ¦ a * 1 ¦ 0 * [] ¦ [] * 0 ¦ 1 * {} ¦ {1} * 1 ¦ 1 * self() ¦ self() * 1 ¦ true * false ⟶ ✗ badarith
 1 div a ¦ a div 1 ¦ 1 div [] ¦ [] div 1 ¦ 1 div {} ¦ {1} div 1 ¦ 1 div self() ¦ self() div 1 ¦ a div 0 ⟶ ✗ badarith
@@ -34,7 +36,8 @@ pub(crate) const NO_NUMBERS: &str = r##"1 + a ¦ a + 1 ¦ 1 + [] ¦ [] + 1 ¦ 1 
 -a ¦ -[] ¦ -{} ¦ -self() ¦ -true ¦ -"a" ¦ - -a ¦ 1 + -a ⟶ ✗ badarith"##;
 
 /// `not`, `and`, `or`, which are strict; `andalso`, `orelse`, whose right side is any value.
-pub(crate) const BOOLEANS: &str = r##"not false ¦ true and true ¦ true or true ¦ true or false ¦ false or true ¦ not (true and false) ¦ not not true ⟶ true
+pub(crate) const BOOLEANS: &str =
+    r##"not false ¦ true and true ¦ true or true ¦ true or false ¦ false or true ¦ not (true and false) ¦ not not true ⟶ true
 not true ¦ true and false ¦ false and true ¦ false and false ¦ false or false ¦ not (false or true) ⟶ false
 not 1 ¦ not a ¦ not [] ¦ not {} ¦ not self() ¦ not [true] ¦ not 'True' ⟶ ✗ badarg
 true and 1 ¦ 1 and true ¦ false and 1 ¦ 1 and false ¦ a and b ¦ [] and true ¦ {} and true ¦ false and self() ⟶ ✗ badarg
@@ -64,7 +67,8 @@ not true == false ¦ 1 + 1 == 2 ¦ 2 == 2 andalso 3 == 3 ¦ 1 == 2 orelse 2 =< 2
 
 /// Each pair: `c(X,Y)` is `{X < Y,X =< Y,X > Y,X >= Y,X == Y,X /= Y,X =:= Y,X =/= Y}`. The kinds come first, in their order: number,
 /// atom, process identifier, tuple, empty list, list.
-pub(crate) const COMPARISONS: &str = r##"c(1,a) ¦ c(1,self()) ¦ c(1,{}) ¦ c(1,[]) ¦ c(1,[a]) ¦ c(9223372036854775807,a) ⟶ {true,true,false,false,false,true,false,true}
+pub(crate) const COMPARISONS: &str =
+    r##"c(1,a) ¦ c(1,self()) ¦ c(1,{}) ¦ c(1,[]) ¦ c(1,[a]) ¦ c(9223372036854775807,a) ⟶ {true,true,false,false,false,true,false,true}
 c(a,self()) ¦ c(a,{}) ¦ c(a,[]) ¦ c(a,[1]) ¦ c(a,"") ¦ c('~',{}) ⟶ {true,true,false,false,false,true,false,true}
 c(self(),{}) ¦ c(self(),{1}) ¦ c(self(),[]) ¦ c(self(),[1]) ⟶ {true,true,false,false,false,true,false,true}
 c({},[]) ¦ c({},[1]) ¦ c({a,b,c},[]) ¦ c({a,b,c},[1]) ¦ c([],[1]) ¦ c([],[[]]) ⟶ {true,true,false,false,false,true,false,true}
