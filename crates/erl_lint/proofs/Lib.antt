@@ -1,3 +1,4 @@
+pub mod Places
 pub mod Texts
 pub mod Rows
 pub mod Walking

@@ -1,6 +1,6 @@
 -- Which variables are bound where (Erlang Reference Manual, Expressions, Variables and Match Operator; Pattern Matching).
 use Rattle.std.specs.Prelude.{ℕ, Bool, if◌then◌else◌, List, [], ◌∷◌, ◌++◌, codes}
-use Rattle.std.specs.List.{list_any}
+use Rattle.std.specs.List.{list_any, position_or_len}
 use Rattle.std.specs.Str.{bytes_eq}
 use Rattle.indexmap.specs.IndexSet.{insert_key, insert_all}
 use Rattle.erl_syntax.specs.declared.leaf.Leaf.{Leaf}
@@ -19,6 +19,10 @@ Names = List (List ℕ)
 -- whether a variable is among those that are bound
 abbrev pub is_bound : Names → List ℕ → Bool
 is_bound bound name = list_any (bytes_eq name) bound
+
+-- The place of a variable: how many were bound before it. One that is not bound would be bound behind all.
+abbrev pub place_of : Names → List ℕ → ℕ
+place_of bound name = position_or_len (bytes_eq name) bound
 
 -- the bound ones with one more, each once
 abbrev pub with_name : Names → List ℕ → Names

@@ -12,7 +12,7 @@ use std::alloc::AllocError;
 
 /// Binds the variables of a pattern.
 #[cycle(patterns)]
-fn bind_pattern(pattern: &SyntaxTree, scope: &mut Scope) -> Result<(), AllocError>
+fn bind_pattern<'a>(pattern: &'a SyntaxTree, scope: &mut Scope<'a>) -> Result<(), AllocError>
     ensures { OnOk result (scope.new ≡ with_names scope.old (pattern_names (tree_of pattern.now))) }
 {
     match pattern {
@@ -24,7 +24,10 @@ fn bind_pattern(pattern: &SyntaxTree, scope: &mut Scope) -> Result<(), AllocErro
 
 /// Binds the variables of patterns.
 #[cycle(patterns)]
-pub(crate) fn bind_patterns(row: &[SyntaxTree], scope: &mut Scope) -> Result<(), AllocError>
+pub(crate) fn bind_patterns<'a>(
+    row: &'a [SyntaxTree],
+    scope: &mut Scope<'a>,
+) -> Result<(), AllocError>
     ensures { OnOk result (scope.new ≡ with_names scope.old (pattern_names_in (trees row.now))) }
 {
     for pattern in row {
@@ -34,7 +37,7 @@ pub(crate) fn bind_patterns(row: &[SyntaxTree], scope: &mut Scope) -> Result<(),
 }
 
 /// Binds a leaf of a pattern; no leaf but a variable binds one.
-fn bind_leaf(leaf: &Leaf, scope: &mut Scope) -> Result<(), AllocError>
+fn bind_leaf<'a>(leaf: &'a Leaf, scope: &mut Scope<'a>) -> Result<(), AllocError>
     ensures { OnOk result (scope.new ≡ with_names scope.old (leaf_names leaf.now)) }
 {
     match leaf {
@@ -44,17 +47,18 @@ fn bind_leaf(leaf: &Leaf, scope: &mut Scope) -> Result<(), AllocError>
 }
 
 /// Binds a variable, but not `_`.
-fn bind_variable(name: &Text, scope: &mut Scope) -> Result<(), AllocError>
+fn bind_variable<'a>(name: &'a Text, scope: &mut Scope<'a>) -> Result<(), AllocError>
     ensures { OnOk result (scope.new ≡ with_names scope.old (variable_names name.now)) }
 {
     if is_anonymous(name) {
         return Ok(());
     }
-    scope.bind(name)
+    scope.bind(name)?;
+    Ok(())
 }
 
-/// Whether a variable is `_`.
-fn is_anonymous(name: &Text) -> bool
+/// Whether a variable is `_`, the anonymous one. Takes no memory.
+pub fn is_anonymous(name: &Text) -> bool
     ensures { result ≡ bytes_eq name.now (codes "_") }
 {
     name.as_str() == "_"
@@ -62,7 +66,7 @@ fn is_anonymous(name: &Text) -> bool
 
 /// Binds what an expression binds behind it.
 #[cycle(expressions)]
-pub(crate) fn bind_tree(tree: &SyntaxTree, scope: &mut Scope) -> Result<(), AllocError>
+pub(crate) fn bind_tree<'a>(tree: &'a SyntaxTree, scope: &mut Scope<'a>) -> Result<(), AllocError>
     ensures { OnOk result (scope.new ≡ with_names scope.old (binds (tree_of tree.now))) }
 {
     match tree {
@@ -74,7 +78,7 @@ pub(crate) fn bind_tree(tree: &SyntaxTree, scope: &mut Scope) -> Result<(), Allo
 
 /// Binds what expressions in a row bind.
 #[cycle(expressions)]
-pub(crate) fn bind_row(row: &[SyntaxTree], scope: &mut Scope) -> Result<(), AllocError>
+pub(crate) fn bind_row<'a>(row: &'a [SyntaxTree], scope: &mut Scope<'a>) -> Result<(), AllocError>
     ensures { OnOk result (scope.new ≡ with_names scope.old (binds_in (trees row.now))) }
 {
     for tree in row {
@@ -85,7 +89,11 @@ pub(crate) fn bind_row(row: &[SyntaxTree], scope: &mut Scope) -> Result<(), Allo
 
 /// Binds what the parts of an expression bind behind it.
 #[cycle(expressions)]
-fn bind_parts(scoping: Scoping, parts: &[SyntaxTree], scope: &mut Scope) -> Result<(), AllocError>
+fn bind_parts<'a>(
+    scoping: Scoping,
+    parts: &'a [SyntaxTree],
+    scope: &mut Scope<'a>,
+) -> Result<(), AllocError>
     ensures { OnOk result (scope.new ≡ with_names scope.old (bound_by_parts scoping (trees parts.now))) }
 {
     match scoping {

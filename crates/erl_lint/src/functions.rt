@@ -81,8 +81,8 @@ fn body_arity(name: &Atom) -> Option<usize>
     }
 }
 
-/// How many trees stand in a row.
-pub(crate) fn count(row: &SyntaxTrees) -> usize
+/// How many trees stand in a row. Takes no memory.
+pub fn count(row: &SyntaxTrees) -> usize
     ensures { result ≡ tree_count row.now }
 {
     row.as_slice().len()

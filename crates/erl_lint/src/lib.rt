@@ -21,6 +21,9 @@
 //! | `A andalso B`, `A orelse B` | what `A` binds | `B`, and what comes behind; what `B` binds stays in it |
 //! | a tuple, a list, a call, any other operator | what its parts bind | what comes behind it; the parts see nothing of one another |
 //!
+//! A [`Scope`] is what is bound at a place, in the order in which a module that runs binds it: so it tells also the place that
+//! a variable has in the bindings ([`Scope::place`]).
+//!
 //! # What is proved
 //!
 //! [`first_fault`] gives none exactly where the module has no fault by the definitions of `specs/`, and else one of its
@@ -44,5 +47,8 @@ mod scope;
 mod scoping;
 mod walk;
 
+pub use binding::is_anonymous;
 pub use fault::StaticFault;
+pub use functions::count;
 pub use module::first_fault;
+pub use scope::Scope;

@@ -48,10 +48,10 @@ fn first_of_all(
 }
 
 /// The first fault with those of forms.
-fn first_in_forms(
+fn first_in_forms<'a>(
     functions: &Functions,
-    forms: &[FormTree],
-    scope: &mut Scope,
+    forms: &'a [FormTree],
+    scope: &mut Scope<'a>,
     first: First,
 ) -> Result<First, AllocError>
     requires { scope.old ≡ [] }
@@ -65,10 +65,10 @@ fn first_in_forms(
 }
 
 /// The first fault with those of a form.
-fn first_in_form(
+fn first_in_form<'a>(
     functions: &Functions,
-    form: &FormTree,
-    scope: &mut Scope,
+    form: &'a FormTree,
+    scope: &mut Scope<'a>,
     first: First,
 ) -> Result<First, AllocError>
     requires { scope.old ≡ [] }
@@ -108,10 +108,10 @@ fn first_in_export(functions: &Functions, entry: &Exported, first: First) -> Fir
 }
 
 /// The first fault with those of a function.
-fn first_in_function(
+fn first_in_function<'a>(
     functions: &Functions,
-    clauses: &[FunctionClause],
-    scope: &mut Scope,
+    clauses: &'a [FunctionClause],
+    scope: &mut Scope<'a>,
     first: First,
 ) -> Result<First, AllocError>
     requires { scope.old ≡ [] }
@@ -126,10 +126,10 @@ fn first_in_function(
 }
 
 /// The first fault with those of a loop function.
-fn first_in_loop(
+fn first_in_loop<'a>(
     functions: &Functions,
-    function: &LoopTree,
-    scope: &mut Scope,
+    function: &'a LoopTree,
+    scope: &mut Scope<'a>,
     first: First,
 ) -> Result<First, AllocError>
     requires { scope.old ≡ [] }

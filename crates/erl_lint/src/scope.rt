@@ -1,49 +1,47 @@
 // The variables that are bound at a place.
-ghost use Rattle.std.specs.Prelude.{◌≡◌, ◌&&◌, ℕ, List, [], length, take, IfOk, OnOk};
-ghost use Rattle.std.specs.String.{string_bytes};
-ghost use Rattle.std.specs.Str.{bytes_eq, chars};
+ghost use Rattle.std.specs.Prelude.{◌≡◌, ℕ, List, [], length, take, IfOk, OnOk};
+ghost use Rattle.std.specs.Str.{bytes_eq};
 ghost use Rattle.std.specs.Hash as fed;
-ghost use Rattle.std.specs.Cmp.{partial_equiv_from_equiv, on_equiv};
-ghost use Rattle.std.specs.Ordering.{on};
+ghost use Rattle.std.specs.Cmp.{partial_equiv_from_equiv};
 ghost use Rattle.std.specs.Cmp.Lexicographic.{nat_list_eq_equiv};
 ghost use Rattle.std.specs.Cmp.Rules.{hashing};
 ghost use Rattle.std.proofs.Common.{rules};
 ghost use Rattle.erl_term.specs.Text.{utf8};
-ghost use Rattle.erl_lint.specs.Scopes.{is_bound, with_name};
+ghost use Rattle.erl_lint.specs.Scopes.{is_bound, place_of, with_name};
 
 use erl_chars::Text;
-use indexmap::{Equivalent, IndexSet};
+use indexmap::IndexSet;
 use std::alloc::{AllocError, Global};
 use std::hash::{Hash, Hasher, RandomState};
 use std::marker::Model;
 
-/// The name of a variable, seen by contracts as its code points.
+/// The name of a variable, borrowed from its tree, seen by contracts as its code points.
 #[derive(Drop)]
-struct VariableName {
-    text: String,
+struct VariableName<'a> {
+    text: &'a Text,
 }
 
-impl Model for VariableName {
+impl<'a> Model for VariableName<'a> {
     ghost Value = { List ℕ };
 
-    ghost view = { λ a. chars (string_bytes a.text) };
+    ghost view = { λ a. a.text.now };
 }
 
-impl PartialEq for VariableName {
+impl PartialEq for VariableName<'_> {
     ghost eq = { bytes_eq };
 
     ghost laws = { partial_equiv_from_equiv nat_list_eq_equiv };
 
-    fn eq(&self, other: &VariableName) -> bool {
+    fn eq(&self, other: &Self) -> bool {
         self.text.as_str() == other.text.as_str()
     }
 }
 
-impl Eq for VariableName {
+impl Eq for VariableName<'_> {
     ghost laws = { nat_list_eq_equiv };
 }
 
-impl Hash for VariableName {
+impl Hash for VariableName<'_> {
     ghost hash_input = { λ a. fed.str (utf8 a) };
 
     ghost respects_eq = { Prim.search (hashing, rules) };
@@ -53,102 +51,67 @@ impl Hash for VariableName {
     }
 }
 
-/// A name that is looked for, borrowed: it stands for the name that it is equal to.
-#[derive(Clone, Copy)]
-struct Sought<'a> {
-    name: &'a Text,
-}
-
-impl PartialEq for Sought<'_> {
-    ghost eq = { on (λ q. q.name.now) bytes_eq };
-
-    ghost laws = { partial_equiv_from_equiv (on_equiv (λ q. q.name.now) nat_list_eq_equiv) };
-
-    fn eq(&self, other: &Self) -> bool {
-        self.name.as_str() == other.name.as_str()
-    }
-}
-
-impl Eq for Sought<'_> {
-    ghost laws = { on_equiv (λ q. q.name.now) nat_list_eq_equiv };
-}
-
-impl Hash for Sought<'_> {
-    ghost hash_input = { λ q. fed.str (utf8 q.name.now) };
-
-    ghost respects_eq = { Prim.search (hashing, rules) };
-
-    fn hash<H: Hasher>(&self, state: &mut H) {
-        self.name.as_str().hash(state);
-    }
-}
-
-impl Equivalent<VariableName> for Sought<'_> {
-    ghost equivalent = { λ q k. bytes_eq q.name.now k };
-
-    ghost respects_hash = { Prim.search (hashing, rules) };
-
-    ghost respects_eq = { Prim.search (hashing, rules) };
-
-    fn equivalent(&self, key: &VariableName) -> bool {
-        self.name.as_str() == key.text.as_str()
-    }
-}
-
-/// The variables that are bound, each once, in the order in which they were bound. Contracts see their names.
+/// The variables that are bound at a place, each once, in the order in which they are bound when the module runs. Contracts
+/// see their names.
 #[derive(Drop)]
-pub(crate) struct Scope {
-    alloc: Global,
-    names: IndexSet<VariableName, RandomState>,
+pub struct Scope<'a> {
+    names: IndexSet<VariableName<'a>, RandomState>,
 }
 
-impl Model for Scope {
+impl<'a> Model for Scope<'a> {
     ghost Value = { List (List ℕ) };
 
     ghost view = { λ s. s.names.keys };
 }
 
-impl Scope {
-    /// Nothing is bound. Takes no memory.
-    pub(crate) fn new(alloc: Global, hashing: RandomState) -> Scope
+impl<'a> Scope<'a> {
+    /// Nothing is bound. Names are hashed by `hashing`. Takes no memory.
+    pub fn new(alloc: Global, hashing: RandomState) -> Scope<'a>
         ensures { result ≡ [] }
     {
         let names = IndexSet::with_hasher(alloc, hashing);
-        Scope { alloc, names }
+        Scope { names }
     }
 
     /// Whether a variable is bound. Takes no memory.
-    pub(crate) fn has(&self, name: &Text) -> bool
+    pub fn has(&self, name: &'a Text) -> bool
         ensures { result ≡ is_bound self.now name.now }
     {
-        self.names.contains(Sought { name })
+        self.names.contains(&VariableName { text: name })
     }
 
-    /// Binds a variable.
+    /// The place of a variable: how many were bound before it; of one that is not bound, how many are bound. Takes no memory.
+    pub fn place(&self, name: &'a Text) -> usize
+        ensures { result ≡ place_of self.now name.now }
+    {
+        match self.names.get_index_of(&VariableName { text: name }) {
+            Some(place) => place,
+            None => self.names.len(),
+        }
+    }
+
+    /// Binds a variable, and gives its place. One that is bound keeps its place.
     ///
     /// # Errors
     ///
     /// `AllocError` where memory is refused.
-    pub(crate) fn bind(&mut self, name: &Text) -> Result<(), AllocError>
-        ensures { OnOk result (self.new ≡ with_name self.old name.now) }
+    pub fn bind(&mut self, name: &'a Text) -> Result<usize, AllocError>
+        ensures bound { OnOk result (self.new ≡ with_name self.old name.now) }
+        ensures place { IfOk result (λ place. place ≡ place_of self.old name.now) }
     {
-        if self.has(name) {
-            return Ok(());
-        }
-        let text = String::from_str(self.alloc, name.as_str())?;
-        self.names.insert(VariableName { text })?;
-        Ok(())
+        let (place, _) = self.names.insert_full(VariableName { text: name })?;
+        Ok(place)
     }
 
-    /// How many variables are bound.
-    pub(crate) fn len(&self) -> usize
+    /// How many variables are bound. Takes no memory.
+    pub fn len(&self) -> usize
         ensures { result ≡ length self.now }
     {
         self.names.len()
     }
 
-    /// Keeps the variables that were bound first, so many of them.
-    pub(crate) fn keep_first(&mut self, len: usize)
+    /// Keeps the variables that were bound first, so many of them. Takes no memory.
+    pub fn keep_first(&mut self, len: usize)
         ensures { self.new ≡ take len self.old }
     {
         self.names.truncate(len);

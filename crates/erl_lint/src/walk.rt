@@ -16,7 +16,7 @@ use std::alloc::AllocError;
 pub(crate) type First = Option<StaticFault>;
 
 /// The first fault with that of a leaf: a variable that is not bound.
-fn first_in_leaf(leaf: &Leaf, scope: &Scope, first: First) -> First
+fn first_in_leaf<'a>(leaf: &'a Leaf, scope: &Scope<'a>, first: First) -> First
     ensures { result ≡ soonest first (leaf_faults scope.now leaf.now) }
 {
     match leaf {
@@ -50,10 +50,10 @@ fn first_in_call(functions: &Functions, shape: &Shape, arguments: usize, first: 
 
 /// The first fault with those of an expression or a test.
 #[cycle(walk)]
-fn first_in_tree(
+fn first_in_tree<'a>(
     functions: &Functions,
-    tree: &SyntaxTree,
-    scope: &mut Scope,
+    tree: &'a SyntaxTree,
+    scope: &mut Scope<'a>,
     first: First,
 ) -> Result<First, AllocError>
     ensures found { IfOk result (λ r. r ≡ soonest first (faults_in functions.now.keys scope.old (tree_of tree.now))) }
@@ -78,11 +78,11 @@ fn first_in_tree(
 
 /// The first fault with those of the parts of an expression.
 #[cycle(walk)]
-fn first_in_parts(
+fn first_in_parts<'a>(
     functions: &Functions,
     scoping: Scoping,
-    parts: &[SyntaxTree],
-    scope: &mut Scope,
+    parts: &'a [SyntaxTree],
+    scope: &mut Scope<'a>,
     first: First,
 ) -> Result<First, AllocError>
     ensures found { IfOk result (λ r. r ≡ soonest first (faults_in_parts functions.now.keys scope.old scoping (trees parts.now))) }
@@ -100,10 +100,10 @@ fn first_in_parts(
 
 /// The first fault with those of expressions that see nothing of one another.
 #[cycle(walk)]
-fn first_in_row(
+fn first_in_row<'a>(
     functions: &Functions,
-    row: &[SyntaxTree],
-    scope: &mut Scope,
+    row: &'a [SyntaxTree],
+    scope: &mut Scope<'a>,
     first: First,
 ) -> Result<First, AllocError>
     ensures found { IfOk result (λ r. r ≡ soonest first (faults_apart functions.now.keys scope.old (trees row.now))) }
@@ -118,10 +118,10 @@ fn first_in_row(
 
 /// The first fault with those of expressions that see what those before them bind.
 #[cycle(walk)]
-fn first_in_turn(
+fn first_in_turn<'a>(
     functions: &Functions,
-    row: &[SyntaxTree],
-    scope: &mut Scope,
+    row: &'a [SyntaxTree],
+    scope: &mut Scope<'a>,
     first: First,
 ) -> Result<First, AllocError>
     ensures found { IfOk result (λ r. r ≡ soonest first (faults_in_turn functions.now.keys scope.old (trees row.now))) }
@@ -139,10 +139,10 @@ fn first_in_turn(
 
 /// The first fault with those of a guard sequence.
 #[cycle(walk)]
-pub(crate) fn first_in_guards(
+pub(crate) fn first_in_guards<'a>(
     functions: &Functions,
-    alternatives: &[SyntaxTrees],
-    scope: &mut Scope,
+    alternatives: &'a [SyntaxTrees],
+    scope: &mut Scope<'a>,
     first: First,
 ) -> Result<First, AllocError>
     ensures found { IfOk result (λ r. r ≡ soonest first (faults_in_guards functions.now.keys scope.old (guards alternatives.now))) }
@@ -157,10 +157,10 @@ pub(crate) fn first_in_guards(
 
 /// The first fault with those of a clause.
 #[cycle(walk)]
-pub(crate) fn first_in_clause(
+pub(crate) fn first_in_clause<'a>(
     functions: &Functions,
-    clause: &ClauseTree,
-    scope: &mut Scope,
+    clause: &'a ClauseTree,
+    scope: &mut Scope<'a>,
     first: First,
 ) -> Result<First, AllocError>
     ensures found { IfOk result (λ r. r ≡ soonest first (faults_in_clause functions.now.keys scope.old clause.now)) }
@@ -176,10 +176,10 @@ pub(crate) fn first_in_clause(
 
 /// The first fault with those of clauses.
 #[cycle(walk)]
-pub(crate) fn first_in_clauses(
+pub(crate) fn first_in_clauses<'a>(
     functions: &Functions,
-    row: &[ClauseTree],
-    scope: &mut Scope,
+    row: &'a [ClauseTree],
+    scope: &mut Scope<'a>,
     first: First,
 ) -> Result<First, AllocError>
     ensures found { IfOk result (λ r. r ≡ soonest first (faults_in_clauses functions.now.keys scope.old (clauses row.now))) }

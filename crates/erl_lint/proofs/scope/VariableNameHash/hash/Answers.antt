@@ -1,6 +1,5 @@
 -- The text's bytes are those of its characters.
 use Rattle.std.proofs.Common.{ap, ◌∙◌, sym, fold}
-use Rattle.std.specs.Str.{chars}
 use Rattle.std.specs.Hash as fed
 use Rattle.std.proofs.lemmas.Str.{encodes-chars}
 use Rattle.erl_term.specs.Text.{utf8}
@@ -9,5 +8,5 @@ use Rattle.erl_lint.proofs.scope.VariableNameHash.hash.Goals as goal
 pub returns : goal.returns
 unfolding utf8
 returns g c =
-    let same = sym (encodes-chars _ c.as_str.utf8) ∙ ap utf8 (ap chars c.as_str.ensures.value ∙ c.self.view_is) in
+    let same = sym (encodes-chars _ c.as_str.utf8) ∙ ap utf8 (c.as_str.ensures ∙ c.self.view_is) in
     c.hash.ensures ∙ ap (λ bs. fold g.H.Hasher.write c.args.state.now (fed.str bs)) same

@@ -1,6 +1,0 @@
--- Bytes are compared, which are the characters' own.
-use Rattle.erl_lint.proofs.Texts.{same_names}
-use Rattle.erl_lint.proofs.scope.SoughtPartialEq.eq.Goals as goal
-
-pub returns : goal.returns
-returns c = same_names _ _ _ _ c.eq.result c.as_str.utf8 c.as_str-2.utf8 c.eq.ensures c.as_str.ensures c.as_str-2.ensures
