@@ -15,11 +15,12 @@ use Rattle.erl_lint.specs.declared.fault.StaticFault.{StaticFault}
 use Rattle.erl_lint.specs.First.{IsFirstFault}
 use Rattle.erl_lint.specs.Faults.{faults_of}
 use Rattle.module_forms.proofs.Modules.{one_module}
-use Rattle.erl_lower.specs.Meaning.{HasNoMeaning, IsMeaning}
+use Rattle.erl_lower.specs.Meaning.{meaning, IsMeaning}
+use Rattle.erl_parse.proofs.Apart.{functions_apart}
 use Rattle.erl_parse.specs.declared.error.LangError.{LangError}
 use Rattle.erl_parse.specs.declared.error.LangError.TheVariants as errors
-use Rattle.erl_parse.specs.Sources.{IsWritten, IsSource, IsNoSource, OneModule}
-use Rattle.erl_parse.specs.Telling.{StopsAt, AreNoModule, Says, not_utf8, faulty, misplaced, unclosed, no_dot, static, meaningless, memory}
+use Rattle.erl_parse.specs.Sources.{IsWritten, IsSource, IsNoSource, OneModule, FaultlessMean}
+use Rattle.erl_parse.specs.Telling.{StopsAt, AreNoModule, Says, not_utf8, faulty, misplaced, unclosed, no_dot, static, memory}
 use Rattle.erl_parse.specs.Telling.{TellsRefusal, stopped, at_token, in_bracket, at_end, TellsTree, has_fault, has_no_meaning, no_memory}
 
 -- a text has one list of tokens and one stop
@@ -43,6 +44,15 @@ one_meaning bytes m n one other =
     let means : IsMeaning one.tree n = subst (λ t. IsMeaning t n) same other.means in
     one.means.1 ∙ sym means.1
 
+-- and a module without static fault means one
+pub faultless_mean : FaultlessMean
+faultless_mean bytes tree written none = record {
+  tree = tree;
+  written = written;
+  faultless = none;
+  means = (functions_apart tree written.is_module.1 written.is_module.3 none, refl);
+}
+
 -- what stands against bytes that mean a module
 
 against_stop : (bytes : List ℕ) (e : ReadError) → StopsAt bytes e → IsNoSource bytes
@@ -60,12 +70,6 @@ against_fault bytes f tree written first m source =
     let empty : length (faults_of tree) ≡ 0 = ap (λ t. length (faults_of t)) same ∙ ap length source.faultless in
     omega (arith, empty, first.0.1)
 
-against_tree : (bytes : List ℕ) (tree : ModuleTree) → IsWritten bytes tree → HasNoMeaning tree → IsNoSource bytes
-against_tree bytes tree written none m source =
-    let same = tree_one bytes source.tree tree source.written written in
-    let means : IsMeaning tree m = subst (λ t. IsMeaning t m) same source.means in
-    none means.0
-
 pub says_none : (bytes : List ℕ) (error : LangError) → Says bytes error → (error ≡ errors.Memory) ⊎ IsNoSource bytes
 says_none bytes error (not_utf8 is none valid) = inr (λ m source. none source.written.utf8)
 says_none bytes error (faulty {e} is stops) = inr (against_stop bytes e stops)
@@ -73,7 +77,6 @@ says_none bytes error (misplaced {stop} is none) = inr (against_tokens bytes sto
 says_none bytes error (unclosed is none) = inr (against_tokens bytes None none)
 says_none bytes error (no_dot is none) = inr (against_tokens bytes None none)
 says_none bytes error (static {fault} is first) = inr (against_fault bytes fault first.tree first.written first.first)
-says_none bytes error (meaningless is nothing) = inr (against_tree bytes nothing.tree nothing.written nothing.meaningless)
 says_none bytes error (memory is) = inl is
 
 -- what is told of tokens and of trees, as told of the bytes
@@ -92,8 +95,8 @@ refusal_says bytes tokens stop error utf8 scan none (at_end is told) =
 
 pub tree_says : (bytes : List ℕ) (tree : ModuleTree) (error : LangError) → IsWritten bytes tree → TellsTree tree error → Says bytes error
 tree_says bytes tree error written (has_fault is first) = static is (record { tree = tree; written = written; first = first })
-tree_says bytes tree error written (has_no_meaning none meaning is) =
-    meaningless is (record { tree = tree; written = written; faultless = none; meaningless = meaning; named_at = refl })
+tree_says bytes tree error written (has_no_meaning none nothing is) =
+    absurd (nothing (functions_apart tree written.is_module.1 written.is_module.3 none))
 tree_says bytes tree error written (no_memory is) = memory is
 
 -- the same of results

@@ -8,7 +8,7 @@ use Rattle.erl_syntax.specs.Terminal.{terminals}
 use Rattle.erl_syntax.specs.Forms.{IsModule}
 use Rattle.erl_lint.specs.Faults.{faults_of}
 use Rattle.erl_forms.specs.Module.{Forms}
-use Rattle.erl_lower.specs.Meaning.{IsMeaning}
+use Rattle.erl_lower.specs.Meaning.{meaning, IsMeaning}
 
 -- Bytes are written as a module: they are UTF-8, and so are their tokens, up to the end.
 pub record IsWritten (bytes : List ℕ) (tree : ModuleTree) : Type 0 where
@@ -27,6 +27,10 @@ pub record IsSource (bytes : List ℕ) (m : Forms) : Type 0 where
 abbrev pub IsNoSource : List ℕ → Type 0
 IsNoSource bytes = (m : Forms) → IsSource bytes m → ⊥
 
--- The law: bytes are a source of one module at most.
+-- The laws: bytes are a source of one module at most, and of one where they are written as a module without static fault.
 abbrev pub OneModule : Type 0
 OneModule = (bytes : List ℕ) → (m n : Forms) → IsSource bytes m → IsSource bytes n → m ≡ n
+
+abbrev pub FaultlessMean : Type 0
+FaultlessMean =
+    (bytes : List ℕ) → (tree : ModuleTree) → IsWritten bytes tree → faults_of tree ≡ [] → IsSource bytes (meaning tree)

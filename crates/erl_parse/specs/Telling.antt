@@ -73,14 +73,6 @@ pub record FaultsFirst (bytes : List ℕ) (fault : StaticFault) : Type 0 where
   pub written : IsWritten bytes tree
   pub first : IsFirstFault (Some fault) (faults_of tree)
 
--- The bytes are written as a module without static fault that means nothing, and its name stands here.
-pub record MeansNothing (bytes : List ℕ) (at : ℕ) : Type 0 where
-  pub tree : ModuleTree
-  pub written : IsWritten bytes tree
-  pub faultless : faults_of tree ≡ []
-  pub meaningless : HasNoMeaning tree
-  pub named_at : at ≡ tree.name.at
-
 -- What an error says of the bytes. Of `Memory` it says nothing.
 pub data Says (bytes : List ℕ) (error : LangError) : Type 0 where
   not_utf8 : {at : ℕ} → error ≡ text_error faults.NotUtf8 at → (IsUtf8 bytes → ⊥) → IsValidUpTo bytes at → Says bytes error
@@ -93,7 +85,6 @@ pub data Says (bytes : List ℕ) (error : LangError) : Type 0 where
   no_dot : error ≡ text_error faults.MissingDot (length bytes) → AreNoModule bytes None → Says bytes error
   -- a static fault
   static : {fault : StaticFault} → error ≡ error_of_static fault → FaultsFirst bytes fault → Says bytes error
-  meaningless : {at : ℕ} → error ≡ errors.Syntax at → MeansNothing bytes at → Says bytes error
   memory : error ≡ errors.Memory → Says bytes error
 
 -- Parts of it, for the steps of reading

@@ -8,22 +8,26 @@
 //!
 //! - [`read_module`], `found`: the module that is given is what the bytes mean: they are UTF-8, their tokens up to the end are
 //!   written as a module in the grammar of `erl_syntax`, which has no static fault, and that is its meaning (`IsSource`).
-//! - [`read_module`], `refused`: what each error says of the bytes (`Says`). The three static faults are told of bytes that are
-//!   written as a module, one of its faults, where none stands at a lesser place. Faults of the text that a token has by itself
-//!   are told at its place, and only where the tokens before it are read up to it. All others say that the tokens, up to the
-//!   end or to such a fault, are written as no module; or, `Syntax` alone, that the module which they are means nothing.
-//! - [`read_module`], `meaningless`: want of memory aside, bytes of which an error is told mean no module (`IsNoSource`).
-//! - [`sources_mean_one_module`]: bytes mean at most one module.
+//! - [`read_module`], `refused`: what each error says of the bytes (`Says`). A static fault is told of bytes that are written as a
+//!   module: it is one of its faults, and none stands at a lesser place. `NotUtf8` is told at the first byte that is none, and
+//!   the fault that a token has by itself at its place. `MissingDot` and the `Unclosed` of a bracket say that the text ends, and
+//!   its tokens are written as no module; all others, that those up to the end or to a faulty one are written as none.
+//! - [`read_module`], `meaningless`: want of memory aside, bytes of which an error is told are no source of a module
+//!   (`IsNoSource`).
+//! - [`sources_mean_one_module`]: bytes mean at most one module, and they mean one where they are written as a module without
+//!   static fault. So no such source is refused, but for want of memory.
 //!
 //! # What no contract says
 //!
-//! That there is memory, and that `Memory` is told only where it was refused. That tokens which are no module are told at the
-//! first of them with which no source goes on, and whether as `Syntax`, as `Unsupported` or as a fault of the text: the tests
-//! of `parse_tests` see that. That bytes which are written as a module without static fault do mean one: they are told as
-//! `Syntax` at the module's name otherwise.
+//! That there is memory, and that `Memory` is told only where it was refused. That tokens which are written as no module are told
+//! at the first of them with which none goes on, and whether as `Syntax`, as `Unsupported` or as a fault of the text: the
+//! tests of `parse_tests` see that.
 //!
 //! What a call costs: each layer goes over the source once, as their crates say. Reading recurses as deep as the source is
 //! nested, at most 256 levels.
+//!
+//! How it is proved: `Meanings` joins the laws of the layers, and `Apart` says that no two functions have one name and one number
+//! of arguments where `erl_lint` finds no fault.
 #![tactic(auto)]
 
 mod error;

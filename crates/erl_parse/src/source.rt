@@ -3,7 +3,7 @@ ghost use Rattle.std.specs.Prelude.{◌≡◌, ◌⊎◌, [], IfErr, IfOk};
 ghost use Rattle.erl_lint.specs.Faults.{faults_of};
 ghost use Rattle.erl_lower.specs.Meaning.{IsMeaning};
 ghost use Rattle.erl_parse.specs.declared.error.LangError.TheVariants.{Memory as refused};
-ghost use Rattle.erl_parse.specs.Sources.{IsSource, IsNoSource, OneModule};
+ghost use Rattle.erl_parse.specs.Sources.{IsSource, IsNoSource, OneModule, FaultlessMean};
 ghost use Rattle.erl_parse.specs.Telling.{Says, TellsTree};
 
 use crate::error::LangError;
@@ -56,7 +56,8 @@ fn read_text(alloc: Global, hashing: RandomState, text: &str) -> Result<Module, 
     }
 }
 
-/// The module that a tree means, where it has no static fault.
+/// The module that a tree means, where it has no static fault. It means none where two functions have one name and one number of
+/// arguments, which is a static fault.
 fn module_of(alloc: Global, hashing: RandomState, tree: &ModuleTree) -> Result<Module, LangError>
     ensures found { IfOk result (λ m. (faults_of tree.now ≡ []) × IsMeaning tree.now m) }
     ensures refused { IfErr result (λ e. TellsTree tree.now e) }
@@ -70,7 +71,8 @@ fn module_of(alloc: Global, hashing: RandomState, tree: &ModuleTree) -> Result<M
     }
 }
 
-/// A law: bytes mean at most one module.
+/// A law: bytes mean at most one module, and they mean one where they are written as a module without static fault.
 pub fn sources_mean_one_module()
-    ensures { OneModule }
+    ensures one { OneModule }
+    ensures faultless { FaultlessMean }
 {}

@@ -22,9 +22,9 @@ returns-in-Ok-clause-refused c =
 
 pub returns-clause-refused : goal.returns-clause-refused
 returns-clause-refused c =
-    let scan : IsScanOf (chars c.args.text.now) c.in_ok-tokens.tokens.items c.in_ok-tokens.fault = search rules in
+    let scan : IsScanOf (chars c.args.text.now) c.in_ok-tokens.tokens.items c.in_ok-tokens.field-0.fault = search rules in
     let same : c.as_slice.result.now ≡ c.in_ok-tokens.tokens.items = search rules in
     let none : (tree : ModuleTree) → IsModule (terminals c.as_slice.result.now) tree → ⊥ =
     rw c.in-Err.is at c.in_ok-tree.ensures.refused in
-    refusal_says c.args.text.now c.in_ok-tokens.tokens.items c.in_ok-tokens.fault c.of_refusal.result c.utf8.text scan
+    refusal_says c.args.text.now c.in_ok-tokens.tokens.items c.in_ok-tokens.field-0.fault c.of_refusal.result c.utf8.text scan
     (λ tree is. none tree (subst (λ ts. IsModule (terminals ts) tree) (sym same) is)) c.of_refusal.ensures
