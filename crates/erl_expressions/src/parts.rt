@@ -13,6 +13,7 @@ use crate::operators::MATCHES;
 use crate::reader::brackets::{parts, row};
 use crate::reader::clauses::{clauses_to_end, guarded};
 use crate::reader::{Reading, read};
+use crate::refusal::Choice;
 use erl_scan::Spot;
 use erl_syntax::{ClauseTrees, GuardTrees, Role, SyntaxTree, SyntaxTrees};
 use std::alloc::Global;
@@ -98,8 +99,8 @@ pub fn read_clauses<'a>(alloc: Global, levels: u32, tokens: &'a [Spot]) -> Readi
         (λ f. clauses_in (read_in levels) (terminals tokens.now) ≡ Some (f.0, terminals f.1.now))
         (λ _. clauses_in (read_in levels) (terminals tokens.now) ≡ None)) }
 {
-    match clauses_to_end(alloc, levels, tokens)? {
+    match clauses_to_end(alloc, levels, Choice::Receive, tokens)? {
         Ok((clauses, rest)) => Ok(Ok((clauses.into_trees(), rest))),
-        Err(refusal) => Ok(Err(refusal)),
+        Err(refusal) => Ok(Err(refusal.of_receive(tokens))),
     }
 }

@@ -1,6 +1,16 @@
 // Why tokens are refused.
 use crate::delimiter::Delimiter;
 use erl_scan::{Mark, Spot, Token, Word};
+use erl_syntax::{Infix, Prefix, Role, Shape, SyntaxTree};
+
+/// What clauses belong to.
+#[derive(Clone, Copy, PartialEq, Eq)]
+pub(crate) enum Choice {
+    /// A `case`.
+    Case,
+    /// A `receive`, which Erlang has with `after`.
+    Receive,
+}
 
 /// Why tokens are no expression, pattern or guard, and the first byte in the source of what is told.
 #[derive(Clone, Copy, Debug, PartialEq, Eq)]
@@ -50,6 +60,63 @@ impl Refusal {
         }
     }
 
+    /// The refusal of a sign where an expression should begin, and of the tokens behind it: a float is told at itself.
+    pub(crate) fn at_sign(first: &Spot, rest: &[Spot]) -> Refusal {
+        match (&first.what, rest.first()) {
+            (Token::Mark(Mark::Plus), Some(number)) if matches!(number.what, Token::Float) => {
+                Refusal::Unsupported(number.at)
+            }
+            (_, _) => Refusal::at_start(first),
+        }
+    }
+
+    /// The refusal of an operator at a byte that stands before what should be a pattern: `-` before a float is its sign.
+    pub(crate) fn before_pattern(op: Prefix, at: usize, tokens: &[Spot]) -> Refusal {
+        match (op, tokens.first()) {
+            (Prefix::Negate, Some(first)) if matches!(first.what, Token::Float) => {
+                Refusal::Unsupported(first.at)
+            }
+            (_, _) => Refusal::Syntax(at),
+        }
+    }
+
+    /// The refusal of a call, which a pattern hasn't: there it is told at the sign behind the name.
+    pub(crate) fn of_call(self, role: Role, sign: usize) -> Refusal {
+        match role {
+            Role::Pattern => Refusal::Syntax(sign),
+            Role::Expression | Role::Test => self,
+        }
+    }
+
+    /// The refusal of a token that can't stand where it stands, whatever Erlang has.
+    pub fn misplaced(tokens: &[Spot]) -> Refusal {
+        let Some(first) = tokens.first() else {
+            return Refusal::End;
+        };
+        match &first.what {
+            Token::Integer(n) if *n > 9223372036854775807 => Refusal::IntegerRange(first.at),
+            _ => Refusal::Syntax(first.at),
+        }
+    }
+
+    /// The refusal of tokens behind whole clauses.
+    pub(crate) fn behind_clauses(choice: Choice, tokens: &[Spot]) -> Refusal {
+        match choice {
+            Choice::Case => Refusal::behind(tokens),
+            Choice::Receive => Refusal::behind(tokens).of_receive(tokens),
+        }
+    }
+
+    /// The refusal of tokens where the clauses of a `receive` begin or end: `after` is not read.
+    pub(crate) fn of_receive(self, tokens: &[Spot]) -> Refusal {
+        match tokens.first() {
+            Some(first) if matches!(first.what, Token::Word(Word::After)) => {
+                Refusal::Unsupported(first.at)
+            }
+            _ => self,
+        }
+    }
+
     /// The refusal of tokens behind a whole expression, where no text goes on so.
     pub fn behind(tokens: &[Spot]) -> Refusal {
         let Some(first) = tokens.first() else {
@@ -57,8 +124,7 @@ impl Refusal {
         };
         match &first.what {
             Token::Word(
-                Word::After
-                | Word::BitAnd
+                Word::BitAnd
                 | Word::BitOr
                 | Word::BitXor
                 | Word::ShiftLeft
@@ -75,7 +141,7 @@ impl Refusal {
                 | Mark::OpenParen
                 | Mark::Subtract,
             ) => Refusal::Unsupported(first.at),
-            _ => Refusal::Syntax(first.at),
+            _ => Refusal::misplaced(tokens),
         }
     }
 
@@ -95,11 +161,14 @@ impl Refusal {
         }
     }
 
-    /// The refusal of `=`, which tokens begin with, behind what is no pattern.
-    pub(crate) fn no_pattern(tokens: &[Spot]) -> Refusal {
-        match tokens.first() {
-            Some(first) => Refusal::Syntax(first.at),
-            None => Refusal::End,
+    /// The refusal of `=`, which tokens begin with, behind what is no pattern: right of `!` Erlang has a match.
+    pub(crate) fn no_pattern(left: &SyntaxTree, tokens: &[Spot]) -> Refusal {
+        match (left, tokens.first()) {
+            (_, None) => Refusal::End,
+            (SyntaxTree::Node(Shape::Infix(Infix::Send), _), Some(first)) => {
+                Refusal::Unsupported(first.at)
+            }
+            (_, Some(first)) => Refusal::Syntax(first.at),
         }
     }
 
@@ -107,6 +176,7 @@ impl Refusal {
     pub(crate) fn no_remote(name: &Spot, rest: &[Spot]) -> Refusal {
         match &name.what {
             Token::Atom(_) => Refusal::behind(rest),
+            Token::Integer(n) if *n > 9223372036854775807 => Refusal::IntegerRange(name.at),
             _ => Refusal::Unsupported(name.at),
         }
     }

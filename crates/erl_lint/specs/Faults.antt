@@ -1,6 +1,6 @@
 -- The static faults of a module beside functions that are defined twice: variables that are not bound where they are used,
 -- and local calls and exports of functions that there are not (Erlang Reference Manual, Expressions; Modules).
-use Rattle.std.specs.Prelude.{ℕ, ◌||◌, if◌then◌else◌, List, [], ◌∷◌, ◌++◌}
+use Rattle.std.specs.Prelude.{ℕ, ◌&&◌, ◌||◌, not, if◌then◌else◌, List, [], ◌∷◌, ◌++◌}
 use Rattle.erl_syntax.specs.declared.leaf.Leaf.{Leaf}
 use Rattle.erl_syntax.specs.declared.leaf.Leaf.TheVariants as leaves
 use Rattle.erl_syntax.specs.declared.shape.Shape.{Shape}
@@ -94,9 +94,11 @@ faults_in_loop functions l =
     faults_in_guards functions (with_names [] (pattern_names_in l.patterns)) l.guard ++
     faults_in_clauses functions (with_names [] (pattern_names_in l.patterns)) l.receive
 
--- only functions of the module are exported
+-- only functions of the module are exported, and none that is built in
 abbrev pub export_faults : List Key → Exported → List StaticFault
-export_faults functions e = if is_among functions (e.function.name, e.arity) then [] else UndefinedLocal e.function.at ∷ []
+export_faults functions e =
+    if is_among functions (e.function.name, e.arity) && not (is_built_in (e.function.name, e.arity)) then [] else
+    UndefinedLocal e.function.at ∷ []
 
 abbrev pub exports_faults : List Key → List Exported → List StaticFault
 exports_faults functions [] = []

@@ -6,7 +6,8 @@
 //! - A function may not have the name and the number of arguments of an earlier function of the module, nor of a function
 //!   that is built in and called plainly. The fault stands at the name of its first clause.
 //! - A local call calls a function of the module by its name and number of arguments, or one that is built in; and an entry
-//!   of `-export` names a function of the module. The fault stands at the name. Calls with a module are not looked at.
+//!   of `-export` names a function of the module that is not built in. The fault stands at the name. Calls with a module are
+//!   not looked at.
 //! - A variable that an expression or a test of a guard uses has to be bound there. `_` never is. The fault stands at the
 //!   variable. In a pattern no variable is unbound: one that is bound is compared.
 //!

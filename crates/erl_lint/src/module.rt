@@ -5,7 +5,7 @@ ghost use Rattle.erl_lint.specs.Faults.{faults_in_function, faults_in_loop, expo
 
 use crate::binding::bind_patterns;
 use crate::fault::{StaticFault, sooner};
-use crate::functions::{Functions, has, note_functions};
+use crate::functions::{Functions, has, is_built_in, note_functions};
 use crate::scope::Scope;
 use crate::walk::{First, first_in_clause, first_in_clauses, first_in_guards};
 use erl_syntax::{Exported, FormTree, FunctionClause, LoopTree, ModuleTree};
@@ -96,11 +96,13 @@ fn first_in_exports(functions: &Functions, entries: &[Exported], first: First) -
     found
 }
 
-/// The first fault with that of an entry of an `-export`: a function that the module hasn't.
+/// The first fault with that of an entry of an `-export`: a function that the module hasn't, or that is built in.
 fn first_in_export(functions: &Functions, entry: &Exported, first: First) -> First
     ensures { result ≡ soonest first (export_faults functions.now.keys entry.now) }
 {
-    if has(functions, &entry.function.name, entry.arity as usize) {
+    let name = &entry.function.name;
+    let arity = entry.arity as usize;
+    if has(functions, name, arity) && !is_built_in(name, arity) {
         first
     } else {
         sooner(first, StaticFault::UndefinedLocal(entry.function.at))

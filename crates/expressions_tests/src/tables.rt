@@ -69,7 +69,7 @@ pattern \"a\" \"b\" ⟶ \"a\" \"b\"
 pattern 1 + 2 ⟶ 1 … ✗ Syntax 2
 pattern \"abc\" ++ T ⟶ \"abc\" … ✗ Syntax 6
 pattern {1 + 2} ⟶ ✗ Syntax 3
-pattern f(X) ⟶ ✗ Syntax 0
+pattern f(X) ⟶ ✗ Syntax 1
 pattern -X ⟶ ✗ Syntax 0
 pattern not X ⟶ ✗ Syntax 0
 test X > 1 andalso not is_atom(X) ⟶ andalso(>(X,1),not(is_atom(X)))

@@ -13,7 +13,7 @@ ghost use Rattle.erl_expressions.specs.declared.delimiter.Delimiter.TheVariants.
 use crate::opening::Opening;
 use crate::tokens::{closed_form, expected, named_ahead};
 use erl_expressions::{Delimiter, Reading, Refusal, after, read_pattern};
-use erl_scan::{Spot, Token};
+use erl_scan::{Mark, Spot, Token, Word};
 use erl_syntax::{Exported, FormTree, Leaf, Named, Shape, SyntaxTree, SyntaxTrees};
 use std::alloc::Global;
 use values::Row;
@@ -41,6 +41,7 @@ fn arity_ahead<'a>(function: Named, tokens: &'a [Spot]) -> Result<(Exported, &'a
                 Err(Refusal::IntegerRange(first.at))
             }
         }
+        Token::Float => Err(Refusal::Unsupported(first.at)),
         _ => Err(Refusal::Syntax(first.at)),
     }
 }
@@ -98,7 +99,7 @@ fn closed_entries<'a>(
 {
     match after(Delimiter::CloseBracket, tokens) {
         Some(rest) => Ok((Row::new(entries), rest)),
-        None => Err(Refusal::behind(tokens)),
+        None => Err(Refusal::misplaced(tokens)),
     }
 }
 
@@ -152,10 +153,13 @@ pub(crate) fn versioned<'a>(alloc: Global, tokens: &'a [Spot]) -> Reading<'a, Fo
     };
     let (tree, rest) = match read_pattern(alloc, 256, open)? {
         Ok(found) => found,
-        Err(refusal) => return Ok(Err(refusal.within(first_byte(tokens)))),
+        Err(refusal) => {
+            let refusal = no_term(open, refusal);
+            return Ok(Err(refusal.within(first_byte(tokens))));
+        }
     };
     if !is_term(&tree) {
-        return Ok(Err(Refusal::Syntax(first_byte(open))));
+        return Ok(Err(no_term(open, Refusal::behind(rest))));
     }
     match closed_form(rest) {
         Ok(behind) => {
@@ -164,6 +168,64 @@ pub(crate) fn versioned<'a>(alloc: Global, tokens: &'a [Spot]) -> Reading<'a, Fo
             Ok(Ok((FormTree::Version(SyntaxTrees::new(row)), behind)))
         }
         Err(refusal) => Ok(Err(closing(refusal, rest, tokens))),
+    }
+}
+
+/// The refusal of what should be a term, where something is refused there anyway: the first token is told that no term has, or
+/// the bar before what is no list.
+fn no_term(tokens: &[Spot], refusal: Refusal) -> Refusal {
+    let mut bar = None;
+    for token in tokens {
+        if is_before(refusal, token.at) {
+            return refusal;
+        }
+        if let Some(fault) = fault_in_term(bar, token) {
+            return fault;
+        }
+        bar = match token.what {
+            Token::Mark(Mark::Bar) => Some(token.at),
+            _ => None,
+        };
+    }
+    refusal
+}
+
+/// Whether what is refused stands before a byte.
+fn is_before(refusal: Refusal, at: usize) -> bool {
+    match refusal {
+        Refusal::Syntax(place)
+        | Refusal::Unsupported(place)
+        | Refusal::IntegerRange(place)
+        | Refusal::TooDeep(place) => place < at,
+        Refusal::Unclosed(_) | Refusal::End => false,
+    }
+}
+
+/// The refusal of a token in a term, which may stand behind a bar at a byte.
+fn fault_in_term(bar: Option<usize>, token: &Spot) -> Option<Refusal> {
+    match (&token.what, bar) {
+        (Token::String(_) | Token::Mark(Mark::OpenBracket), _) => None,
+        (
+            Token::Integer(_)
+            | Token::Atom(_)
+            | Token::Mark(
+                Mark::OpenBrace
+                | Mark::CloseBrace
+                | Mark::CloseBracket
+                | Mark::Comma
+                | Mark::Bar
+                | Mark::Plus
+                | Mark::Minus,
+            ),
+            None,
+        ) => None,
+        (Token::Integer(_) | Token::Atom(_), Some(at)) => Some(Refusal::Unsupported(at)),
+        (Token::Mark(Mark::OpenBrace | Mark::Plus | Mark::Minus), Some(at)) => {
+            Some(Refusal::Unsupported(at))
+        }
+        (Token::Float | Token::Word(Word::Fun), _)
+        | (Token::Mark(Mark::OpenBinary | Mark::Hash), _) => Some(Refusal::Unsupported(token.at)),
+        (_, _) => Some(Refusal::Syntax(token.at)),
     }
 }
 

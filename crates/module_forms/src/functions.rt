@@ -6,12 +6,13 @@ ghost use Rattle.module_forms.specs.FormReading.{clause_like as like_in, functio
 ghost use Rattle.module_forms.specs.FormReading.{function as function_in, ended as ended_in, clause_of as clause_in};
 ghost use Rattle.erl_syntax.specs.Tree.{tree_count};
 
+use crate::attributes::first_byte;
 use crate::opening::{Opening, behind};
 use crate::tokens::{expected, named_ahead};
 use erl_expressions::{
     Delimiter, Reading, Refusal, after, read_body, read_clauses, read_guard, read_patterns,
 };
-use erl_scan::Spot;
+use erl_scan::{Mark, Spot, Token, Word};
 use erl_syntax::{
     ClauseTree, FormTree, FunctionClause, FunctionTree, GuardTrees, LoopTree, Named, SyntaxTrees,
 };
@@ -35,7 +36,7 @@ fn head<'a>(alloc: Global, tokens: &'a [Spot]) -> Reading<'a, SyntaxTrees>
     match expected(Opening::OpenParen, tokens) {
         Ok(rest) => match read_patterns(alloc, 256, rest)? {
             Ok(found) => Ok(Ok(found)),
-            Err(refusal) => Ok(Err(refusal.within(crate::attributes::first_byte(tokens)))),
+            Err(refusal) => Ok(Err(refusal.within(first_byte(tokens)))),
         },
         Err(refusal) => Ok(Err(refusal)),
     }
@@ -58,7 +59,16 @@ fn front<'a>(alloc: Global, tokens: &'a [Spot]) -> Reading<'a, ClauseFront>
     };
     match after(Delimiter::Arrow, rest) {
         Some(behind) => Ok(Ok((ClauseFront { patterns, guard }, behind))),
-        None => Ok(Err(Refusal::behind(rest))),
+        None => Ok(Err(no_arrow(&guard, rest))),
+    }
+}
+
+/// The refusal of tokens where an arrow should stand: behind a guard Erlang may have them.
+fn no_arrow(guard: &GuardTrees, tokens: &[Spot]) -> Refusal {
+    if guard.as_slice().is_empty() {
+        Refusal::misplaced(tokens)
+    } else {
+        Refusal::behind(tokens)
     }
 }
 
@@ -175,17 +185,22 @@ fn ended<'a>(
         (λ f. ended_in name clauses.items (terminals tokens.now) ≡ Some (f.0, terminals f.1.now))
         (λ _. ended_in name clauses.items (terminals tokens.now) ≡ None) }
 {
-    let rest = expected(Opening::Dot, tokens)?;
-    let clauses = Row::new(clauses);
-    Ok((FormTree::Function(FunctionTree { name, clauses }), rest))
+    match behind(Opening::Dot, tokens) {
+        Some(rest) => {
+            let clauses = Row::new(clauses);
+            Ok((FormTree::Function(FunctionTree { name, clauses }), rest))
+        }
+        None => Err(Refusal::behind(tokens)),
+    }
 }
 
-/// A loop function, behind its `receive`.
+/// A loop function, behind its `receive`, which stands at a byte.
 #[tactic(auto, unfolding(crate::specs::FormReading::looped))]
 fn looped<'a>(
     alloc: Global,
     name: Named,
     front: ClauseFront,
+    at: usize,
     tokens: &'a [Spot],
 ) -> Reading<'a, FormTree>
     ensures { IfOk result (λ answer. MatchResult answer
@@ -197,8 +212,8 @@ fn looped<'a>(
         Err(refusal) => return Ok(Err(refusal)),
     };
     let ClauseFront { patterns, guard } = front;
-    match expected(Opening::Dot, rest) {
-        Ok(behind) => Ok(Ok((
+    match behind(Opening::Dot, rest) {
+        Some(behind) => Ok(Ok((
             FormTree::Loop(LoopTree {
                 name,
                 patterns,
@@ -207,8 +222,59 @@ fn looped<'a>(
             }),
             behind,
         ))),
-        Err(refusal) => Ok(Err(refusal)),
+        None => Ok(Err(behind_receive(at, rest))),
     }
+}
+
+/// The refusal of tokens behind a `receive` at a byte: what goes on with it, or with its function, is told there.
+fn behind_receive(at: usize, tokens: &[Spot]) -> Refusal {
+    match tokens.first() {
+        Some(first) if goes_on(&first.what) => Refusal::Unsupported(at),
+        _ => Refusal::behind(tokens),
+    }
+}
+
+/// Whether Erlang goes on so behind an expression of a body.
+fn goes_on(token: &Token) -> bool {
+    matches!(
+        token,
+        Token::Mark(
+            Mark::Comma
+                | Mark::Semicolon
+                | Mark::Times
+                | Mark::Divide
+                | Mark::Plus
+                | Mark::Minus
+                | Mark::Append
+                | Mark::Subtract
+                | Mark::Equal
+                | Mark::Unequal
+                | Mark::ExactlyEqual
+                | Mark::ExactlyUnequal
+                | Mark::Less
+                | Mark::Greater
+                | Mark::LessOrEqual
+                | Mark::GreaterOrEqual
+                | Mark::Send
+                | Mark::Match
+                | Mark::Colon
+                | Mark::Hash
+                | Mark::OpenParen
+        ) | Token::Word(
+            Word::Div
+                | Word::Rem
+                | Word::And
+                | Word::Or
+                | Word::AndAlso
+                | Word::OrElse
+                | Word::BitAnd
+                | Word::BitOr
+                | Word::BitXor
+                | Word::ShiftLeft
+                | Word::ShiftRight
+                | Word::Xor
+        )
+    )
 }
 
 /// A function, behind the name of its first clause.
@@ -223,7 +289,7 @@ pub(crate) fn function<'a>(alloc: Global, name: Named, tokens: &'a [Spot]) -> Re
         Err(refusal) => return Ok(Err(refusal)),
     };
     if let Some(behind) = behind(Opening::Receive, rest) {
-        return looped(alloc, name, front, behind);
+        return looped(alloc, name, front, first_byte(rest), behind);
     }
     match read_body(alloc, 256, rest)? {
         Ok((body, behind)) => {

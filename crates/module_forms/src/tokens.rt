@@ -25,7 +25,7 @@ pub(crate) fn named_ahead<'a>(alloc: Global, tokens: &'a [Spot]) -> Reading<'a, 
             Ok(name) => Ok(Ok((Named { name, at: first.at }, rest))),
             Err(_) => Err(AllocError),
         },
-        _ => Ok(Err(Refusal::Syntax(first.at))),
+        _ => Ok(Err(Refusal::misplaced(tokens))),
     }
 }
 
@@ -37,7 +37,7 @@ pub(crate) fn expected<'a>(opening: Opening, tokens: &'a [Spot]) -> Result<&'a [
 {
     match behind(opening, tokens) {
         Some(rest) => Ok(rest),
-        None => Err(Refusal::behind(tokens)),
+        None => Err(Refusal::misplaced(tokens)),
     }
 }
 
@@ -49,6 +49,6 @@ pub(crate) fn closed_form<'a>(tokens: &'a [Spot]) -> Result<&'a [Spot], Refusal>
 {
     match after(Delimiter::CloseParen, tokens) {
         Some(rest) => expected(Opening::Dot, rest),
-        None => Err(Refusal::behind(tokens)),
+        None => Err(Refusal::misplaced(tokens)),
     }
 }

@@ -91,10 +91,10 @@ pub(super) fn bracketed<'a>(
         (λ f. bracketed_in (read_in levels) role shape (terminals tokens.now) ≡ Some (f.0, terminals f.1.now))
         (λ _. bracketed_in (read_in levels) role shape (terminals tokens.now) ≡ None)) }
 {
-    let place = place_of(&shape, at);
     if !opens(role, &shape) {
-        return Ok(Err(Refusal::Syntax(place)));
+        return Ok(Err(Refusal::Syntax(opening_place(role, &shape, at))));
     }
+    let place = node_place(&shape, at, tokens);
     let close = closing(&shape);
     match parts(
         alloc,
@@ -211,11 +211,21 @@ pub(super) fn made<'a>(
     }
 }
 
-/// Where a node is told that may not stand in a role: a call at its function's name, all others at a byte.
-fn place_of(shape: &Shape, at: usize) -> usize {
-    match shape {
-        Shape::Local(function) | Shape::Remote(_, function) => function.at,
-        _ => at,
+/// Where a node is told that a role hasn't: a call in a guard at its function's name, all others at the bracket.
+fn opening_place(role: Role, shape: &Shape, at: usize) -> usize {
+    match (role, shape) {
+        (Role::Test, Shape::Local(function) | Shape::Remote(_, function)) => function.at,
+        (_, _) => at,
+    }
+}
+
+/// Where a node is told that has not such parts: a call at its function's name, a block of none at its end, all others at the
+/// bracket.
+fn node_place(shape: &Shape, at: usize, tokens: &[Spot]) -> usize {
+    match (shape, tokens.first()) {
+        (Shape::Local(function) | Shape::Remote(_, function), _) => function.at,
+        (Shape::Block, Some(first)) => first.at,
+        (_, _) => at,
     }
 }
 

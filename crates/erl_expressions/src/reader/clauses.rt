@@ -9,7 +9,7 @@ use super::{Reading, read};
 use crate::deep::{Deep, DeepArm, DeepClause, DeepClauses, DeepGuards};
 use crate::delimiter::{Delimiter, after};
 use crate::operators::{MATCHES, OPERATIONS};
-use crate::refusal::Refusal;
+use crate::refusal::{Choice, Refusal};
 use erl_scan::Spot;
 use erl_syntax::Role;
 use std::alloc::Global;
@@ -99,6 +99,7 @@ fn one_clause<'a>(alloc: Global, levels: u32, tokens: &'a [Spot]) -> Reading<'a,
 pub(crate) fn clauses_to_end<'a>(
     alloc: Global,
     levels: u32,
+    choice: Choice,
     tokens: &'a [Spot],
 ) -> Reading<'a, DeepClauses>
     ensures { IfOk result (λ answer. MatchResult answer
@@ -117,7 +118,7 @@ pub(crate) fn clauses_to_end<'a>(
         };
         match after(Delimiter::Semicolon, rest) {
             Some(behind) => left = behind,
-            None => return Ok(closed(clauses, rest)),
+            None => return Ok(closed(clauses, choice, rest)),
         }
     }
     Ok(Err(Refusal::End))
@@ -126,6 +127,7 @@ pub(crate) fn clauses_to_end<'a>(
 /// Clauses, where the word stands behind them that ends them.
 fn closed<'a>(
     clauses: DeepClauses,
+    choice: Choice,
     tokens: &'a [Spot],
 ) -> Result<(DeepClauses, &'a [Spot]), Refusal>
     ensures { MatchResult result
@@ -134,7 +136,7 @@ fn closed<'a>(
 {
     match after(Delimiter::End, tokens) {
         Some(rest) => Ok((clauses, rest)),
-        None => Err(Refusal::behind(tokens)),
+        None => Err(Refusal::behind_clauses(choice, tokens)),
     }
 }
 
@@ -162,7 +164,7 @@ pub(super) fn cased<'a>(
     let Some(behind) = after(Delimiter::Of, rest) else {
         return Ok(Err(Refusal::behind(rest)));
     };
-    match clauses_to_end(alloc, levels, behind)? {
+    match clauses_to_end(alloc, levels, Choice::Case, behind)? {
         Ok((clauses, rest)) => Ok(Ok((Deep::case(alloc, subject, clauses)?, rest))),
         Err(refusal) => Ok(Err(refusal)),
     }

@@ -132,7 +132,7 @@ fn begun_by_mark<'a>(
         Mark::OpenParen => parenthesized(alloc, levels, role, first.at, rest),
         Mark::Minus => prefixed(alloc, levels, role, Prefix::Negate, first.at, rest),
         Mark::Question => own_called(alloc, levels, role, first, rest),
-        _ => Ok(Err(Refusal::at_start(first))),
+        _ => Ok(Err(Refusal::at_sign(first, rest))),
     }
 }
 
@@ -179,7 +179,9 @@ fn called<'a>(
         Token::Mark(Mark::OpenParen) => {
             bracketed(alloc, levels, role, Shape::Local(name), first.at, rest)
         }
-        Token::Mark(Mark::Colon) => remote(alloc, levels, role, Qualifier::Module(name), rest),
+        Token::Mark(Mark::Colon) => {
+            remote(alloc, levels, role, Qualifier::Module(name), first.at, rest)
+        }
         _ => Ok(Err(Refusal::Syntax(first.at))),
     }
 }
@@ -204,13 +206,20 @@ fn own_called<'a>(
     match &word.what {
         Token::Variable(name) if is_module(name) && colon_ahead(rest) => {
             let owner = Qualifier::ModuleName(word.at);
-            remote(alloc, levels, role, owner, behind_first(rest))
+            remote(
+                alloc,
+                levels,
+                role,
+                owner,
+                first_byte(rest),
+                behind_first(rest),
+            )
         }
         _ => Ok(Err(Refusal::at_start(sign))),
     }
 }
 
-/// A call of a function of a module, behind the colon.
+/// A call of a function of a module, behind the colon, which stands at a byte.
 #[cycle(reading)]
 #[tactic(auto, unfolding(crate::specs::Reading::remote))]
 fn remote<'a>(
@@ -218,6 +227,7 @@ fn remote<'a>(
     levels: u32,
     role: Role,
     owner: Qualifier,
+    at: usize,
     tokens: &'a [Spot],
 ) -> Reading<'a, Deep>
     ensures { IfOk result (λ answer. MatchResult answer
@@ -231,16 +241,13 @@ fn remote<'a>(
         Token::Atom(function) if paren_ahead(rest) => {
             let function = named(alloc, function, name.at)?;
             let shape = Shape::Remote(owner, function);
-            bracketed(
-                alloc,
-                levels,
-                role,
-                shape,
-                first_byte(rest),
-                behind_first(rest),
-            )
+            let open = first_byte(rest);
+            match bracketed(alloc, levels, role, shape, open, behind_first(rest))? {
+                Ok(found) => Ok(Ok(found)),
+                Err(refusal) => Ok(Err(refusal.of_call(role, at))),
+            }
         }
-        _ => Ok(Err(Refusal::no_remote(name, rest))),
+        _ => Ok(Err(Refusal::no_remote(name, rest).of_call(role, at))),
     }
 }
 
@@ -268,7 +275,7 @@ fn prefixed<'a>(
         (λ _. prefixed_in (read_in levels) role op (terminals tokens.now) ≡ None)) }
 {
     if matches!(role, Role::Pattern) {
-        return Ok(Err(Refusal::Syntax(at)));
+        return Ok(Err(Refusal::before_pattern(op, at, tokens)));
     }
     match read(alloc, levels, role, 1, tokens)? {
         Ok((operand, rest)) => {
@@ -334,7 +341,7 @@ fn joined<'a>(
         return Ok(Err(Refusal::operator_too_deep(tokens)));
     }
     if !may_be_left_of(op, &left.tree) {
-        return Ok(Err(Refusal::no_pattern(tokens)));
+        return Ok(Err(Refusal::no_pattern(&left.tree, tokens)));
     }
     match read(
         alloc,

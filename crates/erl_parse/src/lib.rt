@@ -1,0 +1,38 @@
+//! Sources of Erlang modules, read from bytes as the modules that they are (Erlang Reference Manual, Modules).
+//!
+//! [`read_module`] reads the bytes of a source as a [`Module`], or tells a [`LangError`]: the first thing that stands against
+//! it, and its byte. It joins the layers below: the tokens of the text (`erl_scan`), the forms that they are (`module_forms`),
+//! their static faults (`erl_lint`), and what forms without such a fault mean (`erl_lower`).
+//!
+//! # What is proved
+//!
+//! - [`read_module`], `found`: the module that is given is what the bytes mean: they are UTF-8, their tokens up to the end are
+//!   written as a module in the grammar of `erl_syntax`, which has no static fault, and that is its meaning (`IsSource`).
+//! - [`read_module`], `refused`: what each error says of the bytes (`Says`). A static fault is told of bytes that are written as a
+//!   module: it is one of its faults, and none stands at a lesser place. `NotUtf8` is told at the first byte that is none, and
+//!   the fault that a token has by itself at its place. `MissingDot` and the `Unclosed` of a bracket say that the text ends, and
+//!   its tokens are written as no module; all others, that those up to the end or to a faulty one are written as none.
+//! - [`read_module`], `meaningless`: want of memory aside, bytes of which an error is told are no source of a module
+//!   (`IsNoSource`).
+//! - [`sources_mean_one_module`]: bytes mean at most one module, and they mean one where they are written as a module without
+//!   static fault. So no such source is refused, but for want of memory.
+//!
+//! # What no contract says
+//!
+//! That there is memory, and that `Memory` is told only where it was refused. That tokens which are written as no module are told
+//! at the first of them with which none goes on, and whether as `Syntax`, as `Unsupported` or as a fault of the text: the
+//! tests of `parse_tests` see that.
+//!
+//! What a call costs: each layer goes over the source once, as their crates say. Reading recurses as deep as the source is
+//! nested, at most 256 levels.
+//!
+//! How it is proved: `Meanings` joins the laws of the layers, and `Apart` says that no two functions have one name and one number
+//! of arguments where `erl_lint` finds no fault.
+#![tactic(auto)]
+
+mod error;
+mod source;
+mod telling;
+
+pub use error::LangError;
+pub use source::{read_module, sources_mean_one_module};

@@ -1,0 +1,78 @@
+// Reading whole sources.
+ghost use Rattle.std.specs.Prelude.{◌≡◌, ◌⊎◌, [], IfErr, IfOk};
+ghost use Rattle.erl_lint.specs.Faults.{faults_of};
+ghost use Rattle.erl_lower.specs.Meaning.{IsMeaning};
+ghost use Rattle.erl_parse.specs.declared.error.LangError.TheVariants.{Memory as refused};
+ghost use Rattle.erl_parse.specs.Sources.{IsSource, IsNoSource, OneModule, FaultlessMean};
+ghost use Rattle.erl_parse.specs.Telling.{Says, TellsTree};
+
+use crate::error::LangError;
+use crate::telling::{of_refusal, of_static, of_token};
+use erl_forms::Module;
+use erl_lint::first_fault;
+use erl_lower::lowered;
+use erl_scan::{Fault, ReadError, Scanned, scan};
+use erl_syntax::ModuleTree;
+use module_forms::read_forms;
+use std::alloc::Global;
+use std::hash::RandomState;
+use std::str;
+
+/// Reads the bytes of a source as the module that they mean.
+///
+/// Names are hashed by `hashing`. Takes time and memory for each byte. Recurses as deep as the source is nested, at most 256
+/// levels.
+///
+/// # Errors
+///
+/// What stands first against the bytes, from left to right: a token that is faulty by itself, or with which no source within
+/// the limits goes on, or the end. Where there is none, the first static fault. `Memory` where memory is refused.
+pub fn read_module(alloc: Global, hashing: RandomState, bytes: &[u8]) -> Result<Module, LangError>
+    ensures found { IfOk result (λ m. IsSource bytes.now m) }
+    ensures refused { IfErr result (λ e. Says bytes.now e) }
+    ensures meaningless { IfErr result (λ e. (e ≡ refused) ⊎ IsNoSource bytes.now) }
+{
+    match str::from_utf8(bytes) {
+        Ok(text) => read_text(alloc, hashing, text),
+        Err(error) => Err(LangError::Text(ReadError {
+            kind: Fault::NotUtf8,
+            at: error.valid_up_to(),
+        })),
+    }
+}
+
+/// Reads a source as the module that it means.
+fn read_text(alloc: Global, hashing: RandomState, text: &str) -> Result<Module, LangError>
+    ensures found { IfOk result (λ m. IsSource text.now m) }
+    ensures refused { IfErr result (λ e. Says text.now e) }
+{
+    let Scanned { tokens, fault } = scan(alloc, text)?;
+    match read_forms(alloc, tokens.as_slice())? {
+        Ok(tree) => match fault {
+            None => module_of(alloc, hashing, &tree),
+            Some(fault) => Err(of_token(fault)),
+        },
+        Err(refusal) => Err(of_refusal(refusal, fault, text.len())),
+    }
+}
+
+/// The module that a tree means, where it has no static fault. It means none where two functions have one name and one number of
+/// arguments, which is a static fault.
+fn module_of(alloc: Global, hashing: RandomState, tree: &ModuleTree) -> Result<Module, LangError>
+    ensures found { IfOk result (λ m. (faults_of tree.now ≡ []) × IsMeaning tree.now m) }
+    ensures refused { IfErr result (λ e. TellsTree tree.now e) }
+{
+    if let Some(fault) = first_fault(alloc, hashing, tree)? {
+        return Err(of_static(fault));
+    }
+    match lowered(alloc, hashing, tree)? {
+        Some(it) => Ok(it),
+        None => Err(LangError::Syntax(tree.name.at)),
+    }
+}
+
+/// A law: bytes mean at most one module, and they mean one where they are written as a module without static fault.
+pub fn sources_mean_one_module()
+    ensures one { OneModule }
+    ensures faultless { FaultlessMean }
+{}
