@@ -1,6 +1,7 @@
 pub mod Doing
 pub mod Elements
 pub mod Examples
+pub mod Hearing
 pub mod Matches
 pub mod Moved
 pub mod Options

@@ -8,7 +8,7 @@ ghost use Rattle.erl_eval.specs.Operators.{receiver_of, sent, sends};
 use erl_forms::{BuiltIn, Operator};
 use erl_term::{Atom, Term, Terms, two};
 use std::alloc::{AllocError, Global};
-use values::Duplicate;
+use values::{Duplicate, Same};
 
 /// Where a process rests between two messages.
 #[derive(Drop)]
@@ -71,6 +71,72 @@ pub enum Act {
         /// Whether `register/2` gave it, and not `{local,Name}`.
         by_register: bool,
     },
+}
+
+impl Same for Place {
+    fn same(&self, other: &Place) -> bool {
+        match (self, other) {
+            (
+                Place::Server {
+                    module: m,
+                    state: s,
+                },
+                Place::Server {
+                    module: n,
+                    state: t,
+                },
+            ) => m.same(n) && s.same(t),
+            (
+                Place::Loop {
+                    module: m,
+                    serial: i,
+                    function: f,
+                    args: ts,
+                },
+                Place::Loop {
+                    module: n,
+                    serial: j,
+                    function: g,
+                    args: us,
+                },
+            ) => *i == *j && m.same(n) && f.same(g) && ts.same(us),
+            (_, _) => false,
+        }
+    }
+}
+
+impl Same for Receiver {
+    fn same(&self, other: &Receiver) -> bool {
+        match (self, other) {
+            (Receiver::Named(m), Receiver::Named(n)) => m.same(n),
+            (Receiver::Process(i), Receiver::Process(j)) => *i == *j,
+            (_, _) => false,
+        }
+    }
+}
+
+impl Same for Act {
+    fn same(&self, other: &Act) -> bool {
+        match (self, other) {
+            (Act::Send { to: p, term: t }, Act::Send { to: q, term: u }) => {
+                p.same(q) && t.same(u)
+            }
+            (Act::Reply { number: i, term: t }, Act::Reply { number: j, term: u }) => *i == *j
+                && t.same(u),
+            (Act::Start { place: p }, Act::Start { place: q }) => p.same(q),
+            (
+                Act::Name {
+                    name: m,
+                    by_register: x,
+                },
+                Act::Name {
+                    name: n,
+                    by_register: y,
+                },
+            ) => *x == *y && m.same(n),
+            (_, _) => false,
+        }
+    }
 }
 
 impl Duplicate for Place {

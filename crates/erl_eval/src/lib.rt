@@ -60,8 +60,11 @@
 //! the rules select, with what it binds, and counts the calls in guards; [`try_clause`] tries one clause.
 //!
 //! By the rules one result and one state come of an expression ([`expressions_have_one_result`]), and one outcome of a job
-//! and of a call from outside ([`evaluation_has_one_outcome`]). They give what is expected of small modules
+//! and of a call from outside ([`evaluation_has_one_outcome`]). What a place accepts is what its callback or a clause of its
+//! `receive` takes ([`messages_are_accepted_where_they_are_taken`]). They give what is expected of small modules
 //! ([`rules_hold_of_examples`]).
+//!
+//! [`Place`], [`Receiver`] and [`Act`] are compared and copied by value; a copy shares its terms.
 //!
 //! # What no contract says
 //!
@@ -78,6 +81,7 @@ mod matching;
 mod operators;
 
 ghost use Rattle.erl_eval.specs.Laws.{OneResult, OneOutcome, OneJobOutcome};
+ghost use Rattle.erl_eval.specs.Laws.{ServersAcceptEach, LoopsAcceptWhatTheyHear, TakenWhereAccepted, RefusedGiveUndef};
 ghost use Rattle.erl_eval.specs.Examples.{CallsAreAdded, ZeroDividesNothing, IntegersEnd, OneIsNoTruth, NoClauseFits};
 ghost use Rattle.erl_eval.specs.Examples.{GuardsThatFailAreFalse, VariablesCompare, OtherMessagesAreDropped, StartStandsBeforeItsActs};
 ghost use Rattle.erl_eval.specs.Examples.{SendsBeforeItsReply, RestsWithItsArguments, StartsWithAName};
@@ -98,6 +102,16 @@ pub fn expressions_have_one_result()
 pub fn evaluation_has_one_outcome()
     ensures call { OneOutcome }
     ensures job { OneJobOutcome }
+{}
+
+/// A place accepts a message exactly where by the rules something takes it: in a callback module each message, and in a loop
+/// function those that select a clause of its `receive`. A job whose message is accepted gives what that callback or that clause
+/// gives, and nothing else; one whose message is not is `undef`, with no act.
+pub fn messages_are_accepted_where_they_are_taken()
+    ensures servers { ServersAcceptEach }
+    ensures loops { LoopsAcceptWhatTheyHear }
+    ensures taken { TakenWhereAccepted }
+    ensures refused { RefusedGiveUndef }
 {}
 
 /// The rules give what the Reference Manual says of small modules: calls that are not in tail position, exits, guards, a send

@@ -1,5 +1,5 @@
 -- The machine at its end: what comes of it is there.
-use Rattle.std.specs.Prelude.{◌≡◌, ℕ, zero, suc, true, false, List, [], ◌∷◌, ◌++◌, take, drop, min, length, Bool, map, option_map, Option, None, Some, refl, Result, Ok, Err, IfOk}
+use Rattle.std.specs.Prelude.{◌≡◌, ◌<◌, ℕ, zero, suc, true, false, List, [], ◌∷◌, ◌++◌, take, drop, min, length, Bool, map, option_map, Option, None, Some, refl}
 use Rattle.std.proofs.Common.{arith, ap, sym, subst, ◌∙◌}
 use Rattle.std.proofs.lemmas.List.{append-nil, append_assoc}
 use Rattle.erl_term.specs.Tree.{Tree, Trees}
@@ -13,21 +13,39 @@ use Rattle.erl_eval.specs.State as state
 use Rattle.erl_eval.specs.State.{Instance, World, all_acts, with_bindings, with_calls}
 use Rattle.erl_eval.specs.Evaluation.{Body, Entered}
 use Rattle.erl_eval.specs.Jobs.{Outcome, FromOutside, called, undefined, fresh, nowhere, outermost}
-use Rattle.erl_machine.specs.Machine as machine
-use Rattle.erl_machine.specs.Machine.{entered, stepping}
-use Rattle.erl_machine.specs.Leading.{Final, BodyComes, CallComes, Comes, ComesOf}
-use Rattle.erl_machine.specs.Views.{control_of, end_of, machine_of, startup_of}
-use Rattle.erl_machine.specs.declared.machine.Startup.{Startup}
-use Rattle.erl_machine.specs.declared.machine.Control.{Control}
-use Rattle.erl_machine.specs.declared.machine.Control.TheVariants as controls
-use Rattle.erl_machine.specs.declared.machine.End.{End}
-use Rattle.erl_machine.specs.declared.machine.Machine.{Machine}
-use Rattle.erl_machine.proofs.Leads.{step_leads, entered_leads}
+use Rattle.erl_steps.specs.Machine as machine
+use Rattle.erl_steps.specs.Machine.{entered, stepping}
+use Rattle.erl_steps.specs.Leading.{Final, Comes}
+use Rattle.erl_machine.specs.Leading.{BodyComes, CallComes, ComesOf}
+use Rattle.erl_steps.specs.Views.{control_of, end_of, machine_of, startup_of}
+use Rattle.erl_steps.specs.declared.machine.Startup.{Startup}
+use Rattle.erl_steps.specs.declared.machine.Control.{Control}
+use Rattle.erl_steps.specs.declared.machine.Control.TheVariants as controls
+use Rattle.erl_steps.specs.declared.machine.End.{End}
+use Rattle.erl_steps.specs.declared.machine.Machine.{Machine}
+use Rattle.erl_steps.specs.Laws.{HasEnded}
+use Rattle.erl_steps.specs.Work.{work_left}
+use Rattle.erl_steps.proofs.Falls.{step_falls}
+use Rattle.erl_steps.proofs.Leads.{step_leads, entered_leads}
 
 pub one_step : (w : World) → (next : machine.Control) (m : machine.Machine) (next' : machine.Control)
     (m' : machine.Machine) → (next', m') ≡ stepping w next m → (f : Final) → Comes w next' m' f → Comes w next m f
 one_step w next m next' m' is f c =
     step_leads w next m f (subst (λ p. Comes w p.0 p.1 f) is c)
+
+-- and leaves less to do, until evaluating has ended
+
+pub one_step_less : (w : World) → (next : machine.Control) (m : machine.Machine) (next' : machine.Control)
+    (m' : machine.Machine) → (next', m') ≡ stepping w next m → ¬ HasEnded next → work_left w next' m' < work_left w next m
+one_step_less w next m next' m' is going =
+    subst (λ p. work_left w p.0 p.1 < work_left w next m) (sym is) (step_falls w next m going)
+
+pub not_ended : (next : Control) → ((end : End) → next ≡ controls.End end → ⊥) → ¬ HasEnded (control_of next)
+not_ended (controls.Evaluate e) other = λ h. h
+not_ended (controls.Run es) other = λ h. h
+not_ended (controls.Give t) other = λ h. h
+not_ended (controls.Settle p) other = λ h. h
+not_ended (controls.End end) other = λ h. other end refl
 
 -- what the acts and the end are told as
 abbrev pub final : ℕ → List Act → Option Startup → End → Final
@@ -87,10 +105,6 @@ called_outside w name i fn ts found o is (r, s, d, same) = subst (λ f. FromOuts
 pub not_called : (w : World) (name : List ℕ) (ts : Trees) (found : Option (Instance × Function)) (o : Outcome) → found ≡ None →
     o ≡ nowhere → FromOutside w name found ts o
 not_called w name ts found o none is = subst (λ f. FromOutside w name f ts o) (sym none) (undefined is)
-
-pub if_ok : {A E : Type 0} (P Q : A → Type 0) (r : Result A E) → ((x : A) → P x → Q x) → IfOk r P → IfOk r Q
-if_ok P Q (Ok x) then holds = then x holds
-if_ok P Q (Err e) then holds = tt
 
 -- a body is evaluated in the outermost call
 pub body_comes_of : (w : World) (i : Instance) (env : List Tree) (calls : ℕ) (body es : Exprs) (m : machine.Machine) (acts : List Act)

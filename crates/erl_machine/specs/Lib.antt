@@ -1,4 +1,2 @@
 pub mod Leading
-pub mod Machine
-pub mod Tags
 pub mod Views

@@ -3,14 +3,15 @@ ghost use Rattle.std.specs.Prelude.{◌≡◌, ◌++◌, IfOk, MatchOption, None
 ghost use Rattle.erl_term.specs.Term.{tree, trees};
 ghost use Rattle.erl_eval.specs.Acts.{act_of};
 ghost use Rattle.erl_eval.specs.Jobs.{arguments_of, answer_of, bad_return_value, call_answer, callback_of, name_of, one_act, plain_answer, replied, served, unexported};
-ghost use Rattle.erl_machine.specs.Tags.{tag_of};
-ghost use Rattle.erl_machine.specs.Views.{answer_view, callback, end_of, outcome_of};
+ghost use Rattle.erl_steps.specs.Tags.{tag_of};
+ghost use Rattle.erl_machine.specs.Views.{answer_view, callback, outcome_of};
+ghost use Rattle.erl_steps.specs.Views.{end_of};
 ghost use Rattle.erl_eval.specs.State.{rest, server};
 
 use crate::evaluation::{Outcome, undefined};
-use crate::machine::End;
 use erl_eval::{Act, Place, reply_to};
-use erl_term::{Atom, Term, Terms, first, one, three, two};
+use erl_steps::{End, tag};
+use erl_term::{Atom, Term, Terms, one, three, two};
 use std::alloc::{AllocError, Global};
 use values::{Duplicate, Row};
 
@@ -37,14 +38,6 @@ struct Answer {
     answered: Option<Term>,
     /// What the process ends in, or where it rests.
     end: End,
-}
-
-/// The first element of a tuple, where it is an atom, and the others.
-pub fn tag(term: &Term) -> Option<(&Atom, &[Term])>
-    ensures { MatchOption result (tag_of (tree term.now) ≡ None) (λ r. tag_of (tree term.now) ≡ Some (r.0.now, trees r.1.now)) }
-{
-    let (tag, rest) = first(term.as_tuple()?.as_slice())?;
-    Some((tag.as_atom()?, rest))
 }
 
 /// Which callback a message goes to: `{'$gen_call',From,T}` is a call, `{'$gen_cast',T}` a cast, all else other messages.

@@ -5,18 +5,19 @@ ghost use Rattle.erl_eval.specs.Acts as told_as;
 ghost use Rattle.erl_eval.specs.Acts.{act_of};
 ghost use Rattle.erl_eval.specs.State.{all_acts, named_by};
 ghost use Rattle.erl_eval.specs.Jobs.{Evaluates, fresh, nowhere, outermost};
-ghost use Rattle.erl_machine.specs.Leading.{BodyComes, CallComes, Comes, ComesOf};
-ghost use Rattle.erl_machine.specs.Views.{control_of, end_of, instance, machine_of, outcome_of, startup_of, world_of};
+ghost use Rattle.erl_machine.specs.Leading.{BodyComes, CallComes, ComesOf};
+ghost use Rattle.erl_steps.specs.Leading.{Comes};
+ghost use Rattle.erl_machine.specs.Views.{outcome_of};
+ghost use Rattle.erl_steps.specs.Views.{control_of, end_of, instance, machine_of, startup_of, world_of};
 
-use crate::machine::{Control, End, Machine, Startup};
-use crate::stack::{Activation, Stack};
-use crate::steps::arity_of;
-use crate::world::{Callee, Instance, World, remote_function};
 use erl_eval::{Act, Place};
 use erl_forms::Expressions;
+use erl_steps::{
+    Callee, Control, End, Instance, Machine, Startup, World, arity_of, remote_function,
+};
 use erl_term::{Atom, Term};
 use std::alloc::{AllocError, Global};
-use values::Row;
+use values::{Duplicate, Row, Same};
 
 /// What was evaluated.
 #[derive(Drop)]
@@ -25,6 +26,22 @@ pub struct Outcome {
     pub acts: Row<Act>,
     /// What it ended in.
     pub end: End,
+}
+
+impl Same for Outcome {
+    fn same(&self, other: &Outcome) -> bool {
+        self.end.same(&other.end) && self.acts.same(&other.acts)
+    }
+}
+
+impl Duplicate for Outcome {
+    fn copy(&self, alloc: Global) -> Result<Outcome, AllocError> {
+        let acts = self.acts.copy(alloc)?;
+        Ok(Outcome {
+            acts,
+            end: self.end.copy(alloc)?,
+        })
+    }
 }
 
 /// What evaluating left behind.
@@ -38,43 +55,26 @@ pub struct Ended {
     pub end: End,
 }
 
-impl<'a> Machine<'a> {
-    /// A machine that does nothing yet, in the outermost call.
-    fn new(alloc: Global, item: &'a Instance, may_rest: bool) -> Machine<'a>
-        ensures { machine_of result ≡ record { activation = outermost (instance item.now) may_rest; frames = []; state = fresh } }
-    {
-        Machine {
-            activation: Activation {
-                instance: item,
-                nesting: 0,
-                may_rest,
-            },
-            bindings: Vec::new(alloc),
-            calls: 0,
-            acts: Vec::new(alloc),
-            startup: None,
-            frames: Stack::new(alloc),
-        }
-    }
-
-    /// Makes steps, to the end.
-    fn finish(mut self, world: &World<'a>, control: Control<'a>) -> Result<Ended, AllocError>
-        ensures { IfOk result (λ it. (calls : ℕ) × Comes (world_of world.now) (control_of control.entry) (machine_of self.entry) (end_of it.end, record { bindings = []; calls = calls; acts = map act_of it.acts.items; startup = option_map startup_of it.startup })) }
-    {
-        let mut next = control;
-        for _ in 0..u64::MAX {
-            match next {
-                Control::End(end) => {
-                    return Ok(Ended {
-                        acts: self.acts,
-                        startup: self.startup,
-                        end,
-                    });
-                }
-                next_step => next = self.step(world, next_step)?,
+/// Makes steps, to the end.
+fn finish<'a>(
+    mut machine: Machine<'a>,
+    world: &World<'a>,
+    control: Control<'a>,
+) -> Result<Ended, AllocError>
+    ensures { IfOk result (λ it. (calls : ℕ) × Comes (world_of world.now) (control_of control.entry) (machine_of machine.entry) (end_of it.end, record { bindings = []; calls = calls; acts = map act_of it.acts.items; startup = option_map startup_of it.startup })) }
+{
+    let mut next = control;
+    loop {
+        match next {
+            Control::End(end) => {
+                return Ok(Ended {
+                    acts: machine.acts,
+                    startup: machine.startup,
+                    end,
+                });
             }
+            next_step => next = machine.step(world, next_step)?,
         }
-        Err(AllocError)
     }
 }
 
@@ -89,7 +89,7 @@ pub fn call_outermost<'a>(
 {
     let mut machine = Machine::new(world.setting.alloc, callee.instance, false);
     let next = machine.enter(world, name, &callee.function.definition, arguments)?;
-    machine.finish(world, next)
+    finish(machine, world, next)
 }
 
 /// Evaluates a body in the outermost call to its end, where this is bound and so many calls were made.
@@ -105,7 +105,7 @@ pub fn run_outermost<'a>(
     let mut machine = Machine::new(world.setting.alloc, item, true);
     machine.bindings = bindings;
     machine.calls = calls;
-    machine.finish(world, Control::Run(body.as_slice()))
+    finish(machine, world, Control::Run(body.as_slice()))
 }
 
 /// Acts with the start of a process and its name, before the acts of what was started.
@@ -188,7 +188,7 @@ fn call<'a>(
 ///
 /// # Errors
 ///
-/// `AllocError` where memory is refused, and where a step has no number.
+/// `AllocError` where memory is refused, or where there are more arguments or nested calls than can be counted.
 pub fn evaluate(
     world: &World<'_>,
     module_name: &Atom,

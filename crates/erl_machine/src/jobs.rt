@@ -10,18 +10,17 @@ ghost use Rattle.erl_eval.specs.Guards.{selected};
 ghost use Rattle.erl_eval.specs.Jobs as jobs;
 ghost use Rattle.erl_eval.specs.Jobs.{GivesAt, GivesJob, Handles, Receives, accepts, arguments_of, callback_of, heard, heard_by, looped, name_of};
 ghost use Rattle.erl_machine.specs.Leading.{LoopComes};
-ghost use Rattle.erl_machine.specs.Views.{instance, job_of, outcome_of, world_of};
+ghost use Rattle.erl_machine.specs.Views.{job_of, outcome_of};
+ghost use Rattle.erl_steps.specs.Views.{instance, world_of};
 
 use crate::callbacks::callback_of;
 use crate::evaluation::{Outcome, call_outermost, run_outermost, undefined};
-use crate::machine::End;
-use crate::steps::arity_of;
-use crate::world::{Callee, Instance, Mode, World};
 use erl_eval::{Booleans, Place, Setting, match_each, select};
 use erl_forms::{Clause, Definition, Expressions, Function};
+use erl_steps::{Callee, End, Instance, Mode, World, arity_of};
 use erl_term::{Atom, Term, Terms};
 use std::alloc::{AllocError, Global};
-use values::{Duplicate, Row};
+use values::{Duplicate, Row, Same};
 
 /// A message that a process has taken.
 #[derive(Drop)]
@@ -229,7 +228,8 @@ impl Job {
     ///
     /// # Errors
     ///
-    /// `AllocError` where memory is refused, and where a step has no number: never an exit of the process.
+    /// `AllocError` where memory is refused, or where there are more arguments or nested calls than can be counted: never an exit
+    /// of the process.
     pub fn run(&self, alloc: Global) -> Result<Done, AllocError>
         ensures { IfOk result (λ it. it.job ≡ self.now) }
     {
@@ -263,15 +263,14 @@ impl Done {
     }
 }
 
-impl Duplicate for Instance {
-    fn copy(&self, alloc: Global) -> Result<Instance, AllocError> {
-        let name = self.name.copy(alloc)?;
-        let module = self.module.copy(alloc)?;
-        Ok(Instance {
-            name,
-            serial: self.serial,
-            module,
-        })
+impl Same for Job {
+    fn same(&self, other: &Job) -> bool {
+        self.pid == other.pid
+            && self.turn == other.turn
+            && self.entry_serial == other.entry_serial
+            && self.message.same(&other.message)
+            && self.place.same(&other.place)
+            && self.code.same(&other.code)
     }
 }
 
@@ -288,6 +287,20 @@ impl Duplicate for Job {
             message,
             code,
         })
+    }
+}
+
+impl Same for Done {
+    fn same(&self, other: &Done) -> bool {
+        self.job.same(&other.job) && self.outcome.same(&other.outcome)
+    }
+}
+
+impl Duplicate for Done {
+    fn copy(&self, alloc: Global) -> Result<Done, AllocError> {
+        let job = self.job.copy(alloc)?;
+        let outcome = self.outcome.copy(alloc)?;
+        Ok(Done { job, outcome })
     }
 }
 

@@ -6,7 +6,7 @@ use erl_term::{Atom, Term, Terms, print, two};
 use std::alloc::Global;
 use std::str;
 use std::test::Fail;
-use values::{Row, copied_slice};
+use values::{Duplicate, Row, Same, copied_slice};
 
 /// `f(0) -> 0; f(N) -> 1 + f(N-1). g(0) -> done; g(N) -> g(N-1). d(T) -> d({T,T}). q(A,B) -> A div B. r(A,B) -> A rem B.
 /// p(N) -> N + 1.`
@@ -136,15 +136,14 @@ fn message(alloc: Global) -> Result<Vec<Term>, Fail> {
     Ok(vec![in alloc; word, from, request]?)
 }
 
-#[test]
-fn a_call_is_replied_to(rt: HostRuntime) -> Result<(), Fail> {
-    let alloc = rt.alloc();
+/// The call of a counter that stands at 4, in a turn of its process.
+fn bump(alloc: Global, turn: u64) -> Result<Job, Fail> {
     let mut code = Vec::new(alloc);
     code.push(instance(alloc, "ctr", 2, CTR)?)?;
     let message = Term::Tuple(Terms::new(alloc, message(alloc)?)?);
-    let job = Job {
+    Ok(Job {
         pid: 1,
-        turn: 0,
+        turn,
         place: Place::Server {
             module: Atom::new(alloc, "ctr")?,
             state: Term::Int(4),
@@ -152,7 +151,13 @@ fn a_call_is_replied_to(rt: HostRuntime) -> Result<(), Fail> {
         entry_serial: 2,
         message,
         code: Row::new(code),
-    };
+    })
+}
+
+#[test]
+fn a_call_is_replied_to(rt: HostRuntime) -> Result<(), Fail> {
+    let alloc = rt.alloc();
+    let job = bump(alloc, 0)?;
     assert!(&rt;
         matches(
             alloc,
@@ -168,6 +173,18 @@ fn a_call_is_replied_to(rt: HostRuntime) -> Result<(), Fail> {
         "reply 1 5, rest ctr 5"
     );
     assert_eq!(&rt; done.job().turn, 0);
+    Ok(())
+}
+
+#[test]
+fn what_was_done_is_copied(rt: HostRuntime) -> Result<(), Fail> {
+    let alloc = rt.alloc();
+    let done = bump(alloc, 0)?.run(alloc)?;
+    let copy = done.copy(alloc)?;
+    assert!(&rt; copy.same(&done));
+    let other = bump(alloc, 1)?.run(alloc)?;
+    assert!(&rt; !other.same(&done));
+    assert!(&rt; other.outcome().same(copy.outcome()));
     Ok(())
 }
 

@@ -2,10 +2,12 @@
 use Rattle.std.proofs.Common.{◌∙◌, ap, ℕ, map, option_map}
 use Rattle.erl_term.specs.Term.{trees}
 use Rattle.erl_eval.specs.Acts.{act_of}
-use Rattle.erl_machine.specs.Leading.{Comes, ComesOf}
-use Rattle.erl_machine.specs.Machine.{entered}
-use Rattle.erl_machine.specs.Views.{control_of, end_of, instance, machine_of, startup_of, world_of}
-use Rattle.erl_machine.proofs.Finishing.{comes_of, if_ok, final}
+use Rattle.erl_machine.specs.Leading.{ComesOf}
+use Rattle.erl_steps.specs.Leading.{Comes}
+use Rattle.erl_steps.specs.Machine.{entered}
+use Rattle.erl_steps.specs.Views.{control_of, end_of, instance, machine_of, startup_of, world_of}
+use Rattle.erl_machine.proofs.Finishing.{comes_of, final}
+use Rattle.erl_steps.proofs.Results.{if_ok}
 use Rattle.erl_machine.proofs.evaluation.call_outermost.Goals as goal
 
 pub returns : goal.returns

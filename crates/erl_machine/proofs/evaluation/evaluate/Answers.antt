@@ -5,8 +5,10 @@ use Rattle.erl_term.specs.Tree.{count}
 use Rattle.erl_eval.specs.Jobs.{Evaluates, nowhere}
 use Rattle.erl_eval.specs.Starting.{remote_function}
 use Rattle.erl_machine.specs.Leading.{CallComes}
-use Rattle.erl_machine.specs.Views.{callee_of, instance, outcome_of, world_of}
-use Rattle.erl_machine.proofs.Finishing.{called_outside, not_called, if_ok}
+use Rattle.erl_machine.specs.Views.{outcome_of}
+use Rattle.erl_steps.specs.Views.{callee_of, instance, world_of}
+use Rattle.erl_machine.proofs.Finishing.{called_outside, not_called}
+use Rattle.erl_steps.proofs.Results.{if_ok}
 use Rattle.erl_machine.proofs.evaluation.evaluate.Goals as goal
 
 pub returns-in-Some : goal.returns-in-Some

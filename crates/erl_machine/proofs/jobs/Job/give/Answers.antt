@@ -2,8 +2,9 @@
 use Rattle.std.proofs.Common.{ap, sym, ◌∙◌, Some, map}
 use Rattle.erl_eval.specs.Acts.{place}
 use Rattle.erl_eval.specs.Jobs.{GivesAt, GivesJob}
-use Rattle.erl_machine.specs.Views.{instance, job_of, outcome_of}
-use Rattle.erl_machine.proofs.Finishing.{if_ok}
+use Rattle.erl_machine.specs.Views.{job_of, outcome_of}
+use Rattle.erl_steps.specs.Views.{instance}
+use Rattle.erl_steps.proofs.Results.{if_ok}
 use Rattle.erl_machine.proofs.Gives.{entered_first, gives_first}
 use Rattle.erl_machine.proofs.jobs.Job.give.Goals as goal
 

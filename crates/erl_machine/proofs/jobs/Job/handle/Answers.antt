@@ -6,8 +6,9 @@ use Rattle.erl_term.specs.Tree.{count}
 use Rattle.erl_forms.specs.Module.{exported_of}
 use Rattle.erl_eval.specs.Acts.{act_of}
 use Rattle.erl_eval.specs.Jobs.{Handles, arguments_of, callback_of, name_of, served, unexported}
-use Rattle.erl_machine.specs.Views.{callback, end_of, startup_of, instance, job_of, outcome_of, world_of}
-use Rattle.erl_machine.proofs.Finishing.{if_ok}
+use Rattle.erl_machine.specs.Views.{callback, job_of, outcome_of}
+use Rattle.erl_steps.specs.Views.{end_of, startup_of, instance, world_of}
+use Rattle.erl_steps.proofs.Results.{if_ok}
 use Rattle.erl_machine.proofs.Gives.{not_exported_by, handled_by}
 use Rattle.erl_machine.proofs.jobs.Job.handle.Goals as goal
 

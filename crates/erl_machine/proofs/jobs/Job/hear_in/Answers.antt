@@ -7,8 +7,9 @@ use Rattle.erl_term.specs.Tree.{count}
 use Rattle.erl_forms.specs.Module.{function_of}
 use Rattle.erl_eval.specs.Jobs.{heard, heard_by, nowhere, Receives}
 use Rattle.erl_machine.specs.Leading.{LoopComes}
-use Rattle.erl_machine.specs.Views.{instance, job_of, outcome_of, world_of}
-use Rattle.erl_machine.proofs.Finishing.{if_ok}
+use Rattle.erl_machine.specs.Views.{job_of, outcome_of}
+use Rattle.erl_steps.specs.Views.{instance, world_of}
+use Rattle.erl_steps.proofs.Results.{if_ok}
 use Rattle.erl_machine.proofs.Gives.{not_there, not_heard, is_heard}
 use Rattle.erl_machine.proofs.jobs.Job.hear_in.Goals as goal
 

@@ -1,0 +1,5 @@
+pub mod Literals
+pub mod BuiltIns
+pub mod Patterns
+pub mod Expressions
+pub mod Meaning

@@ -1,0 +1,36 @@
+//! Modules of Erlang that are written as syntax trees, as the modules that they mean.
+//!
+//! [`lowered`] makes of a [`erl_syntax::ModuleTree`] the [`erl_forms::Module`] that it means (Erlang Reference Manual, Modules,
+//! Functions and Expressions):
+//!
+//! - A variable becomes its place among those that are bound, in the order of evaluation: the first that a clause binds is 0.
+//!   Of a tuple, a list, a call or an operator the parts are evaluated from left to right, of `P = E` first E and then P. `_`
+//!   binds nothing.
+//! - A call becomes one of a function that is built in, where there is one of its name and number of arguments, and of its module
+//!   where that is written; else a call of the same module or a remote one. `?MODULE` is the module's name.
+//! - An integer is the value of its digits with its sign; strings that stand side by side are one. Parentheses mean nothing.
+//! - A function is exported that stands in any `-export`. Of several `-vsn` the first counts.
+//!
+//! # What is proved
+//!
+//! [`lowered`] gives the module that the definitions of `specs/` say: `meaning` of the tree, and none exactly where two functions
+//! have one name and number of arguments. The definitions are total functions of trees. So they say something also of trees
+//! that no source is read as: there a variable that nothing binds has the place behind all that are bound, and an integer that
+//! no term has is the nearest one.
+//!
+//! # What no contract says
+//!
+//! That there is memory, and what a call costs. Names are looked up by hashes with keys that nobody outside knows. Each part of a
+//! module is looked at once. Recursion goes as deep as the trees are nested: who reads a module from outside bounds that.
+#![tactic(auto)]
+
+mod built_ins;
+mod expressions;
+mod literals;
+mod making;
+mod numbers;
+mod parts;
+mod patterns;
+mod program;
+
+pub use program::lowered;

@@ -1,0 +1,14 @@
+// Numbers of parts, and places.
+ghost use Rattle.std.specs.Prelude.{◌≡◌, IfOk};
+
+use std::alloc::AllocError;
+
+/// A number of parts or a place. No memory holds so many that there is no number.
+pub(crate) fn number_of(n: usize) -> Result<u32, AllocError>
+    ensures { IfOk result (λ it. it ≡ n) }
+{
+    match u32::try_from(n) {
+        Ok(it) => Ok(it),
+        Err(_) => Err(AllocError),
+    }
+}

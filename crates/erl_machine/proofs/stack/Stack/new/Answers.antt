@@ -1,7 +1,0 @@
-use Rattle.std.proofs.Common.{ap, []}
-use Rattle.erl_machine.specs.Views.{stack, onto}
-use Rattle.erl_machine.proofs.stack.Stack.new.Goals as goal
-
-pub returns : goal.returns
-unfolding stack
-returns c = ap (onto []) c.new.ensures.items

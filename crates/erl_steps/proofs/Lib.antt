@@ -1,0 +1,12 @@
+pub mod Asking
+pub mod Callees
+pub mod Calls
+pub mod Ends
+pub mod Falls
+pub mod Growing
+pub mod Leads
+pub mod Rests
+pub mod Results
+pub mod Stacks
+pub mod Tagged
+pub mod Worlds

@@ -1,0 +1,135 @@
+// What is given to all that is evaluated: the code, and the process.
+ghost use Rattle.std.specs.Prelude.{◌≡◌, MatchOption, None, Some, map};
+ghost use Rattle.erl_eval.specs.Starting.{exported_by, remote_function};
+ghost use Rattle.erl_eval.specs.State.{current};
+ghost use Rattle.erl_steps.specs.Views.{callee_of, instance, mode_of, world_of};
+
+use erl_eval::{Booleans, Setting};
+use erl_forms::{Function, Module};
+use erl_term::Atom;
+use std::alloc::{AllocError, Global};
+use values::{Duplicate, Same};
+
+/// An instance of a module.
+#[derive(Drop)]
+pub struct Instance {
+    /// The name under which it is loaded.
+    pub name: Atom,
+    /// The serial of its load.
+    pub serial: u64,
+    /// What it says.
+    pub module: Module,
+}
+
+impl Same for Instance {
+    fn same(&self, other: &Instance) -> bool {
+        self.serial == other.serial
+            && self.name.same(&other.name)
+            && self.module.same(&other.module)
+    }
+}
+
+impl Duplicate for Instance {
+    fn copy(&self, alloc: Global) -> Result<Instance, AllocError> {
+        let name = self.name.copy(alloc)?;
+        let module = self.module.copy(alloc)?;
+        Ok(Instance {
+            name,
+            serial: self.serial,
+            module,
+        })
+    }
+}
+
+/// A start function is evaluated in mode `Start`, all else in mode `Plain`.
+#[derive(Clone, Copy, Debug, PartialEq, Eq)]
+pub enum Mode {
+    /// A callback, or a call from outside that starts nothing.
+    Plain,
+    /// A start function.
+    Start,
+}
+
+/// What is given to all that is evaluated.
+#[derive(Drop)]
+pub struct World<'a> {
+    /// The allocator and the process that evaluates.
+    pub setting: Setting<'a>,
+    /// The mode.
+    pub mode: Mode,
+    /// The current code of each module that a remote call can reach.
+    pub code: &'a [Instance],
+}
+
+impl<'a> World<'a> {
+    /// What is given to all that a process evaluates, where this is the current code.
+    pub fn new(
+        alloc: Global,
+        booleans: &'a Booleans,
+        own: u64,
+        mode: Mode,
+        code: &'a [Instance],
+    ) -> World<'a>
+        ensures { world_of result ≡ record { code = map instance code.now; pid = own; mode = mode_of mode } }
+    {
+        let setting = Setting {
+            alloc,
+            booleans,
+            own,
+        };
+        World {
+            setting,
+            mode,
+            code,
+        }
+    }
+}
+
+/// A function that is called, of an instance.
+#[derive(Drop)]
+pub struct Callee<'a> {
+    /// The instance.
+    pub instance: &'a Instance,
+    /// The function.
+    pub function: &'a Function,
+}
+
+/// The current instance of a module, if there is one. Takes no memory.
+fn current<'a>(code: &'a [Instance], module_name: &Atom) -> Option<&'a Instance>
+    ensures { MatchOption result (current module_name.now (map instance code.now) ≡ None) (λ i. current module_name.now (map instance code.now) ≡ Some (instance i.now)) }
+{
+    for item in code {
+        if item.name.same(module_name) {
+            return Some(item);
+        }
+    }
+    None
+}
+
+/// The function that an instance exports, if it does. Takes no memory.
+fn exported<'a>(item: &'a Instance, name: &Atom, arity: u32) -> Option<Callee<'a>>
+    ensures { callee_of result ≡ exported_by name.now arity (instance item.now) }
+{
+    match item.module.exported(name, arity) {
+        Some(function) => Some(Callee {
+            instance: item,
+            function,
+        }),
+        None => None,
+    }
+}
+
+/// The function that a remote call goes to, if there is one. Takes no memory.
+pub fn remote_function<'a>(
+    world: &World<'a>,
+    module_name: &Atom,
+    name: &Atom,
+    arity: u32,
+) -> Option<Callee<'a>>
+    ensures { callee_of result ≡ remote_function (world_of world.now) module_name.now name.now arity }
+{
+    match current(world.code, module_name) {
+        Some(item) => exported(item, name, arity),
+        None => None,
+    }
+}
