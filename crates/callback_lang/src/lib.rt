@@ -21,13 +21,12 @@ ghost use Rattle.erl_steps.specs.Views.{instance, mode_of};
 ghost use Rattle.erl_machine.specs.Views.{outcome_of};
 
 use erl_eval::Booleans;
-use erl_term::{Atom, Term};
-use std::alloc::{AllocError, Global};
-
 pub use erl_eval::{Act, Place, Receiver};
 pub use erl_forms::Module;
 pub use erl_machine::{Done, End, Instance, Job, Mode, Outcome, matches};
 pub use erl_parse::{LangError, read_module};
+use erl_term::{Atom, Term};
+use std::alloc::{AllocError, Global};
 
 /// What the call `called:function(arguments)` gives, from outside of all modules, where this is the current code: a start function
 /// in [`Mode::Start`], and `init`, `code_change` or `apply` in [`Mode::Plain`]. In mode `Start` the process identifier is the one
