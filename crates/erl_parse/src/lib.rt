@@ -20,8 +20,8 @@
 //! # What no contract says
 //!
 //! That there is memory, and that `Memory` is told only where it was refused. That tokens which are written as no module are told
-//! at the first of them with which none goes on, and whether as `Syntax`, as `Unsupported` or as a fault of the text: the
-//! tests of `parse_tests` see that.
+//! at the first of them with which none goes on, and whether as `Syntax`, as `Unsupported` or as a fault of the text: that is
+//! for tests to see.
 //!
 //! What a call costs: each layer goes over the source once, as their crates say. Reading recurses as deep as the source is
 //! nested, at most 256 levels.
