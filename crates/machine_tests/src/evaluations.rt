@@ -6,7 +6,7 @@ use erl_term::{Atom, Term, Terms, print, two};
 use std::alloc::Global;
 use std::str;
 use std::test::Fail;
-use values::{Duplicate, Row, Same, copied_slice};
+use values::{Row, copied_slice};
 
 /// `f(0) -> 0; f(N) -> 1 + f(N-1). g(0) -> done; g(N) -> g(N-1). d(T) -> d({T,T}). q(A,B) -> A div B. r(A,B) -> A rem B.
 /// p(N) -> N + 1.`
@@ -136,14 +136,15 @@ fn message(alloc: Global) -> Result<Vec<Term>, Fail> {
     Ok(vec![in alloc; word, from, request]?)
 }
 
-/// The call of a counter that stands at 4, in a turn of its process.
-fn bump(alloc: Global, turn: u64) -> Result<Job, Fail> {
+#[test]
+fn a_call_is_replied_to(rt: HostRuntime) -> Result<(), Fail> {
+    let alloc = rt.alloc();
     let mut code = Vec::new(alloc);
     code.push(instance(alloc, "ctr", 2, CTR)?)?;
     let message = Term::Tuple(Terms::new(alloc, message(alloc)?)?);
-    Ok(Job {
+    let job = Job {
         pid: 1,
-        turn,
+        turn: 0,
         place: Place::Server {
             module: Atom::new(alloc, "ctr")?,
             state: Term::Int(4),
@@ -151,13 +152,7 @@ fn bump(alloc: Global, turn: u64) -> Result<Job, Fail> {
         entry_serial: 2,
         message,
         code: Row::new(code),
-    })
-}
-
-#[test]
-fn a_call_is_replied_to(rt: HostRuntime) -> Result<(), Fail> {
-    let alloc = rt.alloc();
-    let job = bump(alloc, 0)?;
+    };
     assert!(&rt;
         matches(
             alloc,
@@ -173,28 +168,6 @@ fn a_call_is_replied_to(rt: HostRuntime) -> Result<(), Fail> {
         "reply 1 5, rest ctr 5"
     );
     assert_eq!(&rt; done.job().turn, 0);
-    Ok(())
-}
-
-/// Whether a copy of what was done is the same.
-fn is_copied(alloc: Global) -> Result<bool, Fail> {
-    let done = bump(alloc, 0)?.run(alloc)?;
-    let copy = done.copy(alloc)?;
-    Ok(copy.same(&done))
-}
-
-/// Whether what was done of two jobs differs that differ by their turns.
-fn differs_by_turn(alloc: Global) -> Result<bool, Fail> {
-    let done = bump(alloc, 0)?.run(alloc)?;
-    let other = bump(alloc, 1)?.run(alloc)?;
-    Ok(!other.same(&done))
-}
-
-#[test]
-fn what_was_done_is_copied(rt: HostRuntime) -> Result<(), Fail> {
-    let alloc = rt.alloc();
-    assert!(&rt; is_copied(alloc)?);
-    assert!(&rt; differs_by_turn(alloc)?);
     Ok(())
 }
 
