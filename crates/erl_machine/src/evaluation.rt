@@ -4,7 +4,7 @@ ghost use Rattle.erl_term.specs.Term.{tree, trees};
 ghost use Rattle.erl_eval.specs.Acts as told_as;
 ghost use Rattle.erl_eval.specs.Acts.{act_of};
 ghost use Rattle.erl_eval.specs.State.{all_acts, named_by};
-ghost use Rattle.erl_eval.specs.Jobs.{Evaluates, fresh, nowhere, outermost};
+ghost use Rattle.erl_eval.specs.Jobs.{Evaluates, nowhere};
 ghost use Rattle.erl_machine.specs.Leading.{BodyComes, CallComes, ComesOf};
 ghost use Rattle.erl_steps.specs.Leading.{Comes};
 ghost use Rattle.erl_machine.specs.Views.{outcome_of};
