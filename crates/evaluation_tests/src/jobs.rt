@@ -1,0 +1,91 @@
+// Jobs.
+use crate::cases::{Kind, expect, job, message};
+use crate::code::{instance, term};
+use crate::tables::{example, jobs};
+use crate::told::told;
+use erl_eval::Place;
+use erl_machine::{Job, matches};
+use erl_term::Atom;
+use std::test::Fail;
+use values::Row;
+
+#[test]
+fn callbacks(rt: HostRuntime) -> Result<(), Fail> {
+    let alloc = rt.alloc();
+    expect(&rt, alloc, Kind::Jobs, &[jobs::GIVING], jobs::GIVEN)?;
+    expect(&rt, alloc, Kind::Jobs, &[jobs::BARE], jobs::BARE_JOBS)
+}
+
+#[test]
+fn old_code(rt: HostRuntime) -> Result<(), Fail> {
+    let alloc = rt.alloc();
+    expect(
+        &rt,
+        alloc,
+        Kind::Jobs,
+        &[jobs::OLD, jobs::NEW],
+        jobs::SWITCHES,
+    )?;
+    expect(&rt, alloc, Kind::Jobs, &[jobs::OLD], jobs::ALONE)
+}
+
+#[test]
+fn loop_functions(rt: HostRuntime) -> Result<(), Fail> {
+    let sources = [jobs::LISTENING, jobs::LISTENING];
+    expect(&rt, rt.alloc(), Kind::Jobs, &sources, jobs::HEARD)
+}
+
+#[test]
+fn the_example_takes_messages(rt: HostRuntime) -> Result<(), Fail> {
+    let alloc = rt.alloc();
+    expect(&rt, alloc, Kind::Jobs, &[example::CTR_1], example::BUMPS_1)?;
+    expect(&rt, alloc, Kind::Jobs, &[example::CTR_2], example::BUMPS_2)?;
+    expect(
+        &rt,
+        alloc,
+        Kind::Jobs,
+        &[example::LP, example::LP],
+        example::LOOPS,
+    )
+}
+
+/// Each allocation of it can be refused by hand.
+#[test]
+fn one_bump(rt: HostRuntime) -> Result<(), Fail> {
+    let alloc = rt.alloc();
+    let code = vec![in alloc; instance(alloc, 2, example::CTR_1)?]?;
+    let done = job(alloc, code.as_slice(), "4 ← call bump")?.run(alloc)?;
+    let job = done.job();
+    assert_eq!(&rt; (job.pid, job.turn, job.entry_serial), (7, 3, 2));
+    assert_eq!(&rt;
+        told(alloc, done.outcome())?.as_slice(),
+        b"reply 1 5; rest {server,ctr,5}".as_slice()
+    );
+    Ok(())
+}
+
+/// A module without current code has the serial 0.
+#[test]
+fn without_current_code_all_is_undefined(rt: HostRuntime) -> Result<(), Fail> {
+    let alloc = rt.alloc();
+    for text in ["call bump", "cast {set,1}", "x"] {
+        let job = Job {
+            pid: 1,
+            turn: 0,
+            place: Place::Server {
+                module: Atom::new(alloc, "ctr")?,
+                state: term(alloc, "4")?,
+            },
+            entry_serial: 0,
+            message: message(alloc, text)?,
+            code: Row::new(Vec::new(alloc)),
+        };
+        assert!(&rt; matches(alloc, 1, &job.place, &[], &job.message)?, "{text}");
+        assert_eq!(&rt;
+            told(alloc, job.run(alloc)?.outcome())?.as_slice(),
+            "✗ undef".as_bytes(),
+            "{text}"
+        );
+    }
+    Ok(())
+}
