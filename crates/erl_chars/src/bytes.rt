@@ -1,5 +1,5 @@
 // Where characters are met as UTF-8.
-ghost use Rattle.std.specs.Prelude.{◌≡◌, ◌≤◌, length};
+ghost use Rattle.std.specs.Prelude.{◌≡◌, ◌≤◌, ◌++◌, ℕ, List, length};
 ghost use Rattle.std.specs.Str.{chars};
 ghost use Rattle.erl_chars.specs.Cursor.{byte_count, after_first};
 
@@ -19,4 +19,13 @@ pub(crate) fn past_first(text: &str) -> &str
     let mut characters = text.chars();
     characters.next();
     characters.as_str()
+}
+
+/// The characters of a text in front of those that are left of it.
+pub(crate) fn in_front<'a>(text: &'a str, left: &str) -> &'a str
+    requires { (front : List ℕ) × (chars text.now ≡ front ++ chars left.now) }
+    ensures { chars text.now ≡ chars result.now ++ chars left.now }
+{
+    let (front, _) = text.split_at(text.len() - left.len());
+    front
 }

@@ -15,13 +15,15 @@
 //! - [`Cursor::quoted`] gives exactly the characters written between quotes, and stands behind the closing one.
 //!   `Unclosed` is told only where the text ends first, and `BadEscape` only at the first backslash with no escape
 //!   behind it. [`quotes_read_one_way`]: a text has no two of these readings.
-//! - A [`Text`] keeps the characters it is made of, and so does a [`Name`]: [`Name::from_text`] refuses exactly the
-//!   texts of over 255 characters.
+//! - [`Cursor::up_to`] gives exactly the characters that stand between two cursors of a text.
+//! - A [`Text`] keeps the characters it is made of, and so do a [`SharedText`], its copies and a [`Name`]:
+//!   [`Name::from_text`] refuses exactly the texts of over 255 characters.
 //!
 //! # What no contract says
 //!
-//! That there is memory, which only [`Cursor::quoted`] asks for; that `Memory` is told only where it was refused; and what a call costs: each is linear in what it steps over, but for
-//! [`Name::from_text`], which counts the characters of its text.
+//! That there is memory, which [`Cursor::quoted`] and [`SharedText::new`] ask for; that `Memory` is told only where it was
+//! refused; and what a call costs: each is linear in what it steps over, a text in its characters, and
+//! [`Name::from_text`] too, which counts them. A copy of a shared text costs the same whatever its length.
 #![tactic(auto)]
 
 mod bytes;
@@ -34,4 +36,4 @@ mod text;
 pub use cursor::Cursor;
 pub use escapes::EscapeError;
 pub use quotes::{QuoteError, quotes_read_one_way};
-pub use text::{Name, NameError, Text};
+pub use text::{Name, NameError, SharedText, Text};

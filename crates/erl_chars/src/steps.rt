@@ -1,11 +1,11 @@
 // Steps over characters, blanks and comments.
-ghost use Rattle.std.specs.Prelude.{◌≡◌, length, MatchOption, [], ◌∷◌};
+ghost use Rattle.std.specs.Prelude.{◌≡◌, ℕ, List, length, MatchOption, [], ◌∷◌, ◌++◌};
 ghost use Rattle.std.specs.Str.{chars};
 ghost use Rattle.erl_chars.specs.Chars as kinds;
 ghost use Rattle.erl_chars.specs.Cursor.{left, total, place, first_of, after_first};
 ghost use Rattle.erl_chars.specs.Gaps.{after_gap};
 
-use crate::bytes::{byte_len, past_first};
+use crate::bytes::{byte_len, in_front, past_first};
 use crate::cursor::Cursor;
 
 impl<'a> Cursor<'a> {
@@ -40,6 +40,14 @@ impl<'a> Cursor<'a> {
         ensures total { total self.new ≡ total self.old }
     {
         self.rest = past_first(self.rest);
+    }
+
+    /// The characters between this cursor and one that stands further on in the same text.
+    pub fn up_to(&self, later: &Cursor<'a>) -> &'a str
+        requires ahead { (front : List ℕ) × (left self.now ≡ front ++ left later.now) }
+        ensures between { left self.now ≡ chars result.now ++ left later.now }
+    {
+        in_front(self.rest, later.rest)
     }
 
     /// Steps over the blanks and comments in front.

@@ -1,8 +1,11 @@
 // Texts, and names.
 ghost use Rattle.std.specs.Prelude.{◌≡◌, ◌<◌, ◌≤◌, ◌↔◌, ℕ, List, length, IfOk, IsErr, string_bytes};
+ghost use Rattle.std.specs.Arc.{arc_str_bytes};
 ghost use Rattle.std.specs.Str.{chars};
 
+use std::alloc::{AllocError, Global};
 use std::marker::Model;
+use std::sync::ArcStr;
 use thiserror::Error;
 
 /// A text, seen by contracts as its code points.
@@ -17,18 +20,30 @@ impl Model for Text {
     ghost view = { λ a. chars (string_bytes a.text) };
 }
 
-/// A text of at most 255 characters, as a name has, seen by contracts as its code points.
+/// A text whose copies share the characters, seen by contracts as its code points.
+#[derive(Drop)]
+pub struct SharedText {
+    text: ArcStr,
+}
+
+impl Model for SharedText {
+    ghost Value = { List ℕ };
+
+    ghost view = { λ a. chars (arc_str_bytes a.text) };
+}
+
+/// A text of at most 255 characters, as a name has, seen by contracts as its code points. Its copies share the characters.
 #[derive(Drop)]
 pub struct Name {
-    text: String,
+    text: ArcStr,
 }
 
 impl Model for Name {
     ghost Value = { List ℕ };
 
-    ghost view = { λ a. chars (string_bytes a.text) };
+    ghost view = { λ a. chars (arc_str_bytes a.text) };
 
-    ghost invariant = { λ a. length (chars (string_bytes a.text)) ≤ 255 };
+    ghost invariant = { λ a. length (chars (arc_str_bytes a.text)) ≤ 255 };
 }
 
 /// Why a text is no name.
@@ -60,20 +75,53 @@ impl Text {
     }
 }
 
+impl SharedText {
+    /// The text of characters.
+    ///
+    /// # Errors
+    ///
+    /// `AllocError` where memory is refused.
+    pub fn new(alloc: Global, characters: &str) -> Result<SharedText, AllocError>
+        ensures { IfOk result (λ text. text ≡ chars characters.now) }
+    {
+        let text = ArcStr::from_str(alloc, characters)?;
+        Ok(SharedText { text })
+    }
+
+    /// The characters. Takes no memory.
+    pub fn as_str(&self) -> &str
+        ensures { chars result.now ≡ self.now }
+    {
+        ArcStr::as_str(&self.text)
+    }
+
+    /// A copy, which shares the characters. Takes no memory.
+    ///
+    /// # Errors
+    ///
+    /// `AllocError` where there are more copies than can be counted.
+    pub fn share(&self) -> Result<SharedText, AllocError>
+        ensures { IfOk result (λ it. it ≡ self.now) }
+    {
+        let text = self.text.clone()?;
+        Ok(SharedText { text })
+    }
+}
+
 impl Name {
     /// The name that a text is. Takes no memory.
     ///
     /// # Errors
     ///
     /// `NameError` where the text has over 255 characters.
-    pub fn from_text(text: Text) -> Result<Name, NameError>
+    pub fn from_text(text: SharedText) -> Result<Name, NameError>
         ensures ok { IfOk result (λ name. name ≡ text) }
         ensures too_long { IsErr result ↔ (255 < length text) }
     {
         if count(text.as_str()) > 255 {
             return Err(NameError);
         }
-        let Text { text } = text;
+        let SharedText { text } = text;
         Ok(Name { text })
     }
 
@@ -82,12 +130,25 @@ impl Name {
         ensures chars { chars result.now ≡ self.now }
         ensures short { length self.now ≤ 255 }
     {
-        String::as_str(&self.text)
+        let Name { text } = self;
+        ArcStr::as_str(text)
+    }
+
+    /// A copy, which shares the characters. Takes no memory.
+    ///
+    /// # Errors
+    ///
+    /// `AllocError` where there are more copies than can be counted.
+    pub fn share(&self) -> Result<Name, AllocError>
+        ensures { IfOk result (λ it. it ≡ self.now) }
+    {
+        let text = self.text.clone()?;
+        Ok(Name { text })
     }
 
     /// The characters, to keep. Takes no memory.
-    pub fn into_string(self) -> String
-        ensures chars { chars (string_bytes result) ≡ self }
+    pub fn into_shared(self) -> ArcStr
+        ensures chars { chars (arc_str_bytes result) ≡ self }
         ensures short { length self ≤ 255 }
     {
         let Name { text } = self;

@@ -18,8 +18,7 @@ use std::str;
 /// Reads a text of terms, each ended by a dot behind which a blank, a comment or the end stands.
 ///
 /// The text is read once, from left to right, without recursion; memory is asked for the terms, the open brackets, the
-/// token at hand, and at most 512 atoms that are kept while the text is read: where it names one of these again, both
-/// share its characters. Brackets, and strings as lists, nest at most 256 deep.
+/// token at hand, and the names that the scanner keeps. Brackets, and strings as lists, nest at most 256 deep.
 ///
 /// # Errors
 ///

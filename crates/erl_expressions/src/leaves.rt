@@ -6,7 +6,7 @@ ghost use Rattle.erl_expressions.specs.Leaves.{leaf_ahead as leaf_in, leaf_behin
 ghost use Rattle.erl_expressions.specs.Leaves.{module_ahead as module_in, call_ahead as call_in, colon_ahead as colon_in, paren_ahead as paren_in, atom_ahead as atom_in};
 ghost use Rattle.erl_expressions.specs.Leaves.{joined_strings as joined_in, string_ahead as string_in};
 
-use erl_scan::{Mark, Name, Spot, Text, Token};
+use erl_scan::{Mark, Name, SharedText, Spot, Text, Token};
 use erl_syntax::{Leaf, Named, Sign};
 use erl_term::Atom;
 use std::alloc::{AllocError, Global};
@@ -26,8 +26,8 @@ pub(crate) fn leaf_ahead<'a>(alloc: Global, tokens: &'a [Spot]) -> Result<LeafAh
     };
     match &first.what {
         Token::Integer(n) => Ok(Some((Leaf::Integer(Sign::Unsigned, *n), rest))),
-        Token::Atom(name) => atom_ahead(alloc, name, first.at, rest),
-        Token::Variable(name) => Ok(Some((Leaf::Variable(copied(alloc, name)?, first.at), rest))),
+        Token::Atom(name) => atom_ahead(name, first.at, rest),
+        Token::Variable(name) => Ok(Some((Leaf::Variable(name.share()?, first.at), rest))),
         Token::String(text) => strings_ahead(alloc, text, rest),
         Token::Mark(mark) => leaf_behind(alloc, *mark, rest),
         Token::Float | Token::Word(_) | Token::Dot => Ok(None),
@@ -35,19 +35,14 @@ pub(crate) fn leaf_ahead<'a>(alloc: Global, tokens: &'a [Spot]) -> Result<LeafAh
 }
 
 /// An atom, where it is no name in a call, with the tokens behind it.
-fn atom_ahead<'a>(
-    alloc: Global,
-    name: &Name,
-    at: usize,
-    rest: &'a [Spot],
-) -> Result<LeafAhead<'a>, AllocError>
+fn atom_ahead<'a>(name: &Name, at: usize, rest: &'a [Spot]) -> Result<LeafAhead<'a>, AllocError>
     ensures { IfOk result (λ found. MatchOption found (atom_in name.now at (terminals rest.now) ≡ None)
         (λ f. atom_in name.now at (terminals rest.now) ≡ Some (f.0, terminals f.1.now))) }
 {
     if call_ahead(rest) {
         return Ok(None);
     }
-    Ok(Some((Leaf::Atom(named(alloc, name, at)?), rest)))
+    Ok(Some((Leaf::Atom(named(name, at)?), rest)))
 }
 
 /// Strings that stand behind one another, the first of them given.
@@ -126,7 +121,7 @@ fn module_ahead<'a>(tokens: &'a [Spot]) -> LeafAhead<'a>
 }
 
 /// Whether a word is that of `?MODULE`.
-pub(crate) fn is_module(word: &Text) -> bool
+pub(crate) fn is_module(word: &SharedText) -> bool
     ensures { result ≡ bytes_eq word.now (codes "MODULE") }
 {
     word.as_str() == "MODULE"
@@ -163,13 +158,11 @@ pub(crate) fn colon_ahead(tokens: &[Spot]) -> bool
 }
 
 /// An atom where it stands.
-pub(crate) fn named(alloc: Global, name: &Name, at: usize) -> Result<Named, AllocError>
+pub(crate) fn named(name: &Name, at: usize) -> Result<Named, AllocError>
     ensures { IfOk result (λ it. it ≡ record { name = name.now; at = at }) }
 {
-    match Atom::new(alloc, name.as_str()) {
-        Ok(name) => Ok(Named { name, at }),
-        Err(_) => Err(AllocError),
-    }
+    let name = Atom::from_shared(name.share()?.into_shared());
+    Ok(Named { name, at })
 }
 
 /// A text's characters.

@@ -6,7 +6,7 @@ ghost use Rattle.erl_lint.specs.Scopes.{with_names, variable_names, leaf_names, 
 
 use crate::scope::Scope;
 use crate::scoping::{Scoping, scoping_of};
-use erl_chars::Text;
+use erl_chars::SharedText;
 use erl_syntax::{Leaf, SyntaxTree};
 use std::alloc::AllocError;
 
@@ -47,7 +47,7 @@ fn bind_leaf<'a>(leaf: &'a Leaf, scope: &mut Scope<'a>) -> Result<(), AllocError
 }
 
 /// Binds a variable, but not `_`.
-fn bind_variable<'a>(name: &'a Text, scope: &mut Scope<'a>) -> Result<(), AllocError>
+fn bind_variable<'a>(name: &'a SharedText, scope: &mut Scope<'a>) -> Result<(), AllocError>
     ensures { OnOk result (scope.new ≡ with_names scope.old (variable_names name.now)) }
 {
     if is_anonymous(name) {
@@ -58,7 +58,7 @@ fn bind_variable<'a>(name: &'a Text, scope: &mut Scope<'a>) -> Result<(), AllocE
 }
 
 /// Whether a variable is `_`, the anonymous one. Takes no memory.
-pub fn is_anonymous(name: &Text) -> bool
+pub fn is_anonymous(name: &SharedText) -> bool
     ensures { result ≡ bytes_eq name.now (codes "_") }
 {
     name.as_str() == "_"

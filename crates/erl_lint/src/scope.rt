@@ -9,7 +9,7 @@ ghost use Rattle.std.proofs.Common.{rules};
 ghost use Rattle.erl_term.specs.Text.{utf8};
 ghost use Rattle.erl_lint.specs.Scopes.{is_bound, place_of, with_name};
 
-use erl_chars::Text;
+use erl_chars::SharedText;
 use indexmap::IndexSet;
 use std::alloc::{AllocError, Global};
 use std::hash::{Hash, Hasher, RandomState};
@@ -18,7 +18,7 @@ use std::marker::Model;
 /// The name of a variable, borrowed from its tree, seen by contracts as its code points.
 #[derive(Drop)]
 struct VariableName<'a> {
-    text: &'a Text,
+    text: &'a SharedText,
 }
 
 impl<'a> Model for VariableName<'a> {
@@ -74,14 +74,14 @@ impl<'a> Scope<'a> {
     }
 
     /// Whether a variable is bound. Takes no memory.
-    pub fn has(&self, name: &'a Text) -> bool
+    pub fn has(&self, name: &'a SharedText) -> bool
         ensures { result ≡ is_bound self.now name.now }
     {
         self.names.contains(&VariableName { text: name })
     }
 
     /// The place of a variable: how many were bound before it; of one that is not bound, how many are bound. Takes no memory.
-    pub fn place(&self, name: &'a Text) -> usize
+    pub fn place(&self, name: &'a SharedText) -> usize
         ensures { result ≡ place_of self.now name.now }
     {
         match self.names.get_index_of(&VariableName { text: name }) {
@@ -95,7 +95,7 @@ impl<'a> Scope<'a> {
     /// # Errors
     ///
     /// `AllocError` where memory is refused.
-    pub fn bind(&mut self, name: &'a Text) -> Result<usize, AllocError>
+    pub fn bind(&mut self, name: &'a SharedText) -> Result<usize, AllocError>
         ensures bound { OnOk result (self.new ≡ with_name self.old name.now) }
         ensures place { IfOk result (λ place. place ≡ place_of self.old name.now) }
     {

@@ -7,7 +7,7 @@ ghost use Rattle.erl_lower.specs.Patterns.{leaf_pattern, made_pattern as pattern
 
 use crate::literals::literal;
 use crate::numbers::number_of;
-use erl_chars::Text;
+use erl_chars::SharedText;
 use erl_forms::{Pattern, Patterns};
 use erl_lint::{Scope, is_anonymous};
 use erl_syntax::{Leaf, Shape, SyntaxTree};
@@ -15,7 +15,7 @@ use erl_term::Atom;
 use std::alloc::{AllocError, Global};
 
 /// The pattern of a variable, which it binds where it isn't bound.
-fn lower_variable<'a>(name: &'a Text, scope: &mut Scope<'a>) -> Result<Pattern, AllocError>
+fn lower_variable<'a>(name: &'a SharedText, scope: &mut Scope<'a>) -> Result<Pattern, AllocError>
     ensures found { IfOk result (λ p. pat p ≡ pattern_variable scope.old name.now) }
     ensures bound { OnOk result (scope.new ≡ with_names scope.old (variable_names name.now)) }
 {

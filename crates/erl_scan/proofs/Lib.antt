@@ -2,7 +2,7 @@ pub mod Reserved
 pub mod Lookahead
 pub mod Digits
 pub mod Reading
-pub mod Texts
+pub mod Fronts
 pub mod Longest
 pub mod OneWay
 pub mod Shorter

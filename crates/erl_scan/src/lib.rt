@@ -25,9 +25,10 @@
 //!
 //! # What no contract says
 //!
-//! That there is memory, which the atoms, variables, strings and reserved words ask for, and the list of [`scan`]; that
-//! `Memory` and `AllocError` are told only where it was refused; and what a call costs: it is linear in what it steps
-//! over, and `scan` in the text, with one list that it pushes to.
+//! That there is memory, which the atoms, variables and strings ask for, and the list of [`scan`]; that `Memory` and
+//! `AllocError` are told only where it was refused; and what a call costs: it is linear in what it steps over, and `scan`
+//! in the text, with one list that it pushes to. A scanner keeps at most 512 names that it read: an atom or a variable
+//! that has one of these shares its characters.
 #![tactic(auto)]
 
 mod error;
@@ -37,13 +38,14 @@ mod marks;
 mod names;
 mod numbers;
 mod quoted;
+mod recent;
 mod scanner;
 mod scanning;
 mod token;
 mod whole;
 mod word;
 
-pub use erl_chars::{Name, Text};
+pub use erl_chars::{Name, SharedText, Text};
 pub use error::{Fault, ReadError};
 pub use laws::{marks_are_longest, tokens_read_one_way};
 pub use mark::Mark;

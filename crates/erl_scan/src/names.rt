@@ -1,5 +1,5 @@
 // Names: atoms without quotes, reserved words and variables.
-ghost use Rattle.std.specs.Prelude.{◌≡◌, ◌∷◌, ◌++◌, [], string_bytes, IfOk, OnOk};
+ghost use Rattle.std.specs.Prelude.{◌≡◌};
 ghost use Rattle.std.specs.Str.{chars};
 ghost use Rattle.erl_chars.specs.Chars as kinds;
 ghost use Rattle.erl_chars.specs.Chars.{front, after_front};
@@ -10,7 +10,7 @@ use crate::error::{Fault, ReadError};
 use crate::scanner::{OUT_OF_MEMORY, Scanner};
 use crate::token::Token;
 use crate::word::Word;
-use erl_chars::{Name, Text};
+use erl_chars::{Name, SharedText};
 use std::alloc::AllocError;
 
 impl<'a> Scanner<'a> {
@@ -20,13 +20,13 @@ impl<'a> Scanner<'a> {
         ensures total { total self.new ≡ total self.old }
     {
         let at = self.cursor.place();
-        let text = match self.name_text() {
-            Ok(text) => text,
-            Err(AllocError) => return Err(OUT_OF_MEMORY),
-        };
-        match Word::reserved(text.as_str()) {
+        let name = self.name();
+        match Word::reserved(name) {
             Some(word) => Ok(Token::Word(word)),
-            None => atom(text, at),
+            None => match self.recent.text(self.alloc, name) {
+                Ok(text) => atom(text, at),
+                Err(AllocError) => Err(OUT_OF_MEMORY),
+            },
         }
     }
 
@@ -35,23 +35,30 @@ impl<'a> Scanner<'a> {
         ensures answers { Answers (total self.old) (variable_in (left self.old)) result (left self.new) }
         ensures total { total self.new ≡ total self.old }
     {
-        match self.name_text() {
+        let name = self.name();
+        match self.recent.text(self.alloc, name) {
             Ok(text) => Ok(Token::Variable(text)),
             Err(AllocError) => Err(OUT_OF_MEMORY),
         }
     }
 
-    /// The characters in front that a name may have.
-    fn name_text(&mut self) -> Result<Text, AllocError>
-        ensures text { IfOk result (λ text. text ≡ front kinds.is_name_char (left self.old)) }
-        ensures left { OnOk result (left self.new ≡ after_front kinds.is_name_char (left self.old)) }
+    /// The characters in front that a name may have, stepped over.
+    fn name(&mut self) -> &'a str
+        ensures name { chars result.now ≡ front kinds.is_name_char (left self.old) }
+        ensures left { left self.new ≡ after_front kinds.is_name_char (left self.old) }
         ensures total { total self.new ≡ total self.old }
     {
-        let mut text = String::new(self.alloc);
-        while let Some(c) = self.next_name_char() {
-            append(&mut text, c)?;
-        }
-        Ok(Text::from_string(text))
+        let start = self.cursor;
+        self.skip_name();
+        start.up_to(&self.cursor)
+    }
+
+    /// Steps over the characters in front that a name may have.
+    fn skip_name(&mut self)
+        ensures left { left self.new ≡ after_front kinds.is_name_char (left self.old) }
+        ensures total { total self.new ≡ total self.old }
+    {
+        while self.next_name_char().is_some() {}
     }
 
     /// The next character, stepped over, where a name may have it.
@@ -68,16 +75,8 @@ impl<'a> Scanner<'a> {
     }
 }
 
-/// Appends a character.
-fn append(text: &mut String, c: char) -> Result<(), AllocError>
-    ensures { OnOk result (chars (string_bytes text.new) ≡ chars (string_bytes text.old) ++ c ∷ []) }
-{
-    text.push(c)?;
-    Ok(())
-}
-
 /// The atom of a text that stands at a place.
-pub(crate) fn atom(text: Text, at: usize) -> Result<Token, ReadError>
+pub(crate) fn atom(text: SharedText, at: usize) -> Result<Token, ReadError>
     ensures { result ≡ atom_at text at }
 {
     match Name::from_text(text) {

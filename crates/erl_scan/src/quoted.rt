@@ -10,6 +10,7 @@ use crate::names::atom;
 use crate::scanner::{OUT_OF_MEMORY, Scanner};
 use crate::token::Token;
 use erl_chars::{QuoteError, Text};
+use std::alloc::AllocError;
 
 impl<'a> Scanner<'a> {
     /// Reads an atom between single quotes.
@@ -19,9 +20,13 @@ impl<'a> Scanner<'a> {
         ensures total { total self.new ≡ total self.old }
     {
         let at = self.cursor.place();
-        match self.between('\'') {
+        let text = match self.between('\'') {
+            Ok(text) => text,
+            Err(error) => return Err(error),
+        };
+        match self.recent.text(self.alloc, text.as_str()) {
             Ok(text) => atom(text, at),
-            Err(error) => Err(error),
+            Err(AllocError) => Err(OUT_OF_MEMORY),
         }
     }
 

@@ -1,5 +1,6 @@
 // The scanner.
 use crate::error::{Fault, ReadError};
+use crate::recent::RecentTexts;
 use erl_chars::Cursor;
 use std::alloc::Global;
 
@@ -8,6 +9,7 @@ use std::alloc::Global;
 pub struct Scanner<'a> {
     pub(crate) alloc: Global,
     pub(crate) cursor: Cursor<'a>,
+    pub(crate) recent: RecentTexts,
 }
 
 /// Memory was refused.

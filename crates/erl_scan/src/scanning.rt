@@ -11,13 +11,14 @@ ghost use Rattle.erl_scan.specs.Tokens.{ends_form};
 use crate::error::ReadError;
 use crate::names::{begins_variable, is_small};
 use crate::numbers::begins_with_digit;
+use crate::recent::RecentTexts;
 use crate::scanner::Scanner;
 use crate::token::{Spot, Token};
 use erl_chars::Cursor;
 use std::alloc::Global;
 
 impl<'a> Scanner<'a> {
-    /// The start of a text. The tokens take memory from `alloc`.
+    /// The start of a text. The tokens, and the names that are kept to be shared, take memory from `alloc`.
     pub fn new(alloc: Global, text: &'a str) -> Scanner<'a>
         ensures left { left result ≡ chars text.now }
         ensures total { total result ≡ length text.now }
@@ -25,6 +26,7 @@ impl<'a> Scanner<'a> {
         Scanner {
             alloc,
             cursor: Cursor::new(text),
+            recent: RecentTexts::new(alloc),
         }
     }
 

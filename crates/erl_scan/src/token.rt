@@ -1,7 +1,7 @@
 // Tokens.
 use crate::mark::Mark;
 use crate::word::Word;
-use erl_chars::{Name, Text};
+use erl_chars::{Name, SharedText, Text};
 
 /// A token of an Erlang text (Erlang Reference Manual; after `erl_scan`).
 #[derive(Drop)]
@@ -16,7 +16,7 @@ pub enum Token {
     /// A reserved word.
     Word(Word),
     /// A variable.
-    Variable(Text),
+    Variable(SharedText),
     /// What stands between double quotes.
     String(Text),
     /// Punctuation.

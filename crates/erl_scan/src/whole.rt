@@ -37,15 +37,15 @@ pub fn scan(alloc: Global, text: &str) -> Result<Scanned, AllocError>
                     fault: None,
                 });
             }
-            Err(error) => {
-                return match error.kind {
-                    Fault::Memory => Err(AllocError),
-                    _ => Ok(Scanned {
+            Err(error) => match error.kind {
+                Fault::Memory => return Err(AllocError),
+                _ => {
+                    return Ok(Scanned {
                         tokens,
                         fault: Some(error),
-                    }),
-                };
-            }
+                    });
+                }
+            },
         }
     }
 }

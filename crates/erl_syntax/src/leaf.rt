@@ -1,5 +1,5 @@
 // The smallest expressions, and names where they stand.
-use erl_chars::Text;
+use erl_chars::{SharedText, Text};
 use erl_term::Atom;
 use values::Row;
 
@@ -33,7 +33,7 @@ pub enum Leaf {
     /// Strings, which adjacent ones join.
     Strings(Row<Text>),
     /// A variable, `_` too, and its first byte in the source, from 0.
-    Variable(Text, usize),
+    Variable(SharedText, usize),
     /// `?MODULE`, and the first byte of its word in the source, from 0.
     ModuleName(usize),
 }

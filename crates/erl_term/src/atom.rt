@@ -88,6 +88,14 @@ impl Atom {
         Ok(Atom { text })
     }
 
+    /// The atom of a text's characters, of which there are at most 255. It shares them. Takes no memory.
+    pub fn from_shared(text: ArcStr) -> Atom
+        requires short { length (chars (arc_str_bytes text)) ≤ 255 }
+        ensures { result ≡ chars (arc_str_bytes text) }
+    {
+        Atom { text }
+    }
+
     /// Whether the atom is this ASCII word. Takes no memory.
     pub fn is(&self, word: &str) -> bool
         requires { IsTrue (is_ascii_text word.now) }

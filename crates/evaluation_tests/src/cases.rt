@@ -80,7 +80,7 @@ fn tuple(alloc: Global, items: Vec<Term>) -> Result<Term, Fail> {
 }
 
 /// The message that a text says.
-pub fn message(alloc: Global, text: &str) -> Result<Term, Fail> {
+fn message(alloc: Global, text: &str) -> Result<Term, Fail> {
     if let Some(request) = text.strip_prefix("call ") {
         let word = Term::Atom(Atom::new(alloc, "$gen_call")?);
         let from = tuple(alloc, vec![in alloc; Term::Pid(0), Term::Int(1)]?)?;
@@ -110,15 +110,18 @@ fn place(alloc: Global, module: &Atom, text: &str) -> Result<Place, Fail> {
     }
 }
 
-/// The job that a text says: it is entered in the first of the code.
+/// The job that a text says: it is entered in the first of the code, or in a module `ctr` that has no code.
 pub fn job(alloc: Global, code: &[Instance], text: &str) -> Result<Job, Fail> {
     let (resting, message_text) = text.split_once(" ← ").ok_or("no message")?;
-    let entered = code.first().ok_or("no code")?;
+    let (module, entry_serial) = match code.first() {
+        Some(entered) => (entered.name.copy(alloc)?, entered.serial),
+        None => (Atom::new(alloc, "ctr")?, 0),
+    };
     Ok(Job {
         pid: TAKER,
         turn: 3,
-        place: place(alloc, &entered.name, resting)?,
-        entry_serial: entered.serial,
+        place: place(alloc, &module, resting)?,
+        entry_serial,
         message: message(alloc, message_text)?,
         code: Row::new(copied_slice(alloc, code)?),
     })

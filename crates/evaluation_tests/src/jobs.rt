@@ -1,14 +1,10 @@
 // Jobs.
-use crate::cases::{Kind, expect, job, message};
-use crate::code::{instance, term};
+use crate::cases::{Kind, expect, job};
+use crate::code::instance;
 use crate::tables::{example, jobs};
 use crate::told::told;
-use erl_eval::Place;
-use erl_machine::{Job, matches};
-use erl_term::Atom;
 use std::alloc::AllocError;
 use std::test::Fail;
-use values::Row;
 
 #[test]
 fn callbacks(rt: HostRuntime) -> Result<(), Fail> {
@@ -60,8 +56,6 @@ fn one_bump(rt: HostRuntime) -> Result<(), Fail> {
         Ok(done) => done,
         Err(AllocError) => job.run(alloc)?,
     };
-    let same = done.job();
-    assert_eq!(&rt; (same.pid, same.turn, same.entry_serial), (7, 3, 2));
     assert_eq!(&rt;
         told(alloc, done.outcome())?.as_slice(),
         b"reply 1 5; rest {server,ctr,5}".as_slice()
@@ -72,25 +66,5 @@ fn one_bump(rt: HostRuntime) -> Result<(), Fail> {
 /// A module without current code has the serial 0.
 #[test]
 fn without_current_code_all_is_undefined(rt: HostRuntime) -> Result<(), Fail> {
-    let alloc = rt.alloc();
-    for text in ["call bump", "cast {set,1}", "x"] {
-        let job = Job {
-            pid: 1,
-            turn: 0,
-            place: Place::Server {
-                module: Atom::new(alloc, "ctr")?,
-                state: term(alloc, "4")?,
-            },
-            entry_serial: 0,
-            message: message(alloc, text)?,
-            code: Row::new(Vec::new(alloc)),
-        };
-        assert!(&rt; matches(alloc, 1, &job.place, &[], &job.message)?, "{text}");
-        assert_eq!(&rt;
-            told(alloc, job.run(alloc)?.outcome())?.as_slice(),
-            "✗ undef".as_bytes(),
-            "{text}"
-        );
-    }
-    Ok(())
+    expect(&rt, rt.alloc(), Kind::Jobs, &[], jobs::WITHOUT_CODE)
 }

@@ -1,5 +1,5 @@
 // Trees in postfix notation: each word takes its parts from the stack, and leaves one tree.
-use erl_chars::Text;
+use erl_chars::SharedText;
 use erl_syntax::{
     ClauseTree, ClauseTrees, GuardTrees, Infix, Leaf, Named, Qualifier, Shape, Sign, SyntaxTree,
     SyntaxTrees,
@@ -63,7 +63,7 @@ fn step(
 
 /// A variable at a place.
 fn variable(alloc: Global, word: &str, at: usize) -> Result<Leaf, AllocError> {
-    let name = Text::from_string(String::from_str(alloc, word)?);
+    let name = SharedText::new(alloc, word)?;
     Ok(Leaf::Variable(name, at))
 }
 

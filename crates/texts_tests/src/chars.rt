@@ -2,7 +2,7 @@
 mod tables;
 
 use crate::cases::{Reading, expect_inside, expect_table};
-use erl_chars::{Cursor, Name, NameError, QuoteError, Text, quotes_read_one_way};
+use erl_chars::{Cursor, Name, NameError, QuoteError, SharedText, Text, quotes_read_one_way};
 use erl_scan::{Fault, ReadError};
 use std::alloc::{AllocError, Global};
 use std::process::Abort;
@@ -66,13 +66,13 @@ pub(crate) fn from_quote(alloc: Global, text: &str, quote: char) -> Result<Strin
 fn shown_and_kept(alloc: Global, name: Name) -> Result<String, AllocError> {
     let mut out = String::from_str(alloc, name.as_str())?;
     out.push('|')?;
-    out.push_str(name.into_string().as_str())?;
+    out.push_str(name.share()?.into_shared().as_str())?;
     Ok(out)
 }
 
 /// The characters of the name that a text is, or a cross and why it is none.
 pub(crate) fn name(alloc: Global, text: &str) -> Result<String, Fail> {
-    match Name::from_text(Text::from_string(String::from_str(alloc, text)?)) {
+    match Name::from_text(SharedText::new(alloc, text)?.share()?) {
         Ok(name) => Ok(shown_and_kept(alloc, name)?),
         Err(e) => Ok(format!(in alloc; "✗ {e:?}")?),
     }

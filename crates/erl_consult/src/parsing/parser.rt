@@ -5,13 +5,11 @@ ghost use Rattle.erl_consult.specs.Grammar.{part_of, part_of_mark, part_of_word}
 ghost use Rattle.erl_consult.specs.Parser.{seen, Gives};
 ghost use Rattle.erl_consult.specs.Steps.{Seen, nothing_seen, done, cut_short, fails, take_part, end_of};
 
-mod atoms;
 mod brackets;
 mod elements;
 mod rows;
 mod terms;
 
-use atoms::Atoms;
 use brackets::innermost;
 use erl_scan::{Fault, Mark, ReadError, Spot, Token, Word};
 use erl_term::Term;
@@ -21,7 +19,6 @@ use std::alloc::Global;
 /// What was read of a text of terms.
 #[derive(Drop)]
 pub(crate) struct Parser {
-    atoms: Atoms,
     rows: Rows,
     /// The terms that a dot ended.
     whole: Vec<Term>,
@@ -71,7 +68,6 @@ impl Parser {
         ensures { seen result ≡ nothing_seen }
     {
         Parser {
-            atoms: Atoms::new(alloc),
             rows: Rows::new(alloc),
             whole: Vec::new(alloc),
             open: Vec::new(alloc),

@@ -103,7 +103,7 @@ fn construct<'a>(alloc: Global, levels: u32, role: Role, tokens: &'a [Spot]) -> 
     };
     match &first.what {
         Token::Atom(name) => {
-            let name = named(alloc, name, first.at)?;
+            let name = named(name, first.at)?;
             called(alloc, levels, role, name, rest)
         }
         Token::Mark(mark) => begun_by_mark(alloc, levels, role, *mark, first, rest),
@@ -239,7 +239,7 @@ fn remote<'a>(
     };
     match &name.what {
         Token::Atom(function) if paren_ahead(rest) => {
-            let function = named(alloc, function, name.at)?;
+            let function = named(function, name.at)?;
             let shape = Shape::Remote(owner, function);
             let open = first_byte(rest);
             match bracketed(alloc, levels, role, shape, open, behind_first(rest))? {

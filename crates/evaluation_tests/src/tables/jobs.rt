@@ -167,6 +167,9 @@ pub(crate) const ALONE: &str = "\
 loop(0) ← stay ⟶ rest {loop,v,loop,[1],1}
 loop(0) ← switch ⟶ ✗ undef";
 
+/// Where a module has no current code, and the process is in none.
+pub(crate) const WITHOUT_CODE: &str = "4 ← call bump ¦ 4 ← cast {set,1} ¦ 4 ← x ⟶ ✗ undef";
+
 /// Loop functions.
 pub(crate) const LISTENING: &str = "-module(q).
 -export([loop/2,other/1,above/1,pair/1,silent/0]).

@@ -8,7 +8,7 @@ ghost use Rattle.erl_consult.specs.Steps.{text, with_last, begins, take_number_b
 use super::elements::push_characters;
 use super::{Last, Parser};
 use erl_scan::{Fault, Name, ReadError, Text};
-use erl_term::Term;
+use erl_term::{Atom, Term};
 use std::mem;
 
 impl Parser {
@@ -61,7 +61,7 @@ impl Parser {
                 at,
             });
         };
-        let atom = self.atoms.atom(name, at)?;
+        let atom = Atom::from_shared(name.into_shared());
         self.begin(Last::Term(Term::Atom(atom)))
     }
 

@@ -1,0 +1,76 @@
+// Texts that were read not long ago.
+ghost use Rattle.std.specs.Prelude.{◌≡◌, ⊤, IfOk, MatchOption};
+ghost use Rattle.std.specs.Str.{chars};
+
+use erl_chars::SharedText;
+use std::alloc::{AllocError, Global};
+
+/// How many texts are kept at once.
+const PLACES: usize = 512;
+
+/// Texts that were read. Each is kept at the place of its characters until another comes there. So a text that is read
+/// often is made once, and all its copies share the characters.
+#[derive(Drop)]
+pub(crate) struct RecentTexts {
+    /// None, or one for each place.
+    kept: Vec<Option<SharedText>>,
+}
+
+impl RecentTexts {
+    /// No texts. They take memory from `alloc`.
+    pub(crate) fn new(alloc: Global) -> RecentTexts {
+        RecentTexts {
+            kept: Vec::new(alloc),
+        }
+    }
+
+    /// The text of characters: a copy of the one that is kept, where it has these, and else a new one.
+    ///
+    /// # Errors
+    ///
+    /// `AllocError` where memory is refused.
+    pub(crate) fn text(&mut self, alloc: Global, characters: &str) -> Result<SharedText, AllocError>
+        ensures { IfOk result (λ it. it ≡ chars characters.now) }
+    {
+        let place = place_of(characters);
+        if let Some(text) = self.copy_at(place, characters)? {
+            return Ok(text);
+        }
+        let text = SharedText::new(alloc, characters)?;
+        self.keep(place, text.share()?)?;
+        Ok(text)
+    }
+
+    /// A copy of the text at a place, where it has these characters.
+    fn copy_at(&self, place: usize, characters: &str) -> Result<Option<SharedText>, AllocError>
+        ensures { IfOk result (λ found. MatchOption found ⊤ (λ it. it ≡ chars characters.now)) }
+    {
+        if let Some(Some(text)) = self.kept.get(place) {
+            // Another text may have the same place.
+            if text.as_str() == characters {
+                return Ok(Some(text.share()?));
+            }
+        }
+        Ok(None)
+    }
+
+    /// Keeps a text at a place.
+    fn keep(&mut self, place: usize, text: SharedText) -> Result<(), AllocError> {
+        for _ in self.kept.len()..PLACES {
+            self.kept.push(None)?;
+        }
+        if let Some(kept) = self.kept.get_mut(place) {
+            *kept = Some(text);
+        }
+        Ok(())
+    }
+}
+
+/// The place that characters choose.
+fn place_of(characters: &str) -> usize {
+    let mut sum: usize = 0;
+    for byte in characters.as_bytes() {
+        sum = sum.wrapping_mul(31).wrapping_add(usize::from(*byte));
+    }
+    sum % PLACES
+}
