@@ -1,6 +1,7 @@
 -- Each step leaves less to do.
 use Rattle.std.specs.Prelude.{◌≡◌, ◌≤◌, ◌<◌, ℕ, ◌+◌, ◌-◌, Bool, true, false, List, ◌∷◌, [], length, take, codes, refl}
 use Rattle.std.specs.Prelude.{Option, None, Some, slice_get}
+use Rattle.std.specs.Option.{option_map_or}
 use Rattle.std.proofs.Common.{arith}
 use Rattle.std.proofs.lemmas.Nat.{mul-le}
 use borrow.Author.Tests.{ltb-true}
@@ -267,11 +268,35 @@ module _ (w : World) where
       less_besides m.state.calls m'.state.calls (call_weight w m) (call_weight w m') x
       (control_weight next + frames_weight m'.frames) counts calls less
 
+  operand_falls : (op : Operation) (ts : Trees) (e : Expr) (es : Exprs) (m : Machine) (x : ℕ) →
+      1 + row_weight (form.more e es) + frames_weight m.frames ≤ x →
+      Falls m.state.calls (call_weight w m) x (machine.evaluate e, machine.pushed (machine.operands op ts es) m)
+  operand_falls op ts e es m x le =
+      moves m (machine.pushed (machine.operands op ts es) m) (machine.evaluate e) x (omega arith) (omega arith) (omega (arith, le))
+
+  variable_falls : (op : Operation) (ts : Trees) (place : ℕ) (es : Exprs) (m : Machine) (x : ℕ) (o : Option Tree) →
+      1 + row_weight (form.more (form.variable place) es) + frames_weight m.frames ≤ x →
+      ((t : Tree) → Falls m.state.calls (call_weight w m) x (going_on w op (append_trees ts (term.more t term.none)) es m)) →
+      Falls m.state.calls (call_weight w m) x
+      (option_map_or (λ t. going_on w op (append_trees ts (term.more t term.none)) es m) o
+      (machine.evaluate (form.variable place), machine.pushed (machine.operands op ts es) m))
+  variable_falls op ts place es m x None le go = operand_falls op ts (form.variable place) es m x le
+  variable_falls op ts place es m x (Some t) le go = go t
+
   going_on_falls : (op : Operation) (ts : Trees) (es : Exprs) (m : Machine) (x : ℕ) → 1 + row_weight es + frames_weight m.frames ≤ x →
       Falls m.state.calls (call_weight w m) x (going_on w op ts es m)
   going_on_falls op ts form.none m x le = applying_falls op ts m x (omega (arith, le))
-  going_on_falls op ts (form.more e es) m x le =
-      moves m (machine.pushed (machine.operands op ts es) m) (machine.evaluate e) x (omega arith) (omega arith) (omega (arith, le))
+  going_on_falls op ts (form.more (form.literal t) es) m x le =
+      going_on_falls op (append_trees ts (term.more t term.none)) es m x (omega (arith, le))
+  going_on_falls op ts (form.more (form.variable place) es) m x le =
+      variable_falls op ts place es m x (slice_get m.state.bindings place) le
+      (λ t. going_on_falls op (append_trees ts (term.more t term.none)) es m x (omega (arith, le)))
+  going_on_falls op ts (form.more (form.apply o args) es) m x le = operand_falls op ts (form.apply o args) es m x le
+  going_on_falls op ts (form.more (form.match p body) es) m x le = operand_falls op ts (form.match p body) es m x le
+  going_on_falls op ts (form.more (form.block body) es) m x le = operand_falls op ts (form.block body) es m x le
+  going_on_falls op ts (form.more (form.case subject cs) es) m x le = operand_falls op ts (form.case subject cs) es m x le
+  going_on_falls op ts (form.more (form.short_circuit c left right) es) m x le =
+      operand_falls op ts (form.short_circuit c left right) es m x le
 
   -- expressions and bodies
 
@@ -292,15 +317,23 @@ module _ (w : World) where
   beginning_falls (form.short_circuit c left right) m = moves m (machine.pushed (machine.deciding c right) m) (machine.run left)
       (2 + row_weight left + row_weight right + frames_weight m.frames) (omega arith) (omega arith) (omega arith)
 
+  -- what is less than a part is less than the whole
+  falls_below : (n h x y : ℕ) (next : Next) → x ≤ y → Falls n h x next → Falls n h y next
+  unfolding work
+  falls_below n h x y next le less = omega (arith, le, less)
+
   running_falls : (es : Exprs) (m : Machine) →
-      Falls m.state.calls (call_weight w m) (row_weight es + frames_weight m.frames) (running es m)
+      Falls m.state.calls (call_weight w m) (row_weight es + frames_weight m.frames) (running w es m)
   running_falls form.none m = moves m m (machine.end (state.exit_by (codes "undef"))) (1 + frames_weight m.frames)
       (omega arith) (omega arith) (omega arith)
-  running_falls (form.more e form.none) m = moves m m (machine.evaluate e)
-      (row_weight (form.more e form.none) + frames_weight m.frames) (omega arith) (omega arith) (omega arith)
+  running_falls (form.more e form.none) m =
+      falls_below m.state.calls (call_weight w m) (expr_weight e + frames_weight m.frames)
+      (row_weight (form.more e form.none) + frames_weight m.frames) (beginning w e m) (omega arith) (beginning_falls e m)
   running_falls (form.more e (form.more f es)) m =
-      moves m (machine.pushed (machine.onward (form.more f es)) m) (machine.evaluate e)
-      (row_weight (form.more e (form.more f es)) + frames_weight m.frames) (omega arith) (omega arith) (omega arith)
+      let behind = machine.pushed (machine.onward (form.more f es)) m in
+      falls_below m.state.calls (call_weight w m) (expr_weight e + frames_weight behind.frames)
+      (row_weight (form.more e (form.more f es)) + frames_weight m.frames) (beginning w e behind) (omega arith)
+      (beginning_falls e behind)
 
   -- what waits for a value
 

@@ -1,6 +1,7 @@
 -- What comes of what a step leads to, comes of what was before it.
 use Rattle.std.specs.Prelude.{◌≡◌, ℕ, Bool, true, false, List, [], ◌∷◌, ◌++◌, length, take, refl, codes, slice_get}
 use Rattle.std.specs.Prelude.{Option, None, Some}
+use Rattle.std.specs.Option.{option_map_or}
 use Rattle.std.proofs.Common.{ap, sym, subst, ◌∙◌}
 use Rattle.std.proofs.lemmas.List.{append_assoc}
 use Rattle.erl_term.specs.Tree as term
@@ -351,10 +352,49 @@ module _ (w : World) where
       let d = calling_leads (may_call m.state) name (remote_function w called name (count ts)) ts m f c in
       (d.0, d.1, rule.remote d.2, d.3)
 
-  going_on_leads : (op : Operation) (ts : Trees) (es : Exprs) (m : Machine) (f : Final) →
-      Comes w (going_on w op ts es m).0 (going_on w op ts es m).1 f →
+  -- what operands and the operation behind them lead to
+  abbrev Operated : Operation → Trees → Exprs → Machine → Final → Type 0
+  Operated op ts es m f =
       (v : Values) × (s1 : State) × (q : Result) × (s2 : State) × Operands w m.activation es m.state v s1 ×
       Applied w m.activation (is_tail m.frames) op (before ts v) s1 q s2 × Resumes w m.activation m.frames q s2 f
+
+  -- an operand that is evaluated
+  evaluated_leads : (op : Operation) (ts : Trees) (e : Expr) (es : Exprs) (m : Machine) (f : Final) →
+      Comes w (machine.evaluate e) (machine.pushed (machine.operands op ts es) m) f → Operated op ts (form.more e es) m f
+  evaluated_leads op ts e es m f (r, s, d, (v, s1, q, s2, o, applied, c)) = (v, s1, q, s2, rule.operand d o, applied, c)
+
+  -- an operand that gives its value at once
+  known_leads : (op : Operation) (ts : Trees) (e : Expr) (es : Exprs) (m : Machine) (f : Final) (t : Tree) →
+      Eval w m.activation false e m.state (state.value t) m.state → Operated op (append_trees ts (term.more t term.none)) es m f →
+      Operated op ts (form.more e es) m f
+  known_leads op ts e es m f t gives d = (
+    with_first t d.0,
+    d.1,
+    d.2,
+    d.3,
+    rule.operand gives (rule.others d.4 refl),
+    subst (λ v. Applied w m.activation (is_tail m.frames) op v d.1 d.2 d.3) (before_one ts t d.0) d.5,
+    d.6,
+  )
+
+  -- a variable gives its value at once where it is bound
+  variable_leads : (op : Operation) (ts : Trees) (place : ℕ) (es : Exprs) (m : Machine) (f : Final) (o : Option Tree) →
+      slice_get m.state.bindings place ≡ o →
+      ((t : Tree) → Comes w (going_on w op (append_trees ts (term.more t term.none)) es m).0
+      (going_on w op (append_trees ts (term.more t term.none)) es m).1 f →
+      Operated op (append_trees ts (term.more t term.none)) es m f) →
+      Comes w
+      (option_map_or (λ t. going_on w op (append_trees ts (term.more t term.none)) es m) o
+      (machine.evaluate (form.variable place), machine.pushed (machine.operands op ts es) m)).0
+      (option_map_or (λ t. going_on w op (append_trees ts (term.more t term.none)) es m) o
+      (machine.evaluate (form.variable place), machine.pushed (machine.operands op ts es) m)).1 f →
+      Operated op ts (form.more (form.variable place) es) m f
+  variable_leads op ts place es m f None unbound go c = evaluated_leads op ts (form.variable place) es m f c
+  variable_leads op ts place es m f (Some t) bound_so go c =
+      known_leads op ts (form.variable place) es m f t (rule.variable (sym (ap bound_to bound_so), refl)) (go t c)
+
+  going_on_leads : (op : Operation) (ts : Trees) (es : Exprs) (m : Machine) (f : Final) →
+      Comes w (going_on w op ts es m).0 (going_on w op ts es m).1 f → Operated op ts es m f
   going_on_leads op ts form.none m f c =
       let d = applying_leads op ts m f c in (
         all term.none,
@@ -365,8 +405,18 @@ module _ (w : World) where
         subst (λ v. Applied w m.activation (is_tail m.frames) op v m.state d.0 d.1) (sym (before_all ts)) d.2,
         d.3,
       )
-  going_on_leads op ts (form.more e es) m f (r, s, d, (v, s1, q, s2, o, applied, c)) =
-      (v, s1, q, s2, rule.operand d o, applied, c)
+  going_on_leads op ts (form.more (form.literal t) es) m f c =
+      known_leads op ts (form.literal t) es m f t (rule.literal (refl, refl))
+      (going_on_leads op (append_trees ts (term.more t term.none)) es m f c)
+  going_on_leads op ts (form.more (form.variable place) es) m f c =
+      variable_leads op ts place es m f (slice_get m.state.bindings place) refl
+      (λ t d. going_on_leads op (append_trees ts (term.more t term.none)) es m f d) c
+  going_on_leads op ts (form.more (form.apply o args) es) m f c = evaluated_leads op ts (form.apply o args) es m f c
+  going_on_leads op ts (form.more (form.match p body) es) m f c = evaluated_leads op ts (form.match p body) es m f c
+  going_on_leads op ts (form.more (form.block body) es) m f c = evaluated_leads op ts (form.block body) es m f c
+  going_on_leads op ts (form.more (form.case subject cs) es) m f c = evaluated_leads op ts (form.case subject cs) es m f c
+  going_on_leads op ts (form.more (form.short_circuit o left right) es) m f c =
+      evaluated_leads op ts (form.short_circuit o left right) es m f c
 
   -- expressions and bodies
 
@@ -386,7 +436,16 @@ module _ (w : World) where
   beginning_leads (form.case subject cs) m f (r, s, d, (q, s1, b, c)) = (q, s1, rule.case d b, c)
   beginning_leads (form.short_circuit o left right) m f (r, s, d, (q, s1, b, c)) = (q, s1, rule.short_circuit d b, c)
 
-  running_leads : (es : Exprs) (m : Machine) (f : Final) → Comes w (running es m).0 (running es m).1 f →
+  last_leads : (e : Expr) (m : Machine) (f : Final) → Comes w (machine.evaluate e) m f →
+      Comes w (machine.run (form.more e form.none)) m f
+  last_leads e m f (r, s, d, c) = (r, s, rule.last d, c)
+
+  next_leads : (e g : Expr) (es : Exprs) (m : Machine) (f : Final) →
+      Comes w (machine.evaluate e) (machine.pushed (machine.onward (form.more g es)) m) f →
+      Comes w (machine.run (form.more e (form.more g es))) m f
+  next_leads e g es m f (r, s, d, (q, s1, o, c)) = (q, s1, rule.next d o, c)
+
+  running_leads : (es : Exprs) (m : Machine) (f : Final) → Comes w (running w es m).0 (running w es m).1 f →
       Comes w (machine.run es) m f
   running_leads form.none m f c = (
     exit_by (codes "undef"),
@@ -394,8 +453,9 @@ module _ (w : World) where
     rule.empty (refl, refl),
     ended m.activation m.frames (term.atom (codes "undef")) m.state f c,
   )
-  running_leads (form.more e form.none) m f (r, s, d, c) = (r, s, rule.last d, c)
-  running_leads (form.more e (form.more g es)) m f (r, s, d, (q, s1, o, c)) = (q, s1, rule.next d o, c)
+  running_leads (form.more e form.none) m f c = last_leads e m f (beginning_leads e m f c)
+  running_leads (form.more e (form.more g es)) m f c =
+      next_leads e g es m f (beginning_leads e (machine.pushed (machine.onward (form.more g es)) m) f c)
 
   -- what waits for a value
 

@@ -2,6 +2,7 @@
 --
 -- Here it is a function of what comes next: what comes of that is what the rules say (`Leading`).
 use Rattle.std.specs.Prelude.{ℕ, Bool, true, false, List, [], ◌∷◌, length, take, codes, slice_get, Option, None, Some}
+use Rattle.std.specs.Option.{option_map_or}
 use Rattle.erl_term.specs.Tree as term
 use Rattle.erl_term.specs.Tree.{Tree, Trees, count}
 use Rattle.erl_term.specs.Rows.{append_trees}
@@ -180,10 +181,23 @@ applying w (operation.Local name) ts m =
 applying w (operation.Remote called name) ts m =
     calling (may_call m.state) w name (remote_function w called name (count ts)) ts m
 
--- the next operand is evaluated, or the operation is applied
+-- what an expression gives at once, where it does: a literal its term, a variable what it is bound to
+abbrev pub known : Expr → State → Option Tree
+known (form.literal t) s = Some t
+known (form.variable place) s = slice_get s.bindings place
+known (form.apply op es) s = None
+known (form.match p body) s = None
+known (form.block body) s = None
+known (form.case subject cs) s = None
+known (form.short_circuit c left right) s = None
+
+-- Of the next operands those that give their values at once give them; the first that does not is evaluated; and behind the
+-- last the operation is applied.
 abbrev pub going_on : World → Operation → Trees → Exprs → Machine → Next
 going_on w op ts form.none m = applying w op ts m
-going_on w op ts (form.more e es) m = (evaluate e, pushed (operands op ts es) m)
+going_on w op ts (form.more e es) m =
+    option_map_or (λ t. going_on w op (append_trees ts (term.more t term.none)) es m) (known e m.state)
+    (evaluate e, pushed (operands op ts es) m)
 
 -- an expression is evaluated
 abbrev pub beginning : World → Expr → Machine → Next
@@ -196,10 +210,10 @@ beginning w (form.case subject cs) m = (run subject, pushed (cases cs) m)
 beginning w (form.short_circuit c left right) m = (run left, pushed (deciding c right) m)
 
 -- a body is evaluated
-abbrev pub running : Exprs → Machine → Next
-running form.none m = (end (exit_by (codes "undef")), m)
-running (form.more e form.none) m = (evaluate e, m)
-running (form.more e (form.more f es)) m = (evaluate e, pushed (onward (form.more f es)) m)
+abbrev pub running : World → Exprs → Machine → Next
+running w form.none m = (end (exit_by (codes "undef")), m)
+running w (form.more e form.none) m = beginning w e m
+running w (form.more e (form.more f es)) m = beginning w e (pushed (onward (form.more f es)) m)
 
 -- what waits for a value is done with it
 
@@ -248,7 +262,7 @@ giving w t (f ∷ fs) m = resuming w f t (record m { frames = fs })
 
 abbrev pub stepping : World → Control → Machine → Next
 stepping w (evaluate e) m = beginning w e m
-stepping w (run es) m = running es m
+stepping w (run es) m = running w es m
 stepping w (give t) m = giving w t m.frames m
 stepping w (settle p) m = settling w p m.frames m
 stepping w (end r) m = (end r, m)

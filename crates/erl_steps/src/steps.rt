@@ -13,7 +13,7 @@ ghost use Rattle.erl_eval.specs.Operators as operators;
 ghost use Rattle.erl_eval.specs.Starting.{at_once};
 ghost use Rattle.erl_eval.specs.State as state;
 ghost use Rattle.erl_steps.specs.Machine as machine;
-ghost use Rattle.erl_steps.specs.Machine.{applying, beginning, bound_by, calling, calling_built_in, decided_by, entered, giving, going_on, in_state, into, of_result, resting, resuming, running, scoped, selecting, settling, settling_at, stepping, working};
+ghost use Rattle.erl_steps.specs.Machine.{applying, beginning, bound_by, calling, calling_built_in, decided_by, entered, giving, going_on, in_state, known, into, of_result, resting, resuming, running, scoped, selecting, settling, settling_at, stepping, working};
 ghost use Rattle.erl_steps.specs.Views.{callee_of, control_of, control_or, frame_of, instance, machine_of, world_of};
 
 use crate::machine::{Control, End, Machine, exit, exit_with, next_of};
@@ -387,12 +387,9 @@ impl<'a> Machine<'a> {
             Expression::Literal(term) => Ok(Control::Give(term.copy(world.setting.alloc)?)),
             Expression::Variable(place) => self.value_of(world.setting.alloc, *place as usize),
             Expression::Apply(operation, operands) => {
-                self.go_on(
-                    world,
-                    operation,
-                    Vec::new(world.setting.alloc),
-                    operands.as_slice(),
-                )
+                let operands = operands.as_slice();
+                let values = Vec::with_capacity(world.setting.alloc, operands.len())?;
+                self.go_on(world, operation, values, operands)
             }
             Expression::Match(pattern, body) => {
                 self.frames.push(Frame::Binding(pattern))?;
@@ -412,18 +409,18 @@ impl<'a> Machine<'a> {
     }
 
     /// Begins to evaluate a body.
-    fn run(&mut self, alloc: Global, body: &'a [Expression]) -> Result<Control<'a>, AllocError>
-        ensures { IfOk result (λ it. (control_of it, machine_of self.new) ≡ running (exprs body.now) (machine_of self.old)) }
+    fn run(&mut self, world: &World<'a>, body: &'a [Expression]) -> Result<Control<'a>, AllocError>
+        ensures { IfOk result (λ it. (control_of it, machine_of self.new) ≡ running (world_of world.now) (exprs body.now) (machine_of self.old)) }
     {
         let Some((first, rest)) = body.split_first() else {
-            return exit(alloc, "undef");
+            return exit(world.setting.alloc, "undef");
         };
         match rest.split_first() {
             Some(_) => {
                 self.frames.push(Frame::Onward(rest))?;
-                Ok(Control::Evaluate(first))
+                self.begin(world, first)
             }
-            None => Ok(Control::Evaluate(first)),
+            None => self.begin(world, first),
         }
     }
 
@@ -479,7 +476,25 @@ impl<'a> Machine<'a> {
         }
     }
 
-    /// Goes on with the operands, or applies the operation to the values.
+    /// What an expression gives at once, where it does: a literal, or a variable that is bound.
+    fn known(&self, alloc: Global, expression: &Expression) -> Result<Option<Term>, AllocError>
+        ensures { IfOk result (λ it. option_map tree it ≡ known (expr expression.now) (machine_of self.now).state) }
+    {
+        match expression {
+            Expression::Literal(term) => Ok(Some(term.copy(alloc)?)),
+            Expression::Variable(place) => match self.bindings.as_slice().get(*place as usize) {
+                Some(term) => Ok(Some(term.copy(alloc)?)),
+                None => Ok(None),
+            },
+            Expression::Apply(_, _)
+            | Expression::Match(_, _)
+            | Expression::Block(_)
+            | Expression::Case(_, _)
+            | Expression::ShortCircuit(_, _, _) => Ok(None),
+        }
+    }
+
+    /// Goes on with the operands, as far as they give their values at once, or applies the operation to the values.
     fn go_on(
         &mut self,
         world: &World<'a>,
@@ -489,17 +504,21 @@ impl<'a> Machine<'a> {
     ) -> Result<Control<'a>, AllocError>
         ensures { IfOk result (λ it. (control_of it, machine_of self.new) ≡ going_on (world_of world.now) operation.now (trees values.items) (exprs rest.now) (machine_of self.old)) }
     {
-        match rest.split_first() {
-            Some((first, rest)) => {
+        let mut values = values;
+        let mut left = rest;
+        while let Some((first, rest)) = left.split_first() {
+            let Some(value) = self.known(world.setting.alloc, first)? else {
                 self.frames.push(Frame::Operands {
                     operation,
                     values,
                     rest,
                 })?;
-                Ok(Control::Evaluate(first))
-            }
-            None => self.apply(world, operation, values),
+                return Ok(Control::Evaluate(first));
+            };
+            values = with_value(values, value)?;
+            left = rest;
         }
+        self.apply(world, operation, values)
     }
 
     /// Does with a value what waits for it.
@@ -613,7 +632,7 @@ impl<'a> Machine<'a> {
     {
         match control {
             Control::Evaluate(expression) => self.begin(world, expression),
-            Control::Run(body) => self.run(world.setting.alloc, body),
+            Control::Run(body) => self.run(world, body),
             Control::Give(value) => self.give(world, value),
             Control::Settle(resting) => self.settle(world, resting),
             Control::End(end) => Ok(Control::End(end)),
