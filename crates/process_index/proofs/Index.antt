@@ -1,0 +1,109 @@
+-- Lemmas on what is found under a key, for indexes of any keys that an order tells apart.
+use Rattle.std.proofs.Common.{◌≡◌, ◌≢◌, ℕ, Bool, true, false, cond, List, [], ◌∷◌, Option, None, Some, refl, sym, ap, ◌∙◌, arith}
+use Rattle.std.specs.declared.cmp.Ordering.{Ordering}
+use Rattle.std.specs.declared.cmp.Ordering.TheVariants.{Less, Equal, Greater}
+use Rattle.std.specs.Ordering.{nat_cmp, eq_by_cmp, is_eq}
+use Rattle.std.specs.Prelude.{nat_eq}
+use Rattle.std.specs.Cmp.{IsTotalOrder, IsEquivalence, nat_cmp_total}
+use Rattle.std.specs.Cmp.Lexicographic.{slice_cmp, nat_list_cmp_total}
+use Rattle.std.specs.FinMap.{FinMap, IsAntisymmetric, nat_cmp-IsAntisymmetric, slice_cmp-IsAntisymmetric, from_entries, find, get, get-from_entries, get-insert, get-remove, same_map}
+use Rattle.std.specs.Map.{lookup}
+use Rattle.std.specs.Str.{bytes_eq}
+use Rattle.std.proofs.lemmas.Bool.{false_from_ne_true}
+use Rattle.std.proofs.lemmas.Bool.Decides.{nat_tests}
+use Rattle.std.proofs.lemmas.Cmp.{eq_by_cmp_equiv}
+use Rattle.std.proofs.lemmas.Map.Text.{is_eq-slice_cmp}
+use Rattle.process_index.specs.Index.{put}
+
+-- An order of keys in which just the keys that a test finds equal tie, and those are one key.
+pub record TellsApart {K : Type 0} (R : K → K → Ordering) (test : K → K → Bool) : Type 0 where
+  pub total : IsTotalOrder R
+  pub apart : IsAntisymmetric R
+  pub ties : (x y : K) → eq_by_cmp R x y ≡ test x y
+
+pub names_apart : TellsApart (slice_cmp nat_cmp) bytes_eq
+names_apart = record {
+  total = nat_list_cmp_total;
+  apart = slice_cmp-IsAntisymmetric nat_cmp-IsAntisymmetric;
+  ties = is_eq-slice_cmp;
+}
+
+pub numbers_apart : TellsApart nat_cmp nat_eq
+numbers_apart = record {
+  total = nat_cmp_total;
+  apart = nat_cmp-IsAntisymmetric;
+  ties = λ x y. grind (arith, nat_tests);
+}
+
+repeated : {A : Type 0} (b : Bool) (x y z : A) → cond b x (cond b y z) ≡ cond b x z
+repeated true x y z = refl
+repeated false x y z = refl
+
+agree : {A : Type 0} (b : Bool) (x y : A) → (b ≡ true → x ≡ y) → cond b x y ≡ y
+agree true x y same = same refl
+agree false x y same = refl
+
+tie : (r : Ordering) → is_eq r ≡ true → r ≡ Equal
+tie Less tied = cc
+tie Equal tied = refl
+tie Greater tied = cc
+
+module _ {K : Type 0} {R : K → K → Ordering} {test : K → K → Bool} (o : TellsApart R test) where
+  tied : (x y : K) → test x y ≡ true → R x y ≡ Equal
+  tied x y passed = tie (R x y) (o.ties x y ∙ passed)
+
+  tests_itself : (x : K) → test x x ≡ true
+  tests_itself x = sym (o.ties x x) ∙ (eq_by_cmp_equiv o.total).refl x
+
+  tests_other : (x y : K) → x ≢ y → test x y ≡ false
+  tests_other x y other = false_from_ne_true (test x y) (λ passed. other (o.apart x y (tied x y passed)))
+
+module _ {K X : Type 0} {R : K → K → Ordering} {test : K → K → Bool} (o : TellsApart R test) where
+  -- two indexes that have the same under each key are one
+  pub same_index : (m n : FinMap R X) → ((k : K) → get m k ≡ get n k) → m ≡ n
+  same_index m n same = same_map o.total o.apart m n same
+
+  -- what a change leaves under each key
+  pub get-put : (m : FinMap R X) (k : K) (v : Option X) (q : K) → get (put k v m) q ≡ cond (test k q) v (get m q)
+  get-put m k v q =
+      let turned : eq_by_cmp R q k ≡ test k q = (eq_by_cmp_equiv o.total).symm q k ∙ o.ties k q in
+      elim v as (λ w. get (put k w m) q ≡ cond (test k q) w (get m q)) [
+        | None ↦ get-remove o.total m k q ∙ ap (λ b. cond b None (get m q)) turned
+        | Some x ↦ get-insert o.total m k x q ∙ ap (λ b. cond b (Some x) (get m q)) turned
+      ]
+
+  find-lookup : (q : K) (es : List (K × X)) → find R q es ≡ lookup (test q) es
+  find-lookup q [] = refl
+  find-lookup q (e ∷ es) =
+      ap (λ b. cond b (Some e.1) (find R q es)) (o.ties q e.0) ∙ ap (cond (test q e.0) (Some e.1)) (find-lookup q es)
+
+  -- what the index of a list of entries has under each key
+  pub get-lookup : (es : List (K × X)) (q : K) → get (from_entries {R = R} es) q ≡ lookup (test q) es
+  get-lookup es q = get-from_entries o.total es q ∙ find-lookup q es
+
+  -- a list of entries that has one key changed
+  pub from_entries-put : (es fs : List (K × X)) (k : K) (v : Option X) → ((q : K) → lookup (test q) fs ≡ cond (test k q) v (lookup (test q) es)) → from_entries {R = R} fs ≡ put k v (from_entries es)
+  from_entries-put es fs k v updated =
+      same_index _ _ (λ q. get-lookup fs q ∙ updated q ∙ ap (cond (test k q) v) (sym (get-lookup es q)) ∙ sym (get-put (from_entries es) k v q))
+
+  -- what is put under a key is there, and every other key has what it had
+
+  pub get-put_here : (m : FinMap R X) (k : K) (v : Option X) → get (put k v m) k ≡ v
+  get-put_here m k v = get-put m k v k ∙ ap (λ b. cond b v (get m k)) (tests_itself o k)
+
+  pub get-put_elsewhere : (m : FinMap R X) (k : K) (v : Option X) (q : K) → k ≢ q → get (put k v m) q ≡ get m q
+  get-put_elsewhere m k v q other = get-put m k v q ∙ ap (λ b. cond b v (get m q)) (tests_other o k q other)
+
+  -- the later of two changes under one key counts
+  pub put-put : (m : FinMap R X) (k : K) (v w : Option X) → put k v (put k w m) ≡ put k v m
+  put-put m k v w =
+      same_index _ _ (λ q. get-put (put k w m) k v q ∙ ap (cond (test k q) v) (get-put m k w q) ∙ repeated (test k q) v w (get m q) ∙ sym (get-put m k v q))
+
+  -- what is there, put there
+  pub put-get : (m : FinMap R X) (k : K) → put k (get m k) m ≡ m
+  put-get m k =
+      same_index _ _ (λ q. get-put m k (get m k) q ∙ agree (test k q) _ _ (λ passed. ap (get m) (o.apart k q (tied o k q passed))))
+
+  -- so a change is taken back by what was there before
+  pub put_back : (m : FinMap R X) (k : K) (v : Option X) → put k (get m k) (put k v m) ≡ m
+  put_back m k v = put-put m k (get m k) v ∙ put-get m k

@@ -1,0 +1,238 @@
+-- Lemmas on open calls in order.
+use Rattle.std.proofs.Common.{◌≡◌, ◌≢◌, ℕ, zero, suc, ◌<◌, ◌≤◌, ◌⊎◌, inl, inr, ⊎_elim, Bool, true, false, cond, not, ◌&&◌, ◌||◌, eqb, ltb, List, [], ◌∷◌, length, get_or, insert, remove, All, refl, sym, ap, ◌∙◌, subst, arith}
+use Rattle.std.specs.Bool.{Decides}
+use Rattle.std.specs.List.{Contains, AllWithin}
+use Rattle.std.specs.List.Sorted.{IsPartitionedBy, IsPartitionPoint}
+use Rattle.std.proofs.lemmas.Bool.{cond-true, cond-false, cases_Bool, and_parts, or_cases, or_parts, or_left, or_right, or_from, and_from, and_right, cases_order, cases_eq, eqb-true, eq-eqb, ltb-true, lt-ltb, true≢false, false_from_ne_true}
+use Rattle.std.proofs.lemmas.Bool.Decides.{nat_tests}
+use Rattle.std.proofs.lemmas.List.Elements.{All-cons, All-head, All-tail, All-get_or, All-nil, All-weaker}
+use Rattle.process_index.specs.declared.calls.Call.{Call}
+use Rattle.process_index.specs.Calls.{is_same, is_before, AreInOrder, has, with_call, without}
+
+-- One call and another
+
+pub same_call : (c d : Call) → is_same c d ≡ true → c ≡ d
+same_call c d same =
+    let parts = and_parts _ _ same in
+    let client = eqb-true c.client d.client parts.0 in
+    let number = eqb-true c.number d.number parts.1 in
+    λ i. record { client = client i; number = number i }
+
+pub same_itself : (c : Call) → is_same c c ≡ true
+same_itself c = and_from _ _ (eq-eqb c.client c.client refl) (eq-eqb c.number c.number refl)
+
+pub is_same-Decides : (c d : Call) → Decides (is_same c d) (c ≡ d)
+is_same-Decides c d = (same_call c d, λ e. subst (λ x. is_same c x ≡ true) e (same_itself c))
+
+pub same_turned : (c d : Call) → is_same c d ≡ is_same d c
+same_turned c d = grind (arith, nat_tests)
+
+pub before-not_same : (c d : Call) → is_before c d ≡ true → is_same d c ≡ false
+before-not_same c d before = grind (arith, nat_tests)
+
+pub behind-not_same : (c d : Call) → is_before c d ≡ true → is_same c d ≡ false
+behind-not_same c d before = same_turned c d ∙ before-not_same c d before
+
+pub before-not_behind : (c d : Call) → is_before c d ≡ true → is_before d c ≡ false
+before-not_behind c d before = grind (arith, nat_tests)
+
+pub before-trans : (c d e : Call) → is_before c d ≡ true → is_before d e ≡ true → is_before c e ≡ true
+before-trans c d e one other = grind (arith, nat_tests)
+
+-- of two calls one comes first
+pub before_or_behind : (c d : Call) → is_before d c ≡ false → is_same c d ≡ false → is_before c d ≡ true
+before_or_behind c d not_before other = grind (arith, nat_tests)
+
+-- Calls in order
+
+pub ordered_places : (cs : List Call) → AreInOrder cs → (i j : ℕ) (d : Call) → i < j → j < length cs → is_before (get_or cs i d) (get_or cs j d) ≡ true
+ordered_places [] ordered i j d before within = absurd (omega arith)
+ordered_places (c ∷ cs) ordered i zero d before within = absurd (omega arith)
+ordered_places (c ∷ cs) ordered zero (suc j) d before within =
+    All-get_or (λ e. is_before c e ≡ true) cs j d (omega arith) ordered.0
+ordered_places (c ∷ cs) ordered (suc i) (suc j) d before within =
+    ordered_places cs ordered.1 i j d (omega arith) (omega arith)
+
+-- those that come before a call stand before those that do not
+pub parted : (c : Call) (cs : List Call) → AreInOrder cs → IsPartitionedBy (λ d. is_before d c) cs
+parted c cs ordered i j d upto within before =
+    ⊎_elim (λ e. subst (λ k. is_before (get_or cs k d) c ≡ true) (sym e) before) (λ ne. before-trans _ _ c (ordered_places cs ordered i j d (omega arith) within) before) (cases_eq i j)
+
+-- none of those that a call comes before is that call
+pub none_behind : (c : Call) (cs : List Call) → All (λ d. is_before c d ≡ true) cs → has c cs ≡ false
+none_behind c [] behind = refl
+none_behind c (d ∷ ds) behind =
+    or_from _ _ (behind-not_same c d (All-head (λ e. is_before c e ≡ true) d ds behind)) (none_behind c ds (All-tail (λ e. is_before c e ≡ true) d ds behind))
+
+-- a call that comes before the first of them comes before all
+pub before_all : (c d : Call) (ds : List Call) → is_before c d ≡ true → AreInOrder (d ∷ ds) → All (λ e. is_before c e ≡ true) (d ∷ ds)
+before_all c d ds before ordered =
+    All-cons (λ e. is_before c e ≡ true) d ds before (All-weaker (λ e. is_before d e ≡ true) (λ e. is_before c e ≡ true) (λ e. before-trans c d e before) ds ordered.0)
+
+-- A call put in and taken out, where it is to stand
+
+pub insert-with_call : (c : Call) (cs : List Call) (i : ℕ) → i ≤ length cs → AllWithin (λ d. is_before d c ≡ true) cs 0 i → AllWithin (λ d. is_before d c ≡ false) cs i (length cs) → insert cs i c ≡ with_call c cs
+insert-with_call c [] zero within front back = refl
+insert-with_call c [] (suc i) within front back = absurd (omega arith)
+insert-with_call c (d ∷ ds) zero within front back =
+    sym (cond-false (is_before d c) (d ∷ with_call c ds) (c ∷ d ∷ ds) (back 0 c (omega arith) (omega arith)))
+insert-with_call c (d ∷ ds) (suc i) within front back =
+    ap (λ es. d ∷ es) (insert-with_call c ds i (omega arith) (λ k e low high. front (suc k) e (omega arith) (omega arith)) (λ k e low high. back (suc k) e (omega arith) (omega arith)))
+    ∙ sym (cond-true (is_before d c) (d ∷ with_call c ds) (c ∷ d ∷ ds) (front 0 c (omega arith) (omega arith)))
+
+pub remove-without : (c : Call) (cs : List Call) (i : ℕ) (at : Call) → i < length cs → at ≡ get_or cs i at → is_same at c ≡ true → AllWithin (λ d. is_before d c ≡ true) cs 0 i → remove cs i ≡ without c cs
+remove-without c [] i at within is same front = absurd (omega arith)
+remove-without c (d ∷ ds) zero at within is same front =
+    sym (cond-true (is_same c d) ds (d ∷ without c ds) (same_turned c d ∙ subst (λ e. is_same e c ≡ true) is same))
+remove-without c (d ∷ ds) (suc i) at within is same front =
+    ap (λ es. d ∷ es) (remove-without c ds i at (omega arith) is same (λ k e low high. front (suc k) e (omega arith) (omega arith)))
+    ∙ sym (cond-false (is_same c d) ds (d ∷ without c ds) (before-not_same d c (front 0 c (omega arith) (omega arith))))
+
+-- a call that is none of them, taken out
+pub without-absent : (c : Call) (cs : List Call) → has c cs ≡ false → without c cs ≡ cs
+without-absent c [] absent = refl
+without-absent c (d ∷ ds) absent =
+    let parts = or_parts _ _ absent in
+    cond-false (is_same c d) ds (d ∷ without c ds) parts.0 ∙ ap (λ es. d ∷ es) (without-absent c ds parts.1)
+
+-- where it would stand another stands, or none: it is none of them
+pub absent_at : (c at : Call) (cs : List Call) (i : ℕ) → AreInOrder cs → i ≤ length cs → AllWithin (λ d. is_before d c ≡ true) cs 0 i → AllWithin (λ d. is_before d c ≡ false) cs i (length cs) → (i < length cs → is_same (get_or cs i at) c ≡ false) → has c cs ≡ false
+absent_at c at [] i ordered within front back other = refl
+absent_at c at (d ∷ ds) zero ordered within front back other =
+    let differs = same_turned c d ∙ other (omega arith) in
+    none_behind c (d ∷ ds) (before_all c d ds (before_or_behind c d (back 0 c (omega arith) (omega arith)) differs) ordered)
+absent_at c at (d ∷ ds) (suc i) ordered within front back other =
+    or_from _ _ (before-not_same d c (front 0 c (omega arith) (omega arith))) (absent_at c at ds i ordered.1 (omega arith) (λ k e low high. front (suc k) e (omega arith) (omega arith)) (λ k e low high. back (suc k) e (omega arith) (omega arith)) (λ below. other (omega arith)))
+
+-- The items behind the type, after a call is put in or taken out at its place
+
+pub put_in : (c : Call) (seen items cs new : List Call) (i : ℕ) → seen ≡ items → items ≡ cs → new ≡ insert items i c → i ≤ length seen → IsPartitionPoint (λ d. is_before d c ≡ true) (λ d. is_before d c ≡ false) seen i → new ≡ with_call c cs
+put_in c seen items cs new i value view put within point =
+    put ∙ ap (λ xs. insert xs i c) (sym value) ∙ insert-with_call c seen i within point.0 point.1 ∙ ap (with_call c) (value ∙ view)
+
+pub taken_out : (c at : Call) (seen items cs new : List Call) (i : ℕ) → seen ≡ items → items ≡ cs → new ≡ remove items i → i < length seen → at ≡ get_or items i at → at ≡ c → IsPartitionPoint (λ d. is_before d c ≡ true) (λ d. is_before d c ≡ false) seen i → new ≡ without c cs
+taken_out c at seen items cs new i value view cut within is same point =
+    let front = subst (λ xs. AllWithin (λ d. is_before d c ≡ true) xs 0 i) value point.0 in
+    cut ∙ remove-without c items i at (subst (λ xs. i < length xs) value within) is (subst (λ x. is_same at x ≡ true) same (same_itself at)) front ∙ ap (without c) view
+
+pub left_alone : (c at : Call) (seen items cs : List Call) (i : ℕ) → seen ≡ items → items ≡ cs → AreInOrder items → i ≤ length seen → IsPartitionPoint (λ d. is_before d c ≡ true) (λ d. is_before d c ≡ false) seen i → (i < length seen → (get_or seen i at ≡ c → ⊥)) → cs ≡ without c cs
+left_alone c at seen items cs i value view ordered within point other =
+    let differs = λ (below : i < length seen). false_from_ne_true (is_same (get_or seen i at) c) (λ e. other below (same_call _ c e)) in
+    let absent = absent_at c at seen i (subst AreInOrder (sym value) ordered) within point.0 point.1 differs in
+    sym (without-absent c cs (subst (λ xs. has c xs ≡ false) (value ∙ view) absent))
+
+-- The order is kept
+
+All-with_call : (P : Call → Type 0) (c : Call) (cs : List Call) → P c → All P cs → All P (with_call c cs)
+All-with_call P c [] here all = All-cons P c [] here all
+All-with_call P c (d ∷ ds) here all =
+    elim (is_before d c) as (λ b. All P (cond b (d ∷ with_call c ds) (c ∷ d ∷ ds))) [
+      | true ↦ All-cons P d (with_call c ds) (All-head P d ds all) (All-with_call P c ds here (All-tail P d ds all))
+      | false ↦ All-cons P c (d ∷ ds) here all
+    ]
+
+All-without : (P : Call → Type 0) (c : Call) (cs : List Call) → All P cs → All P (without c cs)
+All-without P c [] all = all
+All-without P c (d ∷ ds) all =
+    elim (is_same c d) as (λ b. All P (cond b ds (d ∷ without c ds))) [
+      | true ↦ All-tail P d ds all
+      | false ↦ All-cons P d (without c ds) (All-head P d ds all) (All-without P c ds (All-tail P d ds all))
+    ]
+
+pub AreInOrder-with_call : (c : Call) (cs : List Call) → AreInOrder cs → has c cs ≡ false → AreInOrder (with_call c cs)
+AreInOrder-with_call c [] ordered absent = (All-nil (λ d. is_before c d ≡ true), tt)
+AreInOrder-with_call c (d ∷ ds) ordered absent =
+    let parts = or_parts _ _ absent in
+    elim (is_before d c) as (λ b. is_before d c ≡ b → AreInOrder (cond b (d ∷ with_call c ds) (c ∷ d ∷ ds))) [
+      | true ↦ λ e. (All-with_call (λ x. is_before d x ≡ true) c ds e ordered.0, AreInOrder-with_call c ds ordered.1 parts.1)
+      | false ↦ λ e. (before_all c d ds (before_or_behind c d e parts.0) ordered, ordered)
+    ] refl
+
+pub AreInOrder-without : (c : Call) (cs : List Call) → AreInOrder cs → AreInOrder (without c cs)
+AreInOrder-without c [] ordered = ordered
+AreInOrder-without c (d ∷ ds) ordered =
+    elim (is_same c d) as (λ b. AreInOrder (cond b ds (d ∷ without c ds))) [
+      | true ↦ ordered.1
+      | false ↦ (All-without (λ x. is_before d x ≡ true) c ds ordered.0, AreInOrder-without c ds ordered.1)
+    ]
+
+-- One takes the other back
+
+pub without-with_call : (c : Call) (cs : List Call) → has c cs ≡ false → without c (with_call c cs) ≡ cs
+without-with_call c [] absent = cond-true (is_same c c) [] (c ∷ []) (same_itself c)
+without-with_call c (d ∷ ds) absent =
+    let parts = or_parts _ _ absent in
+    elim (is_before d c) as (λ b. without c (cond b (d ∷ with_call c ds) (c ∷ d ∷ ds)) ≡ d ∷ ds) [
+      | true ↦ cond-false (is_same c d) (with_call c ds) (d ∷ without c (with_call c ds)) parts.0 ∙ ap (λ es. d ∷ es) (without-with_call c ds parts.1)
+      | false ↦ cond-true (is_same c c) (d ∷ ds) (c ∷ without c (d ∷ ds)) (same_itself c)
+    ]
+
+-- a call that comes before all of them is put first
+with_call-first : (c : Call) (cs : List Call) → All (λ d. is_before c d ≡ true) cs → with_call c cs ≡ c ∷ cs
+with_call-first c [] before = refl
+with_call-first c (d ∷ ds) before =
+    cond-false (is_before d c) (d ∷ with_call c ds) (c ∷ d ∷ ds) (before-not_behind c d (All-head (λ e. is_before c e ≡ true) d ds before))
+
+-- and one of those behind a call comes behind it
+before-has : (d c : Call) (cs : List Call) → All (λ e. is_before d e ≡ true) cs → has c cs ≡ true → is_before d c ≡ true
+before-has d c [] before there = absurd (true≢false (sym there))
+before-has d c (e ∷ es) before there =
+    ⊎_elim (λ same. subst (λ x. is_before d x ≡ true) (sym (same_call c e same)) (All-head (λ x. is_before d x ≡ true) e es before)) (λ later. before-has d c es (All-tail (λ x. is_before d x ≡ true) e es before) later) (or_cases _ _ there)
+
+pub with_call-without : (c : Call) (cs : List Call) → AreInOrder cs → has c cs ≡ true → with_call c (without c cs) ≡ cs
+with_call-without c [] ordered there = absurd (true≢false (sym there))
+with_call-without c (d ∷ ds) ordered there =
+    elim (is_same c d) as (λ b. is_same c d ≡ b → (b || has c ds) ≡ true → with_call c (cond b ds (d ∷ without c ds)) ≡ d ∷ ds) [
+      | true ↦ λ e _. subst (λ x. with_call x ds ≡ d ∷ ds) (sym (same_call c d e)) (with_call-first d ds ordered.0)
+      | false ↦ λ e later. cond-true (is_before d c) (d ∷ with_call c (without c ds)) (c ∷ d ∷ without c ds) (before-has d c ds ordered.0 later) ∙ ap (λ es. d ∷ es) (with_call-without c ds ordered.1 later)
+    ] refl there
+
+-- What is there afterwards
+
+swapped : (a b r : Bool) → (a || (b || r)) ≡ (b || (a || r))
+swapped true true r = refl
+swapped true false r = refl
+swapped false b r = refl
+
+pub has-with_call : (d c : Call) (cs : List Call) → has d (with_call c cs) ≡ (is_same d c || has d cs)
+has-with_call d c [] = refl
+has-with_call d c (e ∷ es) =
+    elim (is_before e c) as (λ b. has d (cond b (e ∷ with_call c es) (c ∷ e ∷ es)) ≡ (is_same d c || (is_same d e || has d es))) [
+      | true ↦ ap (λ r. is_same d e || r) (has-with_call d c es) ∙ swapped (is_same d e) (is_same d c) (has d es)
+      | false ↦ refl
+    ]
+
+-- a call is not each of two that differ
+both : (d c e : Call) → is_same c e ≡ false → is_same d c ≡ true → is_same d e ≡ false
+both d c e other same = subst (λ x. is_same x e ≡ false) (sym (same_call d c same)) other
+
+kept : (a b r : Bool) → (a ≡ true → b ≡ false) → (b || (not a && r)) ≡ (not a && (b || r))
+kept true b r apart = or_from b false (apart refl) refl
+kept false b r apart = refl
+
+first_gone : (d e : Call) (es : List Call) → All (λ x. is_before e x ≡ true) es → has d es ≡ (not (is_same d e) && (is_same d e || has d es))
+first_gone d e es behind =
+    elim (is_same d e) as (λ b. is_same d e ≡ b → has d es ≡ (not b && (b || has d es))) [
+      | true ↦ λ same. subst (λ x. has x es ≡ false) (sym (same_call d e same)) (none_behind e es behind)
+      | false ↦ λ _. refl
+    ] refl
+
+pub has-without : (d c : Call) (cs : List Call) → AreInOrder cs → has d (without c cs) ≡ (not (is_same d c) && has d cs)
+has-without d c [] ordered = sym (and_right (not (is_same d c)) false refl)
+has-without d c (e ∷ es) ordered =
+    elim (is_same c e) as (λ b. is_same c e ≡ b → has d (cond b es (e ∷ without c es)) ≡ (not (is_same d c) && (is_same d e || has d es))) [
+      | true ↦ λ same. subst (λ x. has d es ≡ (not (is_same d x) && (is_same d e || has d es))) (sym (same_call c e same)) (first_gone d e es ordered.0)
+      | false ↦ λ other. ap (λ r. is_same d e || r) (has-without d c es ordered.1) ∙ kept (is_same d c) (is_same d e) (has d es) (both d c e other)
+    ] refl
+
+stands-has : (c : Call) (cs : List Call) (k : ℕ) → k < length cs → get_or cs k c ≡ c → has c cs ≡ true
+stands-has c [] k below at = absurd (omega arith)
+stands-has c (d ∷ ds) zero below at = or_left _ _ ((is_same-Decides c d).1 (sym at))
+stands-has c (d ∷ ds) (suc k) below at = or_right _ _ (stands-has c ds k (omega arith) at)
+
+-- to be one of them is to stand among them
+pub has-Decides : (c : Call) (cs : List Call) → Decides (has c cs) (Contains cs c)
+has-Decides c [] = (λ there. absurd (true≢false (sym there)), λ (k, below, _). absurd (omega arith))
+has-Decides c (d ∷ ds) =
+    let rest = has-Decides c ds in
+    (λ there. ⊎_elim (λ same. (0, omega arith, sym (same_call c d same))) (λ later. let (k, below, at) = rest.0 later in (suc k, omega arith, at)) (or_cases _ _ there), λ (k, below, at). stands-has c (d ∷ ds) k below at)
