@@ -236,3 +236,39 @@ has-Decides c [] = (λ there. absurd (true≢false (sym there)), λ (k, below, _
 has-Decides c (d ∷ ds) =
     let rest = has-Decides c ds in
     (λ there. ⊎_elim (λ same. (0, omega arith, sym (same_call c d same))) (λ later. let (k, below, at) = rest.0 later in (suc k, omega arith, at)) (or_cases _ _ there), λ (k, below, at). stands-has c (d ∷ ds) k below at)
+
+-- Calls in order are told by which they are
+
+first-has : (c : Call) (cs : List Call) → has c (c ∷ cs) ≡ true
+first-has c cs = or_left _ _ (same_itself c)
+
+-- those behind one call, where the same calls stand with it
+tails : (c : Call) (cs ds : List Call) → AreInOrder (c ∷ cs) → AreInOrder (c ∷ ds) → ((x : Call) → has x (c ∷ cs) ≡ has x (c ∷ ds)) → (x : Call) → has x cs ≡ has x ds
+tails c cs ds one other same x =
+    elim (is_same x c) as (λ b. is_same x c ≡ b → (b || has x cs) ≡ (b || has x ds) → has x cs ≡ has x ds) [
+      | true ↦ λ e _. subst (λ y. has y cs ≡ has y ds) (sym (same_call x c e)) (none_behind c cs one.0 ∙ sym (none_behind c ds other.0))
+      | false ↦ λ _ rest. rest
+    ] refl (same x)
+
+-- a call that comes before the first is none of them
+not_before : (c d : Call) (cs ds : List Call) → AreInOrder (d ∷ ds) → has c (c ∷ cs) ≡ has c (d ∷ ds) → is_before c d ≡ true → ⊥
+not_before c d cs ds ordered same before =
+    true≢false (sym (first-has c cs) ∙ same ∙ none_behind c (d ∷ ds) (before_all c d ds before ordered))
+
+pub calls_one : (cs ds : List Call) → AreInOrder cs → AreInOrder ds → ((c : Call) → has c cs ≡ has c ds) → cs ≡ ds
+calls_one [] [] one other same = refl
+calls_one [] (d ∷ ds) one other same = absurd (true≢false (sym (first-has d ds) ∙ sym (same d)))
+calls_one (c ∷ cs) [] one other same = absurd (true≢false (sym (first-has c cs) ∙ same c))
+calls_one (c ∷ cs) (d ∷ ds) one other same =
+    elim (is_same c d) as (λ b. is_same c d ≡ b → c ∷ cs ≡ d ∷ ds) [
+      | true ↦ λ e.
+          let as_one = same_call c d e in
+          let turned = sym as_one in
+          let order = subst (λ x. AreInOrder (x ∷ ds)) turned other in
+          let alike = subst (λ x. (y : Call) → has y (c ∷ cs) ≡ has y (x ∷ ds)) turned same in
+          ap (λ x. x ∷ cs) as_one ∙ ap (λ xs. d ∷ xs) (calls_one cs ds one.1 other.1 (tails c cs ds one order alike))
+      | false ↦ λ e. elim (is_before d c) as (λ b. is_before d c ≡ b → c ∷ cs ≡ d ∷ ds) [
+        | true ↦ λ before. absurd (not_before d c ds cs one (sym (same d)) before)
+        | false ↦ λ behind. absurd (not_before c d cs ds other (same c) (before_or_behind c d behind e))
+      ] refl
+    ] refl
