@@ -1,6 +1,6 @@
 -- What is found under a key. An index is a finite map of std (`Rattle.std.specs.FinMap`): of two that have the same
 -- under each key, either is the other.
-use Rattle.std.specs.Prelude.{ℕ, List, Option, None, Some}
+use Rattle.std.specs.Prelude.{ℕ, Option, None, Some}
 use Rattle.std.specs.declared.cmp.Ordering.{Ordering}
 use Rattle.std.specs.Ordering.{nat_cmp}
 use Rattle.std.specs.Cmp.Lexicographic.{slice_cmp}
