@@ -1,19 +1,22 @@
--- Lemmas on what is found under a key, for indexes of any keys that an order tells apart.
-use Rattle.std.proofs.Common.{◌≡◌, ◌≢◌, Bool, true, false, cond, List, [], ◌∷◌, Option, None, Some, refl, sym, ap, ◌∙◌, arith}
+-- Lemmas on what is found under a key, for indexes of any keys that an order tells apart; and for names and numbers of
+-- calls, as the sets `names_laws` and `numbers_laws`.
+use Rattle.std.proofs.Common.{◌≡◌, ◌≢◌, ℕ, Bool, true, false, cond, List, [], ◌∷◌, Option, None, Some, refl, sym, ap, ◌∙◌, arith}
 use Rattle.std.specs.declared.cmp.Ordering.{Ordering}
 use Rattle.std.specs.declared.cmp.Ordering.TheVariants.{Less, Equal, Greater}
 use Rattle.std.specs.Ordering.{nat_cmp, eq_by_cmp, is_eq}
 use Rattle.std.specs.Prelude.{nat_eq}
 use Rattle.std.specs.Cmp.{IsTotalOrder, nat_cmp_total}
 use Rattle.std.specs.Cmp.Lexicographic.{slice_cmp, nat_list_cmp_total}
-use Rattle.std.specs.FinMap.{FinMap, IsAntisymmetric, nat_cmp-IsAntisymmetric, slice_cmp-IsAntisymmetric, from_entries, find, get, get-from_entries, get-insert, get-remove, same_map}
+use Rattle.std.specs.FinMap.{FinMap, IsAntisymmetric, nat_cmp-IsAntisymmetric, slice_cmp-IsAntisymmetric, from_entries, find, get, get-empty, get-from_entries, get-insert, get-remove, same_map}
 use Rattle.std.specs.Map.{lookup}
 use Rattle.std.specs.Str.{bytes_eq}
 use Rattle.std.proofs.lemmas.Bool.{false_from_ne_true}
 use Rattle.std.proofs.lemmas.Bool.Decides.{nat_tests}
 use Rattle.std.proofs.lemmas.Cmp.{eq_by_cmp_equiv}
 use Rattle.std.proofs.lemmas.Map.Text.{is_eq-slice_cmp}
-use Rattle.process_index.specs.Index.{put}
+use Rattle.process_index.specs.declared.numbers.Owner.{Owner}
+use Rattle.process_index.specs.Index.{Names, put}
+use Rattle.process_index.specs.Numbers.{Owners}
 
 -- An order of keys in which just the keys that a test finds equal tie, and those are one key.
 pub record TellsApart {K : Type 0} (R : K → K → Ordering) (test : K → K → Bool) : Type 0 where
@@ -65,6 +68,7 @@ module _ {K X : Type 0} {R : K → K → Ordering} {test : K → K → Bool} (o 
 
   -- what a change leaves under each key
   pub get-put : (m : FinMap R X) (k : K) (v : Option X) (q : K) → get (put k v m) q ≡ cond (test k q) v (get m q)
+  unfolding put
   get-put m k v q =
       let turned : eq_by_cmp R q k ≡ test k q = (eq_by_cmp_equiv o.total).symm q k ∙ o.ties k q in
       elim v as (λ w. get (put k w m) q ≡ cond (test k q) w (get m q)) [
@@ -107,3 +111,35 @@ module _ {K X : Type 0} {R : K → K → Ordering} {test : K → K → Bool} (o 
   -- so a change is taken back by what was there before
   pub put_back : (m : FinMap R X) (k : K) (v : Option X) → put k (get m k) (put k v m) ≡ m
   put_back m k v = put-put m k (get m k) v ∙ put-get m k
+
+-- Names
+
+pub names_read : (names : Names) (name : List ℕ) (pid : Option ℕ) (other : List ℕ) → get (put name pid names) other ≡ cond (bytes_eq name other) pid (get names other)
+names_read = get-put names_apart
+
+pub names_here : (names : Names) (name : List ℕ) (pid : Option ℕ) → get (put name pid names) name ≡ pid
+names_here = get-put_here names_apart
+
+pub names_later : (names : Names) (name : List ℕ) (pid before : Option ℕ) → put name pid (put name before names) ≡ put name pid names
+names_later = put-put names_apart
+
+pub names_kept : (names : Names) (name : List ℕ) → put name (get names name) names ≡ names
+names_kept = put-get names_apart
+
+pub ruleset names_laws = (names_read, names_here, names_later, names_kept, get-empty)
+
+-- Numbers of calls
+
+pub numbers_read : (owners : Owners) (number : ℕ) (owner : Option Owner) (other : ℕ) → get (put number owner owners) other ≡ cond (nat_eq number other) owner (get owners other)
+numbers_read = get-put numbers_apart
+
+pub numbers_here : (owners : Owners) (number : ℕ) (owner : Option Owner) → get (put number owner owners) number ≡ owner
+numbers_here = get-put_here numbers_apart
+
+pub numbers_later : (owners : Owners) (number : ℕ) (owner before : Option Owner) → put number owner (put number before owners) ≡ put number owner owners
+numbers_later = put-put numbers_apart
+
+pub numbers_kept : (owners : Owners) (number : ℕ) → put number (get owners number) owners ≡ owners
+numbers_kept = put-get numbers_apart
+
+pub ruleset numbers_laws = (numbers_read, numbers_here, numbers_later, numbers_kept, get-empty)

@@ -1,4 +1,4 @@
--- Lemmas on open calls in order.
+-- Lemmas on open calls in order, and the set `calls_laws` of those that a crate above wants.
 use Rattle.std.proofs.Common.{◌≡◌, ℕ, zero, suc, ◌<◌, ◌≤◌, ⊎_elim, Bool, true, false, cond, not, ◌&&◌, ◌||◌, List, [], ◌∷◌, length, get_or, insert, remove, All, refl, sym, ap, ◌∙◌, subst, arith}
 use Rattle.std.specs.Bool.{Decides}
 use Rattle.std.specs.List.{Contains, AllWithin}
@@ -272,3 +272,5 @@ calls_one (c ∷ cs) (d ∷ ds) one other same =
         | false ↦ λ behind. absurd (not_before c d cs ds other (same c) (before_or_behind c d behind e))
       ] refl
     ] refl
+
+pub ruleset calls_laws = (without-with_call, with_call-without, without-absent, has-with_call, has-without, AreInOrder-with_call, AreInOrder-without)

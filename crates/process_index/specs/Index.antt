@@ -11,6 +11,6 @@ abbrev pub Names : Type 0
 Names = FinMap (slice_cmp nat_cmp) ℕ
 
 -- with this under a key: a value, or nothing
-abbrev pub put : {K X : Type 0} {R : K → K → Ordering} → K → Option X → FinMap R X → FinMap R X
+unfoldable pub put : {K X : Type 0} {R : K → K → Ordering} → K → Option X → FinMap R X → FinMap R X
 put k None m = remove m k
 put k (Some v) m = insert m k v
