@@ -1,0 +1,6 @@
+pub mod Indexed
+pub mod Living
+pub mod Messages
+pub mod Steps
+pub mod Table
+pub mod Undo

@@ -1,0 +1,23 @@
+-- The messages that arrivals from outside come as (gen_server(3); Erlang Reference Manual, Data Types).
+use Rattle.std.specs.Prelude.{ℕ, ◌^◌, nat_lt, if◌then◌else◌, pos, codes, Option, None, Some, ℤ}
+use Rattle.erl_term.specs.Tree.{atom, int, pid, tuple, more, none}
+use Rattle.erl_term.specs.Term.{tree}
+use Rattle.erl_term.specs.declared.term.Term.{Term}
+use Rattle.erl_term.specs.declared.term.Term.TheVariants.{Tuple}
+use Rattle.process_table.specs.declared.body.Body.{Body}
+use Rattle.process_table.specs.declared.body.Body.TheVariants.{Call, Cast, Info}
+
+-- `{'$gen_call',{<0.0.0>,Number},Term}`
+abbrev pub call_message : ℤ → Term → Term
+call_message number t = Tuple (more (atom (codes "$gen_call"))
+    (more (tuple (more (pid 0) (more (int number) none))) (more (tree t) none)))
+
+-- `{'$gen_cast',Term}`
+abbrev pub cast_message : Term → Term
+cast_message t = Tuple (more (atom (codes "$gen_cast")) (more (tree t) none))
+
+-- the message of what arrives: a call whose number is no integer of the node has none
+abbrev pub message_of : Body → Option Term
+message_of (Call number t) = if nat_lt number (2 ^ 63) then Some (call_message (pos number) t) else None
+message_of (Cast t) = Some (cast_message t)
+message_of (Info t) = Some t

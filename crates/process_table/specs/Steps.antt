@@ -1,0 +1,116 @@
+-- Steps of processes: why each is refused, in order, and the table after it (Erlang Reference Manual, Processes; gen_server
+-- behaviour).
+use Rattle.std.specs.Prelude.{◌≡◌, ℕ, ◌+◌, ◌^◌, ◌==◌, Bool, false, if◌then◌else◌, nat_lt, List, [], ◌∷◌, ◌++◌, map}
+use Rattle.std.specs.Prelude.{Option, None, Some, is_some, option_map, option_and_then}
+use Rattle.std.specs.List.{find}
+use Rattle.erl_term.specs.declared.term.Term.{Term}
+use Rattle.erl_eval.specs.declared.acts.Place.{Place}
+use Rattle.erl_eval.specs.declared.acts.Place.TheVariants.{Server, Loop}
+use Rattle.erl_steps.specs.declared.world.Instance.{Instance}
+use Rattle.erl_machine.specs.declared.jobs.Job.{Job}
+use Rattle.process.specs.declared.activity.Activity.{Activity}
+use Rattle.process.specs.declared.activity.Activity.TheVariants as activity
+use Rattle.process.specs.Process.{can_take, first_taken, job_of, started}
+use Rattle.process_index.specs.declared.calls.Call.{Call}
+use Rattle.process_table.specs.declared.body.Body.{Body}
+use Rattle.process_table.specs.declared.body.Body.TheVariants as body
+use Rattle.process_table.specs.declared.error.ProcError.{ProcError}
+use Rattle.process_table.specs.declared.error.ProcError.TheVariants.{NoProc, Suspended, Idle, Running, NotRunning, Stale, NameTaken, DuplicateCall, CounterEnd, Memory}
+use Rattle.process_table.specs.declared.living.Living.{Living}
+use Rattle.process_table.specs.Living.{arrived, run}
+use Rattle.process_table.specs.Messages.{message_of}
+use Rattle.process_table.specs.Table.{Table, changed, is_open, living, next_pid, pid_of}
+
+-- The error of a step that has this refusal, or none: the refusal, or want of memory where there is none.
+abbrev pub Tells : ProcError → Option ProcError → Type 0
+Tells Memory refusal = refusal ≡ None
+Tells e refusal = refusal ≡ Some e
+
+-- Start: a process rests at a place, under the next pid, and under a name, if it is to have one.
+
+abbrev pub is_taken : Option (List ℕ) → Table → Bool
+is_taken None t = false
+is_taken (Some name) t = is_some (pid_of name t)
+
+abbrev pub start_refusal : Option (List ℕ) → Table → Option ProcError
+start_refusal name t =
+    if is_taken name t then Some NameTaken else (if next_pid t == 2 ^ 64 then Some CounterEnd else None)
+
+-- the instance of a loop function's place, among the code in which it came to rest
+
+abbrev pub loaded_as : ℕ → List Instance → Option Instance
+loaded_as serial code = find (λ i. i.serial == serial) code
+
+abbrev pub rests_in : Place → List Instance → Option Instance
+rests_in (Server m s) code = None
+rests_in (Loop m serial f args) code = loaded_as serial code
+
+abbrev pub with_process : Option (List ℕ) → Place → List Instance → Table → Table
+with_process name at code t = record {
+  slots = t.slots ++ Some (record { process = started (next_pid t) name at (rests_in at code); calls = [] }) ∷ [];
+}
+
+-- Arrive: a message of a client comes for the process of a name. A call is open from then on; no two open calls have one
+-- number, whoever asked, and a number is an integer of Erlang.
+
+abbrev pub call_refusal : Body → Table → Option ProcError
+call_refusal (body.Call number term) t =
+    if is_open number t then Some DuplicateCall else (if nat_lt number (2 ^ 63) then None else Some CounterEnd)
+call_refusal (body.Cast term) t = None
+call_refusal (body.Info term) t = None
+
+abbrev pub arrive_refusal : List ℕ → Body → Table → Option ProcError
+arrive_refusal name what t = if is_some (pid_of name t) then call_refusal what t else Some NoProc
+
+abbrev pub call_of : ℕ → Body → Option Call
+call_of client (body.Call number term) = Some (record { client = client; number = number })
+call_of client (body.Cast term) = None
+call_of client (body.Info term) = None
+
+abbrev pub arrived_at : Option ℕ → Option Term → Option Call → Table → Table
+arrived_at None message call t = t
+arrived_at (Some pid) None call t = t
+arrived_at (Some pid) (Some message) call t = changed (arrived message call) pid t
+
+abbrev pub after_arrival : ℕ → List ℕ → Body → Table → Table
+after_arrival client name what t = arrived_at (pid_of name t) (message_of what) (call_of client what) t
+
+-- Take: a process that rests takes the first message that it takes at its place, and runs it in this code, which it enters in
+-- the instance of this serial.
+
+abbrev pub resting_refusal : Activity → Option ℕ → Option ProcError
+resting_refusal activity.Suspended first = Some Suspended
+resting_refusal (activity.Runs r) first = Some Running
+resting_refusal activity.Idle None = Some Idle
+resting_refusal activity.Idle (Some position) = None
+
+abbrev pub take_refusal_of : Option Living → Option ProcError
+take_refusal_of None = Some NoProc
+take_refusal_of (Some l) = resting_refusal l.process.activity (can_take l.process)
+
+abbrev pub take_refusal : ℕ → Table → Option ProcError
+take_refusal pid t = take_refusal_of (living pid t)
+
+abbrev pub takes_next : Option Living → Option ℕ
+takes_next None = None
+takes_next (Some l) = can_take l.process
+
+abbrev pub taken_at : Option ℕ → ℕ → ℕ → List Instance → Table → Table
+taken_at None pid entry_serial code t = t
+taken_at (Some position) pid entry_serial code t = changed (run position entry_serial code) pid t
+
+abbrev pub taken : ℕ → ℕ → List Instance → Table → Table
+taken pid entry_serial code t = taken_at (takes_next (living pid t)) pid entry_serial code t
+
+-- Retake: the job that a process runs is given once more.
+
+abbrev pub job_at : Option Living → Option Job
+job_at None = None
+job_at (Some l) = job_of l.process
+
+abbrev pub retake_refusal_of : Option Living → Option ProcError
+retake_refusal_of None = Some NoProc
+retake_refusal_of (Some l) = if is_some (job_of l.process) then None else Some NotRunning
+
+abbrev pub retake_refusal : ℕ → Table → Option ProcError
+retake_refusal pid t = retake_refusal_of (living pid t)

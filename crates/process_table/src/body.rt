@@ -1,0 +1,65 @@
+// What arrives from outside, and the message that it comes as.
+ghost use Rattle.std.specs.Prelude.{◌≡◌, ◌<◌, ◌^◌, IfOk, IfErr, pos};
+ghost use Rattle.erl_term.specs.Term.{tree};
+ghost use Rattle.process_table.specs.Messages.{call_message, cast_message, message_of};
+
+use erl_term::{Atom, Term, Terms};
+use std::alloc::{AllocError, Global};
+use values::{Duplicate, Same};
+
+/// What arrives from outside for a process (gen_server(3)).
+#[derive(Drop)]
+pub enum Body {
+    /// A call, which is open under its number until it is answered. It comes as `{'$gen_call',{<0.0.0>,Number},Term}`.
+    Call {
+        /// Its number.
+        number: u64,
+        /// What is asked.
+        term: Term,
+    },
+    /// A cast. It comes as `{'$gen_cast',Term}`.
+    Cast(Term),
+    /// Any other message. It comes as it is.
+    Info(Term),
+}
+
+impl Body {
+    /// The message that it comes as. The number of a call is below `2^63`, for it is an integer there.
+    pub(crate) fn message(&self, alloc: Global) -> Result<Option<Term>, AllocError>
+        ensures { IfOk result (λ it. it ≡ message_of self.now) }
+    {
+        match self {
+            Body::Call { number, term } => match i64::try_from(*number) {
+                Ok(number) => Ok(Some(call_message(alloc, number, term)?)),
+                Err(_) => Ok(None),
+            },
+            Body::Cast(term) => Ok(Some(cast_message(alloc, term)?)),
+            Body::Info(term) => Ok(Some(term.copy(alloc)?)),
+        }
+    }
+}
+
+/// `{'$gen_call',{<0.0.0>,Number},Term}`
+fn call_message(alloc: Global, number: i64, term: &Term) -> Result<Term, AllocError>
+    ensures { IfOk result (λ it. it ≡ call_message number term.now) }
+{
+    let mut client = Vec::with_capacity(alloc, 2)?;
+    client.push(Term::Pid(0))?;
+    client.push(Term::Int(number))?;
+    let client = Term::Tuple(Terms::new(alloc, client)?);
+    let mut parts = Vec::with_capacity(alloc, 3)?;
+    parts.push(Term::Atom(Atom::word(alloc, "$gen_call")?))?;
+    parts.push(client)?;
+    parts.push(term.copy(alloc)?)?;
+    Ok(Term::Tuple(Terms::new(alloc, parts)?))
+}
+
+/// `{'$gen_cast',Term}`
+fn cast_message(alloc: Global, term: &Term) -> Result<Term, AllocError>
+    ensures { IfOk result (λ it. it ≡ cast_message term.now) }
+{
+    let mut parts = Vec::with_capacity(alloc, 2)?;
+    parts.push(Term::Atom(Atom::word(alloc, "$gen_cast")?))?;
+    parts.push(term.copy(alloc)?)?;
+    Ok(Term::Tuple(Terms::new(alloc, parts)?))
+}
