@@ -1,0 +1,4 @@
+pub mod Finding
+pub mod JobCode
+pub mod Listing
+pub mod Standing

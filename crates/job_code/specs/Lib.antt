@@ -1,0 +1,2 @@
+pub mod JobCode
+pub mod Places
