@@ -56,7 +56,7 @@ impl<C> Model for Modules<C> {
 }
 
 impl<C: Drop> Modules<C> {
-    ghost use Rattle.code_server.specs.Modules.{Table, IsSound, Tells, empty_table, slots_of, current_of, old_of, load_refusal, loaded, delete_refusal, deleted, purged, soft_purge_refusal};
+    ghost use Rattle.code_server.specs.Modules.{Table, IsSound, Tells, empty_table, slots_of, current_of, old_of, place_of, load_refusal, loaded, delete_refusal, deleted, purged, soft_purge_refusal};
     ghost use Rattle.code_server.specs.Undo.{Fits, IsRemoval, undone};
 
     /// A table without modules, whose first load has serial 1. Names are hashed by `hashing`. Takes no memory.
@@ -90,6 +90,13 @@ impl<C: Drop> Modules<C> {
         ensures { option_map deref_pair result ≡ slice_get self.now.entries place }
     {
         self.table.get_index(place)
+    }
+
+    /// Where a module stands in the table, counted from 0, found by key. Takes no memory.
+    pub fn place(&self, name: &Atom) -> Option<usize>
+        ensures { result ≡ place_of name.now self.now.entries }
+    {
+        self.table.get_index_of(name)
     }
 
     /// A module's current code, found by key. Takes no memory.

@@ -1,0 +1,5 @@
+pub mod Finding
+pub mod FoundAgain
+pub mod JobCode
+pub mod Listing
+pub mod Standing

@@ -1,0 +1,3 @@
+pub mod JobCode
+pub mod Named
+pub mod Places
