@@ -275,7 +275,8 @@ impl Process {
     ///
     /// `AllocError` where memory is refused.
     pub fn job(&self, alloc: Global) -> Result<Option<Job>, AllocError>
-        ensures { IfOk result (λ it. it ≡ job_of self.now) }
+        ensures job { IfOk result (λ it. it ≡ job_of self.now) }
+        ensures memory { OnErr result (IsRunning self.now) }
     {
         let Activity::Runs(running) = &self.activity else {
             return Ok(None);

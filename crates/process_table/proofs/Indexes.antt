@@ -1,14 +1,12 @@
 -- The table's indexes: what they find is there, and they are kept by its steps.
-use Rattle.std.proofs.Common.{◌≡◌, ℕ, zero, suc, ◌+◌, ◌-◌, ◌<◌, ◌≤◌, Bool, true, false, cond, inl, inr, nat_eq, List, [], ◌∷◌, ◌++◌, length, take, get_or, Option, None, Some, IfSome, is_some, not, option_map, refl, sym, ap, subst, ◌∙◌, arith, ◌||◌, ◌&&◌}
+use Rattle.std.proofs.Common.{◌≡◌, ℕ, zero, suc, ◌<◌, Bool, true, false, cond, inl, inr, nat_eq, List, [], ◌∷◌, ◌++◌, length, get_or, Option, None, Some, IfSome, is_some, not, option_map, refl, sym, ap, subst, ◌∙◌, arith, ◌||◌, ◌&&◌}
 use Rattle.std.proofs.lemmas.Grind.{common_steps}
 use Rattle.std.proofs.lemmas.Bool.{cases_lt, eq-eqb, eqb-true}
 use Rattle.std.proofs.lemmas.Bool.Decides.{eqb_tells, nat_tests}
 use Rattle.std.proofs.lemmas.List.Sums.{fails_before_first}
-use Rattle.std.proofs.lemmas.Option.{none-some, same_Some}
 use Rattle.std.proofs.lemmas.Slice.Eq.{bytes_eq-Decides}
 use Rattle.std.specs.FinMap.{get, get-empty, empty}
 use Rattle.std.specs.List.{position, position_or_len}
-use Rattle.std.specs.Bool.{Decides}
 use Rattle.std.specs.Str.{bytes_eq}
 use Rattle.std.specs.Ordering.{nat_cmp}
 use Rattle.std.specs.Cmp.Lexicographic.{slice_cmp}
@@ -17,13 +15,13 @@ use Rattle.process_index.proofs.Index.{names_read, numbers_read}
 use Rattle.process_index.proofs.OpenCalls.{AreInOrder-with_call, AreInOrder-without, has-with_call, has-without}
 use Rattle.process_index.specs.Calls.{AreInOrder, has, is_same, with_call, without}
 use Rattle.process_index.specs.declared.calls.Call.{Call}
-use Rattle.process_index.specs.Index.{Names, put}
+use Rattle.process_index.specs.Index.{Names}
 use Rattle.process_index.specs.Numbers.{Owners}
 use Rattle.process_index.specs.declared.numbers.Owner.{Owner}
 use Rattle.process_table.specs.declared.living.Living.{Living}
 use Rattle.process_table.specs.Indexed.{IsIndexed, answered, asked_of, is_pid, is_owner, is_asked_by, registered, unregistered}
 use Rattle.process_table.specs.Table.{Table, changed_slots, has_number, is_asked, is_name, is_named, is_open, living_at, pid_of}
-use Rattle.process_table.proofs.Slots.{changed_nobody, kept, kept_all, kept_behind, living_before, living_changed, living_elsewhere, living_given, living_last, living_past, living_within}
+use Rattle.process_table.proofs.Slots.{changed_nobody, kept, kept_all, kept_behind, living_before, living_changed, living_elsewhere, living_given, living_last, living_past, living_within, nobody_before, nobody_given}
 
 or_false : (a b : Bool) → (a || b) ≡ false → b ≡ false
 or_false a b e = grind (arith, common_steps, e)
@@ -41,8 +39,8 @@ somebody test none slots p only =
       | Some l ↦ λ is.
           let within = living_given slots p l is in
           position_at test slots p (get_or slots p (Some l)) within (grind (arith, common_steps, within))
-            (λ k d below. ap test (sym (living_within slots k d (omega (arith, below, within)))) ∙ sym (only k) ∙ grind (arith, common_steps, below))
-            (ap test (sym (living_within slots p (Some l) within)) ∙ passes)
+          (λ k d below. ap test (sym (living_within slots k d (omega (arith, below, within)))) ∙ sym (only k) ∙ grind (arith, common_steps, below))
+          (ap test (sym (living_within slots p (Some l) within)) ∙ passes)
     ] refl
 
 -- somebody passes
@@ -100,7 +98,7 @@ asked_by_index names open_calls slots t number indexed is =
           unasked (living_at slots pid) number (λ client. sym (indexed.asked number client pid) ∙ ap (is_owner pid client) at))))
       | Some o ↦ λ at.
           let has_it : is_asked_by (record { client = o.client; number = number }) (living_at slots o.pid) ≡ true =
-              sym (indexed.asked number o.client o.pid) ∙ ap (is_owner o.pid o.client) at ∙ grind (arith, common_steps) in
+          sym (indexed.asked number o.client o.pid) ∙ ap (is_owner o.pid o.client) at ∙ grind (arith, common_steps) in
           sym (is_found (is_asked number) refl slots o.pid (asked_once (living_at slots o.pid) number o.client has_it))
     ] refl ∙ ap (is_open number) is
 
@@ -131,13 +129,13 @@ named_last : (m n : List ℕ) (p q : ℕ) (there : Option ℕ) (found last : Boo
 named_last m n p q there found last is here elsewhere untaken past =
     elim (nat_eq p q) as (λ b. nat_eq p q ≡ b → is_pid q (cond (bytes_eq m n) (Some p) there) ≡ last) [
       | true ↦ λ e. elim (bytes_eq m n) as (λ b. bytes_eq m n ≡ b → is_pid q (cond b (Some p) there) ≡ last) [
-          | true ↦ λ f. e ∙ sym (here e ∙ f)
-          | false ↦ λ f. is ∙ past e ∙ sym (here e ∙ f)
-        ] refl
+        | true ↦ λ f. e ∙ sym (here e ∙ f)
+        | false ↦ λ f. is ∙ past e ∙ sym (here e ∙ f)
+      ] refl
       | false ↦ λ e. elim (bytes_eq m n) as (λ b. bytes_eq m n ≡ b → is_pid q (cond b (Some p) there) ≡ last) [
-          | true ↦ λ f. e ∙ sym (elsewhere e ∙ sym is ∙ ap (is_pid q) (untaken f))
-          | false ↦ λ f. is ∙ sym (elsewhere e)
-        ] refl
+        | true ↦ λ f. e ∙ sym (elsewhere e ∙ sym is ∙ ap (is_pid q) (untaken f))
+        | false ↦ λ f. is ∙ sym (elsewhere e)
+      ] refl
     ] refl
 
 not_within : (n q : ℕ) → nat_eq n q ≡ false → n ≡ q → ⊥
@@ -148,8 +146,8 @@ other_pid : (there : Option ℕ) (p q : ℕ) → is_pid p there ≡ true → nat
 other_pid None p q is apart = refl
 other_pid (Some r) p q is apart = let same = eqb-true r p is in ap (λ k. nat_eq k q) same ∙ apart
 
-pub IsIndexed-started : (names : Names) (open_calls : Owners) (slots : List (Option Living)) (name : Option (List ℕ)) (l : Living) → IsIndexed names open_calls slots → l.process.name ≡ name → l.calls ≡ [] → IfSome name (λ n. get names n ≡ None) → 0 < length slots → IsIndexed (registered name (length slots) names) open_calls (slots ++ Some l ∷ [])
-IsIndexed-started names open_calls slots name l indexed named uncalled untaken given = record {
+pub IsIndexed-started : (names : Names) (open_calls : Owners) (slots : List (Option Living)) (name : Option (List ℕ)) (l : Living) → IsIndexed names open_calls slots → l.process.name ≡ name → l.calls ≡ [] → IfSome name (λ n. get names n ≡ None) → IsIndexed (registered name (length slots) names) open_calls (slots ++ Some l ∷ [])
+IsIndexed-started names open_calls slots name l indexed named uncalled untaken = record {
   named = λ n q. elim name as (λ o. l.process.name ≡ o → IfSome o (λ m. get names m ≡ None) → is_pid q (get (registered o (length slots) names) n) ≡ is_named n (living_at (slots ++ Some l ∷ []) q)) [
     | None ↦ λ e free. indexed.named n q ∙ sym (kept_behind (is_named n) refl slots (Some l) (ap (is_name n) e) q)
     | Some m ↦ λ e free. ap (is_pid q) (names_read names m (Some (length slots)) n) ∙ named_last m n (length slots) q (get names n) (is_named n (living_at slots q)) (is_named n (living_at (slots ++ Some l ∷ []) q)) (indexed.named n q)
@@ -163,7 +161,7 @@ IsIndexed-started names open_calls slots name l indexed named uncalled untaken g
     | inl here ↦ subst (λ k. IfSome (living_at (slots ++ Some l ∷ []) k) (λ x. AreInOrder x.calls)) here.1 (subst (λ o. IfSome o (λ x. AreInOrder x.calls)) (sym (living_last slots (Some l))) (subst AreInOrder (sym uncalled) tt))
     | inr apart ↦ subst (λ o. IfSome o (λ x. AreInOrder x.calls)) (sym (living_before slots (Some l) q apart.1)) (indexed.ordered q)
   ];
-  nobody = living_before slots (Some l) 0 (λ e. omega (arith, e, given)) ∙ indexed.nobody;
+  nobody = nobody_before slots (Some l) (nobody_given slots indexed.nobody) ∙ indexed.nobody;
 }
 
 -- and without the last process, which has no calls
@@ -172,21 +170,21 @@ IsIndexed-unstarted names open_calls slots l indexed uncalled given = record {
   named = λ n q. elim l.process.name as (λ o. l.process.name ≡ o → is_pid q (get (unregistered o names) n) ≡ is_named n (living_at slots q)) [
     | None ↦ λ e. indexed.named n q ∙ kept_behind (is_named n) refl slots (Some l) (ap (is_name n) e) q
     | Some m ↦ λ e. ap (is_pid q) (names_read names m None n) ∙ elim (bytes_eq m n) as (λ b. bytes_eq m n ≡ b → is_pid q (cond b None (get names n)) ≡ is_named n (living_at slots q)) [
-        | true ↦ λ same.
-            let last : is_pid (length slots) (get names n) ≡ true = indexed.named n (length slots) ∙ ap (is_named n) (living_last slots (Some l)) ∙ ap (is_name n) e ∙ same in
-            elim (eqb_tells (length slots) q) [
-              | inl here ↦ sym (ap (is_named n) (living_past slots q (let is = here.1 in omega (arith, is))))
-              | inr apart ↦ sym (ap (is_named n) (sym (living_before slots (Some l) q apart.1)) ∙ sym (indexed.named n q) ∙ other_pid (get names n) (length slots) q last apart.0)
-            ]
-        | false ↦ λ other. indexed.named n q ∙ kept_behind (is_named n) refl slots (Some l) (ap (is_name n) e ∙ other) q
-      ] refl
+      | true ↦ λ same.
+          let last : is_pid (length slots) (get names n) ≡ true = indexed.named n (length slots) ∙ ap (is_named n) (living_last slots (Some l)) ∙ ap (is_name n) e ∙ same in
+          elim (eqb_tells (length slots) q) [
+            | inl here ↦ sym (ap (is_named n) (living_past slots q (let is = here.1 in omega (arith, is))))
+            | inr apart ↦ sym (ap (is_named n) (sym (living_before slots (Some l) q apart.1)) ∙ sym (indexed.named n q) ∙ other_pid (get names n) (length slots) q last apart.0)
+          ]
+      | false ↦ λ other. indexed.named n q ∙ kept_behind (is_named n) refl slots (Some l) (ap (is_name n) e ∙ other) q
+    ] refl
   ] refl;
   asked = λ number client q. indexed.asked number client q ∙ kept_behind (is_asked_by (record { client = client; number = number })) refl slots (Some l) (ap (has (record { client = client; number = number })) uncalled) q;
   ordered = λ q. elim (eqb_tells (length slots) q) [
     | inl here ↦ subst (λ o. IfSome o (λ x. AreInOrder x.calls)) (sym (living_past slots q (let is = here.1 in omega (arith, is)))) tt
     | inr apart ↦ subst (λ o. IfSome o (λ x. AreInOrder x.calls)) (living_before slots (Some l) q apart.1) (indexed.ordered q)
   ];
-  nobody = sym (living_before slots (Some l) 0 (λ e. omega (arith, e, given))) ∙ indexed.nobody;
+  nobody = sym (nobody_before slots (Some l) given) ∙ indexed.nobody;
 }
 
 -- who is told of a number is told of it alone
@@ -211,9 +209,9 @@ told_open c number client pid q there before after is here elsewhere free =
             | false ↦ λ f. sym (elsewhere f ∙ none)
           ] refl
       | false ↦ λ e. is ∙ elim (nat_eq pid q) as (λ b. nat_eq pid q ≡ b → before ≡ after) [
-            | true ↦ λ f. let told = here f in grind (arith, nat_tests, e, told)
-            | false ↦ λ f. sym (elsewhere f)
-          ] refl
+        | true ↦ λ f. let told = here f in grind (arith, nat_tests, e, told)
+        | false ↦ λ f. sym (elsewhere f)
+      ] refl
     ] refl
 
 told_closed : (c : Call) (number client pid q : ℕ) (there : Option Owner) (before after : Bool) → is_owner q client there ≡ before → (nat_eq pid q ≡ true → after ≡ (not (is_same (record { client = client; number = number }) c) && before)) → (nat_eq pid q ≡ false → after ≡ before) → (nat_eq c.number number ≡ true → is_owner pid c.client there ≡ true) → is_owner q client (cond (nat_eq c.number number) None there) ≡ after
@@ -226,9 +224,9 @@ told_closed c number client pid q there before after is here elsewhere owned =
             | false ↦ λ f. let told = elsewhere f in grind (arith, nat_tests, f, only, told)
           ] refl
       | false ↦ λ e. is ∙ elim (nat_eq pid q) as (λ b. nat_eq pid q ≡ b → before ≡ after) [
-            | true ↦ λ f. let told = here f in grind (arith, nat_tests, e, told)
-            | false ↦ λ f. sym (elsewhere f)
-          ] refl
+        | true ↦ λ f. let told = here f in grind (arith, nat_tests, e, told)
+        | false ↦ λ f. sym (elsewhere f)
+      ] refl
     ] refl
 
 pub IsIndexed-opened : (f : Living → Living) (c : Call) → ((l : Living) → (f l).process.name ≡ l.process.name) → ((l : Living) → (f l).calls ≡ with_call c l.calls) → (names : Names) (open_calls : Owners) (slots : List (Option Living)) (pid : ℕ) (l : Living) → IsIndexed names open_calls slots → living_at slots pid ≡ Some l → get open_calls c.number ≡ None → IsIndexed names (asked_of pid (Some c) open_calls) (changed_slots f pid slots)
@@ -237,10 +235,10 @@ IsIndexed-opened f c same_name one_more names open_calls slots pid l indexed liv
   asked = λ number client q.
       let d : Call = record { client = client; number = number } in
       ap (is_owner q client) (numbers_read open_calls c.number (Some (record { pid = pid; client = c.client })) number) ∙ told_open c number client pid q (get open_calls number) (is_asked_by d (living_at slots q)) (is_asked_by d (living_at (changed_slots f pid slots) q)) (indexed.asked number client q)
-        (λ here. let at = eqb-true pid q here in
-            ap (λ k. is_asked_by d (living_at (changed_slots f pid slots) k)) (sym at) ∙ ap (is_asked_by d) (living_changed f slots pid ∙ ap (option_map f) lives) ∙ ap (has d) (one_more l) ∙ has-with_call d c l.calls ∙ ap (λ o. is_same d c || is_asked_by d o) (sym lives ∙ ap (living_at slots) at))
-        (λ apart. ap (is_asked_by d) (living_elsewhere f slots pid q (not_within pid q apart)))
-        (λ same. ap (get open_calls) (sym (eqb-true c.number number same)) ∙ free);
+      (λ here. let at = eqb-true pid q here in
+      ap (λ k. is_asked_by d (living_at (changed_slots f pid slots) k)) (sym at) ∙ ap (is_asked_by d) (living_changed f slots pid ∙ ap (option_map f) lives) ∙ ap (has d) (one_more l) ∙ has-with_call d c l.calls ∙ ap (λ o. is_same d c || is_asked_by d o) (sym lives ∙ ap (living_at slots) at))
+      (λ apart. ap (is_asked_by d) (living_elsewhere f slots pid q (not_within pid q apart)))
+      (λ same. ap (get open_calls) (sym (eqb-true c.number number same)) ∙ free);
   ordered = λ q. elim (eqb_tells pid q) [
     | inl here ↦ subst (λ k. IfSome (living_at (changed_slots f pid slots) k) (λ x. AreInOrder x.calls)) here.1 (subst (λ o. IfSome o (λ x. AreInOrder x.calls)) (sym (living_changed f slots pid ∙ ap (option_map f) lives)) (subst AreInOrder (sym (one_more l)) (AreInOrder-with_call c l.calls (subst (λ o. IfSome o (λ x. AreInOrder x.calls)) lives (indexed.ordered pid)) (unasked_now c pid (get open_calls c.number) free (living_at slots pid) l (indexed.asked c.number c.client pid) lives))))
     | inr apart ↦ subst (λ o. IfSome o (λ x. AreInOrder x.calls)) (sym (living_elsewhere f slots pid q apart.1)) (indexed.ordered q)
@@ -254,10 +252,10 @@ IsIndexed-closed f c same_name one_less names open_calls slots pid l indexed liv
   asked = λ number client q.
       let d : Call = record { client = client; number = number } in
       ap (is_owner q client) (numbers_read open_calls c.number None number) ∙ told_closed c number client pid q (get open_calls number) (is_asked_by d (living_at slots q)) (is_asked_by d (living_at (changed_slots f pid slots) q)) (indexed.asked number client q)
-        (λ here. let at = eqb-true pid q here in
-            ap (λ k. is_asked_by d (living_at (changed_slots f pid slots) k)) (sym at) ∙ ap (is_asked_by d) (living_changed f slots pid ∙ ap (option_map f) lives) ∙ ap (has d) (one_less l) ∙ has-without d c l.calls (subst (λ o. IfSome o (λ x. AreInOrder x.calls)) lives (indexed.ordered pid)) ∙ ap (λ o. not (is_same d c) && is_asked_by d o) (sym lives ∙ ap (living_at slots) at))
-        (λ apart. ap (is_asked_by d) (living_elsewhere f slots pid q (not_within pid q apart)))
-        (λ same. ap (λ n. is_owner pid c.client (get open_calls n)) (sym (eqb-true c.number number same)) ∙ indexed.asked c.number c.client pid ∙ ap (is_asked_by c) lives ∙ asked);
+      (λ here. let at = eqb-true pid q here in
+      ap (λ k. is_asked_by d (living_at (changed_slots f pid slots) k)) (sym at) ∙ ap (is_asked_by d) (living_changed f slots pid ∙ ap (option_map f) lives) ∙ ap (has d) (one_less l) ∙ has-without d c l.calls (subst (λ o. IfSome o (λ x. AreInOrder x.calls)) lives (indexed.ordered pid)) ∙ ap (λ o. not (is_same d c) && is_asked_by d o) (sym lives ∙ ap (living_at slots) at))
+      (λ apart. ap (is_asked_by d) (living_elsewhere f slots pid q (not_within pid q apart)))
+      (λ same. ap (λ n. is_owner pid c.client (get open_calls n)) (sym (eqb-true c.number number same)) ∙ indexed.asked c.number c.client pid ∙ ap (is_asked_by c) lives ∙ asked);
   ordered = λ q. kept_all (λ x. AreInOrder x.calls) f (λ x in_order. subst AreInOrder (sym (one_less x)) (AreInOrder-without c x.calls in_order)) slots pid q (indexed.ordered q);
   nobody = changed_nobody f slots pid indexed.nobody;
 }

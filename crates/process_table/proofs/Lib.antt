@@ -1,2 +1,5 @@
+pub mod Arriving
 pub mod Indexes
 pub mod Slots
+pub mod Starting
+pub mod Taking

@@ -1,8 +1,6 @@
 -- The slot of a process: what a write there is, and what is found there.
-use Rattle.std.proofs.Common.{◌≡◌, ℕ, zero, suc, ◌+◌, ◌-◌, ◌<◌, ◌≤◌, Bool, true, false, cond, List, [], ◌∷◌, ◌++◌, length, slice_get, slice_set, get_or, Option, None, Some, option_map, option_and_then, IfSome, refl, sym, ap, subst, ◌∙◌, arith}
-use Rattle.std.proofs.lemmas.Grind.{common_steps}
+use Rattle.std.proofs.Common.{◌≡◌, ℕ, zero, suc, ◌<◌, ◌≤◌, Bool, false, List, [], ◌∷◌, ◌++◌, length, slice_get, slice_set, get_or, Option, None, Some, option_map, IfSome, refl, sym, ap, subst, ◌∙◌, arith}
 use Rattle.std.proofs.lemmas.Option.{none-some, same_Some}
-use Rattle.values.specs.Edits.{changed_at}
 use Rattle.process_index.specs.Calls.{has}
 use Rattle.process_index.specs.declared.calls.Call.{Call}
 use Rattle.process_table.specs.declared.living.Living.{Living}
@@ -48,11 +46,25 @@ kept_all P f keeps (s ∷ ss) (suc pid) zero holds = holds
 kept_all P f keeps (s ∷ ss) (suc pid) (suc q) holds = kept_all P f keeps ss pid q holds
 
 -- where nobody was, nobody is
-pub changed_nobody : (f : Living → Living) (slots : List (Option Living)) (pid : ℕ) → living_at slots 0 ≡ None → living_at (changed_slots f pid slots) 0 ≡ None
+pub changed_nobody : (f : Living → Living) (slots : List (Option Living)) (pid : ℕ) → slice_get slots 0 ≡ Some None → slice_get (changed_slots f pid slots) 0 ≡ Some None
 changed_nobody f [] pid is = is
-changed_nobody f (None ∷ ss) zero is = is
-changed_nobody f (Some l ∷ ss) zero is = absurd (none-some l (sym is))
+changed_nobody f (s ∷ ss) zero is = ap (λ o. Some (option_map f o)) (same_Some s None is)
 changed_nobody f (s ∷ ss) (suc pid) is = is
+
+pub nobody_before : (slots : List (Option Living)) (s : Option Living) → 0 < length slots → slice_get (slots ++ s ∷ []) 0 ≡ slice_get slots 0
+nobody_before [] s given = absurd (omega (arith, given))
+nobody_before (r ∷ rs) s given = refl
+
+pub nobody_given : (slots : List (Option Living)) → slice_get slots 0 ≡ Some None → 0 < length slots
+nobody_given [] is = absurd (none-some None is)
+nobody_given (s ∷ ss) is = omega arith
+
+-- a change and one that takes it back
+pub slots_back : (f g : Living → Living) (slots : List (Option Living)) (pid : ℕ) → ((l : Living) → living_at slots pid ≡ Some l → g (f l) ≡ l) → changed_slots g pid (changed_slots f pid slots) ≡ slots
+slots_back f g [] pid back = refl
+slots_back f g (None ∷ ss) zero back = refl
+slots_back f g (Some l ∷ ss) zero back = ap (λ x. Some x ∷ ss) (back l refl)
+slots_back f g (s ∷ ss) (suc pid) back = ap (λ xs. s ∷ xs) (slots_back f g ss pid back)
 
 -- the process of another pid is as it was
 pub living_elsewhere : (f : Living → Living) (slots : List (Option Living)) (pid q : ℕ) → (pid ≡ q → ⊥) → living_at (changed_slots f pid slots) q ≡ living_at slots q

@@ -1,5 +1,5 @@
 -- How the table finds processes by key: words of its own type alone.
-use Rattle.std.specs.Prelude.{◌≡◌, ℕ, ◌==◌, Bool, false, ◌&&◌, List, Option, None, Some, IfSome}
+use Rattle.std.specs.Prelude.{◌≡◌, ℕ, ◌==◌, Bool, false, ◌&&◌, List, slice_get, Option, None, Some, IfSome}
 use Rattle.std.specs.FinMap.{get}
 use Rattle.process_index.specs.Calls.{AreInOrder, has}
 use Rattle.process_index.specs.Index.{Names, put}
@@ -27,7 +27,7 @@ pub record IsIndexed (names : Names) (open_calls : Owners) (slots : List (Option
   pub asked : (number client pid : ℕ) →
       is_owner pid client (get open_calls number) ≡ is_asked_by (record { client = client; number = number }) (living_at slots pid)
   pub ordered : (pid : ℕ) → IfSome (living_at slots pid) (λ l. AreInOrder l.calls)
-  pub nobody : living_at slots 0 ≡ None
+  pub nobody : slice_get slots 0 ≡ Some None
 
 -- the names with one more, if it is one, and with one less
 

@@ -1,5 +1,5 @@
 -- The messages that arrivals from outside come as (gen_server(3); Erlang Reference Manual, Data Types).
-use Rattle.std.specs.Prelude.{ℕ, ◌^◌, nat_lt, if◌then◌else◌, pos, codes, Option, None, Some, ℤ}
+use Rattle.std.specs.Prelude.{◌^◌, nat_lt, if◌then◌else◌, pos, codes, Option, None, Some, ℤ}
 use Rattle.erl_term.specs.Tree.{atom, int, pid, tuple, more, none}
 use Rattle.erl_term.specs.Term.{tree}
 use Rattle.erl_term.specs.declared.term.Term.{Term}

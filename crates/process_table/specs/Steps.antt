@@ -1,7 +1,7 @@
 -- Steps of processes: why each is refused, in order, and the table after it (Erlang Reference Manual, Processes; gen_server
 -- behaviour).
-use Rattle.std.specs.Prelude.{◌≡◌, ℕ, ◌+◌, ◌^◌, ◌==◌, Bool, false, if◌then◌else◌, nat_lt, List, [], ◌∷◌, ◌++◌, map}
-use Rattle.std.specs.Prelude.{Option, None, Some, is_some, option_map, option_and_then}
+use Rattle.std.specs.Prelude.{◌≡◌, ℕ, ◌^◌, ◌<◌, ◌==◌, Bool, true, false, if◌then◌else◌, List, [], ◌∷◌, ◌++◌}
+use Rattle.std.specs.Prelude.{Option, None, Some, is_some}
 use Rattle.std.specs.List.{find}
 use Rattle.erl_term.specs.declared.term.Term.{Term}
 use Rattle.erl_eval.specs.declared.acts.Place.{Place}
@@ -10,12 +10,12 @@ use Rattle.erl_steps.specs.declared.world.Instance.{Instance}
 use Rattle.erl_machine.specs.declared.jobs.Job.{Job}
 use Rattle.process.specs.declared.activity.Activity.{Activity}
 use Rattle.process.specs.declared.activity.Activity.TheVariants as activity
-use Rattle.process.specs.Process.{can_take, first_taken, job_of, started}
+use Rattle.process.specs.Process.{can_take, job_of, started}
 use Rattle.process_index.specs.declared.calls.Call.{Call}
 use Rattle.process_table.specs.declared.body.Body.{Body}
 use Rattle.process_table.specs.declared.body.Body.TheVariants as body
 use Rattle.process_table.specs.declared.error.ProcError.{ProcError}
-use Rattle.process_table.specs.declared.error.ProcError.TheVariants.{NoProc, Suspended, Idle, Running, NotRunning, Stale, NameTaken, DuplicateCall, CounterEnd, Memory}
+use Rattle.process_table.specs.declared.error.ProcError.TheVariants.{NoProc, Suspended, Idle, Running, NotRunning, NameTaken, DuplicateCall, CounterEnd, Memory}
 use Rattle.process_table.specs.declared.living.Living.{Living}
 use Rattle.process_table.specs.Living.{arrived, run}
 use Rattle.process_table.specs.Messages.{message_of}
@@ -53,11 +53,14 @@ with_process name at code t = record {
 -- Arrive: a message of a client comes for the process of a name. A call is open from then on; no two open calls have one
 -- number, whoever asked, and a number is an integer of Erlang.
 
+abbrev pub is_repeated : Body → Table → Bool
+is_repeated (body.Call number term) t = is_open number t
+is_repeated (body.Cast term) t = false
+is_repeated (body.Info term) t = false
+
 abbrev pub call_refusal : Body → Table → Option ProcError
-call_refusal (body.Call number term) t =
-    if is_open number t then Some DuplicateCall else (if nat_lt number (2 ^ 63) then None else Some CounterEnd)
-call_refusal (body.Cast term) t = None
-call_refusal (body.Info term) t = None
+call_refusal what t =
+    if is_repeated what t then Some DuplicateCall else (if is_some (message_of what) then None else Some CounterEnd)
 
 abbrev pub arrive_refusal : List ℕ → Body → Table → Option ProcError
 arrive_refusal name what t = if is_some (pid_of name t) then call_refusal what t else Some NoProc
@@ -114,3 +117,16 @@ retake_refusal_of (Some l) = if is_some (job_of l.process) then None else Some N
 
 abbrev pub retake_refusal : ℕ → Table → Option ProcError
 retake_refusal pid t = retake_refusal_of (living pid t)
+
+-- The least pid above another, of those whose processes could take a message now.
+
+abbrev pub is_runnable : Option Living → Bool
+is_runnable o = is_some (takes_next o)
+
+abbrev pub NoneIsRunnable : ℕ → (ℕ → Type 0) → Table → Type 0
+NoneIsRunnable after Before t = (pid : ℕ) → after < pid → Before pid → is_runnable (living pid t) ≡ false
+
+abbrev pub IsNextRunnable : ℕ → Option ℕ → Table → Type 0
+IsNextRunnable after None t = NoneIsRunnable after (λ pid. Unit {0}) t
+IsNextRunnable after (Some next) t =
+    (after < next) × (is_runnable (living next t) ≡ true) × NoneIsRunnable after (λ pid. pid < next) t

@@ -1,5 +1,5 @@
 -- What takes a step of the processes back.
-use Rattle.std.specs.Prelude.{◌≡◌, ℕ, ◌-◌, ◌<◌, ◌≤◌, true, [], length, take, Option, None, Some}
+use Rattle.std.specs.Prelude.{◌≡◌, ℕ, ◌-◌, ◌≤◌, true, [], length, take, Option, None, Some}
 use Rattle.process.specs.Process.{awaited, untaken}
 use Rattle.process_index.specs.Calls.{has}
 use Rattle.process_index.specs.declared.calls.Call.{Call}

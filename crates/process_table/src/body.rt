@@ -1,9 +1,11 @@
 // What arrives from outside, and the message that it comes as.
-ghost use Rattle.std.specs.Prelude.{◌≡◌, ◌<◌, ◌^◌, IfOk, IfErr, pos};
+ghost use Rattle.std.specs.Prelude.{◌≡◌, ◌<◌, ◌^◌, IfOk, OnErr, is_some, true, pos};
 ghost use Rattle.erl_term.specs.Term.{tree};
 ghost use Rattle.process_table.specs.Messages.{call_message, cast_message, message_of};
+ghost use Rattle.process_table.specs.Steps.{call_of};
 
 use erl_term::{Atom, Term, Terms};
+use process_index::Call;
 use std::alloc::{AllocError, Global};
 use values::{Duplicate, Same};
 
@@ -24,9 +26,23 @@ pub enum Body {
 }
 
 impl Body {
+    /// The call that it is, if it is one, of a client.
+    pub(crate) fn call(&self, client: u64) -> Option<Call>
+        ensures { result ≡ call_of client self.now }
+    {
+        match self {
+            Body::Call { number, .. } => Some(Call {
+                client,
+                number: *number,
+            }),
+            Body::Cast(_) | Body::Info(_) => None,
+        }
+    }
+
     /// The message that it comes as. The number of a call is below `2^63`, for it is an integer there.
     pub(crate) fn message(&self, alloc: Global) -> Result<Option<Term>, AllocError>
-        ensures { IfOk result (λ it. it ≡ message_of self.now) }
+        ensures message { IfOk result (λ it. it ≡ message_of self.now) }
+        ensures memory { OnErr result (is_some (message_of self.now) ≡ true) }
     {
         match self {
             Body::Call { number, term } => match i64::try_from(*number) {

@@ -43,15 +43,15 @@ fn arrive_in(
 /// A message comes for a process, and the call that it is, if it is one, is open.
 #[tactic(auto, using(crate::proofs::Slots::slots_from_write))]
 pub(crate) fn arrive_at(
-    slots: &mut [Option<Living>],
+    slots: &mut Vec<Option<Living>>,
     pid: u64,
     alloc: Global,
     message: Term,
     call: Option<Call>,
 ) -> Result<(), AllocError>
-    requires { IfSome call (λ c. IfSome (living_at slots.old pid) (λ l. has c l.calls ≡ false)) }
-    ensures ok { OnOk result (slots.new ≡ changed_slots (arrived message call) pid slots.old) }
-    ensures err { OnErr result (slots.new ≡ slots.old) }
+    requires { IfSome call (λ c. IfSome (living_at slots.old.items pid) (λ l. has c l.calls ≡ false)) }
+    ensures ok { OnOk result (slots.new.items ≡ changed_slots (arrived message call) pid slots.old.items) }
+    ensures err { OnErr result (slots.new.items ≡ slots.old.items) }
 {
     let place = pid as usize;
     if slots.len() <= place {
@@ -71,8 +71,8 @@ fn unarrive_in(slot: &mut Option<Living>, call: Option<Call>)
 
 /// The last message of a process goes, and the call that it is, if it is one, was never made.
 #[tactic(auto, using(crate::proofs::Slots::slots_from_write))]
-pub(crate) fn unarrive_at(slots: &mut [Option<Living>], pid: u64, call: Option<Call>)
-    ensures { slots.new ≡ changed_slots (unarrived call) pid slots.old }
+pub(crate) fn unarrive_at(slots: &mut Vec<Option<Living>>, pid: u64, call: Option<Call>)
+    ensures { slots.new.items ≡ changed_slots (unarrived call) pid slots.old.items }
 {
     let place = pid as usize;
     if slots.len() <= place {
@@ -93,13 +93,13 @@ fn run_in(slot: &mut Option<Living>, position: usize, entry_serial: u64, code: R
 /// The message at a position of a process is taken, and runs.
 #[tactic(auto, using(crate::proofs::Slots::slots_from_write))]
 pub(crate) fn run_at(
-    slots: &mut [Option<Living>],
+    slots: &mut Vec<Option<Living>>,
     pid: u64,
     position: usize,
     entry_serial: u64,
     code: Row<Instance>,
 )
-    ensures { slots.new ≡ changed_slots (run position entry_serial code) pid slots.old }
+    ensures { slots.new.items ≡ changed_slots (run position entry_serial code) pid slots.old.items }
 {
     let place = pid as usize;
     if slots.len() <= place {
@@ -123,13 +123,13 @@ fn untake_in(slot: &mut Option<Living>, position: usize) -> Result<(), AllocErro
 /// The message that a process runs is back at its position.
 #[tactic(auto, using(crate::proofs::Slots::slots_from_write))]
 pub(crate) fn untake_at(
-    slots: &mut [Option<Living>],
+    slots: &mut Vec<Option<Living>>,
     pid: u64,
     position: usize,
 ) -> Result<(), AllocError>
-    requires { WasTaken position (living_at slots.old pid) }
-    ensures ok { OnOk result (slots.new ≡ changed_slots (untook position) pid slots.old) }
-    ensures err { OnErr result (slots.new ≡ slots.old) }
+    requires { WasTaken position (living_at slots.old.items pid) }
+    ensures ok { OnOk result (slots.new.items ≡ changed_slots (untook position) pid slots.old.items) }
+    ensures err { OnErr result (slots.new.items ≡ slots.old.items) }
 {
     let place = pid as usize;
     if slots.len() <= place {

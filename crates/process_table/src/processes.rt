@@ -1,17 +1,18 @@
 // The processes of a node.
-ghost use Rattle.std.specs.Prelude.{◌≡◌, ◌<◌, ◌↔◌, ◌++◌, ◌∷◌, [], ℕ, None, Some, length, vec_len, vec_capacity, IsTrue, IfOk, IfErr, OnOk, OnErr, map};
+ghost use Rattle.std.specs.Prelude.{◌≡◌, ◌-◌, ◌<◌, ◌↔◌, ◌++◌, ◌∷◌, [], ℕ, None, Some, length, take, vec_len, vec_capacity, IsTrue, IfOk, IfErr, IfSome, IsSome, OnOk, OnErr, false, map};
 ghost use Rattle.std.specs.Option.{option_copied};
-ghost use Rattle.process_table.specs.Indexed.{registered};
+ghost use Rattle.process_table.specs.Indexed.{registered, unregistered};
+ghost use Rattle.process_table.specs.Table.{living_at};
 ghost use Rattle.process_table.specs.Steps.{loaded_as, rests_in};
 
 use crate::body::Body;
 use crate::error::ProcError;
 use crate::living::Living;
-use crate::places::{arrive_at, living, unarrive_at};
+use crate::places::{arrive_at, living, unarrive_at, untake_at};
 use crate::undo::Undo;
 use erl_eval::Place;
-use erl_machine::Instance;
-use erl_term::Atom;
+use erl_machine::{Instance, Job};
+use erl_term::{Atom, Term};
 use process::Process;
 use process_index::{Call, CallIndex, Calls, NameIndex, Owner};
 use std::alloc::{AllocError, Global};
@@ -45,11 +46,7 @@ impl Model for Processes {
 }
 
 /// The instance of a loop function's place, among the code in which it came to rest; none of a callback module's.
-fn rests_in(
-    alloc: Global,
-    place: &Place,
-    code: &[Instance],
-) -> Result<Option<Instance>, AllocError>
+fn rests_in(alloc: Global, place: &Place, code: &[Instance]) -> Result<Option<Instance>, AllocError>
     ensures { IfOk result (λ it. it ≡ rests_in place.now code.now) }
 {
     match place {
@@ -93,10 +90,28 @@ fn push_last(slots: &mut Vec<Option<Living>>, living: Living)
     let _ = slots.push(Some(living));
 }
 
+/// Takes the last process out, if one lives there.
+fn pop_last(slots: &mut Vec<Option<Living>>) -> Option<Living>
+    ensures rest { slots.new.items ≡ take (length slots.old.items - 1) slots.old.items }
+    ensures last { result ≡ living_at slots.old.items (length slots.old.items - 1) }
+{
+    slots.pop()?
+}
+
+/// A name is registered no more, if there is one.
+fn unregister(names: &mut NameIndex, name: Option<&Atom>)
+    ensures { names.new ≡ unregistered (option_copied name.entry) names.old }
+{
+    if let Some(name) = name {
+        names.remove(name);
+    }
+}
+
 impl Processes {
-    ghost use Rattle.process_table.specs.Steps.{Tells, after_arrival, arrive_refusal, call_refusal, start_refusal, with_process};
-    ghost use Rattle.process_table.specs.Table.{empty_table, is_open, living, next_pid, pid_of};
-    ghost use Rattle.process_table.specs.Undo.{Fits, undone};
+    ghost use Rattle.process_table.specs.Living.{arrived, unarrived, untook};
+    ghost use Rattle.process_table.specs.Steps.{IsNextRunnable, Tells, after_arrival, arrive_refusal, is_repeated, is_runnable, job_at, retake_refusal, start_refusal, with_process};
+    ghost use Rattle.process_table.specs.Table.{changed, empty_table, is_open, living, next_pid, pid_of};
+    ghost use Rattle.process_table.specs.Undo.{Fits, WasCalled, WasTaken, undone};
 
     /// No process. Names and numbers are hashed by keys that nobody outside knows.
     ///
@@ -188,5 +203,198 @@ impl Processes {
         };
         push_last(&mut self.slots, living);
         Ok((pid, Undo::Started))
+    }
+
+    /// Whether it is a call of a number that is open already. Takes no memory.
+    fn is_repeated(&self, body: &Body) -> bool
+        ensures { result ≡ is_repeated body.now self.now }
+    {
+        match body {
+            Body::Call { number, .. } => self.is_open(*number),
+            Body::Cast(_) | Body::Info(_) => false,
+        }
+    }
+
+    /// A message that is no call comes for a process that lives.
+    fn deliver_to(&mut self, pid: u64, message: Term) -> Result<(), AllocError>
+        requires { IsSome (living pid self.old) }
+        ensures ok { OnOk result (self.new ≡ changed (arrived message None) pid self.old) }
+        ensures fits { OnOk result (WasCalled None (living pid self.new)) }
+        ensures back { OnOk result (changed (unarrived None) pid self.new ≡ self.old) }
+        ensures err { OnErr result (self.new ≡ self.old) }
+    {
+        arrive_at(&mut self.slots, pid, self.alloc, message, None)?;
+        Ok(())
+    }
+
+    /// A call comes for a process that lives, and is open.
+    fn ask(&mut self, pid: u64, message: Term, call: Call) -> Result<(), AllocError>
+        requires lives { IsSome (living pid self.old) }
+        requires unasked { is_open call.number self.old ≡ false }
+        ensures ok { OnOk result (self.new ≡ changed (arrived message (Some call)) pid self.old) }
+        ensures fits { OnOk result (WasCalled (Some call) (living pid self.new)) }
+        ensures back { OnOk result (changed (unarrived (Some call)) pid self.new ≡ self.old) }
+        ensures err { OnErr result (self.new ≡ self.old) }
+    {
+        arrive_at(&mut self.slots, pid, self.alloc, message, Some(call))?;
+        let owner = Owner {
+            pid,
+            client: call.client,
+        };
+        match self.open_calls.insert(call.number, owner) {
+            Ok(()) => Ok(()),
+            Err(refused) => {
+                unarrive_at(&mut self.slots, pid, Some(call));
+                Err(refused)
+            }
+        }
+    }
+
+    /// A message comes for a process that lives, and the call that it is, if it is one, is open.
+    fn arrive_for(&mut self, pid: u64, message: Term, call: Option<Call>) -> Result<(), AllocError>
+        requires lives { IsSome (living pid self.old) }
+        requires unasked { IfSome call (λ c. is_open c.number self.old ≡ false) }
+        ensures ok { OnOk result (self.new ≡ changed (arrived message call) pid self.old) }
+        ensures fits { OnOk result (WasCalled call (living pid self.new)) }
+        ensures back { OnOk result (changed (unarrived call) pid self.new ≡ self.old) }
+        ensures err { OnErr result (self.new ≡ self.old) }
+    {
+        match call {
+            Some(call) => self.ask(pid, message, call),
+            None => self.deliver_to(pid, message),
+        }
+    }
+
+    /// A message of a client comes for the process that is registered under a name, and goes last in its mailbox. A call is open
+    /// from then on, until it is answered or the process ends.
+    ///
+    /// # Errors
+    ///
+    /// In this order: `NoProc` where no process has the name, `DuplicateCall` where a call of this number is open, `CounterEnd`
+    /// where the number is past `2^63 - 1`, `Memory`. The table is then as it was.
+    pub fn arrive(&mut self, client: u64, name: &Atom, body: &Body) -> Result<Undo, ProcError>
+        ensures ok { OnOk result (arrive_refusal name.now body.now self.old ≡ None) }
+        ensures arrived { OnOk result (self.new ≡ after_arrival client name.now body.now self.old) }
+        ensures inverse { IfOk result (λ undo. Fits undo self.new × (undone undo self.new ≡ self.old)) }
+        ensures refused { IfErr result (λ e. Tells e (arrive_refusal name.now body.now self.old)) }
+        ensures err { OnErr result (self.new ≡ self.old) }
+    {
+        let Some(pid) = self.pid_of(name) else {
+            return Err(ProcError::NoProc);
+        };
+        if self.is_repeated(body) {
+            return Err(ProcError::DuplicateCall);
+        }
+        let message = match body.message(self.alloc) {
+            Ok(Some(message)) => message,
+            Ok(None) => return Err(ProcError::CounterEnd),
+            Err(_) => return Err(ProcError::Memory),
+        };
+        let call = body.call(client);
+        match self.arrive_for(pid, message, call) {
+            Ok(()) => Ok(Undo::Arrived { pid, call }),
+            Err(_) => Err(ProcError::Memory),
+        }
+    }
+
+    /// The least pid above `after` of a process that could take a message now: it neither runs nor is suspended, and a message
+    /// waits that it takes. Evaluates nothing, and takes no memory.
+    pub fn runnable(&self, after: u64) -> Option<u64>
+        ensures { IsNextRunnable after result self.now }
+    {
+        let count = self.slots.len() as u64;
+        for pid in after..count {
+            if after < pid && self.can_run(pid) {
+                return Some(pid);
+            }
+        }
+        None
+    }
+
+    /// Whether the process of a pid could take a message now.
+    fn can_run(&self, pid: u64) -> bool
+        ensures { result ≡ is_runnable (living pid self.now) }
+    {
+        match self.get(pid) {
+            Some(living) => living.process.can_take().is_some(),
+            None => false,
+        }
+    }
+
+    /// The job that a process runs.
+    ///
+    /// # Errors
+    ///
+    /// In this order: `NoProc` where no process has the pid, `NotRunning` where it runs nothing, `Memory`.
+    pub fn retake(&self, pid: u64) -> Result<Job, ProcError>
+        ensures job { IfOk result (λ job. job_at (living pid self.now) ≡ Some job) }
+        ensures refused { IfErr result (λ e. Tells e (retake_refusal pid self.now)) }
+    {
+        let Some(living) = self.get(pid) else {
+            return Err(ProcError::NoProc);
+        };
+        match living.process.job(self.alloc) {
+            Ok(Some(job)) => Ok(job),
+            Ok(None) => Err(ProcError::NotRunning),
+            Err(_) => Err(ProcError::Memory),
+        }
+    }
+
+    /// The last process goes, and its name is free.
+    fn unstart(&mut self)
+        requires { Fits Undo.Started self.old }
+        ensures { self.new ≡ undone Undo.Started self.old }
+    {
+        if let Some(living) = pop_last(&mut self.slots) {
+            unregister(&mut self.names, living.process.name());
+        }
+    }
+
+    /// The last message of a process goes, and the call that it is, if it is one, was never made.
+    fn unarrive(&mut self, pid: u64, call: Option<Call>)
+        requires { WasCalled call (living pid self.old) }
+        ensures { self.new ≡ changed (unarrived call) pid self.old }
+    {
+        unarrive_at(&mut self.slots, pid, call);
+        if let Some(call) = call {
+            self.open_calls.remove(call.number);
+        }
+    }
+
+    /// The message that a process runs is back at its position.
+    fn untake(&mut self, pid: u64, position: usize) -> Result<(), AllocError>
+        requires { WasTaken position (living pid self.old) }
+        ensures ok { OnOk result (self.new ≡ changed (untook position) pid self.old) }
+        ensures err { OnErr result (self.new ≡ self.old) }
+    {
+        untake_at(&mut self.slots, pid, position)?;
+        Ok(())
+    }
+
+    /// Takes the newest step back.
+    ///
+    /// # Errors
+    ///
+    /// The undo, where memory is refused. The table is then as it was.
+    pub fn revert(&mut self, undo: Undo) -> Result<(), Undo>
+        requires { Fits undo self.old }
+        ensures ok { OnOk result (self.new ≡ undone undo self.old) }
+        ensures back { IfErr result (λ it. it ≡ undo) }
+        ensures err { OnErr result (self.new ≡ self.old) }
+    {
+        match undo {
+            Undo::Started => {
+                self.unstart();
+                Ok(())
+            }
+            Undo::Arrived { pid, call } => {
+                self.unarrive(pid, call);
+                Ok(())
+            }
+            Undo::Taken { pid, position } => match self.untake(pid, position) {
+                Ok(()) => Ok(()),
+                Err(_) => Err(Undo::Taken { pid, position }),
+            },
+        }
     }
 }

@@ -3,5 +3,5 @@ use Rattle.std.proofs.Common.{arith, sym}
 use Rattle.process_table.proofs.Slots.{slots_from_past}
 use Rattle.process_table.proofs.places.unarrive_at.Goals as goal
 
-pub returns-then-slots-place : goal.returns-then-slots-place
-returns-then-slots-place c = sym (slots_from_past _ c.args.slots.now c.args.pid (omega (arith, c.if-slots-place.true)))
+pub returns-then-len-place : goal.returns-then-len-place
+returns-then-len-place c = sym (slots_from_past _ c.args.slots.now.items c.args.pid (omega (arith, c.if-len-place.true)))

@@ -1,8 +1,5 @@
 -- Nobody is there.
-use Rattle.std.proofs.Common.{List, [], ◌++◌, ◌∷◌, Option, None, ap, sym, subst, ◌∙◌, ◌≡◌}
-use Rattle.std.specs.FinMap.{empty}
-use Rattle.process_table.specs.declared.living.Living.{Living}
-use Rattle.process_table.specs.Indexed.{IsIndexed}
+use Rattle.std.proofs.Common.{[], ◌++◌, ◌∷◌, None, ap, ◌∙◌, ◌≡◌}
 use Rattle.process_table.proofs.Indexes.{IsIndexed-empty}
 use Rattle.process_table.proofs.processes.Processes.new.Goals as goal
 
