@@ -1,4 +1,5 @@
 pub mod Indexed
+pub mod Jobs
 pub mod Living
 pub mod Messages
 pub mod Steps

@@ -1,12 +1,16 @@
 -- Steps of processes: why each is refused, in order, and the table after it (Erlang Reference Manual, Processes; gen_server
 -- behaviour).
-use Rattle.std.specs.Prelude.{◌≡◌, ℕ, ◌^◌, ◌<◌, ◌==◌, Bool, true, false, if◌then◌else◌, List, [], ◌∷◌, ◌++◌}
-use Rattle.std.specs.Prelude.{Option, None, Some, is_some}
+use Rattle.std.specs.Prelude.{◌≡◌, ℕ, ◌^◌, ◌<◌, ◌==◌, Bool, true, false, if◌then◌else◌, List, [], ◌∷◌, ◌++◌, map}
+use Rattle.std.specs.Prelude.{Option, None, Some, is_some, option_map}
 use Rattle.std.specs.List.{find}
 use Rattle.erl_term.specs.declared.term.Term.{Term}
 use Rattle.erl_eval.specs.declared.acts.Place.{Place}
 use Rattle.erl_eval.specs.declared.acts.Place.TheVariants.{Server, Loop}
+use Rattle.erl_forms.specs.Module.{Forms}
+use Rattle.erl_steps.specs.Views.{instance}
 use Rattle.erl_steps.specs.declared.world.Instance.{Instance}
+use Rattle.code_server.specs.Modules.{Table as Loaded, current_of}
+use Rattle.job_code.specs.JobCode.{IsJobCode}
 use Rattle.erl_machine.specs.declared.jobs.Job.{Job}
 use Rattle.process.specs.declared.activity.Activity.{Activity}
 use Rattle.process.specs.declared.activity.Activity.TheVariants as activity
@@ -104,6 +108,21 @@ taken_at (Some position) pid entry_serial code t = changed (run position entry_s
 
 abbrev pub taken : ℕ → ℕ → List Instance → Table → Table
 taken pid entry_serial code t = taken_at (takes_next (living pid t)) pid entry_serial code t
+
+-- The instance that a process enters with the message that it takes: of a callback module its current code, if it has any,
+-- and of a loop function the one in which it rests. The code of the job is what is entered, and what it can reach from there.
+
+abbrev pub entered : Loaded Forms → Place → Option Instance → Option Instance
+entered modules (Server m s) rests = option_map (λ i. record { name = m; serial = i.serial; «module» = i.code }) (current_of m modules)
+entered modules (Loop m serial f args) rests = rests
+
+abbrev pub IsCode : Loaded Forms → Option Instance → ℕ → List Instance → Type 0
+IsCode modules None entry_serial code = (entry_serial ≡ 0) × (code ≡ [])
+IsCode modules (Some i) entry_serial code = (entry_serial ≡ i.serial) × IsJobCode modules (instance i) (map instance code)
+
+abbrev pub IsCodeOf : Loaded Forms → Option Living → Job → Type 0
+IsCodeOf modules None job = ⊥
+IsCodeOf modules (Some l) job = IsCode modules (entered modules l.process.place l.process.rests_in) job.entry_serial job.code
 
 -- Retake: the job that a process runs is given once more.
 

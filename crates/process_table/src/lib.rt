@@ -6,6 +6,7 @@ mod error;
 mod living;
 mod places;
 mod processes;
+mod taking;
 mod undo;
 
 pub use body::Body;

@@ -8,9 +8,12 @@ ghost use Rattle.process_table.specs.Steps.{loaded_as, rests_in};
 use crate::body::Body;
 use crate::error::ProcError;
 use crate::living::Living;
-use crate::places::{arrive_at, living, unarrive_at, untake_at};
+use crate::places::{arrive_at, living, run_at, unarrive_at, untake_at};
+use crate::taking::{job_for, next_of};
 use crate::undo::Undo;
+use code_server::Modules;
 use erl_eval::Place;
+use erl_forms::Module;
 use erl_machine::{Instance, Job};
 use erl_term::{Atom, Term};
 use process::Process;
@@ -18,7 +21,7 @@ use process_index::{Call, CallIndex, Calls, NameIndex, Owner};
 use std::alloc::{AllocError, Global};
 use std::hash::RandomState;
 use std::marker::Model;
-use values::Duplicate;
+use values::{Duplicate, Row};
 
 /// The processes of a node, by pid.
 #[derive(Drop)]
@@ -108,8 +111,8 @@ fn unregister(names: &mut NameIndex, name: Option<&Atom>)
 }
 
 impl Processes {
-    ghost use Rattle.process_table.specs.Living.{arrived, unarrived, untook};
-    ghost use Rattle.process_table.specs.Steps.{IsNextRunnable, Tells, after_arrival, arrive_refusal, is_repeated, is_runnable, job_at, retake_refusal, start_refusal, with_process};
+    ghost use Rattle.process_table.specs.Living.{arrived, run, unarrived, untook};
+    ghost use Rattle.process_table.specs.Steps.{IsCodeOf, IsNextRunnable, Tells, after_arrival, arrive_refusal, is_repeated, is_runnable, job_at, retake_refusal, start_refusal, take_refusal, taken, with_process};
     ghost use Rattle.process_table.specs.Table.{changed, empty_table, is_open, living, next_pid, pid_of};
     ghost use Rattle.process_table.specs.Undo.{Fits, WasCalled, WasTaken, undone};
 
@@ -319,6 +322,46 @@ impl Processes {
             Some(living) => living.process.can_take().is_some(),
             None => false,
         }
+    }
+
+    /// A process takes the first message that it takes where it rests, and runs it. The job is handed out: the message, and the
+    /// code, which is the instance that is entered and what it can reach.
+    ///
+    /// # Errors
+    ///
+    /// In this order: `NoProc` where no process has the pid, `Suspended`, `Running`, `Idle` where it takes no message, `Memory`.
+    /// The table is then as it was.
+    pub fn take(&mut self, modules: &Modules<Module>, pid: u64) -> Result<(Job, Undo), ProcError>
+        ensures ok { OnOk result (take_refusal pid self.old ≡ None) }
+        ensures code { IfOk result (λ it. IsCodeOf modules.now (living pid self.old) it.0) }
+        ensures taken { IfOk result (λ it. self.new ≡ taken pid it.0.entry_serial it.0.code self.old) }
+        ensures job { IfOk result (λ it. job_at (living pid self.new) ≡ Some it.0) }
+        ensures inverse { IfOk result (λ it. Fits it.1 self.new × (undone it.1 self.new ≡ self.old)) }
+        ensures refused { IfErr result (λ e. Tells e (take_refusal pid self.old)) }
+        ensures err { OnErr result (self.new ≡ self.old) }
+    {
+        let Some(living) = living(self.slots.as_slice(), pid) else {
+            return Err(ProcError::NoProc);
+        };
+        let position = match next_of(&living.process) {
+            Ok(position) => position,
+            Err(refusal) => return Err(refusal),
+        };
+        let Ok(Some(job)) = job_for(self.alloc, modules, living, position) else {
+            return Err(ProcError::Memory);
+        };
+        let Ok(code) = job.code.copy(self.alloc) else {
+            return Err(ProcError::Memory);
+        };
+        self.run(pid, position, job.entry_serial, code);
+        Ok((job, Undo::Taken { pid, position }))
+    }
+
+    /// The message at a position of a process is taken, and runs.
+    fn run(&mut self, pid: u64, position: usize, entry_serial: u64, code: Row<Instance>)
+        ensures { self.new ≡ changed (run position entry_serial code) pid self.old }
+    {
+        run_at(&mut self.slots, pid, position, entry_serial, code);
     }
 
     /// The job that a process runs.

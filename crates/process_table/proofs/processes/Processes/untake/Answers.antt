@@ -1,5 +1,5 @@
 -- A process that runs its message no more keeps its name and its calls.
-use Rattle.process_table.proofs.Taking.{untook_indexed}
+use Rattle.process_table.proofs.Runs.{untook_indexed}
 use Rattle.process_table.proofs.processes.Processes.untake.Goals as goal
 
 pub invariant_of-self-2 : goal.invariant_of-self-2

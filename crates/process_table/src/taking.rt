@@ -1,0 +1,100 @@
+// What a process takes up with a message: the instance that it enters, and the code of its job.
+ghost use Rattle.std.specs.Prelude.{◌≡◌, IfOk, IfErr, MatchOption, None, Some, slice_get};
+ghost use Rattle.process.specs.Process.{can_take};
+ghost use Rattle.process_table.specs.Steps.{IsCode, IsCodeOf, entered, resting_refusal};
+ghost use Rattle.process_table.specs.Jobs.{IsJobFor};
+
+use crate::error::ProcError;
+use crate::living::Living;
+use code_server::Modules;
+use erl_eval::Place;
+use erl_forms::Module;
+use erl_machine::{Instance, Job};
+use job_code::job_code;
+use process::{Activity, Process};
+use std::alloc::{AllocError, Global};
+use values::{Duplicate, Row};
+
+/// The instance that a process enters with the message that it takes, if there is one.
+fn entered(
+    alloc: Global,
+    modules: &Modules<Module>,
+    process: &Process,
+) -> Result<Option<Instance>, AllocError>
+    ensures { IfOk result (λ it. it ≡ entered modules.now process.now.place process.now.rests_in) }
+{
+    match process.place() {
+        Place::Server { module, .. } => match modules.current(module) {
+            Some(current) => Ok(Some(Instance {
+                name: module.copy(alloc)?,
+                serial: current.serial,
+                module: current.code.copy(alloc)?,
+            })),
+            None => Ok(None),
+        },
+        Place::Loop { .. } => match process.rests_in() {
+            Some(instance) => Ok(Some(instance.copy(alloc)?)),
+            None => Ok(None),
+        },
+    }
+}
+
+/// The code of a job that enters an instance, or nothing, and the serial of that instance.
+fn code_from(
+    alloc: Global,
+    modules: &Modules<Module>,
+    entered: Option<Instance>,
+) -> Result<(u64, Row<Instance>), AllocError>
+    ensures { IfOk result (λ it. IsCode modules.now entered it.0 it.1) }
+{
+    match entered {
+        Some(instance) => {
+            let serial = instance.serial;
+            let code = job_code(alloc, modules, instance)?;
+            Ok((serial, Row::new(code)))
+        }
+        None => Ok((0, Row::new(Vec::new(alloc)))),
+    }
+}
+
+/// Why a process takes no message now, or the position of the one that it takes.
+pub(crate) fn next_of(process: &Process) -> Result<usize, ProcError>
+    ensures next { IfOk result (λ position. can_take process.now ≡ Some position) }
+    ensures refused { IfErr result (λ e. resting_refusal process.now.activity (can_take process.now) ≡ Some e) }
+{
+    match process.activity() {
+        Activity::Suspended => Err(ProcError::Suspended),
+        Activity::Runs(_) => Err(ProcError::Running),
+        Activity::Idle => match process.can_take() {
+            Some(position) => Ok(position),
+            None => Err(ProcError::Idle),
+        },
+    }
+}
+
+/// The job that a process takes up with the message at a position.
+pub(crate) fn job_for(
+    alloc: Global,
+    modules: &Modules<Module>,
+    living: &Living,
+    position: usize,
+) -> Result<Option<Job>, AllocError>
+    ensures { IfOk result (λ it. IsJobFor modules.now living.now position it) }
+{
+    let process = &living.process;
+    let Some(message) = process.message(position) else {
+        return Ok(None);
+    };
+    let entered = entered(alloc, modules, process)?;
+    let (entry_serial, code) = code_from(alloc, modules, entered)?;
+    let message = message.copy(alloc)?;
+    let place = process.place().copy(alloc)?;
+    Ok(Some(Job {
+        pid: process.pid(),
+        turn: process.turn(),
+        place,
+        entry_serial,
+        message,
+        code,
+    }))
+}
