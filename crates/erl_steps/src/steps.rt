@@ -45,14 +45,13 @@ pub fn arity_of(arguments: &[Term]) -> Result<u32, AllocError>
     }
 }
 
-/// Values, and one behind them.
+/// One value more, behind those that are there.
 #[tactic(auto, using(erl_eval::proofs::Rows::trees_append))]
-fn with_value(values: Vec<Term>, value: Term) -> Result<Vec<Term>, AllocError>
-    ensures { IfOk result (λ it. trees it.items ≡ append_trees (trees values.items) (more (tree value) none)) }
+fn push_value(values: &mut Vec<Term>, value: Term) -> Result<(), AllocError>
+    ensures { OnOk result (trees values.new.items ≡ append_trees (trees values.old.items) (more (tree value) none)) }
 {
-    let mut all = values;
-    all.push(value)?;
-    Ok(all)
+    values.push(value)?;
+    Ok(())
 }
 
 /// What an operator gives at once of two values, where it gives one and does nothing else.
@@ -593,7 +592,7 @@ impl<'a> Machine<'a> {
                 })?;
                 return Ok(Control::Evaluate(first));
             };
-            values = with_value(values, value)?;
+            push_value(&mut values, value)?;
             left = rest;
         }
         self.apply(world, operation, values)
@@ -614,7 +613,11 @@ impl<'a> Machine<'a> {
                 operation,
                 values,
                 rest,
-            } => self.go_on(world, operation, with_value(values, value)?, rest),
+            } => {
+                let mut values = values;
+                push_value(&mut values, value)?;
+                self.go_on(world, operation, values, rest)
+            }
             Frame::Onward(rest) => Ok(Control::Run(rest)),
             Frame::Binding(pattern) => self.bind(world.setting.alloc, pattern, value),
             Frame::Cases(items) => self.select_case(world, items, value),
