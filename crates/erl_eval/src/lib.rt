@@ -54,7 +54,7 @@
 //!
 //! # What is proved
 //!
-//! [`operate`] gives what the rules say of an operator and the values of its operands, and [`call_built_in`] of a function
+//! [`operate`] gives what the rules say of an operator and the values of its operands ([`of_two`] of two), and [`call_built_in`] of a function
 //! that is built in and its arguments, but of those that start or name a process; [`sends`] and [`does`] give what they do.
 //! [`match_pattern`] tells whether a term matches a pattern, and binds what the rules say. [`select`] selects the clause that
 //! the rules select, with what it binds, and counts the calls in guards; [`try_clause`] tries one clause.
@@ -91,7 +91,7 @@ pub use built_ins::call_built_in;
 pub use given::{Booleans, Given, exit_by, exit_by_pair, made};
 pub use guards::{MOST_CALLS, Selected, Setting, decisive, select, try_clause};
 pub use matching::{bound, match_each, match_pattern};
-pub use operators::{cons, operate, truth_of};
+pub use operators::{cons, of_two, operate, truth_of};
 
 /// One result comes of an expression, and one state is left behind.
 pub fn expressions_have_one_result()

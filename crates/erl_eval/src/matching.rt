@@ -106,8 +106,11 @@ pub fn match_each(
 fn rest_behind(alloc: Global, row: &Terms, count: usize) -> Result<Terms, AllocError>
     ensures { IfOk result (λ it. it ≡ rest_behind count row.now) }
 {
-    let mut left = row.copy(alloc)?;
-    for _ in 0..count {
+    if count == 0 {
+        return row.copy(alloc);
+    }
+    let mut left = row.rest(alloc)?;
+    for _ in 1..count {
         left = left.rest(alloc)?;
     }
     Ok(left)

@@ -176,6 +176,7 @@ pub fn cons(alloc: Global, operands: Vec<Term>) -> Result<Given, AllocError>
     let Term::List(row) = last else {
         return exit_by(alloc, "not_in_profile");
     };
+    items.reserve_exact(row.len())?;
     extend_copies(alloc, &mut items, row.as_slice())?;
     made(alloc, Term::List(Terms::new(alloc, items)?))
 }
@@ -240,8 +241,12 @@ fn of_one(
     }
 }
 
-/// What an operator of two operands gives.
-fn of_two(
+/// What an operator gives of the values of two operands (Erlang Reference Manual, Expressions).
+///
+/// # Errors
+///
+/// `AllocError` where memory is refused.
+pub fn of_two(
     alloc: Global,
     booleans: &Booleans,
     operator: Operator,

@@ -274,14 +274,15 @@ module _ (w : World) where
   operand_falls op ts e es m x le =
       moves m (machine.pushed (machine.operands op ts es) m) (machine.evaluate e) x (omega arith) (omega arith) (omega (arith, le))
 
-  variable_falls : (op : Operation) (ts : Trees) (place : ℕ) (es : Exprs) (m : Machine) (x : ℕ) (o : Option Tree) →
-      1 + row_weight (form.more (form.variable place) es) + frames_weight m.frames ≤ x →
+  -- an operand that may give its value at once
+  known_falls : (op : Operation) (ts : Trees) (e : Expr) (es : Exprs) (m : Machine) (x : ℕ) (o : Option Tree) →
+      1 + row_weight (form.more e es) + frames_weight m.frames ≤ x →
       ((t : Tree) → Falls m.state.calls (call_weight w m) x (going_on w op (append_trees ts (term.more t term.none)) es m)) →
       Falls m.state.calls (call_weight w m) x
       (option_map_or (λ t. going_on w op (append_trees ts (term.more t term.none)) es m) o
-      (machine.evaluate (form.variable place), machine.pushed (machine.operands op ts es) m))
-  variable_falls op ts place es m x None le go = operand_falls op ts (form.variable place) es m x le
-  variable_falls op ts place es m x (Some t) le go = go t
+      (machine.evaluate e, machine.pushed (machine.operands op ts es) m))
+  known_falls op ts e es m x None le go = operand_falls op ts e es m x le
+  known_falls op ts e es m x (Some t) le go = go t
 
   going_on_falls : (op : Operation) (ts : Trees) (es : Exprs) (m : Machine) (x : ℕ) → 1 + row_weight es + frames_weight m.frames ≤ x →
       Falls m.state.calls (call_weight w m) x (going_on w op ts es m)
@@ -289,9 +290,11 @@ module _ (w : World) where
   going_on_falls op ts (form.more (form.literal t) es) m x le =
       going_on_falls op (append_trees ts (term.more t term.none)) es m x (omega (arith, le))
   going_on_falls op ts (form.more (form.variable place) es) m x le =
-      variable_falls op ts place es m x (slice_get m.state.bindings place) le
+      known_falls op ts (form.variable place) es m x (slice_get m.state.bindings place) le
       (λ t. going_on_falls op (append_trees ts (term.more t term.none)) es m x (omega (arith, le)))
-  going_on_falls op ts (form.more (form.apply o args) es) m x le = operand_falls op ts (form.apply o args) es m x le
+  going_on_falls op ts (form.more (form.apply o args) es) m x le =
+      known_falls op ts (form.apply o args) es m x (machine.known (form.apply o args) m.state) le
+      (λ t. going_on_falls op (append_trees ts (term.more t term.none)) es m x (omega (arith, le)))
   going_on_falls op ts (form.more (form.match p body) es) m x le = operand_falls op ts (form.match p body) es m x le
   going_on_falls op ts (form.more (form.block body) es) m x le = operand_falls op ts (form.block body) es m x le
   going_on_falls op ts (form.more (form.case subject cs) es) m x le = operand_falls op ts (form.case subject cs) es m x le

@@ -12,6 +12,7 @@ use Rattle.erl_forms.specs.declared.operation.Connective.{Connective}
 use Rattle.erl_forms.specs.declared.operation.Connective.TheVariants.{AndAlso, OrElse}
 use Rattle.erl_forms.specs.declared.operation.Operation.{Operation}
 use Rattle.erl_forms.specs.declared.operation.Operation.TheVariants as operation
+use Rattle.erl_forms.specs.declared.operation.Operator.{Operator}
 use Rattle.erl_forms.specs.declared.function.Function.{Function}
 use Rattle.erl_forms.specs.declared.function.Definition.{Definition}
 use Rattle.erl_forms.specs.declared.function.Definition.TheVariants as definition
@@ -19,7 +20,7 @@ use Rattle.erl_forms.specs.Expression as form
 use Rattle.erl_forms.specs.Expression.{Expr, Exprs, Guards, Clauses}
 use Rattle.erl_forms.specs.Pattern.{Pats}
 use Rattle.erl_eval.specs.State as state
-use Rattle.erl_eval.specs.State.{Instance, Place, Result, World, Activation, State, exit_by, exit_by_pair, made}
+use Rattle.erl_eval.specs.State.{Act, Instance, Place, Result, World, Activation, State, exit_by, exit_by_pair, made}
 use Rattle.erl_eval.specs.State.{with_bindings, bound_to, callee, after}
 use Rattle.erl_eval.specs.Operators.{operated, sends, truth_of, consed}
 use Rattle.erl_eval.specs.BuiltIns.{given, does, not_in_profile}
@@ -38,6 +39,7 @@ use Rattle.erl_eval.specs.Starting.{begin, started, linked_by, Initialized, begu
 use Rattle.erl_steps.specs.Machine.{beginner, starting_by, settled_by, settling_at, settling}
 use Rattle.erl_steps.specs.Machine.{going_on, beginning, running, bound_by, decided_by, resuming, giving, stepping}
 use Rattle.erl_steps.specs.Leading.{Final, before, Resumes, Comes}
+use Rattle.erl_eval.proofs.Options.{some_none, some_injective}
 use Rattle.erl_steps.proofs.Growing.{Extends, extends_itself, GrowsTo, selected_grows, body_keeps}
 
 -- values before others
@@ -53,6 +55,14 @@ before_all (term.more t ts) = ap (with_first t) (before_all ts)
 before_one : (ts : Trees) (t : Tree) (v : Values) → before (append_trees ts (term.more t term.none)) v ≡ before ts (with_first t v)
 before_one term.none t v = refl
 before_one (term.more u us) t v = ap (with_first u) (before_one us t v)
+
+-- what gives a value alone, gives it and does nothing
+alone_gives : (o : Option Act) (r : Result) (s : State) (t : Tree) → machine.value_alone o r ≡ Some t →
+    (state.value t ≡ r) × (s ≡ after o s)
+alone_gives None (state.value u) s t gives = (ap state.value (sym (some_injective gives)), refl)
+alone_gives None (state.rest p) s t gives = absurd (some_none (sym gives))
+alone_gives None (state.exit q) s t gives = absurd (some_none (sym gives))
+alone_gives (Some act) r s t gives = absurd (some_none (sym gives))
 
 -- what is bound before more is
 
@@ -377,21 +387,56 @@ module _ (w : World) where
     d.6,
   )
 
-  -- a variable gives its value at once where it is bound
-  variable_leads : (op : Operation) (ts : Trees) (place : ℕ) (es : Exprs) (m : Machine) (f : Final) (o : Option Tree) →
-      slice_get m.state.bindings place ≡ o →
+  -- What an expression gives at once, it is evaluated to, and nothing is done.
+
+  simple_evals : (a : Activation) (e : Expr) (s : State) (t : Tree) → machine.simple e s ≡ Some t →
+      Eval w a false e s (state.value t) s
+  simple_evals a (form.literal u) s t gives = rule.literal (ap state.value (sym (some_injective gives)), refl)
+  simple_evals a (form.variable place) s t gives = rule.variable (sym (ap bound_to gives), refl)
+  simple_evals a (form.apply op es) s t gives = absurd (some_none (sym gives))
+  simple_evals a (form.match p body) s t gives = absurd (some_none (sym gives))
+  simple_evals a (form.block body) s t gives = absurd (some_none (sym gives))
+  simple_evals a (form.case subject cs) s t gives = absurd (some_none (sym gives))
+  simple_evals a (form.short_circuit c left right) s t gives = absurd (some_none (sym gives))
+
+  operator_evals : (a : Activation) (o : Operator) (e g : Expr) (s : State) (x y : Option Tree) → machine.simple e s ≡ x →
+      machine.simple g s ≡ y → (t : Tree) → machine.worked_out (operation.Operator o) (machine.both x y) ≡ Some t →
+      Eval w a false (form.apply (operation.Operator o) (form.more e (form.more g form.none))) s (state.value t) s
+  operator_evals a o e g s None y first second t gives = absurd (some_none (sym gives))
+  operator_evals a o e g s (Some x) None first second t gives = absurd (some_none (sym gives))
+  operator_evals a o e g s (Some x) (Some y) first second t gives = rule.apply
+      (rule.operand (simple_evals a e s x first) (rule.others
+      (rule.operand (simple_evals a g s y second) (rule.others (rule.no_operands refl refl) refl)) refl))
+      (rule.operator (alone_gives (sends o (machine.pair_of (x, y))) (operated o (machine.pair_of (x, y))) s t gives))
+
+  apply_evals : (a : Activation) (op : Operation) (es : Exprs) (s : State) (t : Tree) →
+      machine.known (form.apply op es) s ≡ Some t → Eval w a false (form.apply op es) s (state.value t) s
+  apply_evals a (operation.Operator o) form.none s t gives = absurd (some_none (sym gives))
+  apply_evals a (operation.Operator o) (form.more e form.none) s t gives = absurd (some_none (sym gives))
+  apply_evals a (operation.Operator o) (form.more e (form.more g form.none)) s t gives =
+      operator_evals a o e g s (machine.simple e s) (machine.simple g s) refl refl t gives
+  apply_evals a (operation.Operator o) (form.more e (form.more g (form.more h es))) s t gives = absurd (some_none (sym gives))
+  apply_evals a operation.Tuple es s t gives = absurd (some_none (sym gives))
+  apply_evals a operation.List es s t gives = absurd (some_none (sym gives))
+  apply_evals a operation.Cons es s t gives = absurd (some_none (sym gives))
+  apply_evals a (operation.BuiltIn f qualified) es s t gives = absurd (some_none (sym gives))
+  apply_evals a (operation.Local name) es s t gives = absurd (some_none (sym gives))
+  apply_evals a (operation.Remote called name) es s t gives = absurd (some_none (sym gives))
+
+  -- an operand that may give its value at once
+  maybe_leads : (op : Operation) (ts : Trees) (e : Expr) (es : Exprs) (m : Machine) (f : Final) (o : Option Tree) →
+      ((t : Tree) → o ≡ Some t → Eval w m.activation false e m.state (state.value t) m.state) →
       ((t : Tree) → Comes w (going_on w op (append_trees ts (term.more t term.none)) es m).0
       (going_on w op (append_trees ts (term.more t term.none)) es m).1 f →
       Operated op (append_trees ts (term.more t term.none)) es m f) →
       Comes w
       (option_map_or (λ t. going_on w op (append_trees ts (term.more t term.none)) es m) o
-      (machine.evaluate (form.variable place), machine.pushed (machine.operands op ts es) m)).0
+      (machine.evaluate e, machine.pushed (machine.operands op ts es) m)).0
       (option_map_or (λ t. going_on w op (append_trees ts (term.more t term.none)) es m) o
-      (machine.evaluate (form.variable place), machine.pushed (machine.operands op ts es) m)).1 f →
-      Operated op ts (form.more (form.variable place) es) m f
-  variable_leads op ts place es m f None unbound go c = evaluated_leads op ts (form.variable place) es m f c
-  variable_leads op ts place es m f (Some t) bound_so go c =
-      known_leads op ts (form.variable place) es m f t (rule.variable (sym (ap bound_to bound_so), refl)) (go t c)
+      (machine.evaluate e, machine.pushed (machine.operands op ts es) m)).1 f →
+      Operated op ts (form.more e es) m f
+  maybe_leads op ts e es m f None gives go c = evaluated_leads op ts e es m f c
+  maybe_leads op ts e es m f (Some t) gives go c = known_leads op ts e es m f t (gives t refl) (go t c)
 
   going_on_leads : (op : Operation) (ts : Trees) (es : Exprs) (m : Machine) (f : Final) →
       Comes w (going_on w op ts es m).0 (going_on w op ts es m).1 f → Operated op ts es m f
@@ -409,9 +454,13 @@ module _ (w : World) where
       known_leads op ts (form.literal t) es m f t (rule.literal (refl, refl))
       (going_on_leads op (append_trees ts (term.more t term.none)) es m f c)
   going_on_leads op ts (form.more (form.variable place) es) m f c =
-      variable_leads op ts place es m f (slice_get m.state.bindings place) refl
+      maybe_leads op ts (form.variable place) es m f (slice_get m.state.bindings place)
+      (λ t gives. rule.variable (sym (ap bound_to gives), refl))
       (λ t d. going_on_leads op (append_trees ts (term.more t term.none)) es m f d) c
-  going_on_leads op ts (form.more (form.apply o args) es) m f c = evaluated_leads op ts (form.apply o args) es m f c
+  going_on_leads op ts (form.more (form.apply o args) es) m f c =
+      maybe_leads op ts (form.apply o args) es m f (machine.known (form.apply o args) m.state)
+      (λ t gives. apply_evals m.activation o args m.state t gives)
+      (λ t d. going_on_leads op (append_trees ts (term.more t term.none)) es m f d) c
   going_on_leads op ts (form.more (form.match p body) es) m f c = evaluated_leads op ts (form.match p body) es m f c
   going_on_leads op ts (form.more (form.block body) es) m f c = evaluated_leads op ts (form.block body) es m f c
   going_on_leads op ts (form.more (form.case subject cs) es) m f c = evaluated_leads op ts (form.case subject cs) es m f c

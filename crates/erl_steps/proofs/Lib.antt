@@ -4,6 +4,7 @@ pub mod Calls
 pub mod Ends
 pub mod Falls
 pub mod Growing
+pub mod Known
 pub mod Leads
 pub mod Rests
 pub mod Results

@@ -18,7 +18,7 @@ use Rattle.erl_forms.specs.Expression as form
 use Rattle.erl_forms.specs.Expression.{Expr, Exprs, Guards, Clauses}
 use Rattle.erl_forms.specs.Pattern.{Pat, Pats}
 use Rattle.erl_eval.specs.State as state
-use Rattle.erl_eval.specs.State.{Instance, Place, Result, exit_by, exit_by_pair, made, bound_to, World, Activation, callee, State}
+use Rattle.erl_eval.specs.State.{Act, Instance, Place, Result, exit_by, exit_by_pair, made, bound_to, World, Activation, callee, State}
 use Rattle.erl_eval.specs.State.{with_bindings, after}
 use Rattle.erl_eval.specs.Operators.{operated, sends, truth_of, consed}
 use Rattle.erl_eval.specs.BuiltIns.{given, does, not_in_profile}
@@ -181,11 +181,55 @@ applying w (operation.Local name) ts m =
 applying w (operation.Remote called name) ts m =
     calling (may_call m.state) w name (remote_function w called name (count ts)) ts m
 
--- what an expression gives at once, where it does: a literal its term, a variable what it is bound to
+-- what an expression gives without any work, where it does: a literal its term, a variable what it is bound to
+abbrev pub simple : Expr → State → Option Tree
+simple (form.literal t) s = Some t
+simple (form.variable place) s = slice_get s.bindings place
+simple (form.apply op es) s = None
+simple (form.match p body) s = None
+simple (form.block body) s = None
+simple (form.case subject cs) s = None
+simple (form.short_circuit c left right) s = None
+
+abbrev pub both : Option Tree → Option Tree → Option (Tree × Tree)
+both None u = None
+both (Some t) None = None
+both (Some t) (Some u) = Some (t, u)
+
+-- what two operands give without any work, where there are two and both do
+abbrev pub simple_two : Exprs → State → Option (Tree × Tree)
+simple_two form.none s = None
+simple_two (form.more e form.none) s = None
+simple_two (form.more e (form.more g form.none)) s = both (simple e s) (simple g s)
+simple_two (form.more e (form.more g (form.more h es))) s = None
+
+-- the value that is given, where one is and nothing is done
+abbrev pub value_alone : Option Act → Result → Option Tree
+value_alone None (state.value t) = Some t
+value_alone None (state.rest p) = None
+value_alone None (state.exit q) = None
+value_alone (Some act) r = None
+
+abbrev pub pair_of : Tree × Tree → Trees
+pair_of p = term.more p.0 (term.more p.1 term.none)
+
+-- what an operation makes of two values at once, where it does: an operator its value, if it has one and does nothing else
+abbrev pub worked_out : Operation → Option (Tree × Tree) → Option Tree
+worked_out (operation.Operator o) None = None
+worked_out (operation.Operator o) (Some p) = value_alone (sends o (pair_of p)) (operated o (pair_of p))
+worked_out operation.Tuple p = None
+worked_out operation.List p = None
+worked_out operation.Cons p = None
+worked_out (operation.BuiltIn f qualified) p = None
+worked_out (operation.Local name) p = None
+worked_out (operation.Remote called name) p = None
+
+-- What an expression gives at once, where it does: a literal its term, a variable what it is bound to, and an operator of two
+-- of these its value.
 abbrev pub known : Expr → State → Option Tree
 known (form.literal t) s = Some t
 known (form.variable place) s = slice_get s.bindings place
-known (form.apply op es) s = None
+known (form.apply op es) s = worked_out op (simple_two es s)
 known (form.match p body) s = None
 known (form.block body) s = None
 known (form.case subject cs) s = None

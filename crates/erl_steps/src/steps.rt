@@ -1,5 +1,5 @@
 // The steps of the machine.
-ghost use Rattle.std.specs.Prelude.{◌≡◌, IfOk, OnOk, codes, is_some, option_map, slice_get};
+ghost use Rattle.std.specs.Prelude.{◌≡◌, IfOk, MatchOption, None, OnOk, Some, codes, is_some, option_map, slice_get};
 ghost use Rattle.erl_term.specs.Rows.{append_trees};
 ghost use Rattle.erl_term.specs.Term.{tree, trees};
 ghost use Rattle.erl_term.specs.Tree.{count, more, none};
@@ -13,15 +13,15 @@ ghost use Rattle.erl_eval.specs.Operators as operators;
 ghost use Rattle.erl_eval.specs.Starting.{at_once};
 ghost use Rattle.erl_eval.specs.State as state;
 ghost use Rattle.erl_steps.specs.Machine as machine;
-ghost use Rattle.erl_steps.specs.Machine.{applying, beginning, bound_by, calling, calling_built_in, decided_by, entered, giving, going_on, in_state, known, into, of_result, resting, resuming, running, scoped, selecting, settling, settling_at, stepping, working};
+ghost use Rattle.erl_steps.specs.Machine.{applying, beginning, bound_by, calling, calling_built_in, decided_by, entered, giving, going_on, in_state, known, into, of_result, resting, resuming, running, scoped, selecting, settling, settling_at, simple, simple_two, stepping, worked_out, working};
 ghost use Rattle.erl_steps.specs.Views.{callee_of, control_of, control_or, frame_of, instance, machine_of, world_of};
 
 use crate::machine::{Control, End, Machine, exit, exit_with, next_of};
 use crate::stack::{Activation, Frame, Starter};
 use crate::world::{Callee, Instance, World, remote_function};
 use erl_eval::{
-    Act, MOST_CALLS, Place, call_built_in, cons, decisive, does, made, match_pattern, operate,
-    select, sends, truth_of, try_clause,
+    Act, Given, MOST_CALLS, Place, Setting, call_built_in, cons, decisive, does, made,
+    match_pattern, of_two, operate, select, sends, truth_of, try_clause,
 };
 use erl_forms::{
     BuiltIn, Clause, Connective, Definition, Expression, Guard, Operation, Operator, Pattern,
@@ -45,14 +45,32 @@ pub fn arity_of(arguments: &[Term]) -> Result<u32, AllocError>
     }
 }
 
-/// Values, and one behind them.
+/// One value more, behind those that are there.
 #[tactic(auto, using(erl_eval::proofs::Rows::trees_append))]
-fn with_value(values: Vec<Term>, value: Term) -> Result<Vec<Term>, AllocError>
-    ensures { IfOk result (λ it. trees it.items ≡ append_trees (trees values.items) (more (tree value) none)) }
+fn push_value(values: &mut Vec<Term>, value: Term) -> Result<(), AllocError>
+    ensures { OnOk result (trees values.new.items ≡ append_trees (trees values.old.items) (more (tree value) none)) }
 {
-    let mut all = values;
-    all.push(value)?;
-    Ok(all)
+    values.push(value)?;
+    Ok(())
+}
+
+/// What an operator gives at once of two values, where it gives one and does nothing else.
+#[tactic(auto, using(crate::proofs::Known::send_waits, crate::proofs::Known::works_out_value, crate::proofs::Known::works_out_none))]
+fn work_out(
+    setting: &Setting<'_>,
+    operator: Operator,
+    x: &Term,
+    y: &Term,
+) -> Result<Option<Term>, AllocError>
+    ensures { IfOk result (λ it. option_map tree it ≡ worked_out (operation.Operator operator) (Some (tree x.now, tree y.now))) }
+{
+    match operator {
+        Operator::Send => Ok(None),
+        _ => match of_two(setting.alloc, setting.booleans, operator, x, y)? {
+            Given::Value(term) => Ok(Some(term)),
+            Given::Exit(_) => Ok(None),
+        },
+    }
 }
 
 impl<'a> Machine<'a> {
@@ -476,18 +494,77 @@ impl<'a> Machine<'a> {
         }
     }
 
-    /// What an expression gives at once, where it does: a literal, or a variable that is bound.
-    fn known(&self, alloc: Global, expression: &Expression) -> Result<Option<Term>, AllocError>
+    /// What an expression gives without any work, where it does: a literal, or a variable that is bound. Takes no memory.
+    fn simple<'b>(&'b self, expression: &'b Expression) -> Option<&'b Term>
+        ensures { MatchOption result (simple (expr expression.now) (machine_of self.now).state ≡ None)
+            (λ t. simple (expr expression.now) (machine_of self.now).state ≡ Some (tree t.now)) }
+    {
+        match expression {
+            Expression::Literal(term) => Some(term),
+            Expression::Variable(place) => self.bindings.as_slice().get(*place as usize),
+            Expression::Apply(_, _)
+            | Expression::Match(_, _)
+            | Expression::Block(_)
+            | Expression::Case(_, _)
+            | Expression::ShortCircuit(_, _, _) => None,
+        }
+    }
+
+    /// What two operands give without any work, where there are two and both do. Takes no memory.
+    fn simple_two<'b>(&'b self, operands: &'b [Expression]) -> Option<(&'b Term, &'b Term)>
+        ensures { MatchOption result (simple_two (exprs operands.now) (machine_of self.now).state ≡ None)
+            (λ p. simple_two (exprs operands.now) (machine_of self.now).state ≡ Some (tree p.0.now, tree p.1.now)) }
+    {
+        let (first, rest) = operands.split_first()?;
+        let (second, others) = rest.split_first()?;
+        match others.split_first() {
+            Some(_) => None,
+            None => {
+                let x = self.simple(first)?;
+                let y = self.simple(second)?;
+                Some((x, y))
+            }
+        }
+    }
+
+    /// What an operation gives at once of its operands, where it does: an operator of two that give theirs without any work.
+    fn worked_out(
+        &self,
+        world: &World<'a>,
+        operation: &Operation,
+        operands: &[Expression],
+    ) -> Result<Option<Term>, AllocError>
+        ensures { IfOk result (λ it. option_map tree it ≡ worked_out operation.now (simple_two (exprs operands.now) (machine_of self.now).state)) }
+    {
+        match operation {
+            Operation::Operator(operator) => match self.simple_two(operands) {
+                Some((x, y)) => work_out(&world.setting, *operator, x, y),
+                None => Ok(None),
+            },
+            Operation::Tuple
+            | Operation::List
+            | Operation::Cons
+            | Operation::BuiltIn { .. }
+            | Operation::Local(_)
+            | Operation::Remote { .. } => Ok(None),
+        }
+    }
+
+    /// What an expression gives at once, where it does: a literal, a variable that is bound, or what an operator makes of two
+    /// of these.
+    fn known(&self, world: &World<'a>, expression: &Expression) -> Result<Option<Term>, AllocError>
         ensures { IfOk result (λ it. option_map tree it ≡ known (expr expression.now) (machine_of self.now).state) }
     {
         match expression {
-            Expression::Literal(term) => Ok(Some(term.copy(alloc)?)),
+            Expression::Literal(term) => Ok(Some(term.copy(world.setting.alloc)?)),
             Expression::Variable(place) => match self.bindings.as_slice().get(*place as usize) {
-                Some(term) => Ok(Some(term.copy(alloc)?)),
+                Some(term) => Ok(Some(term.copy(world.setting.alloc)?)),
                 None => Ok(None),
             },
-            Expression::Apply(_, _)
-            | Expression::Match(_, _)
+            Expression::Apply(operation, operands) => {
+                self.worked_out(world, operation, operands.as_slice())
+            }
+            Expression::Match(_, _)
             | Expression::Block(_)
             | Expression::Case(_, _)
             | Expression::ShortCircuit(_, _, _) => Ok(None),
@@ -507,7 +584,7 @@ impl<'a> Machine<'a> {
         let mut values = values;
         let mut left = rest;
         while let Some((first, rest)) = left.split_first() {
-            let Some(value) = self.known(world.setting.alloc, first)? else {
+            let Some(value) = self.known(world, first)? else {
                 self.frames.push(Frame::Operands {
                     operation,
                     values,
@@ -515,7 +592,7 @@ impl<'a> Machine<'a> {
                 })?;
                 return Ok(Control::Evaluate(first));
             };
-            values = with_value(values, value)?;
+            push_value(&mut values, value)?;
             left = rest;
         }
         self.apply(world, operation, values)
@@ -536,7 +613,11 @@ impl<'a> Machine<'a> {
                 operation,
                 values,
                 rest,
-            } => self.go_on(world, operation, with_value(values, value)?, rest),
+            } => {
+                let mut values = values;
+                push_value(&mut values, value)?;
+                self.go_on(world, operation, values, rest)
+            }
             Frame::Onward(rest) => Ok(Control::Run(rest)),
             Frame::Binding(pattern) => self.bind(world.setting.alloc, pattern, value),
             Frame::Cases(items) => self.select_case(world, items, value),

@@ -3,4 +3,4 @@ use Rattle.erl_eval.specs.Bindings.{rest_behind}
 use Rattle.erl_eval.proofs.matching.rest_behind.Given as goal
 
 abbrev pub invariant-loop : goal.invariant-loop
-invariant-loop l = l.left ≡ rest_behind l.counter l.initial.left
+invariant-loop l = l.left ≡ rest_behind l.counter l.row
