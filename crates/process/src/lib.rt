@@ -33,4 +33,4 @@ mod activity;
 mod process;
 
 pub use activity::{Activity, Running};
-pub use process::{Process, Ran};
+pub use process::{Did, Ended, NamedRunning, Process, Ran, ended_processes_live};
