@@ -48,7 +48,7 @@ current_passed : (t : Table Forms) (name : List ℕ) (l : loaded.Instance Forms)
 current_passed t name l None sound is at = ap (if_serial l.serial) is
 current_passed t name l (Some c) sound is at = ap (if_serial l.serial) is ∙ if_other c l.serial (eqb c.serial l.serial) refl (apart t name c l sound is at)
 
-found_again : (t : Table Forms) (i : Instance) → IsSound t → StandsIn t i → found i.name i.serial t ≡ Some i
+pub found_again : (t : Table Forms) (i : Instance) → IsSound t → StandsIn t i → found i.name i.serial t ≡ Some i
 found_again t _ sound (as_current {name} {i} at) =
     ap (λ o. option_map (instance_of name) (option_or o (if_serial i.serial (old_of name t)))) (ap (if_serial i.serial) at ∙ if_same i)
 found_again t _ sound (as_old {name} {i} at) =

@@ -4,14 +4,16 @@
 //! both: first the instance, and then, in the order of the table, the current code of each module that can be reached from
 //! it by remote calls that are written.
 //!
-//! A record that must hold no code tells instances by names and serials: [`named_of`], and [`instances_of`] finds them again.
+//! A record that must hold no code tells instances by names and serials: [`named_of`], and [`instance_of`] and
+//! [`instances_of`] find them again.
 //!
 //! # What is proved
 //!
 //! - [`job_code`] gives exactly that code, and [`job_code_is_one`]: there is one such list.
-//! - [`instances_of`] finds exactly the instances that are told, current or old, or none where one of them is not in the
-//!   table. [`instances_are_found_again`]: those that stand in the table are found by what [`named_of`] tells of them.
-//!   [`job_code_stands`]: where a job is entered in an instance that stands in the table, its whole code does.
+//! - [`instance_of`] finds exactly the instance that is told, current or old, or none where it is not in the table, and
+//!   [`instances_of`] all of them, or none. [`instances_are_found_again`]: those that stand in the table are found by what
+//!   [`named_of`] tells of them. [`job_code_stands`]: where a job is entered in an instance that stands in the table, its
+//!   whole code does.
 //!
 //! # What no contract says
 //!
@@ -25,6 +27,6 @@ mod named;
 mod reached;
 
 pub use named::{
-    NamedInstance, instances_are_found_again, instances_of, job_code_stands, named_of,
+    NamedInstance, instance_of, instances_are_found_again, instances_of, job_code_stands, named_of,
 };
 pub use reached::{job_code, job_code_is_one};

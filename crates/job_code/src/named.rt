@@ -71,8 +71,12 @@ fn loaded<'a>(
     }
 }
 
-/// The instance that a name and a serial tell; none where it is not in the table.
-fn instance_of(
+/// The instance that a name and a serial tell, current or old; none where it is not in the table.
+///
+/// # Errors
+///
+/// `AllocError` where memory is refused.
+pub fn instance_of(
     alloc: Global,
     modules: &Modules<Module>,
     told: &NamedInstance,

@@ -128,6 +128,24 @@ untaken_by position (Runs r) p = record p { activity = Idle; mailbox = insert p.
 abbrev pub untaken : ℕ → ProcessState → ProcessState
 untaken position p = untaken_by position p.activity p
 
+-- where it is idle, it is suspended, and the other way round
+
+abbrev pub suspended_by : Activity → Activity
+suspended_by Idle = Suspended
+suspended_by Suspended = Suspended
+suspended_by (Runs r) = Runs r
+
+abbrev pub suspended : ProcessState → ProcessState
+suspended p = record p { activity = suspended_by p.activity }
+
+abbrev pub resumed_by : Activity → Activity
+resumed_by Idle = Idle
+resumed_by Suspended = Idle
+resumed_by (Runs r) = Runs r
+
+abbrev pub resumed : ProcessState → ProcessState
+resumed p = record p { activity = resumed_by p.activity }
+
 -- it rests at a place, one turn on
 abbrev pub rested : Place → Option Instance → ProcessState → ProcessState
 rested at rests_in p = record p { place = at; rests_in = rests_in; activity = Idle; turn = p.turn + 1 }

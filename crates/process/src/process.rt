@@ -1,9 +1,12 @@
 // A process.
 ghost use Rattle.std.specs.Prelude.{◌≡◌, ◌<◌, ◌≤◌, ◌+◌, ◌^◌, ◌↔◌, IfOk, OnOk, OnErr, IsTrue, MatchOption, None, Some, length, slice_get};
 ghost use Rattle.std.specs.Option.{option_copied};
-ghost use Rattle.process.specs.Process.{awaited, IsRunning, can_take, delivered, first_taken, job_of, rested, run_at, started, takes_at, undelivered, unrested, untaken};
+ghost use Rattle.process.specs.Process.{awaited, IsRunning, can_take, delivered, first_taken, job_of, rested, resumed, run_at, started, suspended, takes_at, undelivered, unrested, untaken};
+
+mod ending;
 
 use crate::activity::{Activity, Running};
+pub use ending::{Did, Ended, NamedRunning, ended_processes_live};
 use erl_eval::Place;
 use erl_machine::{Instance, Job, matches};
 use erl_term::{Atom, Term};
@@ -267,6 +270,24 @@ impl Process {
             activity => self.activity = activity,
         }
         Ok(())
+    }
+
+    /// It takes no message until it is resumed, where it is idle. Takes no memory.
+    pub fn suspend(&mut self)
+        ensures { self.new ≡ suspended self.old }
+    {
+        if let Activity::Idle = &self.activity {
+            self.activity = Activity::Suspended;
+        }
+    }
+
+    /// It is idle again, where it is suspended. Takes no memory.
+    pub fn resume(&mut self)
+        ensures { self.new ≡ resumed self.old }
+    {
+        if let Activity::Suspended = &self.activity {
+            self.activity = Activity::Idle;
+        }
     }
 
     /// The job that it runs, if it runs.

@@ -1,0 +1,312 @@
+// A process that was taken out whole, and one that is made of it again.
+ghost use Rattle.std.specs.Prelude.{◌≡◌, IfErr, IfOk, IfSome, Some};
+ghost use Rattle.std.specs.Option.{option_copied, option_map};
+ghost use Rattle.process.specs.Process.{awaited};
+ghost use Rattle.process.specs.Ended.{EndedProcessesLive, code_found, code_named, ended, ended_with, lived, lives, named, rests_found};
+
+use super::{Process, first_of};
+use crate::activity::{Activity, Running};
+use code_server::Modules;
+use erl_eval::Place;
+use erl_forms::Module;
+use erl_machine::Instance;
+use erl_term::{Atom, Term};
+use job_code::{NamedInstance, instance_of, instances_of, named_of};
+use std::alloc::{AllocError, Global};
+use std::collections::VecDeque;
+use std::marker::Model;
+use values::{Duplicate, Row};
+
+/// What a process did that was taken out.
+#[derive(Drop)]
+pub enum Did {
+    /// It was idle.
+    Idle,
+    /// It was suspended.
+    Suspended,
+    /// It ran the message that it had taken.
+    Ran(NamedRunning),
+}
+
+/// What a process ran, with its code told by names and serials.
+#[derive(Drop)]
+pub struct NamedRunning {
+    /// The serial of the instance that the place is entered in, or 0 where its module had no current code.
+    pub entry_serial: u64,
+    /// The message.
+    pub message: Term,
+    /// What tells the instances of its code, in their order.
+    pub code: Row<NamedInstance>,
+}
+
+/// A process that was taken out whole, so that it can live again. It holds no code: the instances that it used are told by
+/// names and serials.
+#[derive(Drop)]
+pub struct Ended {
+    pid: u64,
+    name: Option<Atom>,
+    place: Place,
+    rests_in: Option<NamedInstance>,
+    did: Did,
+    turn: u64,
+    mailbox: VecDeque<Term>,
+}
+
+impl Model for Ended {
+    ghost use Rattle.std.specs.Coded.{codes};
+    ghost use Rattle.erl_term.specs.contracts.term.Terms as terms;
+    ghost use Rattle.process.specs.Ended.{EndedState};
+
+    ghost Value = { EndedState };
+
+    ghost coded = { Prim.hlevel (codes, terms.the_row.coded) };
+
+    ghost view = { λ e. record { pid = e.pid; name = e.name; place = e.place; rests_in = e.rests_in; did = e.did; turn = e.turn; mailbox = e.mailbox.items } };
+}
+
+/// What tells the instances that a process uses.
+#[derive(Drop)]
+struct Told {
+    /// The instance of its place.
+    rests_in: Option<NamedInstance>,
+    /// The code that it runs in.
+    code: Row<NamedInstance>,
+}
+
+/// The instances that an ended process used, and the position of the message that it takes next.
+#[derive(Drop)]
+struct Found {
+    /// The instance of its place.
+    rests_in: Option<Instance>,
+    /// The code that it runs in.
+    code: Row<Instance>,
+    /// The position of the message that it takes next.
+    next: Option<usize>,
+}
+
+/// What tells the instance of a place, where there is one.
+fn place_told(
+    alloc: Global,
+    rests_in: Option<&Instance>,
+) -> Result<Option<NamedInstance>, AllocError>
+    ensures { IfOk result (λ it. it ≡ option_map named (option_copied rests_in.entry)) }
+{
+    let Some(it) = rests_in else {
+        return Ok(None);
+    };
+    Ok(Some(NamedInstance {
+        name: it.name.copy(alloc)?,
+        serial: it.serial,
+    }))
+}
+
+/// What tells the code that a process runs in.
+fn code_told(alloc: Global, activity: &Activity) -> Result<Row<NamedInstance>, AllocError>
+    ensures { IfOk result (λ it. it ≡ code_named activity.now) }
+{
+    match activity {
+        Activity::Idle | Activity::Suspended => Ok(Row::new(Vec::new(alloc))),
+        Activity::Runs(running) => Ok(Row::new(named_of(alloc, running.code.as_slice())?)),
+    }
+}
+
+/// The instance of a place, where there is one, in the table; none where it is not there.
+fn place_found(
+    alloc: Global,
+    modules: &Modules<Module>,
+    told: Option<&NamedInstance>,
+) -> Result<Option<Option<Instance>>, AllocError>
+    ensures { IfOk result (λ it. it ≡ rests_found modules.now (option_copied told.entry)) }
+{
+    let Some(told) = told else {
+        return Ok(Some(None));
+    };
+    match instance_of(alloc, modules, told)? {
+        Some(it) => Ok(Some(Some(it))),
+        None => Ok(None),
+    }
+}
+
+/// The code that a process runs in, in the table; none where some of it is not there.
+fn run_found(
+    alloc: Global,
+    modules: &Modules<Module>,
+    did: &Did,
+) -> Result<Option<Row<Instance>>, AllocError>
+    ensures { IfOk result (λ it. it ≡ code_found modules.now did.now) }
+{
+    let Did::Ran(ran) = did else {
+        return Ok(Some(Row::new(Vec::new(alloc))));
+    };
+    match instances_of(alloc, modules, ran.code.as_slice())? {
+        Some(code) => Ok(Some(Row::new(code))),
+        None => Ok(None),
+    }
+}
+
+impl Process {
+    /// What tells the instances that it uses.
+    fn told(&self, alloc: Global) -> Result<Told, AllocError>
+        ensures { IfOk result (λ told. ended_with told.rests_in told.code self.now ≡ ended self.now) }
+    {
+        Ok(Told {
+            rests_in: place_told(alloc, self.rests_in.as_ref())?,
+            code: code_told(alloc, &self.activity)?,
+        })
+    }
+
+    /// The process taken out, with its instances told so.
+    fn into_ended(self, told: Told) -> Ended
+        ensures { result ≡ ended_with told.rests_in told.code self }
+    {
+        let Process {
+            pid,
+            name,
+            place,
+            activity,
+            turn,
+            mailbox,
+            ..
+        } = self;
+        let Told { rests_in, code } = told;
+        let did = match activity {
+            Activity::Idle => Did::Idle,
+            Activity::Suspended => Did::Suspended,
+            Activity::Runs(running) => {
+                let Running {
+                    entry_serial,
+                    message,
+                    ..
+                } = running;
+                Did::Ran(NamedRunning {
+                    entry_serial,
+                    message,
+                    code,
+                })
+            }
+        };
+        Ended {
+            pid,
+            name,
+            place,
+            rests_in,
+            did,
+            turn,
+            mailbox,
+        }
+    }
+
+    /// Takes the process out whole, so that it can live again. It holds no code then.
+    ///
+    /// # Errors
+    ///
+    /// The process, as it was, where memory is refused.
+    pub fn end(self, alloc: Global) -> Result<Ended, Process>
+        ensures ok { IfOk result (λ it. it ≡ ended self) }
+        ensures err { IfErr result (λ it. it ≡ self) }
+    {
+        match self.told(alloc) {
+            Ok(told) => Ok(self.into_ended(told)),
+            Err(_) => Err(self),
+        }
+    }
+}
+
+impl Ended {
+    /// The instances that it used, in the table, and the message that it takes next; none where one of them is not there.
+    fn found(&self, alloc: Global, modules: &Modules<Module>) -> Result<Option<Found>, AllocError>
+        ensures is { IfOk result (λ it. IfSome it (λ found. lives modules.now self.now ≡ Some (lived found.rests_in found.code self.now))) }
+        ensures next { IfOk result (λ it. IfSome it (λ found. found.next ≡ awaited (lived found.rests_in found.code self.now))) }
+    {
+        let Some(rests_in) = place_found(alloc, modules, self.rests_in.as_ref())? else {
+            return Ok(None);
+        };
+        let Some(code) = run_found(alloc, modules, &self.did)? else {
+            return Ok(None);
+        };
+        let next = match &self.did {
+            Did::Ran(_) => None,
+            Did::Idle | Did::Suspended => {
+                first_of(
+                    alloc,
+                    self.pid,
+                    &self.place,
+                    rests_in.as_ref(),
+                    &self.mailbox,
+                )?
+            }
+        };
+        Ok(Some(Found {
+            rests_in,
+            code,
+            next,
+        }))
+    }
+
+    /// The process, with these instances.
+    fn into_live(self, found: Found) -> Process
+        requires { found.next ≡ awaited (lived found.rests_in found.code self) }
+        ensures { result ≡ lived found.rests_in found.code self }
+    {
+        let Ended {
+            pid,
+            name,
+            place,
+            did,
+            turn,
+            mailbox,
+            ..
+        } = self;
+        let Found {
+            rests_in,
+            code,
+            next,
+        } = found;
+        let activity = match did {
+            Did::Idle => Activity::Idle,
+            Did::Suspended => Activity::Suspended,
+            Did::Ran(ran) => {
+                let NamedRunning {
+                    entry_serial,
+                    message,
+                    ..
+                } = ran;
+                Activity::Runs(Running {
+                    entry_serial,
+                    message,
+                    code,
+                })
+            }
+        };
+        Process {
+            pid,
+            name,
+            place,
+            rests_in,
+            activity,
+            turn,
+            mailbox,
+            next,
+        }
+    }
+
+    /// The process lives again, with the instances that it used, as they stand in the table.
+    ///
+    /// # Errors
+    ///
+    /// The ended process, as it was, where memory is refused, and where one of the instances is not in the table.
+    pub fn live(self, alloc: Global, modules: &Modules<Module>) -> Result<Process, Ended>
+        ensures ok { IfOk result (λ it. lives modules.now self ≡ Some it) }
+        ensures err { IfErr result (λ it. it ≡ self) }
+    {
+        match self.found(alloc, modules) {
+            Ok(Some(found)) => Ok(self.into_live(found)),
+            Ok(None) | Err(_) => Err(self),
+        }
+    }
+}
+
+/// A law: a process that was taken out lives again, whole, where the instances that it uses stand in the table.
+pub fn ended_processes_live()
+    ensures { EndedProcessesLive }
+{}
