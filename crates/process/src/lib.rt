@@ -24,7 +24,8 @@
 //! - [`Process::job`] gives the job that the process runs, and [`Process::runs`] tells exactly whether it is one that is asked
 //!   about: pid, turn, place, serial, message and code.
 //!
-//! - [`Process::end`] gives all of a process but code, and [`Ended::live`] the process again, with the instances that the table
+//! - [`Process::end`] gives all of a process but code, as do [`Process::told`] and then [`Process::into_ended`], of which the second
+//!   takes no memory; and [`Ended::live`] the process again, with the instances that the table
 //!   of modules has under those names and serials. [`ended_processes_live`]: where the instances that it used stand in the
 //!   table, it is the process that it was.
 //!
@@ -45,4 +46,4 @@ mod activity;
 mod process;
 
 pub use activity::{Activity, Running};
-pub use process::{Did, Ended, NamedRunning, Process, Ran, ended_processes_live};
+pub use process::{Did, Ended, NamedRunning, Process, Ran, Told, ended_processes_live};

@@ -6,7 +6,7 @@ ghost use Rattle.process.specs.Process.{awaited, IsRunning, can_take, delivered,
 mod ending;
 
 use crate::activity::{Activity, Running};
-pub use ending::{Did, Ended, NamedRunning, ended_processes_live};
+pub use ending::{Did, Ended, NamedRunning, Told, ended_processes_live};
 use erl_eval::Place;
 use erl_machine::{Instance, Job, matches};
 use erl_term::{Atom, Term};

@@ -1,5 +1,2 @@
 pub mod Arriving
-pub mod Indexes
-pub mod Runs
-pub mod Slots
-pub mod Starting
+pub mod Jobs

@@ -3,7 +3,7 @@ use Rattle.std.specs.Prelude.{◌≡◌, ℕ, slice_get, Option, None, Some}
 use Rattle.erl_forms.specs.Module.{Forms}
 use Rattle.erl_machine.specs.declared.jobs.Job.{Job}
 use Rattle.code_server.specs.Modules.{Table as Loaded}
-use Rattle.process_table.specs.declared.living.Living.{Living}
+use Rattle.process_store.specs.declared.living.Living.{Living}
 use Rattle.process_table.specs.Steps.{IsCodeOf}
 
 -- the job of the message at a position of the mailbox, where there is one

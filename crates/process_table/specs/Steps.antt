@@ -1,6 +1,6 @@
 -- Steps of processes: why each is refused, in order, and the table after it (Erlang Reference Manual, Processes; gen_server
 -- behaviour).
-use Rattle.std.specs.Prelude.{◌≡◌, ℕ, ◌^◌, ◌<◌, ◌==◌, Bool, true, false, if◌then◌else◌, List, [], ◌∷◌, ◌++◌, map}
+use Rattle.std.specs.Prelude.{◌≡◌, ℕ, ◌^◌, ◌<◌, ◌==◌, Bool, true, false, if◌then◌else◌, List, [], map}
 use Rattle.std.specs.Prelude.{Option, None, Some, is_some, option_map}
 use Rattle.std.specs.List.{find}
 use Rattle.erl_term.specs.declared.term.Term.{Term}
@@ -14,16 +14,16 @@ use Rattle.job_code.specs.JobCode.{IsJobCode}
 use Rattle.erl_machine.specs.declared.jobs.Job.{Job}
 use Rattle.process.specs.declared.activity.Activity.{Activity}
 use Rattle.process.specs.declared.activity.Activity.TheVariants as activity
-use Rattle.process.specs.Process.{can_take, job_of, started}
+use Rattle.process.specs.Process.{can_take, job_of}
 use Rattle.process_index.specs.declared.calls.Call.{Call}
 use Rattle.process_table.specs.declared.body.Body.{Body}
 use Rattle.process_table.specs.declared.body.Body.TheVariants as body
 use Rattle.process_table.specs.declared.error.ProcError.{ProcError}
 use Rattle.process_table.specs.declared.error.ProcError.TheVariants.{NoProc, Suspended, Idle, Running, NotRunning, NameTaken, DuplicateCall, CounterEnd, Memory}
-use Rattle.process_table.specs.declared.living.Living.{Living}
-use Rattle.process_table.specs.Living.{arrived, run}
+use Rattle.process_store.specs.declared.living.Living.{Living}
+use Rattle.process_store.specs.Living.{arrived, run, takes_next}
 use Rattle.process_table.specs.Messages.{message_of}
-use Rattle.process_table.specs.Table.{Table, changed, is_open, living, next_pid, pid_of}
+use Rattle.process_store.specs.Table.{Table, added, changed, is_open, is_taken, living, next_pid, pid_of}
 
 -- The error of a step that has this refusal, or none: the refusal, or want of memory where there is none.
 abbrev pub Tells : ProcError → Option ProcError → Type 0
@@ -31,10 +31,6 @@ Tells Memory refusal = refusal ≡ None
 Tells e refusal = refusal ≡ Some e
 
 -- Start: a process rests at a place, under the next pid, and under a name, if it is to have one.
-
-abbrev pub is_taken : Option (List ℕ) → Table → Bool
-is_taken None t = false
-is_taken (Some name) t = is_some (pid_of name t)
 
 abbrev pub start_refusal : Option (List ℕ) → Table → Option ProcError
 start_refusal name t =
@@ -50,9 +46,7 @@ rests_in (Server m s) code = None
 rests_in (Loop m serial f args) code = loaded_as serial code
 
 abbrev pub with_process : Option (List ℕ) → Place → List Instance → Table → Table
-with_process name at code t = record {
-  slots = t.slots ++ Some (record { process = started (next_pid t) name at (rests_in at code); calls = [] }) ∷ [];
-}
+with_process name at code t = added name at (rests_in at code) t
 
 -- Arrive: a message of a client comes for the process of a name. A call is open from then on; no two open calls have one
 -- number, whoever asked, and a number is an integer of Erlang.
@@ -97,10 +91,6 @@ take_refusal_of (Some l) = resting_refusal l.process.activity (can_take l.proces
 
 abbrev pub take_refusal : ℕ → Table → Option ProcError
 take_refusal pid t = take_refusal_of (living pid t)
-
-abbrev pub takes_next : Option Living → Option ℕ
-takes_next None = None
-takes_next (Some l) = can_take l.process
 
 abbrev pub taken_at : Option ℕ → ℕ → ℕ → List Instance → Table → Table
 taken_at None pid entry_serial code t = t

@@ -26,14 +26,12 @@
 
 mod body;
 mod error;
-mod living;
-mod places;
 mod processes;
 mod taking;
 mod undo;
 
 pub use body::Body;
 pub use error::ProcError;
-pub use living::Living;
+pub use process_store::Living;
 pub use processes::Processes;
 pub use undo::Undo;

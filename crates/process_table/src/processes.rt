@@ -1,51 +1,41 @@
 // The processes of a node.
-ghost use Rattle.std.specs.Prelude.{◌≡◌, ◌-◌, ◌<◌, ◌↔◌, ◌++◌, ◌∷◌, [], ℕ, None, Some, length, take, vec_len, vec_capacity, IsTrue, IfOk, IfErr, IfSome, IsSome, OnOk, OnErr, false, map};
+ghost use Rattle.std.specs.Prelude.{◌≡◌, None, Some, IfOk, IfErr, OnOk, OnErr};
 ghost use Rattle.std.specs.Option.{option_copied};
-ghost use Rattle.process_table.specs.Indexed.{registered, unregistered};
-ghost use Rattle.process_table.specs.Table.{living_at};
 ghost use Rattle.process_table.specs.Steps.{loaded_as, rests_in};
 
 use crate::body::Body;
 use crate::error::ProcError;
-use crate::living::Living;
-use crate::places::{arrive_at, living, run_at, unarrive_at, untake_at};
 use crate::taking::{job_for, next_of};
 use crate::undo::Undo;
 use code_server::Modules;
 use erl_eval::Place;
 use erl_forms::Module;
 use erl_machine::{Instance, Job};
-use erl_term::{Atom, Term};
-use process::Process;
-use process_index::{Call, CallIndex, Calls, NameIndex, Owner};
+use erl_term::Atom;
+use process_store::{Living, ProcessStore};
 use std::alloc::{AllocError, Global};
 use std::hash::RandomState;
 use std::marker::Model;
-use values::{Duplicate, Row};
+use values::Duplicate;
 
-/// The processes of a node, by pid.
+/// The processes of a node.
 #[derive(Drop)]
 pub struct Processes {
     alloc: Global,
-    slots: Vec<Option<Living>>,
-    names: NameIndex,
-    open_calls: CallIndex,
+    store: ProcessStore,
 }
 
 impl Model for Processes {
     ghost use Rattle.std.specs.Coded.{codes};
     ghost use Rattle.erl_term.specs.contracts.term.Terms as terms;
     ghost use Rattle.erl_forms.specs.contracts.module.Module as modules;
-    ghost use Rattle.process_table.specs.Indexed.{IsIndexed};
-    ghost use Rattle.process_table.specs.Table.{Table};
+    ghost use Rattle.process_store.specs.Table.{Table};
 
     ghost Value = { Table };
 
     ghost coded = { Prim.hlevel (codes, terms.the_row.coded, modules.the_row.coded) };
 
-    ghost view = { λ p. record { slots = p.slots.items } };
-
-    ghost invariant = { λ p. IsIndexed p.names p.open_calls p.slots.items };
+    ghost view = { λ p. p.store };
 }
 
 /// The instance of a loop function's place, among the code in which it came to rest; none of a callback module's.
@@ -68,53 +58,10 @@ fn loaded_as(serial: u64, code: &[Instance]) -> Option<&Instance>
     code.iter().find(|instance| instance.serial == serial)
 }
 
-/// Registers a name, if there is one, for the process of a pid.
-#[tactic(auto, using(process_index::proofs::Index::names_laws))]
-fn register(
-    names: &mut NameIndex,
-    alloc: Global,
-    name: Option<&Atom>,
-    pid: u64,
-) -> Result<(), AllocError>
-    ensures ok { OnOk result (names.new ≡ registered (option_copied name.entry) pid names.old) }
-    ensures err { OnErr result (names.new ≡ names.old) }
-{
-    match name {
-        Some(name) => names.insert(name.copy(alloc)?, pid),
-        None => Ok(()),
-    }
-}
-
-/// Puts a process last, for which there is room.
-fn push_last(slots: &mut Vec<Option<Living>>, living: Living)
-    requires { vec_len slots.old < vec_capacity slots.old }
-    ensures { slots.new.items ≡ slots.old.items ++ Some living ∷ [] }
-{
-    let _ = slots.push(Some(living));
-}
-
-/// Takes the last process out, if one lives there.
-fn pop_last(slots: &mut Vec<Option<Living>>) -> Option<Living>
-    ensures rest { slots.new.items ≡ take (length slots.old.items - 1) slots.old.items }
-    ensures last { result ≡ living_at slots.old.items (length slots.old.items - 1) }
-{
-    slots.pop()?
-}
-
-/// A name is registered no more, if there is one.
-fn unregister(names: &mut NameIndex, name: Option<&Atom>)
-    ensures { names.new ≡ unregistered (option_copied name.entry) names.old }
-{
-    if let Some(name) = name {
-        names.remove(name);
-    }
-}
-
 impl Processes {
-    ghost use Rattle.process_table.specs.Living.{arrived, run, unarrived, untook};
     ghost use Rattle.process_table.specs.Steps.{IsCodeOf, IsNextRunnable, Tells, after_arrival, arrive_refusal, is_repeated, is_runnable, job_at, retake_refusal, start_refusal, take_refusal, taken, with_process};
-    ghost use Rattle.process_table.specs.Table.{changed, empty_table, is_open, living, next_pid, pid_of};
-    ghost use Rattle.process_table.specs.Undo.{Fits, WasCalled, WasTaken, undone};
+    ghost use Rattle.process_store.specs.Table.{empty_table, is_open, living, next_pid, pid_of};
+    ghost use Rattle.process_table.specs.Undo.{Fits, undone};
 
     /// No process. Names and numbers are hashed by keys that nobody outside knows.
     ///
@@ -128,42 +75,36 @@ impl Processes {
     ) -> Result<Processes, AllocError>
         ensures { IfOk result (λ it. it ≡ empty_table) }
     {
-        let mut slots = Vec::new(alloc);
-        slots.push(None)?;
-        Ok(Processes {
-            alloc,
-            slots,
-            names: NameIndex::new(alloc, names),
-            open_calls: CallIndex::new(alloc, numbers),
-        })
+        let store = ProcessStore::new(alloc, names, numbers)?;
+        Ok(Processes { alloc, store })
     }
 
     /// The process of a pid, where it lives. Takes no memory.
     pub fn get(&self, pid: u64) -> Option<&Living>
         ensures { option_copied result ≡ living pid self.now }
     {
-        living(self.slots.as_slice(), pid)
+        self.store.get(pid)
     }
 
     /// The process that is registered under a name, found by key. Takes no memory.
     pub fn pid_of(&self, name: &Atom) -> Option<u64>
         ensures { result ≡ pid_of name.now self.now }
     {
-        self.names.get(name)
+        self.store.pid_of(name)
     }
 
     /// Whether a call of a number is open, whoever asked whom. Found by key; takes no memory.
     pub fn is_open(&self, number: u64) -> bool
         ensures { result ≡ is_open number self.now }
     {
-        self.open_calls.get(number).is_some()
+        self.store.is_open(number)
     }
 
     /// Why a start under a name, or under none, would be refused, but for want of memory. Takes no memory.
     pub fn start_refusal(&self, name: Option<&Atom>) -> Option<ProcError>
         ensures { result ≡ start_refusal (option_copied name.entry) self.now }
     {
-        let _pids = self.slots.len();
+        let _pids = self.store.next_pid();
         match name {
             Some(name) => match self.pid_of(name) {
                 Some(_) => Some(ProcError::NameTaken),
@@ -196,15 +137,8 @@ impl Processes {
         if let Some(refusal) = self.start_refusal(name.as_ref()) {
             return Err(refusal);
         }
-        let pid = self.slots.len() as u64;
         let rests_in = rests_in(self.alloc, &place, code)?;
-        self.slots.reserve(1)?;
-        register(&mut self.names, self.alloc, name.as_ref(), pid)?;
-        let living = Living {
-            process: Process::new(self.alloc, pid, name, place, rests_in),
-            calls: Calls::new(self.alloc),
-        };
-        push_last(&mut self.slots, living);
+        let pid = self.store.add(name, place, rests_in)?;
         Ok((pid, Undo::Started))
     }
 
@@ -215,56 +149,6 @@ impl Processes {
         match body {
             Body::Call { number, .. } => self.is_open(*number),
             Body::Cast(_) | Body::Info(_) => false,
-        }
-    }
-
-    /// A message that is no call comes for a process that lives.
-    fn deliver_to(&mut self, pid: u64, message: Term) -> Result<(), AllocError>
-        requires { IsSome (living pid self.old) }
-        ensures ok { OnOk result (self.new ≡ changed (arrived message None) pid self.old) }
-        ensures fits { OnOk result (WasCalled None (living pid self.new)) }
-        ensures back { OnOk result (changed (unarrived None) pid self.new ≡ self.old) }
-        ensures err { OnErr result (self.new ≡ self.old) }
-    {
-        arrive_at(&mut self.slots, pid, self.alloc, message, None)?;
-        Ok(())
-    }
-
-    /// A call comes for a process that lives, and is open.
-    fn ask(&mut self, pid: u64, message: Term, call: Call) -> Result<(), AllocError>
-        requires lives { IsSome (living pid self.old) }
-        requires unasked { is_open call.number self.old ≡ false }
-        ensures ok { OnOk result (self.new ≡ changed (arrived message (Some call)) pid self.old) }
-        ensures fits { OnOk result (WasCalled (Some call) (living pid self.new)) }
-        ensures back { OnOk result (changed (unarrived (Some call)) pid self.new ≡ self.old) }
-        ensures err { OnErr result (self.new ≡ self.old) }
-    {
-        arrive_at(&mut self.slots, pid, self.alloc, message, Some(call))?;
-        let owner = Owner {
-            pid,
-            client: call.client,
-        };
-        match self.open_calls.insert(call.number, owner) {
-            Ok(()) => Ok(()),
-            Err(refused) => {
-                unarrive_at(&mut self.slots, pid, Some(call));
-                Err(refused)
-            }
-        }
-    }
-
-    /// A message comes for a process that lives, and the call that it is, if it is one, is open.
-    fn arrive_for(&mut self, pid: u64, message: Term, call: Option<Call>) -> Result<(), AllocError>
-        requires lives { IsSome (living pid self.old) }
-        requires unasked { IfSome call (λ c. is_open c.number self.old ≡ false) }
-        ensures ok { OnOk result (self.new ≡ changed (arrived message call) pid self.old) }
-        ensures fits { OnOk result (WasCalled call (living pid self.new)) }
-        ensures back { OnOk result (changed (unarrived call) pid self.new ≡ self.old) }
-        ensures err { OnErr result (self.new ≡ self.old) }
-    {
-        match call {
-            Some(call) => self.ask(pid, message, call),
-            None => self.deliver_to(pid, message),
         }
     }
 
@@ -294,7 +178,7 @@ impl Processes {
             Err(_) => return Err(ProcError::Memory),
         };
         let call = body.call(client);
-        match self.arrive_for(pid, message, call) {
+        match self.store.arrive(pid, message, call) {
             Ok(()) => Ok(Undo::Arrived { pid, call }),
             Err(_) => Err(ProcError::Memory),
         }
@@ -305,8 +189,7 @@ impl Processes {
     pub fn runnable(&self, after: u64) -> Option<u64>
         ensures { IsNextRunnable after result self.now }
     {
-        let count = self.slots.len() as u64;
-        for pid in after..count {
+        for pid in after..self.store.next_pid() {
             if after < pid && self.can_run(pid) {
                 return Some(pid);
             }
@@ -340,7 +223,7 @@ impl Processes {
         ensures refused { IfErr result (λ e. Tells e (take_refusal pid self.old)) }
         ensures err { OnErr result (self.new ≡ self.old) }
     {
-        let Some(living) = living(self.slots.as_slice(), pid) else {
+        let Some(living) = self.store.get(pid) else {
             return Err(ProcError::NoProc);
         };
         let position = match next_of(&living.process) {
@@ -353,15 +236,8 @@ impl Processes {
         let Ok(code) = job.code.copy(self.alloc) else {
             return Err(ProcError::Memory);
         };
-        self.run(pid, position, job.entry_serial, code);
+        self.store.run(pid, position, job.entry_serial, code);
         Ok((job, Undo::Taken { pid, position }))
-    }
-
-    /// The message at a position of a process is taken, and runs.
-    fn run(&mut self, pid: u64, position: usize, entry_serial: u64, code: Row<Instance>)
-        ensures { self.new ≡ changed (run position entry_serial code) pid self.old }
-    {
-        run_at(&mut self.slots, pid, position, entry_serial, code);
     }
 
     /// The job that a process runs.
@@ -383,37 +259,6 @@ impl Processes {
         }
     }
 
-    /// The last process goes, and its name is free.
-    fn unstart(&mut self)
-        requires { Fits Undo.Started self.old }
-        ensures { self.new ≡ undone Undo.Started self.old }
-    {
-        if let Some(living) = pop_last(&mut self.slots) {
-            unregister(&mut self.names, living.process.name());
-        }
-    }
-
-    /// The last message of a process goes, and the call that it is, if it is one, was never made.
-    fn unarrive(&mut self, pid: u64, call: Option<Call>)
-        requires { WasCalled call (living pid self.old) }
-        ensures { self.new ≡ changed (unarrived call) pid self.old }
-    {
-        unarrive_at(&mut self.slots, pid, call);
-        if let Some(call) = call {
-            self.open_calls.remove(call.number);
-        }
-    }
-
-    /// The message that a process runs is back at its position.
-    fn untake(&mut self, pid: u64, position: usize) -> Result<(), AllocError>
-        requires { WasTaken position (living pid self.old) }
-        ensures ok { OnOk result (self.new ≡ changed (untook position) pid self.old) }
-        ensures err { OnErr result (self.new ≡ self.old) }
-    {
-        untake_at(&mut self.slots, pid, position)?;
-        Ok(())
-    }
-
     /// Takes the newest step back.
     ///
     /// # Errors
@@ -427,14 +272,14 @@ impl Processes {
     {
         match undo {
             Undo::Started => {
-                self.unstart();
+                self.store.remove_last();
                 Ok(())
             }
             Undo::Arrived { pid, call } => {
-                self.unarrive(pid, call);
+                self.store.unarrive(pid, call);
                 Ok(())
             }
-            Undo::Taken { pid, position } => match self.untake(pid, position) {
+            Undo::Taken { pid, position } => match self.store.untake(pid, position) {
                 Ok(()) => Ok(()),
                 Err(_) => Err(Undo::Taken { pid, position }),
             },

@@ -5,13 +5,13 @@ ghost use Rattle.process_table.specs.Steps.{IsCode, IsCodeOf, entered, resting_r
 ghost use Rattle.process_table.specs.Jobs.{IsJobFor};
 
 use crate::error::ProcError;
-use crate::living::Living;
 use code_server::Modules;
 use erl_eval::Place;
 use erl_forms::Module;
 use erl_machine::{Instance, Job};
 use job_code::job_code;
 use process::{Activity, Process};
+use process_store::Living;
 use std::alloc::{AllocError, Global};
 use values::{Duplicate, Row};
 

@@ -64,13 +64,13 @@ impl Model for Ended {
     ghost view = { λ e. record { pid = e.pid; name = e.name; place = e.place; rests_in = e.rests_in; did = e.did; turn = e.turn; mailbox = e.mailbox.items } };
 }
 
-/// What tells the instances that a process uses.
+/// What tells the instances that a process uses: a name and a serial for each.
 #[derive(Drop)]
-struct Told {
-    /// The instance of its place.
-    rests_in: Option<NamedInstance>,
-    /// The code that it runs in.
-    code: Row<NamedInstance>,
+pub struct Told {
+    /// The instance of its place, where this is a loop function.
+    pub rests_in: Option<NamedInstance>,
+    /// The code that it runs in, in order, where it runs.
+    pub code: Row<NamedInstance>,
 }
 
 /// The instances that an ended process used, and the position of the message that it takes next.
@@ -146,7 +146,11 @@ fn run_found(
 
 impl Process {
     /// What tells the instances that it uses.
-    fn told(&self, alloc: Global) -> Result<Told, AllocError>
+    ///
+    /// # Errors
+    ///
+    /// `AllocError` where memory is refused.
+    pub fn told(&self, alloc: Global) -> Result<Told, AllocError>
         ensures { IfOk result (λ told. ended_with told.rests_in told.code self.now ≡ ended self.now) }
     {
         Ok(Told {
@@ -155,8 +159,8 @@ impl Process {
         })
     }
 
-    /// The process taken out, with its instances told so.
-    fn into_ended(self, told: Told) -> Ended
+    /// The process taken out whole, with its instances told so. Takes no memory.
+    pub fn into_ended(self, told: Told) -> Ended
         ensures { result ≡ ended_with told.rests_in told.code self }
     {
         let Process {

@@ -2,14 +2,14 @@
 use Rattle.std.proofs.Common.{ap, sym, ◌∙◌, arith, inl, inr}
 use Rattle.std.proofs.lemmas.Bool.{cases_lt}
 use Rattle.process_table.specs.Steps.{is_runnable}
-use Rattle.process_table.specs.Table.{living}
-use Rattle.process_table.proofs.Slots.{living_past}
+use Rattle.process_store.specs.Table.{living}
+use Rattle.process_store.proofs.Slots.{living_past}
 use Rattle.process_table.proofs.processes.Processes.runnable.Goals as goal
 
 pub returns : goal.returns
 returns c = λ pid above _. elim (cases_lt pid c.loop-pid.pid) [
   | inl below ↦ c.loop-pid.invariant pid above below
-  | inr past ↦ ap (λ t. is_runnable (living pid t)) (sym c.self.view_is) ∙ ap is_runnable (living_past c.self.inside.slots.items pid (omega (arith, past, c.loop-pid-test.false)))
+  | inr past ↦ ap (λ t. is_runnable (living pid t)) (sym c.self.view_is) ∙ ap is_runnable (living_past c.self.inside.store.slots pid (omega (arith, past, c.loop-pid-test.false, c.next_pid-pid-end.ensures)))
 ]
 
 pub returns-then-can_run : goal.returns-then-can_run

@@ -1,0 +1,5 @@
+pub mod Arriving
+pub mod Indexes
+pub mod Runs
+pub mod Slots
+pub mod Starting

@@ -1,0 +1,4 @@
+pub mod Indexed
+pub mod Inverses
+pub mod Living
+pub mod Table

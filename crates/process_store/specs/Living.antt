@@ -1,0 +1,35 @@
+-- A process that lives, and the calls that are open to it.
+use Rattle.std.specs.Prelude.{ℕ, List, Option, None, Some}
+use Rattle.erl_term.specs.declared.term.Term.{Term}
+use Rattle.erl_steps.specs.declared.world.Instance.{Instance}
+use Rattle.process.specs.Process.{can_take, delivered, run_at, undelivered, untaken}
+use Rattle.process_index.specs.Calls.{with_call, without}
+use Rattle.process_index.specs.declared.calls.Call.{Call}
+use Rattle.process_store.specs.declared.living.Living.{Living}
+
+abbrev pub opened : Option Call → List Call → List Call
+opened None calls = calls
+opened (Some c) calls = with_call c calls
+
+abbrev pub closed : Option Call → List Call → List Call
+closed None calls = calls
+closed (Some c) calls = without c calls
+
+-- a message has come, and the call that it is, if it is one, is open
+abbrev pub arrived : Term → Option Call → Living → Living
+arrived message call l = record { process = delivered message l.process; calls = opened call l.calls }
+
+abbrev pub unarrived : Option Call → Living → Living
+unarrived call l = record { process = undelivered l.process; calls = closed call l.calls }
+
+-- the message at a position is taken, and runs
+abbrev pub run : ℕ → ℕ → List Instance → Living → Living
+run position entry_serial code l = record l { process = run_at position entry_serial code l.process }
+
+abbrev pub untook : ℕ → Living → Living
+untook position l = record l { process = untaken position l.process }
+
+-- the position of the message that it would take now, where it lives
+abbrev pub takes_next : Option Living → Option ℕ
+takes_next None = None
+takes_next (Some l) = can_take l.process

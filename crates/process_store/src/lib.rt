@@ -1,0 +1,29 @@
+//! The processes of a node by pid, with an index of names and one of open calls, and the elementary changes of them.
+//!
+//! [`ProcessStore`] holds each process in the slot of its pid, together with the calls that are open to it. A change touches one
+//! process and what the indexes say of it; beside each change stands the one that takes it back. What a step of the node is made
+//! of, and when it is refused, is said by the crates above.
+//!
+//! # What is proved
+//!
+//! - Each change is a stated function of the table (`specs/Table`, `specs/Living`), and so is the one that takes it back; a clause
+//!   `back` says that the second gives the table before the first, whole, and a clause `fits` that it may be asked for. Where
+//!   memory is refused the processes are as they were.
+//! - [`ProcessStore::pid_of`] and [`ProcessStore::is_open`] find by key what stands in the table: the type keeps both indexes right
+//!   (`IsIndexed`).
+//! - A name and an open call stand in the process that has them, so each is a living one's. A suspended process runs nothing, by
+//!   the type of what a process does.
+//!
+//! # What no contract says
+//!
+//! That there is memory, and what a call costs. A name and the number of a call are found by hash. A change touches one process.
+//! The slot of a process that has ended stays, for a pid is not given again: processes are started by applications alone, so there
+//! are not many.
+#![tactic(auto)]
+
+mod living;
+mod places;
+mod store;
+
+pub use living::Living;
+pub use store::ProcessStore;

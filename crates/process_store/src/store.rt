@@ -1,0 +1,270 @@
+// The processes of a node by pid, and where each is found.
+ghost use Rattle.std.specs.Prelude.{◌≡◌, ◌-◌, ◌<◌, ◌++◌, ◌∷◌, [], ℕ, None, Some, length, take, vec_len, vec_capacity, IfOk, IfSome, IsSome, OnOk, OnErr, false, option_map};
+ghost use Rattle.std.specs.Option.{option_copied};
+ghost use Rattle.process_store.specs.Indexed.{registered, unregistered};
+ghost use Rattle.process_store.specs.Table.{living_at};
+
+use crate::living::Living;
+use crate::places::{arrive_at, living, run_at, unarrive_at, untake_at};
+use erl_eval::Place;
+use erl_machine::Instance;
+use erl_term::{Atom, Term};
+use process::Process;
+use process_index::{Call, CallIndex, Calls, NameIndex, Owner};
+use std::alloc::{AllocError, Global};
+use std::hash::RandomState;
+use std::marker::Model;
+use values::{Duplicate, Row};
+
+/// The processes of a node, by pid.
+#[derive(Drop)]
+pub struct ProcessStore {
+    alloc: Global,
+    slots: Vec<Option<Living>>,
+    names: NameIndex,
+    open_calls: CallIndex,
+}
+
+impl Model for ProcessStore {
+    ghost use Rattle.std.specs.Coded.{codes};
+    ghost use Rattle.erl_term.specs.contracts.term.Terms as terms;
+    ghost use Rattle.erl_forms.specs.contracts.module.Module as modules;
+    ghost use Rattle.process_store.specs.Indexed.{IsIndexed};
+    ghost use Rattle.process_store.specs.Table.{Table};
+
+    ghost Value = { Table };
+
+    ghost coded = { Prim.hlevel (codes, terms.the_row.coded, modules.the_row.coded) };
+
+    ghost view = { λ p. record { slots = p.slots.items } };
+
+    ghost invariant = { λ p. IsIndexed p.names p.open_calls p.slots.items };
+}
+
+/// Registers a name, if there is one, for the process of a pid.
+#[tactic(auto, using(process_index::proofs::Index::names_laws))]
+fn register(
+    names: &mut NameIndex,
+    alloc: Global,
+    name: Option<&Atom>,
+    pid: u64,
+) -> Result<(), AllocError>
+    ensures ok { OnOk result (names.new ≡ registered (option_copied name.entry) pid names.old) }
+    ensures err { OnErr result (names.new ≡ names.old) }
+{
+    match name {
+        Some(name) => names.insert(name.copy(alloc)?, pid),
+        None => Ok(()),
+    }
+}
+
+/// Puts a process last, for which there is room.
+fn push_last(slots: &mut Vec<Option<Living>>, living: Living)
+    requires { vec_len slots.old < vec_capacity slots.old }
+    ensures { slots.new.items ≡ slots.old.items ++ Some living ∷ [] }
+{
+    let _ = slots.push(Some(living));
+}
+
+/// Takes the last process out, if one lives there.
+fn pop_last(slots: &mut Vec<Option<Living>>) -> Option<Living>
+    ensures rest { slots.new.items ≡ take (length slots.old.items - 1) slots.old.items }
+    ensures last { result ≡ living_at slots.old.items (length slots.old.items - 1) }
+{
+    slots.pop()?
+}
+
+/// A name is registered no more, if there is one.
+fn unregister(names: &mut NameIndex, name: Option<&Atom>)
+    ensures { names.new ≡ unregistered (option_copied name.entry) names.old }
+{
+    if let Some(name) = name {
+        names.remove(name);
+    }
+}
+
+impl ProcessStore {
+    ghost use Rattle.process_store.specs.Inverses.{WasCalled, WasStarted, WasTaken};
+    ghost use Rattle.process_store.specs.Living.{arrived, run, takes_next, unarrived, untook};
+    ghost use Rattle.process_store.specs.Table.{added, changed, empty_table, is_open, is_taken, living, next_pid, pid_of, without_last};
+
+    /// No process. Names and numbers are hashed by keys that nobody outside knows.
+    ///
+    /// # Errors
+    ///
+    /// `AllocError` where memory is refused.
+    pub fn new(
+        alloc: Global,
+        names: RandomState,
+        numbers: RandomState,
+    ) -> Result<ProcessStore, AllocError>
+        ensures { IfOk result (λ it. it ≡ empty_table) }
+    {
+        let mut slots = Vec::new(alloc);
+        slots.push(None)?;
+        Ok(ProcessStore {
+            alloc,
+            slots,
+            names: NameIndex::new(alloc, names),
+            open_calls: CallIndex::new(alloc, numbers),
+        })
+    }
+
+    /// The pid that the next process gets. Takes no memory.
+    pub fn next_pid(&self) -> u64
+        ensures { result ≡ next_pid self.now }
+    {
+        self.slots.len() as u64
+    }
+
+    /// The process of a pid, where it lives. Takes no memory.
+    pub fn get(&self, pid: u64) -> Option<&Living>
+        ensures { option_copied result ≡ living pid self.now }
+    {
+        living(self.slots.as_slice(), pid)
+    }
+
+    /// The process that is registered under a name, found by key. Takes no memory.
+    pub fn pid_of(&self, name: &Atom) -> Option<u64>
+        ensures { result ≡ pid_of name.now self.now }
+    {
+        self.names.get(name)
+    }
+
+    /// Whether a call of a number is open, whoever asked whom. Found by key; takes no memory.
+    pub fn is_open(&self, number: u64) -> bool
+        ensures { result ≡ is_open number self.now }
+    {
+        self.open_calls.get(number).is_some()
+    }
+
+    /// One more process: it rests at a place, under the next pid and under a name that is free, if it is to have one. The pid is
+    /// handed out.
+    ///
+    /// # Errors
+    ///
+    /// `AllocError` where memory is refused. The processes are then as they were; the name and the place are dropped.
+    pub fn add(
+        &mut self,
+        name: Option<Atom>,
+        place: Place,
+        rests_in: Option<Instance>,
+    ) -> Result<u64, AllocError>
+        requires { is_taken name self.old ≡ false }
+        ensures pid { IfOk result (λ pid. pid ≡ next_pid self.old) }
+        ensures ok { OnOk result (self.new ≡ added name place rests_in self.old) }
+        ensures fits { OnOk result (WasStarted (living (next_pid self.new - 1) self.new)) }
+        ensures back { OnOk result (without_last self.new ≡ self.old) }
+        ensures err { OnErr result (self.new ≡ self.old) }
+    {
+        let pid = self.slots.len() as u64;
+        self.slots.reserve(1)?;
+        register(&mut self.names, self.alloc, name.as_ref(), pid)?;
+        let living = Living {
+            process: Process::new(self.alloc, pid, name, place, rests_in),
+            calls: Calls::new(self.alloc),
+        };
+        push_last(&mut self.slots, living);
+        Ok(pid)
+    }
+
+    /// The last process goes, and its name is free. Takes no memory.
+    pub fn remove_last(&mut self)
+        requires { WasStarted (living (next_pid self.old - 1) self.old) }
+        ensures { self.new ≡ without_last self.old }
+    {
+        if let Some(living) = pop_last(&mut self.slots) {
+            unregister(&mut self.names, living.process.name());
+        }
+    }
+
+    /// A message that is no call comes for a process that lives.
+    fn deliver_to(&mut self, pid: u64, message: Term) -> Result<(), AllocError>
+        requires { IsSome (living pid self.old) }
+        ensures ok { OnOk result (self.new ≡ changed (arrived message None) pid self.old) }
+        ensures fits { OnOk result (WasCalled None (living pid self.new)) }
+        ensures back { OnOk result (changed (unarrived None) pid self.new ≡ self.old) }
+        ensures err { OnErr result (self.new ≡ self.old) }
+    {
+        arrive_at(&mut self.slots, pid, self.alloc, message, None)?;
+        Ok(())
+    }
+
+    /// A call comes for a process that lives, and is open.
+    fn ask(&mut self, pid: u64, message: Term, call: Call) -> Result<(), AllocError>
+        requires lives { IsSome (living pid self.old) }
+        requires unasked { is_open call.number self.old ≡ false }
+        ensures ok { OnOk result (self.new ≡ changed (arrived message (Some call)) pid self.old) }
+        ensures fits { OnOk result (WasCalled (Some call) (living pid self.new)) }
+        ensures back { OnOk result (changed (unarrived (Some call)) pid self.new ≡ self.old) }
+        ensures err { OnErr result (self.new ≡ self.old) }
+    {
+        arrive_at(&mut self.slots, pid, self.alloc, message, Some(call))?;
+        let owner = Owner {
+            pid,
+            client: call.client,
+        };
+        match self.open_calls.insert(call.number, owner) {
+            Ok(()) => Ok(()),
+            Err(refused) => {
+                unarrive_at(&mut self.slots, pid, Some(call));
+                Err(refused)
+            }
+        }
+    }
+
+    /// A message comes for a process that lives, and goes last in its mailbox; the call that it is, if it is one, is open then.
+    ///
+    /// # Errors
+    ///
+    /// `AllocError` where memory is refused. The processes are then as they were.
+    pub fn arrive(&mut self, pid: u64, message: Term, call: Option<Call>) -> Result<(), AllocError>
+        requires lives { IsSome (living pid self.old) }
+        requires unasked { IfSome call (λ c. is_open c.number self.old ≡ false) }
+        ensures ok { OnOk result (self.new ≡ changed (arrived message call) pid self.old) }
+        ensures fits { OnOk result (WasCalled call (living pid self.new)) }
+        ensures back { OnOk result (changed (unarrived call) pid self.new ≡ self.old) }
+        ensures err { OnErr result (self.new ≡ self.old) }
+    {
+        match call {
+            Some(call) => self.ask(pid, message, call),
+            None => self.deliver_to(pid, message),
+        }
+    }
+
+    /// The last message of a process goes, and the call that it is, if it is one, was never made. Takes no memory.
+    pub fn unarrive(&mut self, pid: u64, call: Option<Call>)
+        requires { WasCalled call (living pid self.old) }
+        ensures { self.new ≡ changed (unarrived call) pid self.old }
+    {
+        unarrive_at(&mut self.slots, pid, call);
+        if let Some(call) = call {
+            self.open_calls.remove(call.number);
+        }
+    }
+
+    /// A process takes the message at the position of the next that it takes, and runs it, in this code. Takes no memory.
+    pub fn run(&mut self, pid: u64, position: usize, entry_serial: u64, code: Row<Instance>)
+        requires { takes_next (living pid self.old) ≡ Some position }
+        ensures runs { self.new ≡ changed (run position entry_serial code) pid self.old }
+        ensures process { living pid self.new ≡ option_map (run position entry_serial code) (living pid self.old) }
+        ensures fits { WasTaken position (living pid self.new) }
+        ensures back { changed (untook position) pid self.new ≡ self.old }
+    {
+        run_at(&mut self.slots, pid, position, entry_serial, code);
+    }
+
+    /// The message that a process runs is back at its position, and the process rests.
+    ///
+    /// # Errors
+    ///
+    /// `AllocError` where memory is refused. The processes are then as they were.
+    pub fn untake(&mut self, pid: u64, position: usize) -> Result<(), AllocError>
+        requires { WasTaken position (living pid self.old) }
+        ensures ok { OnOk result (self.new ≡ changed (untook position) pid self.old) }
+        ensures err { OnErr result (self.new ≡ self.old) }
+    {
+        untake_at(&mut self.slots, pid, position)?;
+        Ok(())
+    }
+}
