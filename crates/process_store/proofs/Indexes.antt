@@ -66,7 +66,7 @@ unasked_calls (c ∷ cs) number never =
     let rest = unasked_calls cs number (λ client. or_false (is_same (record { client = client; number = number }) c) (has (record { client = client; number = number }) cs) (never client)) in
     grind (arith, common_steps, here, rest)
 
-asked_calls : (cs : List Call) (number client : ℕ) → has (record { client = client; number = number }) cs ≡ true → has_number number cs ≡ true
+pub asked_calls : (cs : List Call) (number client : ℕ) → has (record { client = client; number = number }) cs ≡ true → has_number number cs ≡ true
 asked_calls [] number client is = is
 asked_calls (c ∷ cs) number client is =
     elim (nat_eq c.number number) as (λ b. nat_eq c.number number ≡ b → cond b true (has_number number cs) ≡ true) [
@@ -122,7 +122,7 @@ IsIndexed-kept f same_name same_calls names open_calls slots pid indexed = recor
 
 -- one more process, without calls, under the next pid
 
-same_name : (m n : List ℕ) → bytes_eq m n ≡ true → m ≡ n
+pub same_name : (m n : List ℕ) → bytes_eq m n ≡ true → m ≡ n
 same_name m n e = (bytes_eq-Decides m n).0 e
 
 named_last : (m n : List ℕ) (p q : ℕ) (there : Option ℕ) (found last : Bool) → is_pid q there ≡ found → (nat_eq p q ≡ true → last ≡ bytes_eq m n) → (nat_eq p q ≡ false → last ≡ found) → (bytes_eq m n ≡ true → there ≡ None) → (nat_eq p q ≡ true → found ≡ false) → is_pid q (cond (bytes_eq m n) (Some p) there) ≡ last
@@ -142,7 +142,7 @@ not_within : (n q : ℕ) → nat_eq n q ≡ false → n ≡ q → ⊥
 not_within n q e is = let same = eq-eqb n q is in let clash : true ≡ false = sym same ∙ e in grind (arith, common_steps, clash)
 
 -- of a name that one process has, nobody else is told
-other_pid : (there : Option ℕ) (p q : ℕ) → is_pid p there ≡ true → nat_eq p q ≡ false → is_pid q there ≡ false
+pub other_pid : (there : Option ℕ) (p q : ℕ) → is_pid p there ≡ true → nat_eq p q ≡ false → is_pid q there ≡ false
 other_pid None p q is apart = refl
 other_pid (Some r) p q is apart = let same = eqb-true r p is in ap (λ k. nat_eq k q) same ∙ apart
 
@@ -188,7 +188,7 @@ IsIndexed-unstarted names open_calls slots l indexed uncalled given = record {
 }
 
 -- who is told of a number is told of it alone
-owner_told : (there : Option Owner) (pid q c client : ℕ) → is_owner pid c there ≡ true → is_owner q client there ≡ (nat_eq pid q && nat_eq c client)
+pub owner_told : (there : Option Owner) (pid q c client : ℕ) → is_owner pid c there ≡ true → is_owner q client there ≡ (nat_eq pid q && nat_eq c client)
 owner_told None pid q c client is = absurd (grind (arith, common_steps, is))
 owner_told (Some o) pid q c client is = grind (arith, nat_tests, is)
 

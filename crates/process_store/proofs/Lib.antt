@@ -3,3 +3,5 @@ pub mod Indexes
 pub mod Runs
 pub mod Slots
 pub mod Starting
+pub mod Suspending
+pub mod Vacating

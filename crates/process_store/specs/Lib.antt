@@ -1,4 +1,6 @@
+pub mod Changes
 pub mod Indexed
 pub mod Inverses
 pub mod Living
 pub mod Table
+pub mod Vacating

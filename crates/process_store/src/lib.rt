@@ -11,6 +11,8 @@
 //!   memory is refused the processes are as they were.
 //! - [`ProcessStore::pid_of`] and [`ProcessStore::is_open`] find by key what stands in the table: the type keeps both indexes right
 //!   (`IsIndexed`).
+//! - [`ProcessStore::remove`] takes a process out of its slot, with its name and its open calls (`vacated`), and such a process can
+//!   always come back (`CanReturn`). [`ProcessStore::restore`] puts it into its slot again, or leaves all as it was (`occupied`).
 //! - A name and an open call stand in the process that has them, so each is a living one's. A suspended process runs nothing, by
 //!   the type of what a process does.
 //!

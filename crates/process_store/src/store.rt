@@ -4,6 +4,9 @@ ghost use Rattle.std.specs.Option.{option_copied};
 ghost use Rattle.process_store.specs.Indexed.{registered, unregistered};
 ghost use Rattle.process_store.specs.Table.{living_at};
 
+mod changing;
+mod vacating;
+
 use crate::living::Living;
 use crate::places::{arrive_at, living, run_at, unarrive_at, untake_at};
 use erl_eval::Place;

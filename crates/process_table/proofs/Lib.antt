@@ -1,2 +1,3 @@
 pub mod Arriving
+pub mod Ending
 pub mod Jobs

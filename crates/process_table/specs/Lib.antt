@@ -1,4 +1,5 @@
 pub mod Jobs
 pub mod Messages
 pub mod Steps
+pub mod Told
 pub mod Undo

@@ -28,10 +28,12 @@ mod body;
 mod error;
 mod processes;
 mod taking;
+mod told;
 mod undo;
 
 pub use body::Body;
 pub use error::ProcError;
 pub use process_store::Living;
 pub use processes::Processes;
-pub use undo::Undo;
+pub use told::{Reply, ReplyBody};
+pub use undo::{EndedProcess, Undo};

@@ -2,16 +2,19 @@
 ghost use Rattle.std.specs.Prelude.{◌≡◌, None, Some, IfOk, IfErr, OnOk, OnErr};
 ghost use Rattle.std.specs.Option.{option_copied};
 ghost use Rattle.process_table.specs.Steps.{loaded_as, rests_in};
+ghost use Rattle.process_table.specs.Undo.{ended_as};
 
 use crate::body::Body;
 use crate::error::ProcError;
 use crate::taking::{job_for, next_of};
-use crate::undo::Undo;
+use crate::told::{Reply, downs_of};
+use crate::undo::{EndedProcess, Undo};
 use code_server::Modules;
 use erl_eval::Place;
 use erl_forms::Module;
 use erl_machine::{Instance, Job};
-use erl_term::Atom;
+use erl_term::{Atom, Term};
+use process::Told;
 use process_store::{Living, ProcessStore};
 use std::alloc::{AllocError, Global};
 use std::hash::RandomState;
@@ -58,10 +61,25 @@ fn loaded_as(serial: u64, code: &[Instance]) -> Option<&Instance>
     code.iter().find(|instance| instance.serial == serial)
 }
 
+/// A process that was taken out of its slot, as it was, but with its instances told so.
+fn ended_process(pid: u64, living: Living, told: Told) -> EndedProcess
+    ensures { result ≡ ended_as pid told.rests_in told.code living }
+{
+    let Living { process, calls } = living;
+    EndedProcess {
+        pid,
+        process: process.into_ended(told),
+        calls,
+    }
+}
+
 impl Processes {
-    ghost use Rattle.process_table.specs.Steps.{IsCodeOf, IsNextRunnable, Tells, after_arrival, arrive_refusal, is_repeated, is_runnable, job_at, retake_refusal, start_refusal, take_refusal, taken, with_process};
-    ghost use Rattle.process_store.specs.Table.{empty_table, is_open, living, next_pid, pid_of};
-    ghost use Rattle.process_table.specs.Undo.{Fits, undone};
+    ghost use Rattle.process_table.specs.Steps.{IsCodeOf, IsNextRunnable, Tells, after_arrival, arrive_refusal, is_repeated, is_runnable, job_at, missing, retake_refusal, start_refusal, take_refusal, taken, with_process};
+    ghost use Rattle.process_store.specs.Table.{changed, empty_table, is_open, living, next_pid, pid_of};
+    ghost use Rattle.process_store.specs.Changes.{resume_living, suspend_living};
+    ghost use Rattle.process_store.specs.Vacating.{vacated};
+    ghost use Rattle.process_table.specs.Told.{downs};
+    ghost use Rattle.process_table.specs.Undo.{Fits, TakesBack, undone};
 
     /// No process. Names and numbers are hashed by keys that nobody outside knows.
     ///
@@ -130,7 +148,7 @@ impl Processes {
         ensures ok { OnOk result (start_refusal name self.old ≡ None) }
         ensures pid { IfOk result (λ it. it.0 ≡ next_pid self.old) }
         ensures started { OnOk result (self.new ≡ with_process name place code.now self.old) }
-        ensures inverse { IfOk result (λ it. Fits it.1 self.new × (undone it.1 self.new ≡ self.old)) }
+        ensures inverse { IfOk result (λ it. TakesBack it.1 self.old self.new) }
         ensures refused { IfErr result (λ e. Tells e (start_refusal name self.old)) }
         ensures err { OnErr result (self.new ≡ self.old) }
     {
@@ -162,7 +180,7 @@ impl Processes {
     pub fn arrive(&mut self, client: u64, name: &Atom, body: &Body) -> Result<Undo, ProcError>
         ensures ok { OnOk result (arrive_refusal name.now body.now self.old ≡ None) }
         ensures arrived { OnOk result (self.new ≡ after_arrival client name.now body.now self.old) }
-        ensures inverse { IfOk result (λ undo. Fits undo self.new × (undone undo self.new ≡ self.old)) }
+        ensures inverse { IfOk result (λ undo. TakesBack undo self.old self.new) }
         ensures refused { IfErr result (λ e. Tells e (arrive_refusal name.now body.now self.old)) }
         ensures err { OnErr result (self.new ≡ self.old) }
     {
@@ -219,7 +237,7 @@ impl Processes {
         ensures code { IfOk result (λ it. IsCodeOf modules.now (living pid self.old) it.0) }
         ensures taken { IfOk result (λ it. self.new ≡ taken pid it.0.entry_serial it.0.code self.old) }
         ensures job { IfOk result (λ it. job_at (living pid self.new) ≡ Some it.0) }
-        ensures inverse { IfOk result (λ it. Fits it.1 self.new × (undone it.1 self.new ≡ self.old)) }
+        ensures inverse { IfOk result (λ it. TakesBack it.1 self.old self.new) }
         ensures refused { IfErr result (λ e. Tells e (take_refusal pid self.old)) }
         ensures err { OnErr result (self.new ≡ self.old) }
     {
@@ -259,14 +277,125 @@ impl Processes {
         }
     }
 
-    /// Takes the newest step back.
+    /// A process takes no message until it is resumed, where it rests; one that runs goes on.
+    ///
+    /// # Errors
+    ///
+    /// `NoProc` where no process has the pid. Takes no memory.
+    pub fn suspend(&mut self, pid: u64) -> Result<Undo, ProcError>
+        ensures suspended { OnOk result (self.new ≡ changed suspend_living pid self.old) }
+        ensures inverse { IfOk result (λ undo. TakesBack undo self.old self.new) }
+        ensures ok { OnOk result (missing pid self.old ≡ None) }
+        ensures refused { IfErr result (λ e. missing pid self.old ≡ Some e) }
+        ensures err { OnErr result (self.new ≡ self.old) }
+    {
+        if self.store.get(pid).is_none() {
+            return Err(ProcError::NoProc);
+        }
+        let was_suspended = self.store.suspend(pid);
+        Ok(Undo::Suspension { pid, was_suspended })
+    }
+
+    /// A process takes messages again, where it is suspended.
+    ///
+    /// # Errors
+    ///
+    /// `NoProc` where no process has the pid. Takes no memory.
+    pub fn resume(&mut self, pid: u64) -> Result<Undo, ProcError>
+        ensures resumed { OnOk result (self.new ≡ changed resume_living pid self.old) }
+        ensures inverse { IfOk result (λ undo. TakesBack undo self.old self.new) }
+        ensures ok { OnOk result (missing pid self.old ≡ None) }
+        ensures refused { IfErr result (λ e. missing pid self.old ≡ Some e) }
+        ensures err { OnErr result (self.new ≡ self.old) }
+    {
+        if self.store.get(pid).is_none() {
+            return Err(ProcError::NoProc);
+        }
+        let was_suspended = self.store.resume(pid);
+        Ok(Undo::Suspension { pid, was_suspended })
+    }
+
+    /// What clients would be told where a process ended now: of each open call of it that it is down, and for what reason, in order of
+    /// client and number. Nothing, where no process has the pid.
+    ///
+    /// # Errors
+    ///
+    /// `AllocError` where memory is refused.
+    pub fn downs(&self, pid: u64, reason: &Term) -> Result<Vec<Reply>, AllocError>
+        ensures { IfOk result (λ it. it.items ≡ downs reason.now (living pid self.now)) }
+    {
+        match self.store.get(pid) {
+            Some(living) => downs_of(self.alloc, living.calls.as_slice(), reason),
+            None => Ok(Vec::new(self.alloc)),
+        }
+    }
+
+    /// A process ends: it leaves, with its name, its mailbox and its open calls. What its clients are told is asked of
+    /// [`Processes::downs`] before.
+    ///
+    /// # Errors
+    ///
+    /// In this order: `NoProc` where no process has the pid, `Memory`. The table is then as it was.
+    pub fn end(&mut self, pid: u64) -> Result<Undo, ProcError>
+        ensures ended { OnOk result (self.new ≡ vacated pid self.old) }
+        ensures inverse { IfOk result (λ undo. TakesBack undo self.old self.new) }
+        ensures ok { OnOk result (missing pid self.old ≡ None) }
+        ensures refused { IfErr result (λ e. Tells e (missing pid self.old)) }
+        ensures err { OnErr result (self.new ≡ self.old) }
+    {
+        let Some(living) = self.store.get(pid) else {
+            return Err(ProcError::NoProc);
+        };
+        let Ok(told) = living.process.told(self.alloc) else {
+            return Err(ProcError::Memory);
+        };
+        match self.store.remove(pid) {
+            Some(living) => Ok(Undo::Ended(ended_process(pid, living, told))),
+            None => unreachable!(),
+        }
+    }
+
+    /// A process that has ended lives again.
+    fn return_ended(
+        &mut self,
+        modules: &Modules<Module>,
+        ended: EndedProcess,
+    ) -> Result<(), EndedProcess>
+        requires { Fits modules.now (Undo.Ended ended) self.old }
+        ensures ok { OnOk result (self.new ≡ undone modules.now (Undo.Ended ended) self.old) }
+        ensures back { IfErr result (λ it. it ≡ ended) }
+        ensures err { OnErr result (self.new ≡ self.old) }
+    {
+        let EndedProcess {
+            pid,
+            process,
+            calls,
+        } = ended;
+        let (process, told) = match process.live(self.alloc, modules) {
+            Ok(lives) => lives,
+            Err(process) => {
+                return Err(EndedProcess {
+                    pid,
+                    process,
+                    calls,
+                });
+            }
+        };
+        match self.store.restore(pid, Living { process, calls }) {
+            Ok(()) => Ok(()),
+            Err(living) => Err(ended_process(pid, living, told)),
+        }
+    }
+
+    /// Takes the newest step back. A process that has ended lives again with the instances that it used, as they stand in the table of
+    /// modules.
     ///
     /// # Errors
     ///
     /// The undo, where memory is refused. The table is then as it was.
-    pub fn revert(&mut self, undo: Undo) -> Result<(), Undo>
-        requires { Fits undo self.old }
-        ensures ok { OnOk result (self.new ≡ undone undo self.old) }
+    pub fn revert(&mut self, modules: &Modules<Module>, undo: Undo) -> Result<(), Undo>
+        requires { Fits modules.now undo self.old }
+        ensures ok { OnOk result (self.new ≡ undone modules.now undo self.old) }
         ensures back { IfErr result (λ it. it ≡ undo) }
         ensures err { OnErr result (self.new ≡ self.old) }
     {
@@ -282,6 +411,14 @@ impl Processes {
             Undo::Taken { pid, position } => match self.store.untake(pid, position) {
                 Ok(()) => Ok(()),
                 Err(_) => Err(Undo::Taken { pid, position }),
+            },
+            Undo::Suspension { pid, was_suspended } => {
+                self.store.set_suspended(pid, was_suspended);
+                Ok(())
+            }
+            Undo::Ended(ended) => match self.return_ended(modules, ended) {
+                Ok(()) => Ok(()),
+                Err(ended) => Err(Undo::Ended(ended)),
             },
         }
     }

@@ -1,7 +1,20 @@
 // What takes a step back.
-use process_index::Call;
+use process::Ended;
+use process_index::{Call, Calls};
 
-/// What takes one step of the processes back: what the step has left, by pids, positions and numbers.
+/// A process that has ended, with the calls that were open to it.
+#[derive(Drop)]
+pub struct EndedProcess {
+    /// Its pid.
+    pub pid: u64,
+    /// The process, whole.
+    pub process: Ended,
+    /// The calls that clients made to it, and that were not answered.
+    pub calls: Calls,
+}
+
+/// What takes one step of the processes back: what the step has left, by pids, positions and numbers, and of a process
+/// that has ended the whole of it.
 #[derive(Drop)]
 pub enum Undo {
     /// A process was started, the last.
@@ -20,4 +33,13 @@ pub enum Undo {
         /// The position of the message in the mailbox, counted from 0.
         position: usize,
     },
+    /// A process was suspended, or resumed.
+    Suspension {
+        /// The process.
+        pid: u64,
+        /// Whether it was suspended before.
+        was_suspended: bool,
+    },
+    /// A process has ended.
+    Ended(EndedProcess),
 }

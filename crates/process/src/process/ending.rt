@@ -2,7 +2,7 @@
 ghost use Rattle.std.specs.Prelude.{◌≡◌, IfErr, IfOk, IfSome, Some};
 ghost use Rattle.std.specs.Option.{option_copied, option_map};
 ghost use Rattle.process.specs.Process.{awaited};
-ghost use Rattle.process.specs.Ended.{EndedProcessesLive, code_found, code_named, ended, ended_with, lived, lives, named, rests_found};
+ghost use Rattle.process.specs.Ended.{EndedProcessesLive, activity_by, code_found, code_named, did_by, ended, ended_with, lived, lives, named, rests_found};
 
 use super::{Process, first_of};
 use crate::activity::{Activity, Running};
@@ -216,6 +216,32 @@ impl Process {
     }
 }
 
+impl Did {
+    /// What the process does again, in this code, and what tells the code.
+    fn into_activity(self, alloc: Global, code: Row<Instance>) -> (Activity, Row<NamedInstance>)
+        ensures activity { result.0 ≡ activity_by code self }
+        ensures told { did_by result.1 result.0 ≡ self }
+    {
+        match self {
+            Did::Idle => (Activity::Idle, Row::new(Vec::new(alloc))),
+            Did::Suspended => (Activity::Suspended, Row::new(Vec::new(alloc))),
+            Did::Ran(ran) => {
+                let NamedRunning {
+                    entry_serial,
+                    message,
+                    code: told,
+                } = ran;
+                let running = Running {
+                    entry_serial,
+                    message,
+                    code,
+                };
+                (Activity::Runs(running), told)
+            }
+        }
+    }
+}
+
 impl Ended {
     /// The instances that it used, in the table, and the message that it takes next; none where one of them is not there.
     fn found(&self, alloc: Global, modules: &Modules<Module>) -> Result<Option<Found>, AllocError>
@@ -247,64 +273,48 @@ impl Ended {
         }))
     }
 
-    /// The process, with these instances.
-    fn into_live(self, found: Found) -> Process
+    /// The process, with these instances, and what tells them.
+    fn into_live(self, alloc: Global, found: Found) -> (Process, Told)
         requires { found.next ≡ awaited (lived found.rests_in found.code self) }
-        ensures { result ≡ lived found.rests_in found.code self }
+        ensures process { result.0 ≡ lived found.rests_in found.code self }
+        ensures told { ended_with result.1.rests_in result.1.code result.0 ≡ self }
     {
         let Ended {
             pid,
             name,
             place,
+            rests_in,
             did,
             turn,
             mailbox,
-            ..
         } = self;
-        let Found {
-            rests_in,
-            code,
-            next,
-        } = found;
-        let activity = match did {
-            Did::Idle => Activity::Idle,
-            Did::Suspended => Activity::Suspended,
-            Did::Ran(ran) => {
-                let NamedRunning {
-                    entry_serial,
-                    message,
-                    ..
-                } = ran;
-                Activity::Runs(Running {
-                    entry_serial,
-                    message,
-                    code,
-                })
-            }
-        };
-        Process {
+        let (activity, code) = did.into_activity(alloc, found.code);
+        let process = Process {
             pid,
             name,
             place,
-            rests_in,
+            rests_in: found.rests_in,
             activity,
             turn,
             mailbox,
-            next,
-        }
+            next: found.next,
+        };
+        (process, Told { rests_in, code })
     }
 
-    /// The process lives again, with the instances that it used, as they stand in the table.
+    /// The process lives again, with the instances that it used, as they stand in the table. What tells them is handed out with it,
+    /// so that [`Process::into_ended`] takes it out again without memory.
     ///
     /// # Errors
     ///
     /// The ended process, as it was, where memory is refused, and where one of the instances is not in the table.
-    pub fn live(self, alloc: Global, modules: &Modules<Module>) -> Result<Process, Ended>
-        ensures ok { IfOk result (λ it. lives modules.now self ≡ Some it) }
+    pub fn live(self, alloc: Global, modules: &Modules<Module>) -> Result<(Process, Told), Ended>
+        ensures ok { IfOk result (λ it. lives modules.now self ≡ Some it.0) }
+        ensures told { IfOk result (λ it. ended_with it.1.rests_in it.1.code it.0 ≡ self) }
         ensures err { IfErr result (λ it. it ≡ self) }
     {
         match self.found(alloc, modules) {
-            Ok(Some(found)) => Ok(self.into_live(found)),
+            Ok(Some(found)) => Ok(self.into_live(alloc, found)),
             Ok(None) | Err(_) => Err(self),
         }
     }

@@ -1,0 +1,23 @@
+-- The process's name is its own, its calls are open, and it is in its slot.
+use Rattle.std.proofs.Common.{◌≡◌, None, Some, slice_get, sym, subst}
+use Rattle.process_store.proofs.Vacating.{calls_are_free, name_is_free, occupied_indexed, vacant_within}
+use Rattle.process_store.proofs.store.ProcessStore.restore.Goals as goal
+
+pub enter-requires-clause-name : goal.enter-requires-clause-name
+enter-requires-clause-name c =
+    let i = c.self.inside in
+    name_is_free i.names i.open_calls i.slots.items c.args.living c.args.self.now c.self.invariant c.self.view_is c.requires.1
+
+pub enter-requires-clause-calls : goal.enter-requires-clause-calls
+enter-requires-clause-calls c =
+    let i = c.self.inside in
+    calls_are_free i.names i.open_calls i.slots.items c.args.living c.args.self.now c.self.invariant c.self.view_is c.requires.2
+
+pub occupy_at-requires : goal.occupy_at-requires
+occupy_at-requires c =
+    vacant_within c.self.inside.slots.items c.args.pid (subst (λ x. slice_get x.slots c.args.pid ≡ Some None) (sym c.self.view_is) c.requires.0.1)
+
+pub invariant_of-self : goal.invariant_of-self
+invariant_of-self c =
+    let i = c.self.inside in
+    occupied_indexed i.names c.enter.new.names i.open_calls c.enter.new.open_calls i.slots.items c.occupy_at.new.slots.items c.args.pid c.args.living c.args.self.now c.self.invariant c.self.view_is c.requires c.enter.ensures.ordered c.in-Ok.ensures.named c.in-Ok.ensures.asked c.occupy_at.ensures
