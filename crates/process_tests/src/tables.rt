@@ -1,0 +1,6 @@
+// Sources, and cases by topics.
+pub(crate) mod arrivals;
+pub(crate) mod loops;
+pub(crate) mod sources;
+pub(crate) mod starts;
+pub(crate) mod takes;
