@@ -1,12 +1,14 @@
 -- A process that has ended lives again where the instances that it used stand in the table of modules.
-use Rattle.std.proofs.Common.{◌≡◌, ℕ, Option, Some, IfSome, sym, ap, subst, ◌∙◌}
-use Rattle.std.proofs.lemmas.Option.{same_Some}
+use Rattle.std.proofs.Common.{◌≡◌, ℕ, List, Option, None, Some, IfSome, refl, sym, ap, subst, ◌∙◌}
+use Rattle.std.proofs.lemmas.Option.{none-some, same_Some}
 use Rattle.erl_forms.specs.Module.{Forms}
 use Rattle.code_server.specs.Modules.{IsSound, Table as Loaded}
 use Rattle.process.proofs.Living.{ended_processes_live}
-use Rattle.process.specs.Ended.{EndedState, ended, lives}
+use Rattle.erl_steps.specs.declared.world.Instance.{Instance}
+use Rattle.process.specs.Ended.{EndedState, code_found, ended, lived, lives, lives_by, rests_found}
+use Rattle.process.specs.Process.{ProcessState}
 use Rattle.process_store.specs.declared.living.Living.{Living}
-use Rattle.process_store.specs.Table.{Table, living}
+use Rattle.process_store.specs.Table.{Table, living, pid_of}
 use Rattle.process_store.specs.Vacating.{CanReturn, occupied}
 use Rattle.process_table.specs.Undo.{AllStand, CanBeReturned, Stands, with_returned}
 
@@ -22,8 +24,24 @@ lives_again modules before l e pid sound stands there is =
     let here = stands_here modules (living pid before) l (stands pid) there in
     ap (lives modules) is ∙ ended_processes_live modules l.process sound here.0 here.1
 
+-- a process that is made of one that has ended has its name
+
+named_by : (rests_in : Option (Option Instance)) (code : Option (List Instance)) (e : EndedState) (p : ProcessState) → lives_by rests_in code e ≡ Some p → p.name ≡ e.name
+named_by None code e p is = absurd (none-some p is)
+named_by (Some rests_in) None e p is = absurd (none-some p is)
+named_by (Some rests_in) (Some code) e p is = sym (ap (λ x. x.name) (same_Some (lived rests_in code e) p is))
+
+-- so it can come back where the one that ended can
+pub ended_fits : (modules : Loaded Forms) (after : Table) (l : Living) (e : EndedState) (pid : ℕ) → e.name ≡ l.process.name → CanReturn pid l after → CanBeReturned (lives modules e) pid l.calls after
+ended_fits modules after l e pid same can =
+    elim (lives modules e) as (λ o. lives modules e ≡ o → CanBeReturned o pid l.calls after) [
+      | None ↦ λ is. tt
+      | Some p ↦ λ is.
+          let name : l.process.name ≡ p.name = sym same ∙ sym (named_by (rests_found modules e.rests_in) (code_found modules e.did) e p is) in
+          (can.0, subst (λ n. IfSome n (λ k. pid_of k after ≡ None)) name can.1, can.2)
+    ] refl
+
 -- the undo of an end
-pub ended_back : (modules : Loaded Forms) (before after : Table) (l : Living) (e : EndedState) (pid : ℕ) → IsSound modules → AllStand modules before → living pid before ≡ Some l → e ≡ ended l.process → CanReturn pid l after → occupied pid l after ≡ before → CanBeReturned (lives modules e) pid l.calls after × (with_returned (lives modules e) pid l.calls after ≡ before)
-ended_back modules before after l e pid sound stands there is can back =
-    let again = lives_again modules before l e pid sound stands there is in
-    (subst (λ o. CanBeReturned o pid l.calls after) (sym again) can, ap (λ o. with_returned o pid l.calls after) again ∙ back)
+pub ended_back : (modules : Loaded Forms) (before after : Table) (l : Living) (e : EndedState) (pid : ℕ) → IsSound modules → AllStand modules before → living pid before ≡ Some l → e ≡ ended l.process → occupied pid l after ≡ before → with_returned (lives modules e) pid l.calls after ≡ before
+ended_back modules before after l e pid sound stands there is back =
+    ap (λ o. with_returned o pid l.calls after) (lives_again modules before l e pid sound stands there is) ∙ back

@@ -27,7 +27,7 @@ with_returned None pid calls t = t
 with_returned (Some p) pid calls t = occupied pid (record { process = p; calls = calls }) t
 
 abbrev pub CanBeReturned : Option ProcessState → ℕ → List Call → Table → Type 0
-CanBeReturned None pid calls t = ⊥
+CanBeReturned None pid calls t = Unit {0}
 CanBeReturned (Some p) pid calls t = CanReturn pid (record { process = p; calls = calls }) t
 
 -- The table that an undo gives back. A process that has ended lives again with the instances that it used, as they stand in the
@@ -55,7 +55,11 @@ Stands modules p = PlaceStands modules p.rests_in × CodeStands modules p.activi
 abbrev pub AllStand : Loaded Forms → Table → Type 0
 AllStand modules t = (pid : ℕ) → IfSome (living pid t) (λ l. Stands modules l.process)
 
--- An undo gives back the table before its step, whole, over each table of modules in which the processes' instances stand.
+-- An undo can be asked for over any table of modules, and gives back the table before its step, whole.
 abbrev pub TakesBack : Undo → Table → Table → Type 0
-TakesBack undo before after = (modules : Loaded Forms) → IsSound modules → AllStand modules before →
-    Fits modules undo after × (undone modules undo after ≡ before)
+TakesBack undo before after = (modules : Loaded Forms) → Fits modules undo after × (undone modules undo after ≡ before)
+
+-- The same where processes have ended: the table before is given back where the instances that its processes use stand.
+abbrev pub TakesBackEnds : Undo → Table → Table → Type 0
+TakesBackEnds undo before after = (modules : Loaded Forms) →
+    Fits modules undo after × (IsSound modules → AllStand modules before → undone modules undo after ≡ before)

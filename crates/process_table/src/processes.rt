@@ -79,7 +79,7 @@ impl Processes {
     ghost use Rattle.process_store.specs.Changes.{resume_living, suspend_living};
     ghost use Rattle.process_store.specs.Vacating.{vacated};
     ghost use Rattle.process_table.specs.Told.{downs};
-    ghost use Rattle.process_table.specs.Undo.{Fits, TakesBack, undone};
+    ghost use Rattle.process_table.specs.Undo.{Fits, TakesBack, TakesBackEnds, undone};
 
     /// No process. Names and numbers are hashed by keys that nobody outside knows.
     ///
@@ -104,6 +104,13 @@ impl Processes {
         self.store.get(pid)
     }
 
+    /// The pid that the next process gets. Takes no memory.
+    pub fn next_pid(&self) -> u64
+        ensures { result ≡ next_pid self.now }
+    {
+        self.store.next_pid()
+    }
+
     /// The process that is registered under a name, found by key. Takes no memory.
     pub fn pid_of(&self, name: &Atom) -> Option<u64>
         ensures { result ≡ pid_of name.now self.now }
@@ -122,7 +129,7 @@ impl Processes {
     pub fn start_refusal(&self, name: Option<&Atom>) -> Option<ProcError>
         ensures { result ≡ start_refusal (option_copied name.entry) self.now }
     {
-        let _pids = self.store.next_pid();
+        let _pids = self.next_pid();
         match name {
             Some(name) => match self.pid_of(name) {
                 Some(_) => Some(ProcError::NameTaken),
@@ -207,7 +214,7 @@ impl Processes {
     pub fn runnable(&self, after: u64) -> Option<u64>
         ensures { IsNextRunnable after result self.now }
     {
-        for pid in after..self.store.next_pid() {
+        for pid in after..self.next_pid() {
             if after < pid && self.can_run(pid) {
                 return Some(pid);
             }
@@ -338,7 +345,7 @@ impl Processes {
     /// In this order: `NoProc` where no process has the pid, `Memory`. The table is then as it was.
     pub fn end(&mut self, pid: u64) -> Result<Undo, ProcError>
         ensures ended { OnOk result (self.new ≡ vacated pid self.old) }
-        ensures inverse { IfOk result (λ undo. TakesBack undo self.old self.new) }
+        ensures inverse { IfOk result (λ undo. TakesBackEnds undo self.old self.new) }
         ensures ok { OnOk result (missing pid self.old ≡ None) }
         ensures refused { IfErr result (λ e. Tells e (missing pid self.old)) }
         ensures err { OnErr result (self.new ≡ self.old) }

@@ -7,10 +7,10 @@
 // the jobs of the case; a retake answers the job that it equals.
 //
 // Steps: `load SOURCE`, `delete MODULE`, `purge MODULE`; `start NAME PLACE`; `call NAME CLIENT NUMBER TERM`, `cast NAME TERM` and `send
-// NAME TERM`, which arrive; `take PID`, `retake PID`; and the reads `runnable AFTER` and `pid_of NAME`.
+// NAME TERM`, which arrive; `take PID`, `retake PID`; `suspend PID`, `resume PID`; and the reads `runnable AFTER` and `pid_of NAME`.
 ghost use Rattle.std.specs.Prelude.{◌≡◌, ◌≤◌, length, IfOk, MatchOption, OnOk};
 ghost use Rattle.code_server.specs.Undo.{Fits as FitsCode, undone as code_undone};
-ghost use Rattle.process_table.specs.Undo.{Fits, undone};
+ghost use Rattle.process_table.specs.Undo.{TakesBack};
 
 use crate::node::{Back, Node};
 use crate::terms::{normal, printed};
@@ -40,7 +40,7 @@ fn wanted_table(alloc: Global, before: &str, wanted: &str) -> Result<String, Fai
 /// Makes the step of a line, and sees what it answers and what the table is behind it.
 fn make(node: &mut Node, wrong: &mut String, before: &str, line: &str) -> Result<Back, Fail>
     ensures modules { IfOk result (λ it. MatchOption it.code (node.new.modules ≡ node.old.modules) (λ undo. FitsCode undo node.new.modules × (code_undone undo node.new.modules ≡ node.old.modules))) }
-    ensures processes { IfOk result (λ it. MatchOption it.processes (node.new.processes ≡ node.old.processes) (λ undo. Fits undo node.new.processes × (undone undo node.new.processes ≡ node.old.processes))) }
+    ensures processes { IfOk result (λ it. MatchOption it.processes (node.new.processes ≡ node.old.processes) (λ undo. TakesBack undo node.old.processes node.new.processes)) }
 {
     let (text, wanted) = line.split_once(" => ").ok_or("no arrow")?;
     let (answer, behind) = wanted.split_once(" => ").ok_or("no arrow")?;

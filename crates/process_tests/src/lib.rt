@@ -12,6 +12,8 @@ mod cases;
 #[cfg(test)]
 mod code;
 #[cfg(test)]
+mod ends;
+#[cfg(test)]
 mod node;
 #[cfg(test)]
 mod rows;

@@ -1,7 +1,7 @@
 // What a case has come to, and its steps.
 ghost use Rattle.std.specs.Prelude.{◌≡◌, IfOk, IfSome, MatchOption, OnOk, None};
 ghost use Rattle.code_server.specs.Undo.{Fits as FitsCode, undone as code_undone};
-ghost use Rattle.process_table.specs.Undo.{Fits, undone};
+ghost use Rattle.process_table.specs.Undo.{Fits, TakesBack, undone};
 
 use crate::code::{change, hashing};
 use crate::rows::table;
@@ -48,17 +48,14 @@ impl Node {
     }
 
     /// The text of the table of processes.
-    pub fn table(&mut self) -> Result<String, Fail>
-        ensures modules { OnOk result (self.new.modules ≡ self.old.modules) }
-        ensures processes { OnOk result (self.new.processes ≡ self.old.processes) }
-    {
-        table(self.alloc, &mut self.processes)
+    pub fn table(&self) -> Result<String, Fail> {
+        table(self.alloc, &self.processes)
     }
 
     /// Makes a step. Handed out are its answer, and what takes it back.
     pub fn step(&mut self, text: &str) -> Result<(Term, Back), Fail>
         ensures modules { IfOk result (λ it. MatchOption it.1.code (self.new.modules ≡ self.old.modules) (λ undo. FitsCode undo self.new.modules × (code_undone undo self.new.modules ≡ self.old.modules))) }
-        ensures processes { IfOk result (λ it. MatchOption it.1.processes (self.new.processes ≡ self.old.processes) (λ undo. Fits undo self.new.processes × (undone undo self.new.processes ≡ self.old.processes))) }
+        ensures processes { IfOk result (λ it. MatchOption it.1.processes (self.new.processes ≡ self.old.processes) (λ undo. TakesBack undo self.old.processes self.new.processes)) }
     {
         let (verb, rest) = head(text)?;
         if let "load" | "delete" | "purge" = verb {
@@ -95,12 +92,12 @@ impl Node {
 
     /// Takes a step of the processes back.
     fn revert_processes(&mut self, undo: Option<process_table::Undo>) -> Result<(), Fail>
-        requires { IfSome undo (λ undo. Fits undo self.old.processes) }
-        ensures processes { OnOk result (MatchOption undo (self.new.processes ≡ self.old.processes) (λ undo. self.new.processes ≡ undone undo self.old.processes)) }
+        requires { IfSome undo (λ undo. Fits self.old.modules undo self.old.processes) }
+        ensures processes { OnOk result (MatchOption undo (self.new.processes ≡ self.old.processes) (λ undo. self.new.processes ≡ undone self.old.modules undo self.old.processes)) }
         ensures modules { self.new.modules ≡ self.old.modules }
     {
         match undo {
-            Some(undo) => match self.processes.revert(undo) {
+            Some(undo) => match self.processes.revert(&self.modules, undo) {
                 Ok(()) => Ok(()),
                 Err(_) => Err("no memory")?,
             },
@@ -111,9 +108,9 @@ impl Node {
     /// Takes the newest step back.
     pub fn revert(&mut self, back: Back) -> Result<(), Fail>
         requires code { IfSome back.code (λ undo. FitsCode undo self.old.modules) }
-        requires fits { IfSome back.processes (λ undo. Fits undo self.old.processes) }
+        requires fits { IfSome back.processes (λ undo. Fits self.old.modules undo self.old.processes) }
         ensures modules { OnOk result (MatchOption back.code (self.new.modules ≡ self.old.modules) (λ undo. self.new.modules ≡ code_undone undo self.old.modules)) }
-        ensures processes { OnOk result (MatchOption back.processes (self.new.processes ≡ self.old.processes) (λ undo. self.new.processes ≡ undone undo self.old.processes)) }
+        ensures processes { OnOk result (MatchOption back.processes (self.new.processes ≡ self.old.processes) (λ undo. self.new.processes ≡ undone self.old.modules undo self.old.processes)) }
     {
         let Back { code, processes } = back;
         self.revert_processes(processes)?;

@@ -8,7 +8,7 @@ use crate::terms::{atom, int, list, named, printed, tuple, word};
 use erl_eval::Place;
 use erl_term::{Atom, Term, Terms};
 use process::{Activity, Process};
-use process_table::{Living, Processes};
+use process_table::{Living, Processes, Reply, ReplyBody};
 use std::alloc::Global;
 use std::test::Fail;
 use values::Duplicate;
@@ -142,27 +142,28 @@ fn calls(alloc: Global, processes: &Processes, next: u64) -> Result<Term, Fail> 
     list(alloc, rows)
 }
 
-/// The pid that the next process would have: one starts, and its start is taken back.
-fn next_pid(alloc: Global, processes: &mut Processes) -> Result<u64, Fail>
-    ensures { OnOk result (processes.new ≡ processes.old) }
-{
-    let place = Place::Server {
-        module: atom(alloc, "m")?,
-        state: Term::Int(0),
-    };
-    let (pid, undo) = processes.start(None, place, &[])?;
-    processes.revert(undo).map_err(|_| "no memory")?;
-    Ok(pid)
-}
-
 /// The text of the table.
-pub fn table(alloc: Global, processes: &mut Processes) -> Result<String, Fail>
-    ensures { OnOk result (processes.new ≡ processes.old) }
-{
-    let next = next_pid(alloc, processes)?;
+pub fn table(alloc: Global, processes: &Processes) -> Result<String, Fail> {
+    let next = processes.next_pid();
     let mut parts = Vec::new(alloc);
     parts.push(int(next)?)?;
     parts.push(rows(alloc, processes, next)?)?;
     parts.push(calls(alloc, processes, next)?)?;
     printed(alloc, &tuple(alloc, parts)?)
+}
+
+/// `{Client,Number,Reason}`
+fn down(alloc: Global, reply: &Reply) -> Result<Term, Fail> {
+    let (ReplyBody::Reply(told) | ReplyBody::Down(told)) = &reply.body;
+    let row = vec![in alloc; int(reply.client)?, int(reply.number)?, told.copy(alloc)?]?;
+    tuple(alloc, row)
+}
+
+/// What clients are told, as a text: `[{Client,Number,Reason},..]`.
+pub fn told(alloc: Global, replies: &[Reply]) -> Result<String, Fail> {
+    let mut rows = Vec::new(alloc);
+    for reply in replies {
+        rows.push(down(alloc, reply)?)?;
+    }
+    printed(alloc, &list(alloc, rows)?)
 }

@@ -1,6 +1,6 @@
 // Steps of processes, each by its word. Handed out are the answer, and what takes the step back, if it changed the table.
 ghost use Rattle.std.specs.Prelude.{◌≡◌, IfOk, MatchOption};
-ghost use Rattle.process_table.specs.Undo.{Fits, undone};
+ghost use Rattle.process_table.specs.Undo.{TakesBack};
 
 use crate::answers::{job_row, number_of, pid_or_none, refused};
 use crate::terms::{atom, pid, term, word};
@@ -90,7 +90,7 @@ fn start(
     processes: &mut Processes,
     rest: &str,
 ) -> Result<(Term, Option<Undo>), Fail>
-    ensures { IfOk result (λ it. MatchOption it.1 (processes.new ≡ processes.old) (λ undo. Fits undo processes.new × (undone undo processes.new ≡ processes.old))) }
+    ensures { IfOk result (λ it. MatchOption it.1 (processes.new ≡ processes.old) (λ undo. TakesBack undo processes.old processes.new)) }
 {
     let (name, resting) = head(rest)?;
     let name = name_or_none(alloc, name)?;
@@ -127,7 +127,7 @@ fn arrive(
     verb: &str,
     rest: &str,
 ) -> Result<(Term, Option<Undo>), Fail>
-    ensures { IfOk result (λ it. MatchOption it.1 (processes.new ≡ processes.old) (λ undo. Fits undo processes.new × (undone undo processes.new ≡ processes.old))) }
+    ensures { IfOk result (λ it. MatchOption it.1 (processes.new ≡ processes.old) (λ undo. TakesBack undo processes.old processes.new)) }
 {
     let (name, text) = head(rest)?;
     let name = atom(alloc, name)?;
@@ -154,10 +154,30 @@ fn take(
     jobs: &mut Vec<Job>,
     rest: &str,
 ) -> Result<(Term, Option<Undo>), Fail>
-    ensures { IfOk result (λ it. MatchOption it.1 (processes.new ≡ processes.old) (λ undo. Fits undo processes.new × (undone undo processes.new ≡ processes.old))) }
+    ensures { IfOk result (λ it. MatchOption it.1 (processes.new ≡ processes.old) (λ undo. TakesBack undo processes.old processes.new)) }
 {
     match processes.take(modules, pid(rest)?) {
         Ok((job, undo)) => Ok((keep(alloc, jobs, job)?, Some(undo))),
+        Err(refusal) => Ok((refused(alloc, refusal)?, None)),
+    }
+}
+
+/// `suspend PID`, `resume PID`
+fn suspension(
+    alloc: Global,
+    processes: &mut Processes,
+    verb: &str,
+    rest: &str,
+) -> Result<(Term, Option<Undo>), Fail>
+    ensures { IfOk result (λ it. MatchOption it.1 (processes.new ≡ processes.old) (λ undo. TakesBack undo processes.old processes.new)) }
+{
+    let pid = pid(rest)?;
+    let done = match verb {
+        "suspend" => processes.suspend(pid),
+        _ => processes.resume(pid),
+    };
+    match done {
+        Ok(undo) => Ok((word(alloc, "ok")?, Some(undo))),
         Err(refusal) => Ok((refused(alloc, refusal)?, None)),
     }
 }
@@ -195,12 +215,13 @@ pub fn step(
     verb: &str,
     rest: &str,
 ) -> Result<(Term, Option<Undo>), Fail>
-    ensures { IfOk result (λ it. MatchOption it.1 (processes.new ≡ processes.old) (λ undo. Fits undo processes.new × (undone undo processes.new ≡ processes.old))) }
+    ensures { IfOk result (λ it. MatchOption it.1 (processes.new ≡ processes.old) (λ undo. TakesBack undo processes.old processes.new)) }
 {
     match verb {
         "start" => start(alloc, modules, processes, rest),
         "call" | "cast" | "send" => arrive(alloc, processes, verb, rest),
         "take" => take(alloc, modules, processes, jobs, rest),
+        "suspend" | "resume" => suspension(alloc, processes, verb, rest),
         _ => Ok((read(alloc, processes, jobs.as_slice(), verb, rest)?, None)),
     }
 }

@@ -3,4 +3,5 @@ pub(crate) mod arrivals;
 pub(crate) mod loops;
 pub(crate) mod sources;
 pub(crate) mod starts;
+pub(crate) mod suspensions;
 pub(crate) mod takes;

@@ -1,6 +1,6 @@
 // The cases, topic by topic.
 use crate::cases::expect;
-use crate::tables::{arrivals, loops, starts, takes};
+use crate::tables::{arrivals, loops, starts, suspensions, takes};
 use std::test::Fail;
 
 #[test]
@@ -21,4 +21,9 @@ fn what_is_taken(rt: HostRuntime) -> Result<(), Fail> {
 #[test]
 fn loop_processes(rt: HostRuntime) -> Result<(), Fail> {
     expect(&rt, rt.alloc(), loops::CASES, 16)
+}
+
+#[test]
+fn suspended_and_resumed(rt: HostRuntime) -> Result<(), Fail> {
+    expect(&rt, rt.alloc(), suspensions::CASES, 23)
 }

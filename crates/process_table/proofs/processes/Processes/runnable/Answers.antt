@@ -9,7 +9,7 @@ use Rattle.process_table.proofs.processes.Processes.runnable.Goals as goal
 pub returns : goal.returns
 returns c = λ pid above _. elim (cases_lt pid c.loop-pid.pid) [
   | inl below ↦ c.loop-pid.invariant pid above below
-  | inr past ↦ ap (λ t. is_runnable (living pid t)) (sym c.self.view_is) ∙ ap is_runnable (living_past c.self.inside.store.slots pid (omega (arith, past, c.loop-pid-test.false, c.next_pid-pid-end.ensures)))
+  | inr past ↦ ap is_runnable (living_past c.args.self.now.slots pid (omega (arith, past, c.loop-pid-test.false, c.next_pid-pid-end.ensures)))
 ]
 
 pub returns-then-can_run : goal.returns-then-can_run

@@ -29,4 +29,4 @@ returns-clause-job c =
     job_is (living c.args.pid c.run.new.self) l c.in-Ok.position job now told.0 told.1 told.2 told.3
 
 pub returns-clause-inverse : goal.returns-clause-inverse
-returns-clause-inverse c = λ modules sound stands. (c.run.ensures.fits, c.run.ensures.back ∙ c.self.view_is)
+returns-clause-inverse c = λ modules. (c.run.ensures.fits, c.run.ensures.back ∙ c.self.view_is)
