@@ -28,10 +28,10 @@ or_false a b e = grind (arith, common_steps, e)
 
 -- a test that nobody passes, or that just the process of a pid passes
 
-nobody : (test : Option Living → Bool) → test None ≡ false → (slots : List (Option Living)) → ((pid : ℕ) → test (living_at slots pid) ≡ false) → position test slots ≡ None
+pub nobody : (test : Option Living → Bool) → test None ≡ false → (slots : List (Option Living)) → ((pid : ℕ) → test (living_at slots pid) ≡ false) → position test slots ≡ None
 nobody test none slots fails = position_nowhere test slots (λ k d within. ap test (sym (living_within slots k d within)) ∙ fails k)
 
-somebody : (test : Option Living → Bool) → test None ≡ false → (slots : List (Option Living)) (p : ℕ) → ((pid : ℕ) → nat_eq p pid ≡ test (living_at slots pid)) → position test slots ≡ Some p
+pub somebody : (test : Option Living → Bool) → test None ≡ false → (slots : List (Option Living)) (p : ℕ) → ((pid : ℕ) → nat_eq p pid ≡ test (living_at slots pid)) → position test slots ≡ Some p
 somebody test none slots p only =
     let passes : test (living_at slots p) ≡ true = sym (only p) ∙ grind (arith, common_steps) in
     elim (living_at slots p) as (λ o. living_at slots p ≡ o → position test slots ≡ Some p) [
@@ -74,11 +74,11 @@ asked_calls (c ∷ cs) number client is =
       | false ↦ λ e. asked_calls cs number client (grind (arith, common_steps, is, e))
     ] refl
 
-unasked : (o : Option Living) (number : ℕ) → ((client : ℕ) → is_asked_by (record { client = client; number = number }) o ≡ false) → is_asked number o ≡ false
+pub unasked : (o : Option Living) (number : ℕ) → ((client : ℕ) → is_asked_by (record { client = client; number = number }) o ≡ false) → is_asked number o ≡ false
 unasked None number never = refl
 unasked (Some l) number never = unasked_calls l.calls number never
 
-asked_once : (o : Option Living) (number client : ℕ) → is_asked_by (record { client = client; number = number }) o ≡ true → is_asked number o ≡ true
+pub asked_once : (o : Option Living) (number client : ℕ) → is_asked_by (record { client = client; number = number }) o ≡ true → is_asked number o ≡ true
 asked_once None number client is = is
 asked_once (Some l) number client is = asked_calls l.calls number client is
 

@@ -1,4 +1,6 @@
 pub mod Arriving
+pub mod Changes
+pub mod Closing
 pub mod Indexes
 pub mod Runs
 pub mod Slots

@@ -1,11 +1,18 @@
--- Changes of a process that lives.
-use Rattle.std.specs.Prelude.{Bool, true, false, Option, None, Some}
+-- Elementary changes of one process of the table, each with the one that takes it back.
+use Rattle.std.specs.Prelude.{◌≡◌, ℕ, ◌+◌, ◌<◌, ◌^◌, ◌==◌, Bool, true, false, if◌then◌else◌, List, [], ◌∷◌, position}
+use Rattle.std.specs.Prelude.{Option, None, Some, IfSome, IsSome, option_map}
+use Rattle.erl_eval.specs.declared.acts.Place.{Place}
+use Rattle.erl_steps.specs.declared.world.Instance.{Instance}
 use Rattle.process.specs.declared.activity.Activity.{Activity}
-use Rattle.process.specs.declared.activity.Activity.TheVariants.{Idle, Suspended, Runs}
-use Rattle.process.specs.Process.{resumed, suspended}
+use Rattle.process.specs.declared.activity.Activity.TheVariants as activity
+use Rattle.process.specs.declared.process.Ran.{Ran}
+use Rattle.process.specs.Process.{IsRunning, rested, resumed, suspended, unrested}
+use Rattle.process_index.specs.Calls.{with_call, without}
+use Rattle.process_index.specs.declared.calls.Call.{Call}
 use Rattle.process_store.specs.declared.living.Living.{Living}
+use Rattle.process_store.specs.Table.{Table, changed, is_asked, is_open, living}
 
--- it takes no message until it is resumed, where it rests; and takes messages again
+-- it takes no message until it is resumed, where it is idle
 
 abbrev pub suspend_living : Living → Living
 suspend_living l = record l { process = suspended l.process }
@@ -20,10 +27,76 @@ suspended_as true l = suspend_living l
 suspended_as false l = resume_living l
 
 abbrev pub is_suspended : Activity → Bool
-is_suspended Idle = false
-is_suspended Suspended = true
-is_suspended (Runs r) = false
+is_suspended activity.Idle = false
+is_suspended activity.Suspended = true
+is_suspended (activity.Runs r) = false
 
 abbrev pub was_suspended : Option Living → Bool
 was_suspended None = false
 was_suspended (Some l) = is_suspended l.process.activity
+
+-- it rests at a place, one turn on, and runs again what it ran
+
+abbrev pub rest_living : Place → Option Instance → Living → Living
+rest_living at rests_in l = record l { process = rested at rests_in l.process }
+
+abbrev pub unrest_living : Ran → Living → Living
+unrest_living ran l = record l { process = unrested ran l.process }
+
+-- A process lives and runs.
+
+abbrev pub LivesAndRuns : Option Living → Type 0
+LivesAndRuns None = ⊥
+LivesAndRuns (Some l) = IsRunning l.process
+
+abbrev pub IsRunningAt : ℕ → Table → Type 0
+IsRunningAt pid t = LivesAndRuns (living pid t)
+
+-- Where a process lives, its turn can be counted one on, and one back.
+
+abbrev pub CanTurn : Living → Type 0
+CanTurn l = l.process.turn + 1 < 2 ^ 64
+
+abbrev pub CanTurnAt : ℕ → Table → Type 0
+CanTurnAt pid t = IfSome (living pid t) CanTurn
+
+abbrev pub Turned : Living → Type 0
+Turned l = 0 < l.process.turn
+
+abbrev pub HasTurned : ℕ → Table → Type 0
+HasTurned pid t = IfSome (living pid t) Turned
+
+-- a call that is open to a process is so no more, or is so again
+
+abbrev pub closed_living : Call → Living → Living
+closed_living c l = record l { calls = without c l.calls }
+
+abbrev pub closed_in : ℕ → Call → Table → Table
+closed_in pid c t = changed (closed_living c) pid t
+
+abbrev pub reopened_living : Call → Living → Living
+reopened_living c l = record l { calls = with_call c l.calls }
+
+abbrev pub reopened : ℕ → Call → Table → Table
+reopened pid c t = changed (reopened_living c) pid t
+
+-- Whose the open call of a number is: the process that was asked, and the first call of the number among its calls.
+
+abbrev pub numbered : ℕ → List Call → Option Call
+numbered number [] = None
+numbered number (c ∷ cs) = if c.number == number then Some c else numbered number cs
+
+abbrev pub call_at : ℕ → Option Living → Option Call
+call_at number None = None
+call_at number (Some l) = numbered number l.calls
+
+abbrev pub owner_at : ℕ → Option ℕ → Table → Option (ℕ × Call)
+owner_at number None t = None
+owner_at number (Some pid) t = option_map (λ c. (pid, c)) (call_at number (living pid t))
+
+abbrev pub owner_of : ℕ → Table → Option (ℕ × Call)
+owner_of number t = owner_at number (position (is_asked number) t.slots) t
+
+-- A call can be open to a process that lives, where none of its number is open.
+abbrev pub CanReopen : ℕ → Call → Table → Type 0
+CanReopen pid c t = IsSome (living pid t) × (is_open c.number t ≡ false)

@@ -13,6 +13,9 @@
 //!   (`IsIndexed`).
 //! - [`ProcessStore::remove`] takes a process out of its slot, with its name and its open calls (`vacated`), and such a process can
 //!   always come back (`CanReturn`). [`ProcessStore::restore`] puts it into its slot again, or leaves all as it was (`occupied`).
+//! - A process rests again, one turn on, and runs again what it ran; a call is closed by its number, whosever it is (`owner_of`), and
+//!   is open again; a message goes to a pid, or nowhere where nobody has it ([`ProcessStore::rest`], [`ProcessStore::close`],
+//!   [`ProcessStore::deliver`], and what takes each back). Of these a commit is to be made.
 //! - A name and an open call stand in the process that has them, so each is a living one's. A suspended process runs nothing, by
 //!   the type of what a process does.
 //!
@@ -25,6 +28,7 @@
 
 mod living;
 mod places;
+mod slot_changes;
 mod store;
 
 pub use living::Living;

@@ -3,3 +3,4 @@ pub mod Messages
 pub mod Steps
 pub mod Told
 pub mod Undo
+pub mod Uses

@@ -15,7 +15,8 @@
 //! - What an undo gives back is the table before the step, whole (`undone`, `TakesBack`). A process that has ended is kept without
 //!   code, so of an end this is said over the tables of modules in which the instances that the processes use stand
 //!   (`TakesBackEnds`).
-//! - [`Processes::downs`] tells each open call of a process once, in order of client and number.
+//! - [`Processes::downs`] tells each open call of a process once, in order of client and number. [`Processes::users`] tells who uses an
+//!   instance, in order (`users`).
 //! - The code of a job is the instance that is entered and what it can reach (`IsCodeOf`, over `IsJobCode` of [`job_code`]).
 //! - [`Processes::pid_of`] and [`Processes::is_open`] find by key what stands in the table; [`Processes::runnable`] is the least
 //!   pid above another whose process could take a message now (`IsNextRunnable`).
@@ -35,6 +36,7 @@ mod processes;
 mod taking;
 mod told;
 mod undo;
+mod using;
 
 pub use body::Body;
 pub use error::ProcError;

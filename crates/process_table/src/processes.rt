@@ -9,6 +9,7 @@ use crate::error::ProcError;
 use crate::taking::{job_for, next_of};
 use crate::told::{Reply, downs_of};
 use crate::undo::{EndedProcess, Undo};
+use crate::using::uses;
 use code_server::Modules;
 use erl_eval::Place;
 use erl_forms::Module;
@@ -79,6 +80,7 @@ impl Processes {
     ghost use Rattle.process_store.specs.Changes.{resume_living, suspend_living};
     ghost use Rattle.process_store.specs.Vacating.{vacated};
     ghost use Rattle.process_table.specs.Told.{downs};
+    ghost use Rattle.process_table.specs.Uses.{users, uses};
     ghost use Rattle.process_table.specs.Undo.{Fits, TakesBack, TakesBackEnds, undone};
 
     /// No process. Names and numbers are hashed by keys that nobody outside knows.
@@ -282,6 +284,34 @@ impl Processes {
             Ok(None) => Err(ProcError::NotRunning),
             Err(_) => Err(ProcError::Memory),
         }
+    }
+
+    /// Whether the process of a pid uses the instance of a serial.
+    fn uses(&self, pid: u64, serial: u64) -> bool
+        ensures { result ≡ uses serial (living pid self.now) }
+    {
+        match self.get(pid) {
+            Some(living) => uses(&living.process, serial),
+            None => false,
+        }
+    }
+
+    /// The pids of the processes that use the instance of a serial, in order: while a process runs it uses the code of its job, and
+    /// while it rests the instance in which it rests, where this is a loop function.
+    ///
+    /// # Errors
+    ///
+    /// `AllocError` where memory is refused.
+    pub fn users(&self, serial: u64) -> Result<Vec<u64>, AllocError>
+        ensures { IfOk result (λ it. it.items ≡ users serial self.now) }
+    {
+        let mut pids = Vec::new(self.alloc);
+        for pid in 0..self.next_pid() {
+            if self.uses(pid, serial) {
+                pids.push(pid)?;
+            }
+        }
+        Ok(pids)
     }
 
     /// A process takes no message until it is resumed, where it rests; one that runs goes on.

@@ -7,7 +7,8 @@
 // the jobs of the case; a retake answers the job that it equals.
 //
 // Steps: `load SOURCE`, `delete MODULE`, `purge MODULE`; `start NAME PLACE`; `call NAME CLIENT NUMBER TERM`, `cast NAME TERM` and `send
-// NAME TERM`, which arrive; `take PID`, `retake PID`; `suspend PID`, `resume PID`; and the reads `runnable AFTER` and `pid_of NAME`.
+// NAME TERM`, which arrive; `take PID`, `retake PID`; `suspend PID`, `resume PID`; and the reads `runnable AFTER`, `pid_of NAME` and
+// `users SERIAL`.
 ghost use Rattle.std.specs.Prelude.{◌≡◌, ◌≤◌, length, IfOk, MatchOption, OnOk};
 ghost use Rattle.code_server.specs.Undo.{Fits as FitsCode, undone as code_undone};
 ghost use Rattle.process_table.specs.Undo.{TakesBack};

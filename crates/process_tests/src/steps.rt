@@ -3,7 +3,7 @@ ghost use Rattle.std.specs.Prelude.{◌≡◌, IfOk, MatchOption};
 ghost use Rattle.process_table.specs.Undo.{TakesBack};
 
 use crate::answers::{job_row, number_of, pid_or_none, refused};
-use crate::terms::{atom, pid, term, word};
+use crate::terms::{atom, list, pid, term, word};
 use code_server::Modules;
 use erl_eval::Place;
 use erl_forms::Module;
@@ -190,7 +190,16 @@ fn retake(alloc: Global, processes: &Processes, jobs: &[Job], rest: &str) -> Res
     }
 }
 
-/// What changes nothing: `retake PID`, `runnable AFTER`, `pid_of NAME`
+/// `users SERIAL`
+fn users(alloc: Global, processes: &Processes, rest: &str) -> Result<Term, Fail> {
+    let mut pids = Vec::new(alloc);
+    for pid in processes.users(rest.parse::<u64>()?)? {
+        pids.push(Term::Pid(pid))?;
+    }
+    list(alloc, pids)
+}
+
+/// What changes nothing: `retake PID`, `runnable AFTER`, `pid_of NAME`, `users SERIAL`
 fn read(
     alloc: Global,
     processes: &Processes,
@@ -202,6 +211,7 @@ fn read(
         "retake" => retake(alloc, processes, jobs, rest),
         "runnable" => pid_or_none(alloc, processes.runnable(rest.parse::<u64>()?)),
         "pid_of" => pid_or_none(alloc, processes.pid_of(&atom(alloc, rest)?)),
+        "users" => users(alloc, processes, rest),
         _ => Err("no step")?,
     }
 }

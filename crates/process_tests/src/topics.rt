@@ -15,7 +15,7 @@ fn what_arrives(rt: HostRuntime) -> Result<(), Fail> {
 
 #[test]
 fn what_is_taken(rt: HostRuntime) -> Result<(), Fail> {
-    expect(&rt, rt.alloc(), takes::CASES, 35)
+    expect(&rt, rt.alloc(), takes::CASES, 45)
 }
 
 #[test]

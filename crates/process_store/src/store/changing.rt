@@ -1,53 +1,18 @@
-// A process is suspended, and resumed.
-ghost use Rattle.std.specs.Prelude.{◌≡◌, option_map};
-ghost use Rattle.process_store.specs.Changes.{is_suspended, resume_living, suspend_living, suspended_as, was_suspended};
-ghost use Rattle.process_store.specs.Table.{changed, changed_slots, living};
+// Elementary changes of one process of the table, each with the one that takes it back.
+ghost use Rattle.std.specs.Prelude.{◌≡◌, IfNone, IfOk, IfSome, None, OnErr, OnOk};
+ghost use Rattle.process_store.specs.Changes.{CanReopen, CanTurnAt, HasTurned, IsRunningAt, closed_in, is_suspended, owner_of, reopened, rest_living, resume_living, suspend_living, suspended_as, unrest_living, was_suspended};
+ghost use Rattle.process_store.specs.Living.{arrived, unarrived};
+ghost use Rattle.process_store.specs.Table.{changed, living};
 
 use super::ProcessStore;
-use crate::living::Living;
-use process::Activity;
-
-/// The process in a slot, if one lives there, takes no message until it is resumed.
-fn suspend_in(slot: &mut Option<Living>)
-    ensures { slot.new ≡ option_map suspend_living slot.old }
-{
-    if let Some(living) = slot {
-        living.process.suspend();
-    }
-}
-
-/// A process takes no message until it is resumed.
-#[tactic(auto, using(crate::proofs::Slots::slots_from_write))]
-fn suspend_at(slots: &mut Vec<Option<Living>>, pid: u64)
-    ensures { slots.new.items ≡ changed_slots suspend_living pid slots.old.items }
-{
-    let place = pid as usize;
-    if slots.len() <= place {
-        return;
-    }
-    suspend_in(&mut slots[place]);
-}
-
-/// The process in a slot, if one lives there, takes messages again, where it was suspended.
-fn resume_in(slot: &mut Option<Living>)
-    ensures { slot.new ≡ option_map resume_living slot.old }
-{
-    if let Some(living) = slot {
-        living.process.resume();
-    }
-}
-
-/// A process takes messages again, where it was suspended.
-#[tactic(auto, using(crate::proofs::Slots::slots_from_write))]
-fn resume_at(slots: &mut Vec<Option<Living>>, pid: u64)
-    ensures { slots.new.items ≡ changed_slots resume_living pid slots.old.items }
-{
-    let place = pid as usize;
-    if slots.len() <= place {
-        return;
-    }
-    resume_in(&mut slots[place]);
-}
+use crate::places::{arrive_at, unarrive_at};
+use crate::slot_changes::{close_at, reopen_at, rest_at, resume_at, suspend_at, unrest_at};
+use erl_eval::Place;
+use erl_machine::Instance;
+use erl_term::Term;
+use process::{Activity, Ran};
+use process_index::{Call, Owner};
+use std::alloc::AllocError;
 
 /// Whether a process that does this is suspended.
 fn is_suspended(activity: &Activity) -> bool
@@ -99,6 +64,103 @@ impl ProcessStore {
             self.suspend(pid);
         } else {
             self.resume(pid);
+        }
+    }
+
+    /// A message comes for the process of a pid, where it lives, and goes last in its mailbox.
+    ///
+    /// # Errors
+    ///
+    /// `AllocError` where memory is refused. The table is then as it was.
+    pub fn deliver(&mut self, pid: u64, message: Term) -> Result<(), AllocError>
+        ensures ok { OnOk result (self.new ≡ changed (arrived message None) pid self.old) }
+        ensures back { OnOk result (changed (unarrived None) pid self.new ≡ self.old) }
+        ensures err { OnErr result (self.new ≡ self.old) }
+    {
+        arrive_at(&mut self.slots, pid, self.alloc, message, None)?;
+        Ok(())
+    }
+
+    /// The last message of the process of a pid goes, where it lives and has one. Takes no memory.
+    pub fn undeliver(&mut self, pid: u64)
+        ensures { self.new ≡ changed (unarrived None) pid self.old }
+    {
+        unarrive_at(&mut self.slots, pid, None);
+    }
+
+    /// The process of a pid, which lives and runs, rests at a place, one turn on. What it ran is handed out, by which
+    /// [`ProcessStore::unrest`] takes it back.
+    ///
+    /// # Errors
+    ///
+    /// `AllocError` where memory is refused. The table is then as it was.
+    pub fn rest(
+        &mut self,
+        pid: u64,
+        place: Place,
+        rests_in: Option<Instance>,
+    ) -> Result<Ran, AllocError>
+        requires running { IsRunningAt pid self.old }
+        requires turns { CanTurnAt pid self.old }
+        ensures ok { OnOk result (self.new ≡ changed (rest_living place rests_in) pid self.old) }
+        ensures back { IfOk result (λ ran. changed (unrest_living ran) pid self.new ≡ self.old) }
+        ensures fits { IfOk result (λ ran. HasTurned pid self.new) }
+        ensures err { OnErr result (self.new ≡ self.old) }
+    {
+        let ran = rest_at(&mut self.slots, pid, self.alloc, place, rests_in)?;
+        Ok(ran)
+    }
+
+    /// The process of a pid runs again what it ran before it rested, where it lives. Takes no memory.
+    pub fn unrest(&mut self, pid: u64, ran: Ran)
+        requires { HasTurned pid self.old }
+        ensures { self.new ≡ changed (unrest_living ran) pid self.old }
+    {
+        unrest_at(&mut self.slots, pid, ran);
+    }
+
+    /// Closes the open call of a number, whosever process it is open to, and hands out the pid and the call. Found by key;
+    /// takes no memory.
+    pub fn close(&mut self, number: u64) -> Option<(u64, Call)>
+        ensures owner { result ≡ owner_of number self.old }
+        ensures closed { IfSome result (λ it. self.new ≡ closed_in it.0 it.1 self.old) }
+        ensures none { IfNone result (self.new ≡ self.old) }
+        ensures returns { IfSome result (λ it. CanReopen it.0 it.1 self.new) }
+        ensures back { IfSome result (λ it. reopened it.0 it.1 self.new ≡ self.old) }
+    {
+        let Some(owner) = self.open_calls.get(number) else {
+            return None;
+        };
+        let call = Call {
+            client: owner.client,
+            number,
+        };
+        close_at(&mut self.slots, owner.pid, call);
+        self.open_calls.remove(number);
+        Some((owner.pid, call))
+    }
+
+    /// A call is open again to the process of a pid, which lives.
+    ///
+    /// # Errors
+    ///
+    /// `AllocError` where memory is refused. The table is then as it was.
+    pub fn reopen(&mut self, pid: u64, call: Call) -> Result<(), AllocError>
+        requires { CanReopen pid call self.old }
+        ensures ok { OnOk result (self.new ≡ reopened pid call self.old) }
+        ensures err { OnErr result (self.new ≡ self.old) }
+    {
+        reopen_at(&mut self.slots, pid, call)?;
+        let owner = Owner {
+            pid,
+            client: call.client,
+        };
+        match self.open_calls.insert(call.number, owner) {
+            Ok(()) => Ok(()),
+            Err(refused) => {
+                close_at(&mut self.slots, pid, call);
+                Err(refused)
+            }
         }
     }
 }

@@ -42,4 +42,16 @@ take <0.1.0> => {job,1,2,x,[{ctr,2}]} => {2,[{<0.1.0>,a,{server,ctr,4},running,0
 purge ctr => ok => same
 delete ctr => ok => same
 retake <0.1.0> => {job,1,2,x,[{ctr,2}]} => same
+
+case who uses an instance: a loop where it rests, and a server while it runs
+load ctr1 => 1 => same
+load lp1 => 2 => same
+start a {server,ctr,4} => <0.1.0> => {2,[{<0.1.0>,a,{server,ctr,4},idle,0,[]}],[]}
+start lp {loop,lp,loop,[0],2} => <0.2.0> => {3,[{<0.1.0>,a,{server,ctr,4},idle,0,[]},{<0.2.0>,lp,{loop,lp,loop,[0],2},idle,0,[]}],[]}
+users 1 => [] => same
+users 2 => [<0.2.0>] => same
+send a x => ok => {3,[{<0.1.0>,a,{server,ctr,4},idle,0,[x]},{<0.2.0>,lp,{loop,lp,loop,[0],2},idle,0,[]}],[]}
+take <0.1.0> => {job,1,1,x,[{ctr,1}]} => {3,[{<0.1.0>,a,{server,ctr,4},running,0,[]},{<0.2.0>,lp,{loop,lp,loop,[0],2},idle,0,[]}],[]}
+users 1 => [<0.1.0>] => same
+users 3 => [] => same
 ";

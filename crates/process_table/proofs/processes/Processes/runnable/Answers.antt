@@ -2,7 +2,6 @@
 use Rattle.std.proofs.Common.{ap, sym, ◌∙◌, arith, inl, inr}
 use Rattle.std.proofs.lemmas.Bool.{cases_lt}
 use Rattle.process_table.specs.Steps.{is_runnable}
-use Rattle.process_store.specs.Table.{living}
 use Rattle.process_store.proofs.Slots.{living_past}
 use Rattle.process_table.proofs.processes.Processes.runnable.Goals as goal
 

@@ -1,0 +1,34 @@
+// Which instances a process uses.
+ghost use Rattle.std.specs.Prelude.{◌≡◌};
+ghost use Rattle.std.specs.Option.{option_copied};
+ghost use Rattle.process_table.specs.Uses.{is_among, is_of, uses_by};
+
+use erl_machine::Instance;
+use process::{Activity, Process};
+
+/// Whether the instance of a serial is this one, if there is one.
+fn is_of(serial: u64, rests_in: Option<&Instance>) -> bool
+    ensures { result ≡ is_of serial (option_copied rests_in.entry) }
+{
+    match rests_in {
+        Some(instance) => instance.serial == serial,
+        None => false,
+    }
+}
+
+/// Whether the instance of a serial is one of these.
+fn is_among(serial: u64, code: &[Instance]) -> bool
+    ensures { result ≡ is_among serial code.now }
+{
+    code.iter().any(|instance| instance.serial == serial)
+}
+
+/// Whether a process uses the instance of a serial.
+pub(crate) fn uses(process: &Process, serial: u64) -> bool
+    ensures { result ≡ uses_by serial process.now.rests_in process.now.activity }
+{
+    match process.activity() {
+        Activity::Idle | Activity::Suspended => is_of(serial, process.rests_in()),
+        Activity::Runs(running) => is_among(serial, running.code.as_slice()),
+    }
+}
