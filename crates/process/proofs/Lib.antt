@@ -1,3 +1,4 @@
 pub mod Living
 pub mod Mailboxes
 pub mod Places
+pub mod Reruns

@@ -16,7 +16,7 @@ pub held-all : (code : List Instance) → map held (map instance code) ≡ code
 held-all [] = refl
 held-all (i ∷ code) = ap (λ is. i ∷ is) (held-all code)
 
-place-again : (t : Table Forms) (rests_in : Option Instance) → IsSound t → PlaceStands t rests_in → rests_found t (option_map named rests_in) ≡ Some rests_in
+pub place-again : (t : Table Forms) (rests_in : Option Instance) → IsSound t → PlaceStands t rests_in → rests_found t (option_map named rests_in) ≡ Some rests_in
 place-again t None sound stands = refl
 place-again t (Some i) sound stands = ap (option_map (λ s. Some (held s))) (found_again t (instance i) sound stands)
 

@@ -25,9 +25,10 @@
 //!   about: pid, turn, place, serial, message and code.
 //!
 //! - [`Process::end`] gives all of a process but code, as do [`Process::told`] and then [`Process::into_ended`], of which the second
-//!   takes no memory; and [`Ended::live`] the process again, with the instances that the table
-//!   of modules has under those names and serials. [`ended_processes_live`]: where the instances that it used stand in the
-//!   table, it is the process that it was.
+//!   takes no memory; and [`Ended::live`] the process again, with the instances that the table of modules has under those names
+//!   and serials. [`ended_processes_live`]: where the instances that it used stand in the table, it is the process that it was.
+//! - What `rest` hands out is kept without code as a [`NamedRan`] ([`Ran::named`], which takes no memory), and is made whole again
+//!   by [`NamedRan::run_again`]. [`jobs_run_again`]: where the instances stand in the table, it is what it was.
 //!
 //! # What no contract says
 //!
@@ -46,4 +47,6 @@ mod activity;
 mod process;
 
 pub use activity::{Activity, Running};
-pub use process::{Did, Ended, NamedRunning, Process, Ran, Told, ended_processes_live};
+pub use process::{
+    Did, Ended, NamedRan, NamedRunning, Process, Ran, Told, ended_processes_live, jobs_run_again,
+};

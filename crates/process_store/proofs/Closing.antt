@@ -111,3 +111,15 @@ pub slots_reopened_back : (slots : List (Option Living)) (c : Call) (pid : ℕ) 
 slots_reopened_back slots c pid free = slots_back (reopened_living c) (closed_living c) slots pid (λ l e.
     let absent : has c l.calls ≡ false = subst (λ o. IfSome o (λ x. has c x.calls ≡ false)) e free in
     λ i. record l { calls = without-with_call c l.calls absent i })
+
+-- it is its process's
+pub reopened_owner : (names : Names) (open_calls after : Owners) (slots now : List (Option Living)) (c : Call) (pid : ℕ) → IsIndexed names open_calls slots → IsSome (living_at slots pid) → get open_calls c.number ≡ None → after ≡ asked_of pid (Some c) open_calls → now ≡ changed_slots (reopened_living c) pid slots → owner_of c.number (record { slots = now }) ≡ Some (pid, c)
+reopened_owner names open_calls after slots now c pid indexed lives free was is =
+    let o : Owner = record { pid = pid; client = c.client } in
+    let at : get after c.number ≡ Some o = ap (λ m. get m c.number) was ∙ numbers_read open_calls c.number (Some o) c.number ∙ ap (λ b. cond b (Some o) (get open_calls c.number)) (eq-eqb c.number c.number refl) in
+    sym (owner_is names after now c.number o (reopened_indexed names open_calls after slots now c pid indexed lives free was is) at (record { slots = now }) refl)
+
+-- and to close it takes that back
+pub reopened_back : (slots now : List (Option Living)) (t : Table) (c : Call) (pid : ℕ) → IfSome (living_at slots pid) (λ l. has c l.calls ≡ false) → now ≡ changed_slots (reopened_living c) pid slots → record { slots = slots } ≡ t → ◌≡◌ {A = Table} (record { slots = changed_slots (closed_living c) pid now }) t
+reopened_back slots now t c pid free is was =
+    ap (λ x. record { slots = x }) (ap (changed_slots (closed_living c) pid) is ∙ slots_reopened_back slots c pid free) ∙ was

@@ -1,8 +1,9 @@
 // A process that was taken out whole, and one that is made of it again.
-ghost use Rattle.std.specs.Prelude.{◌≡◌, IfErr, IfOk, IfSome, Some};
+ghost use Rattle.std.specs.Prelude.{◌≡◌, IfErr, IfOk, IfSome, Some, map};
 ghost use Rattle.std.specs.Option.{option_copied, option_map};
+ghost use Rattle.job_code.specs.Named.{all_found};
 ghost use Rattle.process.specs.Process.{awaited};
-ghost use Rattle.process.specs.Ended.{EndedProcessesLive, activity_by, code_found, code_named, did_by, ended, ended_with, lived, lives, named, rests_found};
+ghost use Rattle.process.specs.Ended.{EndedProcessesLive, activity_by, code_found, code_named, did_by, ended, ended_with, held, lived, lives, named, rests_found};
 
 use super::{Process, first_of};
 use crate::activity::{Activity, Running};
@@ -111,7 +112,7 @@ fn code_told(alloc: Global, activity: &Activity) -> Result<Row<NamedInstance>, A
 }
 
 /// The instance of a place, where there is one, in the table; none where it is not there.
-fn place_found(
+pub(super) fn place_found(
     alloc: Global,
     modules: &Modules<Module>,
     told: Option<&NamedInstance>,
@@ -127,6 +128,20 @@ fn place_found(
     }
 }
 
+/// The code of these names and serials, in the table; none where some of it is not there.
+pub(super) fn code_in(
+    alloc: Global,
+    modules: &Modules<Module>,
+    told: &[NamedInstance],
+) -> Result<Option<Row<Instance>>, AllocError>
+    ensures { IfOk result (λ it. it ≡ option_map (map held) (all_found told.now modules.now)) }
+{
+    match instances_of(alloc, modules, told)? {
+        Some(code) => Ok(Some(Row::new(code))),
+        None => Ok(None),
+    }
+}
+
 /// The code that a process runs in, in the table; none where some of it is not there.
 fn run_found(
     alloc: Global,
@@ -135,12 +150,9 @@ fn run_found(
 ) -> Result<Option<Row<Instance>>, AllocError>
     ensures { IfOk result (λ it. it ≡ code_found modules.now did.now) }
 {
-    let Did::Ran(ran) = did else {
-        return Ok(Some(Row::new(Vec::new(alloc))));
-    };
-    match instances_of(alloc, modules, ran.code.as_slice())? {
-        Some(code) => Ok(Some(Row::new(code))),
-        None => Ok(None),
+    match did {
+        Did::Ran(ran) => code_in(alloc, modules, ran.code.as_slice()),
+        Did::Idle | Did::Suspended => Ok(Some(Row::new(Vec::new(alloc)))),
     }
 }
 

@@ -1,5 +1,5 @@
 // Elementary changes of one process of the table, each with the one that takes it back.
-ghost use Rattle.std.specs.Prelude.{◌≡◌, IfNone, IfOk, IfSome, None, OnErr, OnOk};
+ghost use Rattle.std.specs.Prelude.{◌≡◌, IfNone, IfOk, IfSome, None, OnErr, OnOk, Some};
 ghost use Rattle.process_store.specs.Changes.{CanReopen, CanTurnAt, HasTurned, IsRunningAt, closed_in, is_suspended, owner_of, reopened, rest_living, resume_living, suspend_living, suspended_as, unrest_living, was_suspended};
 ghost use Rattle.process_store.specs.Living.{arrived, unarrived};
 ghost use Rattle.process_store.specs.Table.{changed, living};
@@ -148,6 +148,8 @@ impl ProcessStore {
     pub fn reopen(&mut self, pid: u64, call: Call) -> Result<(), AllocError>
         requires { CanReopen pid call self.old }
         ensures ok { OnOk result (self.new ≡ reopened pid call self.old) }
+        ensures owner { OnOk result (owner_of call.number self.new ≡ Some (pid, call)) }
+        ensures back { OnOk result (closed_in pid call self.new ≡ self.old) }
         ensures err { OnErr result (self.new ≡ self.old) }
     {
         reopen_at(&mut self.slots, pid, call)?;

@@ -4,7 +4,7 @@ use Rattle.process_store.specs.Changes.{closed_living}
 use Rattle.process_store.specs.Indexed.{IsIndexed}
 use Rattle.process_store.specs.Table.{changed_slots, living}
 use Rattle.process_store.proofs.Arriving.{free_number, uncalled}
-use Rattle.process_store.proofs.Closing.{reopened_indexed, slots_reopened_back}
+use Rattle.process_store.proofs.Closing.{reopened_back, reopened_indexed, reopened_owner, slots_reopened_back}
 use Rattle.process_store.proofs.store.ProcessStore.reopen.Goals as goal
 
 pub reopen_at-requires : goal.reopen_at-requires
@@ -30,3 +30,14 @@ returns-in-Err-clause-err c =
     let free = uncalled i.names i.open_calls i.slots.items c.args.self.now c.args.call c.args.pid c.self.invariant c.self.view_is c.requires.1 in
     let back : c.close_at.new.slots.items ≡ i.slots.items = c.close_at.ensures ∙ ap (changed_slots (closed_living c.args.call) c.args.pid) c.in_ok-reopen_at.ensures.ok ∙ slots_reopened_back i.slots.items c.args.call c.args.pid free in
     ap (λ x. record { slots = x }) back ∙ c.self.view_is
+
+pub returns-in-Ok-clause-owner : goal.returns-in-Ok-clause-owner
+returns-in-Ok-clause-owner c =
+    let i = c.self.inside in
+    reopened_owner i.names i.open_calls c.insert.new.self i.slots.items c.reopen_at.new.slots.items c.args.call c.args.pid c.self.invariant (subst (λ t. IsSome (living c.args.pid t)) (sym c.self.view_is) c.requires.0) (free_number i.names i.open_calls i.slots.items c.args.self.now c.args.call.number c.self.invariant c.self.view_is c.requires.1) c.in-Ok.ensures.ok c.in_ok-reopen_at.ensures.ok
+
+pub returns-in-Ok-clause-back : goal.returns-in-Ok-clause-back
+returns-in-Ok-clause-back c =
+    let i = c.self.inside in
+    let free = uncalled i.names i.open_calls i.slots.items c.args.self.now c.args.call c.args.pid c.self.invariant c.self.view_is c.requires.1 in
+    reopened_back i.slots.items c.reopen_at.new.slots.items c.args.self.now c.args.call c.args.pid free c.in_ok-reopen_at.ensures.ok c.self.view_is

@@ -1,0 +1,132 @@
+// What a job leaves behind when its process rests again, with no code.
+ghost use Rattle.std.specs.Prelude.{◌≡◌, IfErr, IfOk, IfSome, Some};
+ghost use Rattle.process.specs.Rerun.{JobsRunAgain, ran_in, ran_with, runs_again};
+
+use super::Ran;
+use super::ending::{NamedRunning, Told, code_in, place_found};
+use crate::activity::Running;
+use code_server::Modules;
+use erl_eval::Place;
+use erl_forms::Module;
+use erl_machine::Instance;
+use job_code::NamedInstance;
+use std::alloc::{AllocError, Global};
+use values::Row;
+
+/// What a job leaves behind when its process rests again: where it rested before, and what it ran. It holds no code: the
+/// instances that the process used are told by names and serials.
+#[derive(Drop)]
+pub struct NamedRan {
+    /// The place where the process rested.
+    pub place: Place,
+    /// What tells the instance of the place, where this is a loop function.
+    pub rests_in: Option<NamedInstance>,
+    /// What it ran.
+    pub running: NamedRunning,
+}
+
+/// The instances that a process used.
+#[derive(Drop)]
+struct Used {
+    /// The instance of its place.
+    rests_in: Option<Instance>,
+    /// The code that it ran in.
+    code: Row<Instance>,
+}
+
+impl Ran {
+    /// The same without code: its instances are told so. Takes no memory.
+    pub fn named(self, told: Told) -> NamedRan
+        ensures { result ≡ ran_with told.rests_in told.code self }
+    {
+        let Ran { place, running, .. } = self;
+        let Told { rests_in, code } = told;
+        let Running {
+            entry_serial,
+            message,
+            ..
+        } = running;
+        NamedRan {
+            place,
+            rests_in,
+            running: NamedRunning {
+                entry_serial,
+                message,
+                code,
+            },
+        }
+    }
+}
+
+impl NamedRan {
+    /// The instances that the process used, in the table; none where one of them is not there.
+    fn used(&self, alloc: Global, modules: &Modules<Module>) -> Result<Option<Used>, AllocError>
+        ensures { IfOk result (λ it. IfSome it (λ used. runs_again modules.now self.now ≡ Some (ran_in used.rests_in used.code self.now))) }
+    {
+        let Some(rests_in) = place_found(alloc, modules, self.rests_in.as_ref())? else {
+            return Ok(None);
+        };
+        let Some(code) = code_in(alloc, modules, self.running.code.as_slice())? else {
+            return Ok(None);
+        };
+        Ok(Some(Used { rests_in, code }))
+    }
+
+    /// The same with these instances, and what tells them.
+    fn with_code(self, used: Used) -> (Ran, Told)
+        ensures ran { result.0 ≡ ran_in used.rests_in used.code self }
+        ensures told { ran_with result.1.rests_in result.1.code result.0 ≡ self }
+    {
+        let NamedRan {
+            place,
+            rests_in: told,
+            running,
+        } = self;
+        let Used { rests_in, code } = used;
+        let NamedRunning {
+            entry_serial,
+            message,
+            code: code_told,
+        } = running;
+        let ran = Ran {
+            place,
+            rests_in,
+            running: Running {
+                entry_serial,
+                message,
+                code,
+            },
+        };
+        let told = Told {
+            rests_in: told,
+            code: code_told,
+        };
+        (ran, told)
+    }
+
+    /// What the job has left behind, with the instances that the process used, as they stand in the table. What tells them is handed
+    /// out with it, so that [`Ran::named`] makes it anew without memory.
+    ///
+    /// # Errors
+    ///
+    /// The same as it was, where memory is refused, and where one of the instances is not in the table.
+    pub fn run_again(
+        self,
+        alloc: Global,
+        modules: &Modules<Module>,
+    ) -> Result<(Ran, Told), NamedRan>
+        ensures ok { IfOk result (λ it. runs_again modules.now self ≡ Some it.0) }
+        ensures told { IfOk result (λ it. ran_with it.1.rests_in it.1.code it.0 ≡ self) }
+        ensures err { IfErr result (λ it. it ≡ self) }
+    {
+        match self.used(alloc, modules) {
+            Ok(Some(used)) => Ok(self.with_code(used)),
+            Ok(None) | Err(_) => Err(self),
+        }
+    }
+}
+
+/// A law: what a job has left behind is made whole again where the instances stand in the table that its process used.
+pub fn jobs_run_again()
+    ensures { JobsRunAgain }
+{}
