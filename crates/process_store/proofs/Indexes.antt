@@ -44,7 +44,7 @@ somebody test none slots p only =
     ] refl
 
 -- somebody passes
-is_found : (test : Option Living → Bool) → test None ≡ false → (slots : List (Option Living)) (p : ℕ) → test (living_at slots p) ≡ true → is_some (position test slots) ≡ true
+pub is_found : (test : Option Living → Bool) → test None ≡ false → (slots : List (Option Living)) (p : ℕ) → test (living_at slots p) ≡ true → is_some (position test slots) ≡ true
 is_found test none slots p passes =
     elim (living_at slots p) as (λ o. living_at slots p ≡ o → is_some (position test slots) ≡ true) [
       | None ↦ λ is. let clash : true ≡ false = sym passes ∙ ap test is ∙ none in absurd (grind (arith, common_steps, clash))

@@ -52,7 +52,7 @@ vacant_within [] pid vacant = absurd (none-some None vacant)
 vacant_within (s ∷ ss) zero vacant = omega arith
 vacant_within (s ∷ ss) (suc pid) vacant = let below = vacant_within ss pid vacant in omega (arith, below)
 
-living_occupied : (l : Living) (slots : List (Option Living)) (pid : ℕ) → slice_get slots pid ≡ Some None → living_at (occupied_slots pid l slots) pid ≡ Some l
+pub living_occupied : (l : Living) (slots : List (Option Living)) (pid : ℕ) → slice_get slots pid ≡ Some None → living_at (occupied_slots pid l slots) pid ≡ Some l
 living_occupied l [] pid vacant = absurd (none-some None vacant)
 living_occupied l (s ∷ ss) zero vacant = refl
 living_occupied l (s ∷ ss) (suc pid) vacant = living_occupied l ss pid vacant
@@ -75,6 +75,11 @@ pub vacated_back : (slots : List (Option Living)) (pid : ℕ) (l : Living) → l
 vacated_back [] pid l is = refl
 vacated_back (s ∷ ss) zero l is = ap (λ o. o ∷ ss) (sym is)
 vacated_back (s ∷ ss) (suc pid) l is = ap (λ xs. s ∷ xs) (vacated_back ss pid l is)
+
+pub occupied_back : (l : Living) (slots : List (Option Living)) (pid : ℕ) → slice_get slots pid ≡ Some None → vacated_slots pid (occupied_slots pid l slots) ≡ slots
+occupied_back l [] pid vacant = refl
+occupied_back l (s ∷ ss) zero vacant = ap (λ o. o ∷ ss) (sym (same_Some s None vacant))
+occupied_back l (s ∷ ss) (suc pid) vacant = ap (λ xs. s ∷ xs) (occupied_back l ss pid vacant)
 
 -- nobody has pid 0
 

@@ -1,3 +1,2 @@
 pub mod Arriving
-pub mod Ending
 pub mod Jobs

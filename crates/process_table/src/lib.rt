@@ -1,8 +1,8 @@
 //! The processes of a node: who lives under which pid and name, what waits in their mailboxes, what they run, and which calls of
 //! clients are open.
 //!
-//! [`Processes`] is the table. Its steps are a start, an arrival from outside, a take, a suspension, a resumption and an end; each
-//! is refused by the first reason that the rules name, or is made whole and hands out an [`Undo`], by which [`Processes::revert`]
+//! [`Processes`] is the table. Its steps are a start, an arrival from outside, a take, a suspension, a resumption, an end and the kill
+//! of all users of an instance; each is refused by the first reason that the rules name, or is made whole and hands out an [`Undo`], by which [`Processes::revert`]
 //! takes the newest step back.
 //! The rules are the definitions of `specs/Steps`, which `docs/RULES.md` tells in prose.
 //!
@@ -11,12 +11,13 @@
 //! - [`Processes::start`], [`Processes::arrive`], [`Processes::take`], [`Processes::suspend`], [`Processes::resume`] and
 //!   [`Processes::end`] give the table of the rules (`with_process`, `after_arrival`, `taken`, `suspend_living`, `resume_living`,
 //!   `vacated`), are refused by them, in their order, and change nothing where they are; `Memory` is told only where there is no
-//!   other refusal.
+//!   other refusal. [`Processes::kill_users`] takes each user of an instance out, and nobody else (`without_users` of
+//!   [`process_ending`]).
 //! - What an undo gives back is the table before the step, whole (`undone`, `TakesBack`). A process that has ended is kept without
-//!   code, so of an end this is said over the tables of modules in which the instances that the processes use stand
-//!   (`TakesBackEnds`).
-//! - [`Processes::downs`] tells each open call of a process once, in order of client and number. [`Processes::users`] tells who uses an
-//!   instance, in order (`users`).
+//!   code, so of an end and a kill this is said over the tables of modules in which the instances that the processes use stand
+//!   (`TakesBackEnds`). An undo that is done loses no process, whatever the table of modules (`IsKept`).
+//! - [`Processes::downs`] tells each open call of a process once, in order of client and number, and a kill those of each process that
+//!   it kills, in order of pid (`told_by_kill`). [`Processes::users`] tells who uses an instance, in order (`users`).
 //! - The code of a job is the instance that is entered and what it can reach (`IsCodeOf`, over `IsJobCode` of [`job_code`]).
 //! - [`Processes::pid_of`] and [`Processes::is_open`] find by key what stands in the table; [`Processes::runnable`] is the least
 //!   pid above another whose process could take a message now (`IsNextRunnable`).
@@ -34,13 +35,11 @@ mod body;
 mod error;
 mod processes;
 mod taking;
-mod told;
 mod undo;
-mod using;
 
 pub use body::Body;
 pub use error::ProcError;
+pub use process_ending::{EndedProcess, Reply, ReplyBody};
 pub use process_store::Living;
 pub use processes::Processes;
-pub use told::{Reply, ReplyBody};
-pub use undo::{EndedProcess, Undo};
+pub use undo::Undo;

@@ -2,25 +2,22 @@
 ghost use Rattle.std.specs.Prelude.{◌≡◌, None, Some, IfOk, IfErr, OnOk, OnErr};
 ghost use Rattle.std.specs.Option.{option_copied};
 ghost use Rattle.process_table.specs.Steps.{loaded_as, rests_in};
-ghost use Rattle.process_table.specs.Undo.{ended_as};
 
 use crate::body::Body;
 use crate::error::ProcError;
 use crate::taking::{job_for, next_of};
-use crate::told::{Reply, downs_of};
-use crate::undo::{EndedProcess, Undo};
-use crate::using::uses;
+use crate::undo::Undo;
 use code_server::Modules;
 use erl_eval::Place;
 use erl_forms::Module;
 use erl_machine::{Instance, Job};
 use erl_term::{Atom, Term};
-use process::Told;
+use process_ending::{EndedProcess, Reply, downs_of, end, kill_users, return_all, return_ended, users};
 use process_store::{Living, ProcessStore};
 use std::alloc::{AllocError, Global};
 use std::hash::RandomState;
 use std::marker::Model;
-use values::Duplicate;
+use values::{Duplicate, Row};
 
 /// The processes of a node.
 #[derive(Drop)]
@@ -62,26 +59,15 @@ fn loaded_as(serial: u64, code: &[Instance]) -> Option<&Instance>
     code.iter().find(|instance| instance.serial == serial)
 }
 
-/// A process that was taken out of its slot, as it was, but with its instances told so.
-fn ended_process(pid: u64, living: Living, told: Told) -> EndedProcess
-    ensures { result ≡ ended_as pid told.rests_in told.code living }
-{
-    let Living { process, calls } = living;
-    EndedProcess {
-        pid,
-        process: process.into_ended(told),
-        calls,
-    }
-}
-
 impl Processes {
     ghost use Rattle.process_table.specs.Steps.{IsCodeOf, IsNextRunnable, Tells, after_arrival, arrive_refusal, is_repeated, is_runnable, job_at, missing, retake_refusal, start_refusal, take_refusal, taken, with_process};
     ghost use Rattle.process_store.specs.Table.{changed, empty_table, is_open, living, next_pid, pid_of};
     ghost use Rattle.process_store.specs.Changes.{resume_living, suspend_living};
     ghost use Rattle.process_store.specs.Vacating.{vacated};
-    ghost use Rattle.process_table.specs.Told.{downs};
-    ghost use Rattle.process_table.specs.Uses.{users, uses};
-    ghost use Rattle.process_table.specs.Undo.{Fits, TakesBack, TakesBackEnds, undone};
+    ghost use Rattle.process_ending.specs.Kills.{told_by_kill, without_users};
+    ghost use Rattle.process_ending.specs.Told.{downs};
+    ghost use Rattle.process_ending.specs.Uses.{users};
+    ghost use Rattle.process_table.specs.Undo.{Fits, IsKept, TakesBack, TakesBackEnds, undone};
 
     /// No process. Names and numbers are hashed by keys that nobody outside knows.
     ///
@@ -286,16 +272,6 @@ impl Processes {
         }
     }
 
-    /// Whether the process of a pid uses the instance of a serial.
-    fn uses(&self, pid: u64, serial: u64) -> bool
-        ensures { result ≡ uses serial (living pid self.now) }
-    {
-        match self.get(pid) {
-            Some(living) => uses(&living.process, serial),
-            None => false,
-        }
-    }
-
     /// The pids of the processes that use the instance of a serial, in order: while a process runs it uses the code of its job, and
     /// while it rests the instance in which it rests, where this is a loop function.
     ///
@@ -305,13 +281,7 @@ impl Processes {
     pub fn users(&self, serial: u64) -> Result<Vec<u64>, AllocError>
         ensures { IfOk result (λ it. it.items ≡ users serial self.now) }
     {
-        let mut pids = Vec::new(self.alloc);
-        for pid in 0..self.next_pid() {
-            if self.uses(pid, serial) {
-                pids.push(pid)?;
-            }
-        }
-        Ok(pids)
+        users(&self.store, self.alloc, serial)
     }
 
     /// A process takes no message until it is resumed, where it rests; one that runs goes on.
@@ -380,59 +350,74 @@ impl Processes {
         ensures refused { IfErr result (λ e. Tells e (missing pid self.old)) }
         ensures err { OnErr result (self.new ≡ self.old) }
     {
-        let Some(living) = self.store.get(pid) else {
+        if self.store.get(pid).is_none() {
             return Err(ProcError::NoProc);
-        };
-        let Ok(told) = living.process.told(self.alloc) else {
-            return Err(ProcError::Memory);
-        };
-        match self.store.remove(pid) {
-            Some(living) => Ok(Undo::Ended(ended_process(pid, living, told))),
-            None => unreachable!(),
+        }
+        match end(&mut self.store, self.alloc, pid) {
+            Ok(ended) => Ok(Undo::Ended(ended)),
+            Err(_) => Err(ProcError::Memory),
         }
     }
 
-    /// A process that has ended lives again.
-    fn return_ended(
-        &mut self,
-        modules: &Modules<Module>,
-        ended: EndedProcess,
-    ) -> Result<(), EndedProcess>
-        requires { Fits modules.now (Undo.Ended ended) self.old }
-        ensures ok { OnOk result (self.new ≡ undone modules.now (Undo.Ended ended) self.old) }
-        ensures back { IfErr result (λ it. it ≡ ended) }
+    /// Kills each process that uses the instance of a serial: it leaves, with its name, its mailbox and its open calls. What clients
+    /// are told is handed out: that the processes of their calls were killed, process after process in order of pid.
+    ///
+    /// # Errors
+    ///
+    /// `AllocError` where memory is refused. The table is then as it was.
+    pub fn kill_users(&mut self, serial: u64) -> Result<(Vec<Reply>, Undo), AllocError>
+        ensures killed { OnOk result (self.new ≡ without_users serial self.old) }
+        ensures told { IfOk result (λ it. it.0.items ≡ told_by_kill serial self.old) }
+        ensures inverse { IfOk result (λ it. TakesBackEnds it.1 self.old self.new) }
         ensures err { OnErr result (self.new ≡ self.old) }
     {
-        let EndedProcess {
-            pid,
-            process,
-            calls,
-        } = ended;
-        let (process, told) = match process.live(self.alloc, modules) {
-            Ok(lives) => lives,
-            Err(process) => {
-                return Err(EndedProcess {
-                    pid,
-                    process,
-                    calls,
-                });
-            }
-        };
-        match self.store.restore(pid, Living { process, calls }) {
+        let (replies, killed) = kill_users(&mut self.store, self.alloc, serial)?;
+        Ok((replies, Undo::Killed(Row::new(killed))))
+    }
+
+    /// A process that has ended lives again.
+    fn revert_end(&mut self, modules: &Modules<Module>, ended: EndedProcess) -> Result<(), Undo>
+        requires { Fits modules.now (Undo.Ended ended) self.old }
+        ensures ok { OnOk result (self.new ≡ undone modules.now (Undo.Ended ended) self.old) }
+        ensures kept { OnOk result (IsKept modules.now (Undo.Ended ended)) }
+        ensures back { IfErr result (λ it. it ≡ Undo.Ended ended) }
+        ensures err { OnErr result (self.new ≡ self.old) }
+    {
+        match return_ended(&mut self.store, self.alloc, modules, ended) {
+            Ok(_) => Ok(()),
+            Err(ended) => Err(Undo::Ended(ended)),
+        }
+    }
+
+    /// Processes that were killed live again.
+    fn revert_kill(
+        &mut self,
+        modules: &Modules<Module>,
+        killed: Row<EndedProcess>,
+    ) -> Result<(), Undo>
+        requires { Fits modules.now (Undo.Killed killed) self.old }
+        ensures ok { OnOk result (self.new ≡ undone modules.now (Undo.Killed killed) self.old) }
+        ensures kept { OnOk result (IsKept modules.now (Undo.Killed killed)) }
+        ensures back { IfErr result (λ it. it ≡ Undo.Killed killed) }
+        ensures err { OnErr result (self.new ≡ self.old) }
+    {
+        match return_all(&mut self.store, self.alloc, modules, killed.into_vec()) {
             Ok(()) => Ok(()),
-            Err(living) => Err(ended_process(pid, living, told)),
+            Err(killed) => Err(Undo::Killed(Row::new(killed))),
         }
     }
 
     /// Takes the newest step back. A process that has ended lives again with the instances that it used, as they stand in the table of
-    /// modules.
+    /// modules; of several all do, or none.
     ///
     /// # Errors
     ///
-    /// The undo, where memory is refused. The table is then as it was.
+    /// The undo, where memory is refused, and where an instance that a process which has ended used is not in the table of modules. The
+    /// table is then as it was.
     pub fn revert(&mut self, modules: &Modules<Module>, undo: Undo) -> Result<(), Undo>
         requires { Fits modules.now undo self.old }
         ensures ok { OnOk result (self.new ≡ undone modules.now undo self.old) }
+        ensures kept { OnOk result (IsKept modules.now undo) }
         ensures back { IfErr result (λ it. it ≡ undo) }
         ensures err { OnErr result (self.new ≡ self.old) }
     {
@@ -453,10 +438,8 @@ impl Processes {
                 self.store.set_suspended(pid, was_suspended);
                 Ok(())
             }
-            Undo::Ended(ended) => match self.return_ended(modules, ended) {
-                Ok(()) => Ok(()),
-                Err(ended) => Err(Undo::Ended(ended)),
-            },
+            Undo::Ended(ended) => self.revert_end(modules, ended),
+            Undo::Killed(killed) => self.revert_kill(modules, killed),
         }
     }
 }

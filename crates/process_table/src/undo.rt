@@ -1,20 +1,10 @@
 // What takes a step back.
-use process::Ended;
-use process_index::{Call, Calls};
+use process_ending::EndedProcess;
+use process_index::Call;
+use values::Row;
 
-/// A process that has ended, with the calls that were open to it.
-#[derive(Drop)]
-pub struct EndedProcess {
-    /// Its pid.
-    pub pid: u64,
-    /// The process, whole.
-    pub process: Ended,
-    /// The calls that clients made to it, and that were not answered.
-    pub calls: Calls,
-}
-
-/// What takes one step of the processes back: what the step has left, by pids, positions and numbers, and of a process
-/// that has ended the whole of it.
+/// What takes one step of the processes back: what the step has left, by pids, positions and numbers, and of
+/// processes that have ended the whole of them.
 #[derive(Drop)]
 pub enum Undo {
     /// A process was started, the last.
@@ -42,4 +32,6 @@ pub enum Undo {
     },
     /// A process has ended.
     Ended(EndedProcess),
+    /// Processes were killed.
+    Killed(Row<EndedProcess>),
 }

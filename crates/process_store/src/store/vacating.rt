@@ -1,5 +1,5 @@
 // A process is taken out of the table, with its name and its open calls, and put back into its slot.
-ghost use Rattle.std.specs.Prelude.{◌≡◌, ◌<◌, IfErr, IfSome, OnErr, OnOk, length};
+ghost use Rattle.std.specs.Prelude.{◌≡◌, ◌<◌, IfErr, IfSome, OnErr, OnOk, Some, length};
 ghost use Rattle.std.specs.Option.{option_copied};
 ghost use Rattle.process_index.specs.Calls.{AreInOrder};
 ghost use Rattle.process_store.specs.Indexed.{registered, unregistered};
@@ -114,6 +114,8 @@ impl ProcessStore {
     pub fn restore(&mut self, pid: u64, living: Living) -> Result<(), Living>
         requires { CanReturn pid living self.old }
         ensures ok { OnOk result (self.new ≡ occupied pid living self.old) }
+        ensures lives { OnOk result (living_at self.new.slots pid ≡ Some living) }
+        ensures vacates { OnOk result (vacated pid self.new ≡ self.old) }
         ensures back { IfErr result (λ l. l ≡ living) }
         ensures err { OnErr result (self.new ≡ self.old) }
     {

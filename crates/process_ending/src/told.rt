@@ -1,6 +1,6 @@
 // What clients are told of their calls.
-ghost use Rattle.std.specs.Prelude.{◌≡◌, map, IfOk};
-ghost use Rattle.process_table.specs.Told.{down};
+ghost use Rattle.std.specs.Prelude.{◌≡◌, ◌++◌, map, IfOk, OnOk};
+ghost use Rattle.process_ending.specs.Told.{down};
 
 use erl_term::Term;
 use process_index::Call;
@@ -63,15 +63,15 @@ impl Duplicate for Reply {
     }
 }
 
-/// That a process has ended, told to its open calls, in their order.
-pub(crate) fn downs_of(
+/// That a process has ended, told to its open calls, in their order, behind what is told already.
+pub(crate) fn tell(
+    replies: &mut Vec<Reply>,
     alloc: Global,
     calls: &[Call],
     reason: &Term,
-) -> Result<Vec<Reply>, AllocError>
-    ensures { IfOk result (λ it. it.items ≡ map (down reason.now) calls.now) }
+) -> Result<(), AllocError>
+    ensures { OnOk result (replies.new.items ≡ replies.old.items ++ map (down reason.now) calls.now) }
 {
-    let mut replies = Vec::with_capacity(alloc, calls.len())?;
     for call in calls {
         replies.push(Reply {
             client: call.client,
@@ -79,5 +79,18 @@ pub(crate) fn downs_of(
             body: ReplyBody::Down(reason.copy(alloc)?),
         })?;
     }
+    Ok(())
+}
+
+/// That a process has ended, told to its open calls, in their order.
+///
+/// # Errors
+///
+/// `AllocError` where memory is refused.
+pub fn downs_of(alloc: Global, calls: &[Call], reason: &Term) -> Result<Vec<Reply>, AllocError>
+    ensures { IfOk result (λ it. it.items ≡ map (down reason.now) calls.now) }
+{
+    let mut replies = Vec::with_capacity(alloc, calls.len())?;
+    tell(&mut replies, alloc, calls, reason)?;
     Ok(replies)
 }

@@ -1,7 +1,7 @@
 -- Which instances a process uses (Erlang Reference Manual, Code Replacement): while it runs the code of its job, in which the
 -- instance that was entered stands first, and while it rests the one in which it rests, if this is a loop function.
-use Rattle.std.specs.Prelude.{ℕ, zero, suc, ◌==◌, Bool, false, if◌then◌else◌, List, [], ◌∷◌, ◌++◌, Option, None, Some}
-use Rattle.std.specs.List.{list_any}
+use Rattle.std.specs.Prelude.{ℕ, ◌==◌, Bool, false, List, Option, None, Some}
+use Rattle.std.specs.List.{filter, list_any, range_with_len}
 use Rattle.erl_steps.specs.declared.world.Instance.{Instance}
 use Rattle.process.specs.declared.activity.Activity.{Activity}
 use Rattle.process.specs.declared.activity.Activity.TheVariants.{Idle, Suspended, Runs}
@@ -25,12 +25,10 @@ abbrev pub uses : ℕ → Option Living → Bool
 uses serial None = false
 uses serial (Some l) = uses_by serial l.process.rests_in l.process.activity
 
--- the pids of those that use it, below a number and of all, in order
+-- every pid that was given, in order
+abbrev pub pids : Table → List ℕ
+pids t = range_with_len 0 (next_pid t)
 
-abbrev pub users_below : ℕ → ℕ → Table → List ℕ
-users_below zero serial t = []
-users_below (suc n) serial t =
-    if uses serial (living n t) then users_below n serial t ++ n ∷ [] else users_below n serial t
-
+-- the pids of those whose processes use the instance, in order
 abbrev pub users : ℕ → Table → List ℕ
-users serial t = users_below (next_pid t) serial t
+users serial t = filter (λ pid. uses serial (living pid t)) (pids t)

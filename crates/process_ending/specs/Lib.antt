@@ -1,0 +1,4 @@
+pub mod Ends
+pub mod Kills
+pub mod Told
+pub mod Uses
