@@ -1,0 +1,6 @@
+pub mod Commuting
+pub mod Leaving
+pub mod OwnMessages
+pub mod Parting
+pub mod Rests
+pub mod Undoing

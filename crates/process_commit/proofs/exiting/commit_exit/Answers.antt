@@ -1,0 +1,52 @@
+-- What the process sends to itself goes with it, and all else of it is as it was.
+use Rattle.std.proofs.Common.{◌≡◌, ◌++◌, arith, map, refl, sym, ap, subst, ◌∙◌}
+use Rattle.process_commit.proofs.Leaving.{downs_by_calls, enough_reasons, exited_back, leaver_lives, still_lives}
+use Rattle.process_commit.proofs.OwnMessages.{calls_at, ended_calls, ended_the_same, ended_told}
+use Rattle.process_commit.specs.Acts.{acts_done, acts_told}
+use Rattle.process_commit.specs.Exits.{ExitsBack}
+use Rattle.process_commit.specs.Parted.{answers_of}
+use Rattle.process_commit.specs.declared.exiting.Exited.{Exited}
+use Rattle.process_ending.specs.Ends.{ended_as}
+use Rattle.process_ending.specs.Told.{down, downs}
+use Rattle.process_store.specs.Table.{living}
+use Rattle.process_store.specs.Vacating.{vacated}
+use Rattle.process_commit.proofs.exiting.commit_exit.Goals as goal
+
+pub tell_downs-requires-clause-enough : goal.tell_downs-requires-clause-enough
+tell_downs-requires-clause-enough c =
+    enough_reasons c.args.pid c.args.acts.now (answers_of c.args.acts.now) c.args.store.now c.act_all.new.store c.in_ok-acted.ensures.table c.in-Some.living c.as_slice.result.now _ c.in-Some.ensures.process c.as_slice.ensures.calls c.requires c.in_ok-reasons.ensures.enough
+
+pub tell_downs-requires-clause-room : goal.tell_downs-requires-clause-room
+tell_downs-requires-clause-room c =
+    let enough = enough_reasons c.args.pid c.args.acts.now (answers_of c.args.acts.now) c.args.store.now c.act_all.new.store c.in_ok-acted.ensures.table c.in-Some.living c.as_slice.result.now _ c.in-Some.ensures.process c.as_slice.ensures.calls c.requires c.in_ok-reasons.ensures.enough in
+    omega (arith, enough, c.in_ok-acted.ensures.room, c.len.ensures)
+
+pub unreachable-requires : goal.unreachable-requires
+unreachable-requires c =
+    still_lives c.args.pid c.args.acts.now (answers_of c.args.acts.now) c.args.store.now c.act_all.new.store c.in_ok-acted.ensures.table c.requires c.in-None.ensures.process
+
+pub returns-clause-exited : goal.returns-clause-exited
+returns-clause-exited c =
+    c.in-Some.ensures.table ∙ ap (vacated c.args.pid) c.in_ok-acted.ensures.table ∙ ended_the_same c.args.pid c.args.acts.now c.args.store.now
+
+pub returns-clause-told : goal.returns-clause-told
+returns-clause-told c =
+    let pid = c.args.pid in
+    let acts = c.args.acts.now in
+    let t = c.args.store.now in
+    let replies = c.in_ok-acted.ensures.told ∙ ended_told pid acts t in
+    let calls : calls_at (living pid c.act_all.new.store) ≡ calls_at (living pid (acts_done acts t)) = ap (λ x. calls_at (living pid x)) c.in_ok-acted.ensures.table ∙ ended_calls pid acts t in
+    let down_there = ap (map (down c.args.reason.now)) c.as_slice.ensures.calls ∙ ap (downs c.args.reason.now) c.in-Some.ensures.process ∙ downs_by_calls c.args.reason.now (living pid c.act_all.new.store) (living pid (acts_done acts t)) calls in
+    c.tell_downs.ensures c.args.reason.now c.in_ok-reasons.ensures.same ∙ (λ i. replies i ++ down_there i)
+
+pub returns-clause-inverse : goal.returns-clause-inverse
+returns-clause-inverse c =
+    let pid = c.args.pid in
+    let t = c.args.store.now in
+    let l = c.in-Some.living in
+    let told = c.in_ok-told.told in
+    let acted = c.in_ok-acted.acted in
+    let is : ◌≡◌ {A = Exited} (record { ended = c.ended_process.result; receivers = c.new.result; closed = c.new-in-Some.result }) (record { ended = ended_as pid told.rests_in told.code l; receivers = acted.receivers.items; closed = acted.closed.items }) = λ i. record { ended = c.ended_process.ensures i; receivers = c.new.ensures i; closed = c.new-in-Some.ensures i } in
+    subst (λ (u : Exited). ExitsBack u t c.remove.new.self) (sym is) (λ modules sound stand.
+        let alive = leaver_lives pid c.args.acts.now (answers_of c.args.acts.now) t c.act_all.new.store c.in_ok-acted.ensures.table modules l told c.in-Some.ensures.process c.requires c.in_ok-told.ensures sound stand in
+        exited_back modules pid t c.act_all.new.store c.remove.new.self l told acted.receivers.items acted.closed.items alive c.in-Some.ensures.returns c.in-Some.ensures.back c.in_ok-acted.ensures.fits c.in_ok-acted.ensures.back)

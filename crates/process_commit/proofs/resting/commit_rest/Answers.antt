@@ -1,0 +1,28 @@
+-- The process rests before its acts are done, which is the same.
+use Rattle.std.proofs.Common.{◌≡◌, sym, ap, subst, ◌∙◌}
+use Rattle.process.specs.Rerun.{ran_with}
+use Rattle.process_commit.proofs.Rests.{rested_back, rested_is, rested_told}
+use Rattle.process_commit.specs.Commits.{RestsBack}
+use Rattle.process_commit.specs.declared.resting.Rested.{Rested}
+use Rattle.process_store.specs.Changes.{HasTurned}
+use Rattle.process_commit.proofs.resting.commit_rest.Goals as goal
+
+pub returns-in-Ok-clause-rested : goal.returns-in-Ok-clause-rested
+returns-in-Ok-clause-rested c =
+    rested_is c.args.job.now c.args.place.now c.in_ok-copy.field-0 c.in_ok-rests_in.rests_in c.as_slice.result.now c.args.acts.now c.args.store.now c.rest.new.self c.act_all.new.store c.in_ok-copy.ensures c.as_slice.ensures c.in_ok-rests_in.ensures c.in_ok-ran.ensures.ok c.in-Ok.ensures.table
+
+pub returns-in-Ok-clause-told : goal.returns-in-Ok-clause-told
+returns-in-Ok-clause-told c =
+    rested_told c.args.job.now c.args.place.now c.in_ok-copy.field-0 c.in_ok-rests_in.rests_in c.as_slice.result.now c.args.acts.now c.args.store.now c.rest.new.self c.act_all.new.store c.in_ok-copy.ensures c.as_slice.ensures c.in_ok-rests_in.ensures c.in_ok-ran.ensures.ok c.in-Ok.acted.replies.items c.in-Ok.ensures.told
+
+pub returns-in-Ok-clause-inverse : goal.returns-in-Ok-clause-inverse
+returns-in-Ok-clause-inverse c =
+    let acted = c.in-Ok.acted in
+    let told = c.in_ok-told.told in
+    let ran = c.in_ok-ran.ran in
+    let told_so : c.named.result ≡ ran_with told.rests_in told.code ran = c.named.ensures in
+    let is : ◌≡◌ {A = Rested} (record { pid = c.args.job.now.pid; ran = c.named.result; receivers = c.new.result; closed = c.new-in-Ok.result }) (record { pid = c.args.job.now.pid; ran = ran_with told.rests_in told.code ran; receivers = acted.receivers.items; closed = acted.closed.items }) = λ i. record { pid = c.args.job.now.pid; ran = told_so i; receivers = c.new.ensures i; closed = c.new-in-Ok.ensures i } in
+    subst (λ (u : Rested). RestsBack u c.args.store.now c.act_all.new.store) (sym is) (
+      (c.in-Ok.ensures.fits, subst (HasTurned c.args.job.now.pid) (sym c.in-Ok.ensures.back) c.in_ok-ran.ensures.fits),
+      λ modules sound stand. rested_back modules c.args.job.now c.args.store.now c.rest.new.self c.act_all.new.store told ran acted.receivers.items acted.closed.items sound stand c.requires.running c.in_ok-told.ensures c.in_ok-ran.ensures.back c.in-Ok.ensures.back
+    )

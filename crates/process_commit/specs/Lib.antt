@@ -1,0 +1,4 @@
+pub mod Acts
+pub mod Commits
+pub mod Exits
+pub mod Parted

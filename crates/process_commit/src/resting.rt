@@ -1,0 +1,171 @@
+// A job is committed, and its process rests again.
+ghost use Rattle.std.specs.Prelude.{◌≡◌, IfErr, IfOk, IfSome, IsSome, None, OnErr, OnOk, Some};
+ghost use Rattle.std.specs.Option.{option_copied};
+ghost use Rattle.process.specs.Ended.{ended, ended_with};
+ghost use Rattle.process.specs.Rerun.{runs_again};
+ghost use Rattle.process_commit.specs.Acts.{acts_told};
+ghost use Rattle.process_commit.specs.Commits.{CanUnrest, IsRunning, RestsBack, loaded_as, rested_after, rests_in, unrested};
+ghost use Rattle.process_store.specs.Changes.{CanTurnAt};
+ghost use Rattle.process_store.specs.Table.{living};
+
+use crate::acting::{Acted, act_all};
+use crate::answers::{Closed, reopen_all};
+use crate::sends::unsend_all;
+use code_server::Modules;
+use erl_eval::{Act, Place};
+use erl_forms::Module;
+use erl_machine::{Instance, Job};
+use process::{NamedRan, Told};
+use process_ending::Reply;
+use process_store::ProcessStore;
+use std::alloc::{AllocError, Global};
+use values::{Duplicate, Row};
+
+/// What takes the commit of a job back whose process rests again.
+#[derive(Drop)]
+pub struct Rested {
+    /// The process.
+    pub pid: u64,
+    /// Where it rested before, and what it ran.
+    pub ran: NamedRan,
+    /// Whom messages were sent to, in order.
+    pub receivers: Row<u64>,
+    /// The calls that were closed, in order.
+    pub closed: Row<Closed>,
+}
+
+/// The instance of a loop function's place, among the code in which it came to rest; none of a callback module's.
+///
+/// # Errors
+///
+/// `AllocError` where memory is refused.
+pub fn rests_in(
+    alloc: Global,
+    place: &Place,
+    code: &[Instance],
+) -> Result<Option<Instance>, AllocError>
+    ensures { IfOk result (λ it. it ≡ rests_in place.now code.now) }
+{
+    match place {
+        Place::Server { .. } => Ok(None),
+        Place::Loop { serial, .. } => match loaded_as(*serial, code) {
+            Some(instance) => Ok(Some(instance.copy(alloc)?)),
+            None => Ok(None),
+        },
+    }
+}
+
+/// The instance of a serial, among code.
+fn loaded_as(serial: u64, code: &[Instance]) -> Option<&Instance>
+    ensures { option_copied result ≡ loaded_as serial code.now }
+{
+    code.iter().find(|instance| instance.serial == serial)
+}
+
+/// What tells the instances that a process uses, which lives.
+pub(crate) fn told_of(store: &ProcessStore, alloc: Global, pid: u64) -> Result<Told, AllocError>
+    requires { IsSome (living pid store.now) }
+    ensures { IfOk result (λ told. IfSome (living pid store.now) (λ l. ended_with told.rests_in told.code l.process ≡ ended l.process)) }
+{
+    match store.get(pid) {
+        Some(living) => living.process.told(alloc),
+        None => unreachable!(),
+    }
+}
+
+/// Commits a job whose process rests again at a place: its acts are done, in order, and then it rests there, one turn on. What clients
+/// are told is handed out.
+///
+/// # Errors
+///
+/// `AllocError` where memory is refused. The processes are then as they were.
+pub fn commit_rest(
+    store: &mut ProcessStore,
+    alloc: Global,
+    job: &Job,
+    acts: &[Act],
+    place: &Place,
+) -> Result<(Vec<Reply>, Rested), AllocError>
+    requires running { IsRunning job.now store.old }
+    requires turns { CanTurnAt job.now.pid store.old }
+    ensures rested { OnOk result (store.new ≡ rested_after job.now place.now acts.now store.old) }
+    ensures told { IfOk result (λ it. it.0.items ≡ acts_told acts.now store.old) }
+    ensures inverse { IfOk result (λ it. RestsBack it.1 store.old store.new) }
+    ensures err { OnErr result (store.new ≡ store.old) }
+{
+    let pid = job.pid;
+    let told = told_of(store, alloc, pid)?;
+    let rests_in = rests_in(alloc, place, job.code.as_slice())?;
+    let ran = store.rest(pid, place.copy(alloc)?, rests_in)?;
+    match act_all(store, alloc, None, acts, 0) {
+        Ok(acted) => {
+            let Acted {
+                replies,
+                receivers,
+                closed,
+            } = acted;
+            let rested = Rested {
+                pid,
+                ran: ran.named(told),
+                receivers: Row::new(receivers),
+                closed: Row::new(closed),
+            };
+            Ok((replies, rested))
+        }
+        Err(refused) => {
+            store.unrest(pid, ran);
+            Err(refused)
+        }
+    }
+}
+
+/// Takes the commit of a job back whose process rests again: the calls are open again, the messages go, and the process runs again
+/// what it ran, with the instances that it used, as they stand in the table of modules.
+///
+/// # Errors
+///
+/// What takes it back, where memory is refused, and where one of the instances is not in the table. The processes are then as they
+/// were.
+pub fn revert_rest(
+    store: &mut ProcessStore,
+    alloc: Global,
+    modules: &Modules<Module>,
+    rested: Rested,
+) -> Result<(), Rested>
+    requires { CanUnrest rested store.old }
+    ensures ok { OnOk result (store.new ≡ unrested modules.now rested store.old) }
+    ensures kept { OnOk result (IsSome (runs_again modules.now rested.ran)) }
+    ensures back { IfErr result (λ it. it ≡ rested) }
+    ensures err { OnErr result (store.new ≡ store.old) }
+{
+    let Rested {
+        pid,
+        ran,
+        receivers,
+        closed,
+    } = rested;
+    let (ran, told) = match ran.run_again(alloc, modules) {
+        Ok(runs) => runs,
+        Err(ran) => {
+            return Err(Rested {
+                pid,
+                ran,
+                receivers,
+                closed,
+            });
+        }
+    };
+    match reopen_all(store, closed.as_slice()) {
+        Ok(()) => {
+            unsend_all(store, receivers.as_slice());
+            store.unrest(pid, ran);
+            Ok(())
+        }
+        Err(_) => Err(Rested {
+            pid,
+            ran: ran.named(told),
+            receivers,
+            closed,
+        }),
+    }
+}
