@@ -1,9 +1,9 @@
 -- The process lives again, with its name and its open calls.
-use Rattle.std.proofs.Common.{◌≡◌, Some, refl, sym, ap, subst, ◌∙◌}
-use Rattle.process.specs.Ended.{ended_with, lives}
+use Rattle.std.proofs.Common.{◌≡◌, Some, refl, sym, subst}
+use Rattle.process.specs.Ended.{ended_with}
 use Rattle.process_store.specs.declared.living.Living.{Living}
 use Rattle.process_store.specs.Table.{living}
-use Rattle.process_ending.specs.Ends.{EndsBack, ended_as, IsTold}
+use Rattle.process_ending.specs.Ends.{EndsBack, IsTold}
 use Rattle.process_ending.specs.declared.ending.EndedProcess.{EndedProcess}
 use Rattle.process_ending.proofs.Ends.{ended_back, ended_fits}
 use Rattle.process_ending.proofs.ending.take_out.Goals as goal

@@ -1,5 +1,5 @@
 -- A pid is told where its process uses the instance, and only there.
-use Rattle.std.proofs.Common.{◌≡◌, ◌++◌, ◌∷◌, [], ℕ, Bool, ap, sym, ◌∙◌}
+use Rattle.std.proofs.Common.{◌++◌, ◌∷◌, [], ℕ, Bool, ap, sym, ◌∙◌}
 use Rattle.std.specs.List.{filter, range_with_len}
 use Rattle.process_store.specs.Table.{living}
 use Rattle.process_ending.specs.Uses.{uses}
