@@ -1,6 +1,6 @@
 -- A process that has ended lives again where the instances that it used stand in the table of modules; and what others need that
 -- live again after it.
-use Rattle.std.proofs.Common.{◌≡◌, ℕ, zero, suc, ◌<◌, Bool, true, false, List, [], ◌∷◌, ◌++◌, Option, None, Some, IfSome, is_some, slice_get, refl, sym, ap, subst, ◌∙◌}
+use Rattle.std.proofs.Common.{◌≡◌, ℕ, zero, suc, Bool, true, false, List, [], ◌∷◌, ◌++◌, Option, None, Some, IfSome, is_some, slice_get, refl, sym, ap, subst, ◌∙◌}
 use Rattle.std.proofs.lemmas.Bool.{false_from_ne_true, true≢false}
 use Rattle.std.proofs.lemmas.Option.{none-some, same_Some}
 use Rattle.std.specs.List.{position}
@@ -11,13 +11,11 @@ use Rattle.job_code.specs.declared.named.NamedInstance.{NamedInstance}
 use Rattle.process.proofs.Living.{ended_processes_live}
 use Rattle.process.specs.Ended.{EndedState, code_found, ended, ended_with, lived, lives, lives_by, rests_found}
 use Rattle.process.specs.Process.{ProcessState}
-use Rattle.process_index.specs.Calls.{has}
 use Rattle.process_index.specs.declared.calls.Call.{Call}
 use Rattle.process_store.specs.declared.living.Living.{Living}
-use Rattle.process_store.specs.Table.{Table, has_number, is_asked, is_name, is_named, is_open, living, living_at, pid_of}
-use Rattle.process_store.specs.Vacating.{CanReturn, HasFreeName, occupied, occupied_slots, vacated, vacated_slots}
+use Rattle.process_store.specs.Table.{Table, has_number, is_asked, is_name, is_named, living, living_at, pid_of}
+use Rattle.process_store.specs.Vacating.{CanReturn, occupied, occupied_slots, vacated, vacated_slots}
 use Rattle.process_store.proofs.Indexes.{is_found, nobody}
-use Rattle.values.specs.Edits.{changed_at}
 use Rattle.process_ending.specs.Ends.{AllReturn, AllStand, CanBeReturned, EndsBack, KillsBack, Returns, Stands, all_returned, ended_as, returned, with_returned}
 use Rattle.process_ending.specs.declared.ending.EndedProcess.{EndedProcess}
 

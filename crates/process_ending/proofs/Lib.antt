@@ -1,4 +1,4 @@
 pub mod Ends
 pub mod Kills
 pub mod Returns
-pub mod Users
+pub mod Pids

@@ -12,7 +12,9 @@ use erl_eval::Place;
 use erl_forms::Module;
 use erl_machine::{Instance, Job};
 use erl_term::{Atom, Term};
-use process_ending::{EndedProcess, Reply, downs_of, end, kill_users, return_all, return_ended, users};
+use process_ending::{
+    EndedProcess, Reply, downs_of, end, kill_users, return_all, return_ended, users,
+};
 use process_store::{Living, ProcessStore};
 use std::alloc::{AllocError, Global};
 use std::hash::RandomState;

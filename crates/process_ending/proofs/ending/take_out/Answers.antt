@@ -1,9 +1,9 @@
 -- The process lives again, with its name and its open calls.
-use Rattle.std.proofs.Common.{◌≡◌, Some, refl, sym, ap, subst, ◌∙◌}
-use Rattle.process.specs.Ended.{ended_with, lives}
+use Rattle.std.proofs.Common.{◌≡◌, Some, refl, sym, subst}
+use Rattle.process.specs.Ended.{ended_with}
 use Rattle.process_store.specs.declared.living.Living.{Living}
 use Rattle.process_store.specs.Table.{living}
-use Rattle.process_ending.specs.Ends.{EndsBack, ended_as, IsTold}
+use Rattle.process_ending.specs.Ends.{EndsBack, IsTold}
 use Rattle.process_ending.specs.declared.ending.EndedProcess.{EndedProcess}
 use Rattle.process_ending.proofs.Ends.{ended_back, ended_fits}
 use Rattle.process_ending.proofs.ending.take_out.Goals as goal
@@ -16,7 +16,7 @@ returns-in-Some-clause-back c = λ told.
     let there : living pid before ≡ Some l = sym c.in-Some.ensures.process in
     let e = ended_with c.args.leaves.told.rests_in c.args.leaves.told.code l.process in
     let is = sym c.ended_process.ensures in
-    subst (λ (x : EndedProcess). EndsBack x before c.remove.new.store) is (λ modules. (
-      ended_fits modules c.remove.new.store l e pid refl c.in-Some.ensures.returns,
-      λ sound stands. ended_back modules before c.remove.new.store l e pid sound stands there (subst (IsTold c.args.leaves.told) there told) c.in-Some.ensures.back,
+    subst (λ (x : EndedProcess). EndsBack x before c.remove.new.self) is (λ modules. (
+      ended_fits modules c.remove.new.self l e pid refl c.in-Some.ensures.returns,
+      λ sound stands. ended_back modules before c.remove.new.self l e pid sound stands there (subst (IsTold c.args.leaves.told) there told) c.in-Some.ensures.back,
     ))

@@ -1,9 +1,9 @@
 -- A pid is told where its process uses the instance, and only there.
-use Rattle.std.proofs.Common.{◌≡◌, ◌++◌, ◌∷◌, [], ℕ, Bool, ap, sym, ◌∙◌}
+use Rattle.std.proofs.Common.{◌++◌, ◌∷◌, [], ℕ, Bool, ap, sym, ◌∙◌}
 use Rattle.std.specs.List.{filter, range_with_len}
 use Rattle.process_store.specs.Table.{living}
 use Rattle.process_ending.specs.Uses.{uses}
-use Rattle.process_ending.proofs.Users.{chosen, left_out, one_pid_more}
+use Rattle.process_ending.proofs.Pids.{chosen, left_out, one_pid_more}
 use Rattle.process_ending.proofs.using.users.Goals as goal
 use Rattle.process_ending.proofs.using.users.Goals.{then-is_user+in_ok-push, else-is_user}
 
