@@ -257,7 +257,8 @@ impl Done {
 
     /// What it gave. Takes no memory.
     pub fn outcome(&self) -> &Outcome
-        ensures { ∥ GivesJob (job_of self.now.job) (outcome_of result.now) ∥₁ }
+        ensures outcome { result.now ≡ self.now.outcome }
+        ensures gives { ∥ GivesJob (job_of self.now.job) (outcome_of result.now) ∥₁ }
     {
         &self.outcome
     }

@@ -1,5 +1,5 @@
 -- Changes of processes that touch different things can be made in either order.
-use Rattle.std.proofs.Common.{◌≡◌, ℕ, zero, suc, ◌+◌, Bool, cond, not, nat_lt, List, [], ◌∷◌, length, position, Option, None, Some, option_map, refl, sym, ap, ◌∙◌}
+use Rattle.std.proofs.Common.{◌≡◌, ℕ, zero, suc, ◌+◌, Bool, cond, not, nat_lt, List, [], ◌∷◌, position, Option, None, Some, option_map, refl, ap, ◌∙◌}
 use Rattle.std.specs.List.{position_or_len}
 use Rattle.values.proofs.Edits.{length-changed_at}
 use Rattle.process_index.specs.declared.calls.Call.{Call}

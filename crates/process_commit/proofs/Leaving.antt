@@ -1,5 +1,5 @@
 -- A process that ends: it is others it was, but for calls that are closed, and its open calls are told.
-use Rattle.std.proofs.Common.{◌≡◌, ℕ, zero, suc, ◌+◌, ◌<◌, ◌≤◌, Bool, true, false, cond, nat_eq, All, List, [], ◌∷◌, ◌++◌, drop, get_or, length, map, Option, None, Some, IfSome, IsSome, option_map, refl, sym, ap, subst, ◌∙◌, arith}
+use Rattle.std.proofs.Common.{◌≡◌, ℕ, zero, suc, ◌+◌, ◌<◌, ◌≤◌, true, false, cond, nat_eq, All, List, [], ◌∷◌, ◌++◌, drop, get_or, length, map, Option, None, Some, IfSome, IsSome, refl, sym, ap, subst, ◌∙◌, arith}
 use Rattle.std.proofs.lemmas.Bool.{eq-eqb, true≢false}
 use Rattle.std.proofs.lemmas.Option.{none-some, same_Some}
 use Rattle.std.proofs.lemmas.List.{append_assoc, drop_more, get_or_push, length_push}
@@ -28,7 +28,7 @@ use Rattle.process_index.specs.declared.calls.Call.{Call}
 use Rattle.process_store.proofs.Slots.{living_elsewhere}
 use Rattle.process_store.specs.Changes.{closed_living, owner_of}
 use Rattle.process_store.specs.Living.{arrived}
-use Rattle.process_store.specs.Table.{Table, changed, changed_slots, living, living_at}
+use Rattle.process_store.specs.Table.{Table, changed_slots, living, living_at}
 use Rattle.process_store.specs.declared.living.Living.{Living}
 
 -- what is told of open calls depends on them alone

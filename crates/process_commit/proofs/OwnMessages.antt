@@ -1,16 +1,15 @@
 -- The messages of a process to itself, in the commit that ends it, are lost with its mailbox.
-use Rattle.std.proofs.Common.{◌≡◌, ℕ, Bool, true, false, cond, nat_eq, List, [], ◌∷◌, ◌++◌, map, Option, None, Some, option_map, refl, sym, ap, subst, ◌∙◌}
+use Rattle.std.proofs.Common.{◌≡◌, ℕ, Bool, true, false, cond, nat_eq, List, [], ◌∷◌, ◌++◌, Option, None, Some, refl, sym, ap, ◌∙◌}
 use Rattle.std.proofs.lemmas.Bool.{eq-eqb, eqb-true, true≢false}
 use Rattle.erl_term.specs.declared.term.Term.{Term}
 use Rattle.erl_eval.specs.declared.acts.Act.{Act}
 use Rattle.erl_eval.specs.declared.acts.Act.TheVariants as act
 use Rattle.process_commit.proofs.Commuting.{changes_apart, read_kept, vacated_changed}
 use Rattle.process_commit.proofs.Parting.{all_answered_later, parted, parted_told, receiver_kept, told_the_same}
-use Rattle.process_commit.specs.Acts.{acts_done, acts_told, answered, closed_at, receiver_of, sent}
+use Rattle.process_commit.specs.Acts.{acts_done, acts_told, receiver_of, sent}
 use Rattle.process_commit.specs.Parted.{act_sent, acts_sent, all_answered, answers_of, answers_told, other_than}
 use Rattle.process_commit.specs.declared.answers.Answer.{Answer}
 use Rattle.process_index.specs.declared.calls.Call.{Call}
-use Rattle.process_store.specs.Changes.{closed_living, owner_of}
 use Rattle.process_store.specs.Living.{arrived}
 use Rattle.process_store.specs.Table.{Table, changed, living}
 use Rattle.process_store.specs.Vacating.{vacated}

@@ -7,7 +7,7 @@ use Rattle.erl_eval.specs.declared.acts.Receiver.{Receiver}
 use Rattle.erl_eval.specs.declared.acts.Receiver.TheVariants.{Named, Process}
 use Rattle.process_commit.proofs.Commuting.{changes_commute, names_kept, owners_kept}
 use Rattle.process_commit.specs.Acts.{acts_done, acts_told, answered, closed_at, receiver_of, reply_of, sent}
-use Rattle.process_commit.specs.Parted.{act_sent, acts_sent, all_answered, answers_of, answers_told, other_than}
+use Rattle.process_commit.specs.Parted.{acts_sent, all_answered, answers_of, answers_told, other_than}
 use Rattle.process_commit.specs.declared.answers.Answer.{Answer}
 use Rattle.process_index.specs.declared.calls.Call.{Call}
 use Rattle.process_store.specs.Changes.{closed_living, owner_of}

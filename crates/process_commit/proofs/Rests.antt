@@ -1,5 +1,5 @@
 -- A process rests before its acts are done, and what that leaves gives the job that it ran.
-use Rattle.std.proofs.Common.{◌≡◌, ℕ, List, [], map, Option, None, Some, IfSome, IsSome, option_map, refl, sym, ap, subst, ◌∙◌}
+use Rattle.std.proofs.Common.{◌≡◌, ℕ, List, [], Option, None, Some, IfSome, option_map, refl, sym, ap, subst, ◌∙◌}
 use Rattle.std.proofs.lemmas.Option.{none-some}
 use Rattle.erl_eval.specs.declared.acts.Act.{Act}
 use Rattle.erl_eval.specs.declared.acts.Place.{Place}

@@ -1,9 +1,8 @@
 -- What takes messages and answers back, the last first.
-use Rattle.std.proofs.Common.{◌≡◌, ℕ, zero, suc, ◌-◌, ◌<◌, ◌≤◌, List, [], ◌∷◌, ◌++◌, length, drop, get_or, Option, None, Some, refl, sym, ap, subst, ◌∙◌, arith}
+use Rattle.std.proofs.Common.{◌≡◌, ℕ, zero, suc, ◌-◌, ◌<◌, ◌≤◌, List, [], ◌∷◌, ◌++◌, length, drop, get_or, None, Some, refl, sym, ap, subst, ◌∙◌, arith}
 use Rattle.process_commit.specs.Acts.{answered, closed_at}
-use Rattle.process_commit.specs.Parted.{AllReopen, all_reclosed, all_reopened, all_unsent}
+use Rattle.process_commit.specs.Parted.{AllReopen, all_reopened, all_unsent}
 use Rattle.process_commit.specs.declared.answers.Closed.{Closed}
-use Rattle.process_index.specs.declared.calls.Call.{Call}
 use Rattle.process_store.specs.Changes.{CanReopen, closed_in, owner_of, reopened}
 use Rattle.process_store.specs.Living.{unarrived}
 use Rattle.process_store.specs.Table.{Table, changed}

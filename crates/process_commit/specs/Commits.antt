@@ -1,5 +1,5 @@
 -- A job is committed: its acts are done, and its process rests again, one turn on, or ends.
-use Rattle.std.specs.Prelude.{◌≡◌, ℕ, ◌==◌, List, ◌++◌, Option, None, Some}
+use Rattle.std.specs.Prelude.{◌≡◌, ℕ, ◌==◌, List, Option, None, Some}
 use Rattle.std.specs.List.{find}
 use Rattle.erl_eval.specs.declared.acts.Act.{Act}
 use Rattle.erl_eval.specs.declared.acts.Place.{Place}

@@ -1,6 +1,5 @@
 -- Acts parted into messages and replies, each in order, and what takes them back.
 use Rattle.std.specs.Prelude.{ℕ, ◌==◌, if◌then◌else◌, List, [], ◌∷◌, ◌++◌, Option, None, Some}
-use Rattle.erl_term.specs.declared.term.Term.{Term}
 use Rattle.erl_eval.specs.declared.acts.Act.{Act}
 use Rattle.erl_eval.specs.declared.acts.Act.TheVariants as act
 use Rattle.process_ending.specs.declared.told.Reply.{Reply}

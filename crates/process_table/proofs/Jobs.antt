@@ -6,7 +6,8 @@ use Rattle.process.specs.Process.{job_of, run_by}
 use Rattle.process_store.specs.declared.living.Living.{Living}
 use Rattle.process_store.specs.Living.{run, takes_next}
 use Rattle.process_store.specs.Table.{Table, changed, living}
-use Rattle.process_table.specs.Steps.{job_at, taken, taken_at}
+use Rattle.process_commit.specs.Commits.{job_at}
+use Rattle.process_table.specs.Steps.{taken, taken_at}
 
 -- the table after a take
 pub taken_is : (t now : Table) (o : Option Living) (pid position entry_serial : ℕ) (code : List Instance) → living pid t ≡ o → takes_next o ≡ Some position → now ≡ changed (run position entry_serial code) pid t → now ≡ taken pid entry_serial code t

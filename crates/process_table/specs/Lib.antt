@@ -1,3 +1,4 @@
+pub mod Commit
 pub mod Jobs
 pub mod Messages
 pub mod Steps

@@ -2,7 +2,6 @@
 -- behaviour).
 use Rattle.std.specs.Prelude.{◌≡◌, ℕ, ◌^◌, ◌<◌, ◌==◌, Bool, true, false, if◌then◌else◌, List, [], map}
 use Rattle.std.specs.Prelude.{Option, None, Some, is_some, option_map}
-use Rattle.std.specs.List.{find}
 use Rattle.erl_term.specs.declared.term.Term.{Term}
 use Rattle.erl_eval.specs.declared.acts.Place.{Place}
 use Rattle.erl_eval.specs.declared.acts.Place.TheVariants.{Server, Loop}
@@ -15,6 +14,7 @@ use Rattle.erl_machine.specs.declared.jobs.Job.{Job}
 use Rattle.process.specs.declared.activity.Activity.{Activity}
 use Rattle.process.specs.declared.activity.Activity.TheVariants as activity
 use Rattle.process.specs.Process.{can_take, job_of}
+use Rattle.process_commit.specs.Commits.{rests_in}
 use Rattle.process_index.specs.declared.calls.Call.{Call}
 use Rattle.process_table.specs.declared.body.Body.{Body}
 use Rattle.process_table.specs.declared.body.Body.TheVariants as body
@@ -35,15 +35,6 @@ Tells e refusal = refusal ≡ Some e
 abbrev pub start_refusal : Option (List ℕ) → Table → Option ProcError
 start_refusal name t =
     if is_taken name t then Some NameTaken else (if next_pid t == 2 ^ 64 then Some CounterEnd else None)
-
--- the instance of a loop function's place, among the code in which it came to rest
-
-abbrev pub loaded_as : ℕ → List Instance → Option Instance
-loaded_as serial code = find (λ i. i.serial == serial) code
-
-abbrev pub rests_in : Place → List Instance → Option Instance
-rests_in (Server m s) code = None
-rests_in (Loop m serial f args) code = loaded_as serial code
 
 abbrev pub with_process : Option (List ℕ) → Place → List Instance → Table → Table
 with_process name at code t = added name at (rests_in at code) t
@@ -115,10 +106,6 @@ IsCodeOf modules None job = ⊥
 IsCodeOf modules (Some l) job = IsCode modules (entered modules l.process.place l.process.rests_in) job.entry_serial job.code
 
 -- Retake: the job that a process runs is given once more.
-
-abbrev pub job_at : Option Living → Option Job
-job_at None = None
-job_at (Some l) = job_of l.process
 
 abbrev pub retake_refusal_of : Option Living → Option ProcError
 retake_refusal_of None = Some NoProc

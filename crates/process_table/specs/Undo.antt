@@ -1,14 +1,17 @@
 -- What takes a step of the processes back.
-use Rattle.std.specs.Prelude.{◌≡◌, ◌-◌, All}
+use Rattle.std.specs.Prelude.{◌≡◌, ◌-◌, All, IsSome}
 use Rattle.erl_forms.specs.Module.{Forms}
 use Rattle.code_server.specs.Modules.{IsSound, Table as Loaded}
+use Rattle.process.specs.Rerun.{runs_again}
+use Rattle.process_commit.specs.Commits.{CanUnrest, unrested}
+use Rattle.process_commit.specs.Exits.{CanUnexit, unexited}
 use Rattle.process_ending.specs.Ends.{AllReturn, AllStand, Lives, Returns, all_returned, returned}
 use Rattle.process_store.specs.Changes.{suspended_as}
 use Rattle.process_store.specs.Inverses.{WasCalled, WasStarted, WasTaken}
 use Rattle.process_store.specs.Living.{unarrived, untook}
 use Rattle.process_store.specs.Table.{Table, changed, living, next_pid, without_last}
 use Rattle.process_table.specs.declared.undo.Undo.{Undo}
-use Rattle.process_table.specs.declared.undo.Undo.TheVariants.{Started, Arrived, Taken, Suspension, Ended, Killed}
+use Rattle.process_table.specs.declared.undo.Undo.TheVariants.{Started, Arrived, Taken, Suspension, Rested, Exited, Ended, Killed}
 
 -- The table that an undo gives back. A process that has ended lives again with the instances that it used, as they stand in the
 -- table of modules.
@@ -17,6 +20,8 @@ undone modules Started t = without_last t
 undone modules (Arrived pid call) t = changed (unarrived call) pid t
 undone modules (Taken pid position) t = changed (untook position) pid t
 undone modules (Suspension pid was) t = changed (suspended_as was) pid t
+undone modules (Rested u) t = unrested modules u t
+undone modules (Exited u) t = unexited modules u t
 undone modules (Ended e) t = returned modules e t
 undone modules (Killed es) t = all_returned modules es t
 
@@ -26,15 +31,19 @@ Fits modules Started t = WasStarted (living (next_pid t - 1) t)
 Fits modules (Arrived pid call) t = WasCalled call (living pid t)
 Fits modules (Taken pid position) t = WasTaken position (living pid t)
 Fits modules (Suspension pid was) t = Unit {0}
+Fits modules (Rested u) t = CanUnrest u t
+Fits modules (Exited u) t = CanUnexit modules u t
 Fits modules (Ended e) t = Returns modules e t
 Fits modules (Killed es) t = AllReturn modules es t
 
--- An undo that is done loses no process: each that has ended lives again.
+-- An undo that is done loses nothing: each process that has ended lives again, and one that ran runs again.
 abbrev pub IsKept : Loaded Forms → Undo → Type 0
 IsKept modules Started = Unit {0}
 IsKept modules (Arrived pid call) = Unit {0}
 IsKept modules (Taken pid position) = Unit {0}
 IsKept modules (Suspension pid was) = Unit {0}
+IsKept modules (Rested u) = IsSome (runs_again modules u.ran)
+IsKept modules (Exited u) = Lives modules u.ended
 IsKept modules (Ended e) = Lives modules e
 IsKept modules (Killed es) = All (Lives modules) es
 
@@ -46,3 +55,8 @@ TakesBack undo before after = (modules : Loaded Forms) → Fits modules undo aft
 abbrev pub TakesBackEnds : Undo → Table → Table → Type 0
 TakesBackEnds undo before after = (modules : Loaded Forms) →
     Fits modules undo after × (IsSound modules → AllStand modules before → undone modules undo after ≡ before)
+
+-- The same of a commit: its undo can be asked for, and gives back the table before, where the instances that its processes use stand.
+abbrev pub CommitsBack : Undo → Table → Table → Type 0
+CommitsBack undo before after = (modules : Loaded Forms) → IsSound modules → AllStand modules before →
+    Fits modules undo after × (undone modules undo after ≡ before)

@@ -39,6 +39,7 @@ mod undo;
 
 pub use body::Body;
 pub use error::ProcError;
+pub use process_commit::{Closed, Exited, Rested};
 pub use process_ending::{EndedProcess, Reply, ReplyBody};
 pub use process_store::Living;
 pub use processes::Processes;

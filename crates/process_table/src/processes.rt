@@ -1,7 +1,8 @@
 // The processes of a node.
 ghost use Rattle.std.specs.Prelude.{◌≡◌, None, Some, IfOk, IfErr, OnOk, OnErr};
 ghost use Rattle.std.specs.Option.{option_copied};
-ghost use Rattle.process_table.specs.Steps.{loaded_as, rests_in};
+
+mod committing;
 
 use crate::body::Body;
 use crate::error::ProcError;
@@ -12,6 +13,7 @@ use erl_eval::Place;
 use erl_forms::Module;
 use erl_machine::{Instance, Job};
 use erl_term::{Atom, Term};
+use process_commit::rests_in;
 use process_ending::{
     EndedProcess, Reply, downs_of, end, kill_users, return_all, return_ended, users,
 };
@@ -41,29 +43,10 @@ impl Model for Processes {
     ghost view = { λ p. p.store };
 }
 
-/// The instance of a loop function's place, among the code in which it came to rest; none of a callback module's.
-fn rests_in(alloc: Global, place: &Place, code: &[Instance]) -> Result<Option<Instance>, AllocError>
-    ensures { IfOk result (λ it. it ≡ rests_in place.now code.now) }
-{
-    match place {
-        Place::Server { .. } => Ok(None),
-        Place::Loop { serial, .. } => match loaded_as(*serial, code) {
-            Some(instance) => Ok(Some(instance.copy(alloc)?)),
-            None => Ok(None),
-        },
-    }
-}
-
-/// The instance of a serial, among code.
-fn loaded_as(serial: u64, code: &[Instance]) -> Option<&Instance>
-    ensures { option_copied result ≡ loaded_as serial code.now }
-{
-    code.iter().find(|instance| instance.serial == serial)
-}
-
 impl Processes {
-    ghost use Rattle.process_table.specs.Steps.{IsCodeOf, IsNextRunnable, Tells, after_arrival, arrive_refusal, is_repeated, is_runnable, job_at, missing, retake_refusal, start_refusal, take_refusal, taken, with_process};
+    ghost use Rattle.process_table.specs.Steps.{IsCodeOf, IsNextRunnable, Tells, after_arrival, arrive_refusal, is_repeated, is_runnable, missing, retake_refusal, start_refusal, take_refusal, taken, with_process};
     ghost use Rattle.process_store.specs.Table.{changed, empty_table, is_open, living, next_pid, pid_of};
+    ghost use Rattle.process_commit.specs.Commits.{job_at};
     ghost use Rattle.process_store.specs.Changes.{resume_living, suspend_living};
     ghost use Rattle.process_store.specs.Vacating.{vacated};
     ghost use Rattle.process_ending.specs.Kills.{told_by_kill, without_users};
@@ -409,13 +392,13 @@ impl Processes {
         }
     }
 
-    /// Takes the newest step back. A process that has ended lives again with the instances that it used, as they stand in the table of
-    /// modules; of several all do, or none.
+    /// Takes the newest step back. A process that has ended lives again, and one that has rested runs again, with the instances that it
+    /// used, as they stand in the table of modules; of several that were killed all live, or none.
     ///
     /// # Errors
     ///
-    /// The undo, where memory is refused, and where an instance that a process which has ended used is not in the table of modules. The
-    /// table is then as it was.
+    /// The undo, where memory is refused, and where an instance that a process used which is to live or to run again is not in the table
+    /// of modules. The table is then as it was.
     pub fn revert(&mut self, modules: &Modules<Module>, undo: Undo) -> Result<(), Undo>
         requires { Fits modules.now undo self.old }
         ensures ok { OnOk result (self.new ≡ undone modules.now undo self.old) }
@@ -440,6 +423,8 @@ impl Processes {
                 self.store.set_suspended(pid, was_suspended);
                 Ok(())
             }
+            Undo::Rested(rested) => self.revert_rested(modules, rested),
+            Undo::Exited(exited) => self.revert_exited(modules, exited),
             Undo::Ended(ended) => self.revert_end(modules, ended),
             Undo::Killed(killed) => self.revert_kill(modules, killed),
         }

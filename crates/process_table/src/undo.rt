@@ -1,4 +1,5 @@
 // What takes a step back.
+use process_commit::{Exited, Rested};
 use process_ending::EndedProcess;
 use process_index::Call;
 use values::Row;
@@ -30,6 +31,10 @@ pub enum Undo {
         /// Whether it was suspended before.
         was_suspended: bool,
     },
+    /// A job was committed, and its process rests again.
+    Rested(Rested),
+    /// A job was committed, and its process has ended.
+    Exited(Exited),
     /// A process has ended.
     Ended(EndedProcess),
     /// Processes were killed.

@@ -1,5 +1,5 @@
 -- The calls are open again, from the last on.
-use Rattle.std.proofs.Common.{arith, sym, subst}
+use Rattle.std.proofs.Common.{arith}
 use Rattle.process_commit.proofs.Undoing.{reopens_next}
 use Rattle.process_commit.proofs.answers.reopen_all.Goals as goal
 

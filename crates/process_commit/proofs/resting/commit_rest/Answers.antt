@@ -1,5 +1,5 @@
 -- The process rests before its acts are done, which is the same.
-use Rattle.std.proofs.Common.{◌≡◌, sym, ap, subst, ◌∙◌}
+use Rattle.std.proofs.Common.{◌≡◌, sym, subst}
 use Rattle.process.specs.Rerun.{ran_with}
 use Rattle.process_commit.proofs.Rests.{rested_back, rested_is, rested_told}
 use Rattle.process_commit.specs.Commits.{RestsBack}
@@ -24,5 +24,5 @@ returns-in-Ok-clause-inverse c =
     let is : ◌≡◌ {A = Rested} (record { pid = c.args.job.now.pid; ran = c.named.result; receivers = c.new.result; closed = c.new-in-Ok.result }) (record { pid = c.args.job.now.pid; ran = ran_with told.rests_in told.code ran; receivers = acted.receivers.items; closed = acted.closed.items }) = λ i. record { pid = c.args.job.now.pid; ran = told_so i; receivers = c.new.ensures i; closed = c.new-in-Ok.ensures i } in
     subst (λ (u : Rested). RestsBack u c.args.store.now c.act_all.new.store) (sym is) (
       (c.in-Ok.ensures.fits, subst (HasTurned c.args.job.now.pid) (sym c.in-Ok.ensures.back) c.in_ok-ran.ensures.fits),
-      λ modules sound stand. rested_back modules c.args.job.now c.args.store.now c.rest.new.self c.act_all.new.store told ran acted.receivers.items acted.closed.items sound stand c.requires.running c.in_ok-told.ensures c.in_ok-ran.ensures.back c.in-Ok.ensures.back
+      λ modules sound stand. rested_back modules c.args.job.now c.args.store.now c.rest.new.self c.act_all.new.store told ran acted.receivers.items acted.closed.items sound stand c.requires.running c.in_ok-told.ensures c.in_ok-ran.ensures.back c.in-Ok.ensures.back,
     )

@@ -1,0 +1,151 @@
+// A job is committed.
+ghost use Rattle.std.specs.Prelude.{◌≡◌, ◌↔◌, IfErr, IfOk, IsSome, IsTrue, OnErr, OnOk};
+ghost use Rattle.process_commit.specs.Commits.{IsRunning};
+ghost use Rattle.process_store.specs.Changes.{CanTurnAt};
+ghost use Rattle.process_store.specs.Table.{living};
+ghost use Rattle.process_commit.specs.Exits.{exit_told, exited};
+ghost use Rattle.process_table.specs.Commit.{RefusesCommit, commit_told, committed, concluded, told_by};
+ghost use Rattle.process_table.specs.Undo.{CommitsBack, Fits, IsKept, undone};
+
+use super::Processes;
+use crate::error::ProcError;
+use crate::undo::Undo;
+use code_server::Modules;
+use erl_eval::Act;
+use erl_forms::Module;
+use erl_machine::{Done, End, Job};
+use erl_term::{Atom, Term};
+use process_commit::{Exited, Rested, commit_exit, commit_rest, revert_exit, revert_rest};
+use process_ending::Reply;
+use std::alloc::AllocError;
+
+impl Processes {
+    /// Whether a process runs a job: equal by value, code included. Takes no memory.
+    fn runs(&self, job: &Job) -> bool
+        ensures { IsTrue result ↔ IsRunning job.now self.now }
+    {
+        match self.store.get(job.pid) {
+            Some(living) => living.process.runs(job),
+            None => false,
+        }
+    }
+
+    /// Whether the process of a pid, where it lives, can be counted one turn on.
+    fn can_turn(&self, pid: u64) -> bool
+        ensures { IsTrue result ↔ CanTurnAt pid self.now }
+    {
+        match self.store.get(pid) {
+            Some(living) => living.process.turn() < u64::MAX,
+            None => true,
+        }
+    }
+
+    /// The process of a job, which lives, ends for a reason, once its acts are done.
+    fn exit(
+        &mut self,
+        pid: u64,
+        acts: &[Act],
+        reason: &Term,
+    ) -> Result<(Vec<Reply>, Undo), AllocError>
+        requires { IsSome (living pid self.old) }
+        ensures exited { OnOk result (self.new ≡ exited pid acts.now self.old) }
+        ensures told { IfOk result (λ it. it.0.items ≡ exit_told pid reason.now acts.now self.old) }
+        ensures inverse { IfOk result (λ it. CommitsBack it.1 self.old self.new) }
+        ensures err { OnErr result (self.new ≡ self.old) }
+    {
+        let (replies, exited) = commit_exit(&mut self.store, self.alloc, pid, acts, reason)?;
+        Ok((replies, Undo::Exited(exited)))
+    }
+
+    /// What a job that a process runs has done is done, and the process rests or ends.
+    fn conclude(
+        &mut self,
+        job: &Job,
+        acts: &[Act],
+        end: &End,
+    ) -> Result<(Vec<Reply>, Undo), AllocError>
+        requires running { IsRunning job.now self.old }
+        requires turns { CanTurnAt job.now.pid self.old }
+        ensures concluded { OnOk result (self.new ≡ concluded job.now acts.now end.now self.old) }
+        ensures told { IfOk result (λ it. it.0.items ≡ told_by job.now.pid acts.now end.now self.old) }
+        ensures inverse { IfOk result (λ it. CommitsBack it.1 self.old self.new) }
+        ensures err { OnErr result (self.new ≡ self.old) }
+    {
+        match end {
+            End::Rest(place) => {
+                let (replies, rested) = commit_rest(&mut self.store, self.alloc, job, acts, place)?;
+                Ok((replies, Undo::Rested(rested)))
+            }
+            End::Value(_) => {
+                let normal = Term::Atom(Atom::word(self.alloc, "normal")?);
+                self.exit(job.pid, acts, &normal)
+            }
+            End::Exit(reason) => self.exit(job.pid, acts, reason),
+        }
+    }
+
+    /// Commits what a job gave: its acts are done, in order, and then its process rests, one turn on, or ends. What clients are told
+    /// is handed out: the replies, in order, and then, where the process ends, its open calls, in order of client and number.
+    ///
+    /// # Errors
+    ///
+    /// In this order: `Stale` where the process of the job's pid doesn't run an equal job, code included; `CounterEnd` where its turn
+    /// is the last; `Memory`. The table is then as it was.
+    pub fn commit(&mut self, done: &Done) -> Result<(Vec<Reply>, Undo), ProcError>
+        ensures committed { OnOk result (self.new ≡ committed done.now self.old) }
+        ensures told { IfOk result (λ it. it.0.items ≡ commit_told done.now self.old) }
+        ensures inverse { IfOk result (λ it. CommitsBack it.1 self.old self.new) }
+        ensures ok { OnOk result (IsRunning done.now.job self.old × CanTurnAt done.now.job.pid self.old) }
+        ensures refused { IfErr result (λ e. RefusesCommit e done.now.job self.old) }
+        ensures err { OnErr result (self.new ≡ self.old) }
+    {
+        let job = done.job();
+        if !self.runs(job) {
+            return Err(ProcError::Stale);
+        }
+        if !self.can_turn(job.pid) {
+            return Err(ProcError::CounterEnd);
+        }
+        let outcome = done.outcome();
+        match self.conclude(job, outcome.acts.as_slice(), &outcome.end) {
+            Ok(told) => Ok(told),
+            Err(_) => Err(ProcError::Memory),
+        }
+    }
+
+    /// The commit of a job whose process rests again is taken back.
+    pub(super) fn revert_rested(
+        &mut self,
+        modules: &Modules<Module>,
+        rested: Rested,
+    ) -> Result<(), Undo>
+        requires { Fits modules.now (Undo.Rested rested) self.old }
+        ensures ok { OnOk result (self.new ≡ undone modules.now (Undo.Rested rested) self.old) }
+        ensures kept { OnOk result (IsKept modules.now (Undo.Rested rested)) }
+        ensures back { IfErr result (λ it. it ≡ Undo.Rested rested) }
+        ensures err { OnErr result (self.new ≡ self.old) }
+    {
+        match revert_rest(&mut self.store, self.alloc, modules, rested) {
+            Ok(()) => Ok(()),
+            Err(rested) => Err(Undo::Rested(rested)),
+        }
+    }
+
+    /// The commit of a job whose process has ended is taken back.
+    pub(super) fn revert_exited(
+        &mut self,
+        modules: &Modules<Module>,
+        exited: Exited,
+    ) -> Result<(), Undo>
+        requires { Fits modules.now (Undo.Exited exited) self.old }
+        ensures ok { OnOk result (self.new ≡ undone modules.now (Undo.Exited exited) self.old) }
+        ensures kept { OnOk result (IsKept modules.now (Undo.Exited exited)) }
+        ensures back { IfErr result (λ it. it ≡ Undo.Exited exited) }
+        ensures err { OnErr result (self.new ≡ self.old) }
+    {
+        match revert_exit(&mut self.store, self.alloc, modules, exited) {
+            Ok(()) => Ok(()),
+            Err(exited) => Err(Undo::Exited(exited)),
+        }
+    }
+}
