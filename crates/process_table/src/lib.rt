@@ -1,21 +1,26 @@
 //! The processes of a node: who lives under which pid and name, what waits in their mailboxes, what they run, and which calls of
 //! clients are open.
 //!
-//! [`Processes`] is the table. Its steps are a start, an arrival from outside, a take, a suspension, a resumption, an end and the kill
-//! of all users of an instance; each is refused by the first reason that the rules name, or is made whole and hands out an [`Undo`], by which [`Processes::revert`]
-//! takes the newest step back.
-//! The rules are the definitions of `specs/Steps`, which `docs/RULES.md` tells in prose.
+//! [`Processes`] is the table. Its steps are a start, an arrival from outside, a take, a commit, a suspension, a resumption, an end and
+//! the kill of all users of an instance; each is refused by the first reason that the rules name, or is made whole and hands out an
+//! [`Undo`], by which [`Processes::revert`] takes the newest step back.
+//! The rules are the definitions of `specs/Steps` and `specs/Commit`, which `docs/RULES.md` tells in prose.
 //!
 //! # What is proved
 //!
 //! - [`Processes::start`], [`Processes::arrive`], [`Processes::take`], [`Processes::suspend`], [`Processes::resume`] and
 //!   [`Processes::end`] give the table of the rules (`with_process`, `after_arrival`, `taken`, `suspend_living`, `resume_living`,
 //!   `vacated`), are refused by them, in their order, and change nothing where they are; `Memory` is told only where there is no
-//!   other refusal. [`Processes::kill_users`] takes each user of an instance out, and nobody else (`without_users` of
+//!   other refusal.
+//! - [`Processes::commit`] does what a job gave, its acts in order and then its end, and tells what clients are told of it (`committed`,
+//!   `commit_told`), just where the process of the job's pid runs an equal job, code included, and can be counted one turn on
+//!   (`RefusesCommit`). It takes a [`erl_machine::Done`], which nobody can make up.
+//! - [`Processes::kill_users`] takes each user of an instance out, and nobody else (`without_users` of
 //!   [`process_ending`]).
 //! - What an undo gives back is the table before the step, whole (`undone`, `TakesBack`). A process that has ended is kept without
 //!   code, so of an end and a kill this is said over the tables of modules in which the instances that the processes use stand
-//!   (`TakesBackEnds`). An undo that is done loses no process, whatever the table of modules (`IsKept`).
+//!   (`TakesBackEnds`), and so of a commit (`CommitsBack`). An undo that is done loses no process and no job, whatever the table of
+//!   modules (`IsKept`).
 //! - [`Processes::downs`] tells each open call of a process once, in order of client and number, and a kill those of each process that
 //!   it kills, in order of pid (`told_by_kill`). [`Processes::users`] tells who uses an instance, in order (`users`).
 //! - The code of a job is the instance that is entered and what it can reach (`IsCodeOf`, over `IsJobCode` of [`job_code`]).
