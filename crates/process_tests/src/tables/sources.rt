@@ -34,4 +34,30 @@ loop(N) -> receive
   {'$gen_call',F,get} -> gen_server:reply(F,N), loop(N)
   end.
 end
+
+source sv
+-module(sv).
+-export([handle_call/3,handle_cast/2,handle_info/2]).
+handle_call({give,R},_F,S) -> {reply,R,S};
+handle_call({give,R,T},_F,_S) -> {reply,R,T};
+handle_call(keep,F,_S) -> {noreply,F};
+handle_call({value,V},_F,_S) -> V;
+handle_call({exit,Why},_F,_S) -> exit(Why);
+handle_call({early,R,V},F,_S) -> gen_server:reply(F,R), V;
+handle_call({early_exit,R,Why},F,_S) -> gen_server:reply(F,R), exit(Why);
+handle_call({to,N,R},F,S) -> gen_server:reply({element(1,F),N},R), {noreply,S};
+handle_call({to_give,N,R,Q},F,S) -> gen_server:reply({element(1,F),N},R), {reply,Q,S};
+handle_call({odd,G,R},_F,S) -> gen_server:reply(G,R), {reply,ok,S};
+handle_call({wide,R},F,S) -> gen_server:reply({element(1,F),element(2,F),x},R), {reply,ok,S};
+handle_call(who,F,_S) -> {reply,self(),F}.
+handle_cast({set,T},_S) -> {noreply,T};
+handle_cast({answer,R},S) -> gen_server:reply(S,R), {noreply,done};
+handle_cast({twice,A,B},S) -> gen_server:reply(S,A), gen_server:reply(S,B), {noreply,done};
+handle_cast({value,V},_S) -> V;
+handle_cast({exit,Why},_S) -> exit(Why).
+handle_info({value,V},_S) -> V;
+handle_info({exit,Why},_S) -> exit(Why);
+handle_info({only,x},S) -> {noreply,S};
+handle_info(M,_S) -> {noreply,{info,M}}.
+end
 ";
