@@ -9,11 +9,15 @@
 // given back. A step or its way back that is refused for want of memory leaves the table as it was, and is tried once more: so a
 // run in which one allocation is refused comes to the same.
 //
-// Steps: `load SOURCE`, `delete MODULE`, `purge MODULE`; `start NAME PLACE`; `call NAME CLIENT NUMBER TERM`, `cast NAME TERM` and `send
+// Steps: `commit K`, which runs the job and commits its result, and `kill SERIAL`, which kills who uses the instance of this load;
+// `load SOURCE`, `delete MODULE`, `purge MODULE`; `start NAME PLACE`; `call NAME CLIENT NUMBER TERM`, `cast NAME TERM` and `send
 // NAME TERM`, which arrive; `take PID`, `retake PID`; `suspend PID`, `resume PID`; `exit PID REASON`, which tells the open calls and
 // ends the process; and the reads `runnable AFTER`, `pid_of NAME` and `users SERIAL`.
 use crate::node::Node;
-use crate::tables::{arrivals, ends, loops, starts, suspensions, takes};
+use crate::tables::{
+    arrivals, callbacks, commits, ends, kills, loops, memory, new_code, receives, replies, sends,
+    starts, suspensions, takes, told,
+};
 use std::alloc::Global;
 use std::process::Abort;
 use std::str;
@@ -54,10 +58,28 @@ fn expect(rt: &impl Abort, alloc: Global, cases: &str, steps: usize) -> Result<(
 
 #[test]
 fn steps_of_processes(rt: HostRuntime) -> Result<(), Fail> {
-    expect(&rt, rt.alloc(), starts::CASES, 36)?;
-    expect(&rt, rt.alloc(), arrivals::CASES, 41)?;
-    expect(&rt, rt.alloc(), takes::CASES, 45)?;
-    expect(&rt, rt.alloc(), loops::CASES, 16)?;
-    expect(&rt, rt.alloc(), suspensions::CASES, 23)?;
-    expect(&rt, rt.alloc(), ends::CASES, 58)
+    for (cases, steps) in [
+        (starts::CASES, 36),
+        (arrivals::CASES, 41),
+        (takes::CASES, 45),
+        (loops::CASES, 16),
+        (suspensions::CASES, 23),
+        (ends::CASES, 58),
+        (commits::CASES, 41),
+        (callbacks::CASES, 203),
+        (told::CASES, 26),
+        (replies::CASES, 78),
+        (sends::CASES, 100),
+        (receives::CASES, 92),
+        (new_code::CASES, 74),
+        (kills::CASES, 62),
+    ] {
+        expect(&rt, rt.alloc(), cases, steps)?;
+    }
+    Ok(())
+}
+
+#[test]
+fn a_refusal_changes_nothing(rt: HostRuntime) -> Result<(), Fail> {
+    expect(&rt, rt.alloc(), memory::CASES, 12)
 }

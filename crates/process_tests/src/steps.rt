@@ -7,7 +7,7 @@ use crate::node::Node;
 use crate::out::Out;
 use crate::read::{atom, body, head, number, pid, place, term};
 use erl_eval::Place;
-use erl_machine::Job;
+use erl_machine::{Done, End, Job};
 use erl_term::{Atom, Term};
 use process_table::{Body, ProcError, Reply, ReplyBody, Undo};
 use values::Same;
@@ -57,6 +57,28 @@ fn put_replies(out: &mut Out, replies: &[Reply]) {
 fn put_end(out: &mut Out, reason: &Term, replies: &[Reply]) {
     out.put("{ended,");
     out.term(reason);
+    out.put(",");
+    put_replies(out, replies);
+    out.put("}");
+}
+
+/// `{ended,Reason,Replies}` where the process of a result has ended, else `Replies`.
+fn put_done(out: &mut Out, done: &Done, replies: &[Reply]) {
+    match &done.outcome().end {
+        End::Rest(_) => put_replies(out, replies),
+        End::Value(_) => {
+            out.put("{ended,normal,");
+            put_replies(out, replies);
+            out.put("}");
+        }
+        End::Exit(reason) => put_end(out, reason, replies),
+    }
+}
+
+/// `{killed,Pids,Replies}`
+fn put_killed(out: &mut Out, pids: &[u64], replies: &[Reply]) {
+    out.put("{killed,");
+    out.pids(pids);
     out.put(",");
     put_replies(out, replies);
     out.put("}");
@@ -233,6 +255,65 @@ impl Node {
         }
     }
 
+    /// A result is committed.
+    fn commit_done(&mut self, done: &Done) -> Option<Undo>
+        ensures { Reverts result self.new.processes }
+    {
+        match self.processes.commit(done) {
+            Ok((replies, undo)) => {
+                put_done(&mut self.answer, done, replies.as_slice());
+                Some(undo)
+            }
+            Err(refusal) => {
+                self.answer.put(refusal_word(refusal));
+                None
+            }
+        }
+    }
+
+    /// `commit K`: the job is run, and its result committed.
+    fn commit(&mut self, number: u64) -> Option<Undo>
+        ensures { Reverts result self.new.processes }
+    {
+        let place = usize::try_from(number).ok()?.checked_sub(1)?;
+        match self.jobs.get(place)?.run(self.alloc) {
+            Ok(done) => self.commit_done(&done),
+            Err(_) => {
+                self.answer.put("memory");
+                None
+            }
+        }
+    }
+
+    /// The users of an instance are killed, who are these.
+    fn kill_these(&mut self, serial: u64, pids: &[u64]) -> Option<Undo>
+        ensures { Reverts result self.new.processes }
+    {
+        match self.processes.kill_users(serial) {
+            Ok((replies, undo)) => {
+                put_killed(&mut self.answer, pids, replies.as_slice());
+                Some(undo)
+            }
+            Err(_) => {
+                self.answer.put("memory");
+                None
+            }
+        }
+    }
+
+    /// `kill SERIAL`
+    fn kill(&mut self, serial: u64) -> Option<Undo>
+        ensures { Reverts result self.new.processes }
+    {
+        match self.processes.users(serial) {
+            Ok(pids) => self.kill_these(serial, pids.as_slice()),
+            Err(_) => {
+                self.answer.put("memory");
+                None
+            }
+        }
+    }
+
     /// `users SERIAL`
     fn users(&mut self, serial: u64)
         ensures { self.new.processes ≡ self.old.processes }
@@ -287,6 +368,8 @@ impl Node {
             "suspend" => self.suspend(pid(rest)?),
             "resume" => self.resume(pid(rest)?),
             "exit" => self.exit(rest),
+            "commit" => self.commit(number(rest)?),
+            "kill" => self.kill(number(rest)?),
             _ => {
                 self.other(verb, rest);
                 None

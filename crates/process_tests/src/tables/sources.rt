@@ -60,4 +60,98 @@ handle_info({exit,Why},_S) -> exit(Why);
 handle_info({only,x},S) -> {noreply,S};
 handle_info(M,_S) -> {noreply,{info,M}}.
 end
+
+source lp2
+-module(lp).
+-export([loop/1]).
+loop(N) -> receive
+  code_switch -> ?MODULE:loop(N);
+  {add,K} -> loop(N+K);
+  {'$gen_call',F,get} -> gen_server:reply(F,{n,N}), loop(N)
+  end.
+end
+
+source lp3
+-module(lp).
+-export([loop/1]).
+loop({n,N}) -> receive
+  {set,K} -> loop({n,K+N})
+  end.
+end
+
+source lp4
+-module(lp).
+-export([other/1]).
+other(N) -> N.
+end
+
+source strict
+-module(strict).
+-export([handle_call/3,handle_cast/2,handle_info/2]).
+handle_call(a,_F,S) -> {reply,a,S}.
+handle_cast(a,S) -> {noreply,S}.
+handle_info(a,S) -> {noreply,S}.
+end
+
+source nx
+-module(nx).
+-export([handle_cast/2]).
+handle_call(_T,_F,S) -> {reply,no,S}.
+handle_cast(_T,S) -> {noreply,{cast,S}}.
+handle_info(_M,_S) -> {noreply,seen}.
+end
+
+source tx
+-module(tx).
+-export([handle_call/3,handle_cast/2,handle_info/2]).
+handle_call({send,To,M},_F,S) -> To ! M, {reply,sent,S};
+handle_call(zero,F,S) -> element(1,F) ! hello, {reply,sent,S};
+handle_call({pass,To},F,S) -> To ! {here,F}, {noreply,S};
+handle_call({last,To,M},_F,S) -> To ! M, {stop,normal,bye,S}.
+handle_cast({send,To,M},S) -> To ! M, {noreply,S};
+handle_cast({two,To,A,B},S) -> To ! A, To ! B, {noreply,S};
+handle_cast({cast,To,T},S) -> gen_server:cast(To,T), {noreply,S};
+handle_cast({self,M},S) -> self() ! M, {noreply,S};
+handle_cast({me,To},S) -> To ! {from,self()}, {noreply,S};
+handle_cast({back,M},S) -> S ! M, {noreply,S};
+handle_cast({last,To,M},S) -> To ! M, {stop,normal,S};
+handle_cast({die,To,M},_S) -> To ! M, exit(boom).
+handle_info({from,P},_S) -> {noreply,P};
+handle_info(M,_S) -> {noreply,M}.
+end
+
+source ans
+-module(ans).
+-export([loop/1]).
+loop(R) -> receive
+  {here,F} -> gen_server:reply(F,R), loop(R);
+  {'$gen_call',F,hold} -> loop(F);
+  {now,T} -> gen_server:reply(R,T), loop(none);
+  {'$gen_cast',{set,T}} -> loop(T);
+  {'$gen_call',F,quit} -> gen_server:reply(F,bye), gone;
+  stop -> gone;
+  {exit,W} -> exit(W);
+  {bad,X} -> X + a
+  end.
+end
+
+source hop1
+-module(hop).
+-export([loop/1]).
+loop(N) -> receive
+  stay -> loop(N);
+  lp -> lp:loop(N);
+  me -> ?MODULE:loop(N);
+  deep -> loop(N), ok;
+  gone -> nowhere:loop(N)
+  end.
+end
+
+source sl
+-module(sl).
+-export([handle_call/3,handle_cast/2]).
+handle_call(_T,_F,S) -> {reply,S,S}.
+handle_cast(loop,S) -> loop(S).
+loop(N) -> receive x -> loop(N) end.
+end
 ";
