@@ -1,104 +1,85 @@
-// The lines of the tables. A case is a line `case WORDS` and its steps, from the empty table with no module loaded; each case also
-// wants that its steps, undone from the last to the first, give each table before. A step is
+// The lines of the tables. A case is a line `case WORDS` and its steps, from the empty table with no module loaded. A step is
 //   STEP => ANSWER => TABLE
 // TABLE is {NextPid,[{Pid,Name,Place,State,Turn,Mailbox},..],[{Client,Number,Pid},..]}, or `same`: the processes in order of pids, and
 // the open calls in order of clients and numbers. Name is `none` where there is none, Place {server,Module,State} or
 // {loop,Module,Function,Args,Serial}, State idle, running or suspended. In `{job,K,EntrySerial,Message,[{Module,Serial},..]}` K counts
 // the jobs of the case; a retake answers the job that it equals.
 //
-// Steps: `load SOURCE`, `delete MODULE`, `purge MODULE`; `start NAME PLACE`; `call NAME CLIENT NUMBER TERM`, `cast NAME TERM` and `send
-// NAME TERM`, which arrive; `take PID`, `retake PID`; `suspend PID`, `resume PID`; and the reads `runnable AFTER`, `pid_of NAME` and
-// `users SERIAL`.
-ghost use Rattle.std.specs.Prelude.{◌≡◌, ◌≤◌, length, IfOk, MatchOption, OnOk};
-ghost use Rattle.code_server.specs.Undo.{Fits as FitsCode, undone as code_undone};
-ghost use Rattle.process_table.specs.Undo.{TakesBack};
-
-use crate::node::{Back, Node};
-use crate::terms::{normal, printed};
+// Each step is made, taken back, which gives the table before, and made again; so each step but the first is made in a table that was
+// given back. A step or its way back that is refused for want of memory leaves the table as it was, and is tried once more: so a
+// run in which one allocation is refused comes to the same.
+//
+// Steps: `commit K`, which runs the job and commits its result, and `kill SERIAL`, which kills who uses the instance of this load;
+// `load SOURCE`, `delete MODULE`, `purge MODULE`; `start NAME PLACE`; `call NAME CLIENT NUMBER TERM`, `cast NAME TERM` and `send
+// NAME TERM`, which arrive; `take PID`, `retake PID`; `suspend PID`, `resume PID`; `exit PID REASON`, which tells the open calls and
+// ends the process; and the reads `runnable AFTER`, `pid_of NAME` and `users SERIAL`.
+use crate::node::Node;
+use crate::tables::{
+    arrivals, callbacks, commits, ends, kills, loops, memory, new_code, receives, replies, sends,
+    starts, suspensions, takes, told,
+};
 use std::alloc::Global;
 use std::process::Abort;
+use std::str;
 use std::test::Fail;
 
-/// Writes down where what was found isn't what is wanted.
-fn note(wrong: &mut String, line: &str, found: &str, wanted: &str) -> Result<(), Fail> {
-    if found != wanted {
-        wrong.push_str(line)?;
-        wrong.push_str("\nfound ")?;
-        wrong.push_str(found)?;
-        wrong.push('\n')?;
-    }
-    Ok(())
-}
-
-/// The text of the table that is wanted behind one.
-fn wanted_table(alloc: Global, before: &str, wanted: &str) -> Result<String, Fail> {
-    match wanted {
-        "same" => Ok(String::from_str(alloc, before)?),
-        _ => normal(alloc, wanted),
-    }
-}
-
-/// Makes the step of a line, and sees what it answers and what the table is behind it.
-fn make(node: &mut Node, wrong: &mut String, before: &str, line: &str) -> Result<Back, Fail>
-    ensures modules { IfOk result (λ it. MatchOption it.code (node.new.modules ≡ node.old.modules) (λ undo. FitsCode undo node.new.modules × (code_undone undo node.new.modules ≡ node.old.modules))) }
-    ensures processes { IfOk result (λ it. MatchOption it.processes (node.new.processes ≡ node.old.processes) (λ undo. TakesBack undo node.old.processes node.new.processes)) }
-{
-    let (text, wanted) = line.split_once(" => ").ok_or("no arrow")?;
-    let (answer, behind) = wanted.split_once(" => ").ok_or("no arrow")?;
-    let alloc = node.alloc;
-    let (found, back) = node.step(text)?;
-    let found = printed(alloc, &found)?;
-    note(wrong, line, found.as_str(), normal(alloc, answer)?.as_str())?;
-    let behind = wanted_table(alloc, before, behind)?;
-    note(wrong, line, node.table()?.as_str(), behind.as_str())?;
-    Ok(back)
-}
-
-/// Makes the steps of the last lines, so many of them as are left, and takes them back, newest first. When a step is taken back, the
-/// table is what it was before.
-fn play(node: &mut Node, wrong: &mut String, lines: &[&str], left: usize) -> Result<(), Fail>
-    requires { left ≤ length lines.now }
-    ensures modules { OnOk result (node.new.modules ≡ node.old.modules) }
-    ensures processes { OnOk result (node.new.processes ≡ node.old.processes) }
-{
-    if left == 0 {
-        return Ok(());
-    }
-    let line = lines[lines.len() - left];
-    let before = node.table()?;
-    let back = make(node, wrong, before.as_str(), line)?;
-    play(node, wrong, lines, left - 1)?;
-    node.revert(back)?;
-    note(wrong, line, node.table()?.as_str(), before.as_str())
-}
-
-/// The lines of a case that are steps.
-fn steps(alloc: Global, case: &str) -> Result<Vec<&str>, Fail> {
-    let mut lines = Vec::new(alloc);
+/// Plays the lines of a case. Handed out is how many steps it has.
+fn play(node: &mut Node, case: &str) -> usize {
+    let mut count: usize = 0;
     for line in case.lines() {
         if line.contains(" => ") {
-            lines.push(line)?;
+            node.play(line);
+            count = count.saturating_add(1);
         }
     }
-    Ok(lines)
+    count
 }
 
-/// Runs the cases of a topic. Handed out is how many steps they have.
-fn run(alloc: Global, wrong: &mut String, cases: &str) -> Result<usize, Fail> {
-    let mut count: usize = 0;
-    for case in cases.split("\ncase ") {
-        let lines = steps(alloc, case)?;
-        play(&mut Node::new(alloc)?, wrong, lines.as_slice(), lines.len())?;
-        count = count.saturating_add(lines.len());
+/// Runs a case, and sees that it comes to what its lines say. Handed out is how many steps it has.
+fn run(rt: &impl Abort, alloc: Global, case: &str) -> Result<usize, Fail> {
+    let mut node = Node::new(alloc).ok_or("no memory")?;
+    let count = play(&mut node, case);
+    if node.is_short() {
+        return Err("no memory")?;
     }
+    assert_eq!(rt; str::from_utf8(node.wrong.bytes.as_slice())?, "");
     Ok(count)
 }
 
-/// Sees that the cases of a topic, which have so many steps, do what their lines say.
-pub fn expect(rt: &impl Abort, alloc: Global, cases: &str, count: usize) -> Result<(), Fail> {
-    let mut wrong = String::new(alloc);
-    let found = run(alloc, &mut wrong, cases)?;
-    assert_eq!(rt; wrong.as_str(), "");
-    assert_eq!(rt; found, count);
+/// Runs the cases of a topic, which have so many steps.
+fn expect(rt: &impl Abort, alloc: Global, cases: &str, steps: usize) -> Result<(), Fail> {
+    let mut count: usize = 0;
+    for case in cases.split("\ncase ") {
+        count = count.saturating_add(run(rt, alloc, case)?);
+    }
+    assert_eq!(rt; count, steps);
     Ok(())
+}
+
+#[test]
+fn steps_of_processes(rt: HostRuntime) -> Result<(), Fail> {
+    for (cases, steps) in [
+        (starts::CASES, 36),
+        (arrivals::CASES, 41),
+        (takes::CASES, 45),
+        (loops::CASES, 16),
+        (suspensions::CASES, 23),
+        (ends::CASES, 58),
+        (commits::CASES, 41),
+        (callbacks::CASES, 203),
+        (told::CASES, 26),
+        (replies::CASES, 78),
+        (sends::CASES, 100),
+        (receives::CASES, 92),
+        (new_code::CASES, 74),
+        (kills::CASES, 62),
+    ] {
+        expect(&rt, rt.alloc(), cases, steps)?;
+    }
+    Ok(())
+}
+
+#[test]
+fn a_refusal_changes_nothing(rt: HostRuntime) -> Result<(), Fail> {
+    expect(&rt, rt.alloc(), memory::CASES, 12)
 }

@@ -1,18 +1,16 @@
 // Sources that are read, and changes of the code.
-ghost use Rattle.std.specs.Prelude.{◌≡◌, IfOk, MatchOption};
-ghost use Rattle.code_server.specs.Undo.{Fits, undone};
-
+use crate::out::Out;
+use crate::read::atom;
 use crate::tables::sources::SOURCES;
-use crate::terms::{atom, int, word};
 use code_server::{CodeError, Modules, Undo};
+use erl_eval::Place;
 use erl_forms::Module;
+use erl_machine::Instance;
 use erl_parse::read_module;
-use erl_term::{Atom, Term};
-use std::alloc::Global;
+use std::alloc::{AllocError, Global};
 use std::hash::RandomState;
 use std::io;
 use std::random::RandomSource;
-use std::test::Fail;
 use values::Duplicate;
 
 /// A source that leaves all bytes as they are, so that each run of the tests is the same.
@@ -25,79 +23,87 @@ impl RandomSource for NoBytes {
 }
 
 /// How tests hash.
-pub fn hashing() -> io::Result<RandomState> {
-    RandomState::new(&NoBytes)
+pub fn hashing() -> Option<RandomState> {
+    RandomState::new(&NoBytes).ok()
+}
+
+/// The text of the source that has a name.
+fn source(alloc: Global, name: &str) -> Option<&'static str> {
+    let head = ["source ", name, "\n"].concat(alloc).ok()?;
+    let (_, behind) = SOURCES.split_once(head.as_str())?;
+    let (source, _) = behind.split_once("end\n")?;
+    Some(source)
 }
 
 /// The module of the source that has a name.
-fn module(alloc: Global, name: &str) -> Result<Module, Fail> {
-    let head = ["source ", name, "\n"].concat(alloc)?;
-    let (_, behind) = SOURCES.split_once(head.as_str()).ok_or("no source")?;
-    let (source, _) = behind.split_once("end\n").ok_or("no end")?;
-    Ok(read_module(alloc, hashing()?, source.as_bytes())?)
+fn module(alloc: Global, name: &str) -> Option<Module> {
+    let source = source(alloc, name)?;
+    read_module(alloc, hashing()?, source.as_bytes()).ok()
 }
 
-/// What a refused change answers. Want of memory is no answer.
-fn refused(alloc: Global, refusal: CodeError) -> Result<Term, Fail> {
-    match refusal {
-        CodeError::NotLoaded => word(alloc, "not_loaded"),
-        CodeError::NotPurged => word(alloc, "not_purged"),
-        CodeError::OldInUse => word(alloc, "old_in_use"),
-        CodeError::CounterEnd => word(alloc, "counter_end"),
-        CodeError::Memory => Err("no memory")?,
+/// The answer where a change is made, or the word of its refusal.
+fn answer(done: &Result<Undo<Module>, CodeError>) -> &'static str {
+    match done {
+        Ok(_) => "ok",
+        Err(CodeError::NotLoaded) => "not_loaded",
+        Err(CodeError::NotPurged) => "not_purged",
+        Err(CodeError::OldInUse) => "old_in_use",
+        Err(CodeError::CounterEnd) => "counter_end",
+        Err(CodeError::Memory) => "memory",
     }
 }
 
-/// The serial of the current code.
-fn current_serial(modules: &Modules<Module>, name: &Atom) -> Result<Term, Fail> {
-    int(modules.current(name).ok_or("no current code")?.serial)
+/// Loads a module. The answer is the serial.
+fn load_as(modules: &mut Modules<Module>, alloc: Global, module: Module, out: &mut Out) {
+    let Ok(name) = module.name().copy(alloc) else {
+        out.is_short = true;
+        return;
+    };
+    let done = modules.load(&name, module);
+    match modules.current(&name) {
+        Some(current) if done.is_ok() => out.number(current.serial),
+        _ => out.put(answer(&done)),
+    }
 }
 
-/// Loads the source that has a name.
-fn load(
+/// `load SOURCE`
+pub fn load(modules: &mut Modules<Module>, alloc: Global, name: &str, out: &mut Out) {
+    match module(alloc, name) {
+        Some(module) => load_as(modules, alloc, module, out),
+        None => out.is_short = true,
+    }
+}
+
+/// `delete MODULE`
+pub fn delete(modules: &mut Modules<Module>, alloc: Global, name: &str, out: &mut Out) {
+    match atom(alloc, name) {
+        Some(name) => out.put(answer(&modules.delete(&name))),
+        None => out.is_short = true,
+    }
+}
+
+/// `purge MODULE`
+pub fn purge(modules: &mut Modules<Module>, alloc: Global, name: &str, out: &mut Out) {
+    match atom(alloc, name) {
+        Some(name) => out.put(answer(&Ok(modules.purge(&name)))),
+        None => out.is_short = true,
+    }
+}
+
+/// The current code of the module that a place is in.
+pub fn code_at(
     alloc: Global,
-    modules: &mut Modules<Module>,
-    source: &str,
-) -> Result<(Term, Option<Undo<Module>>), Fail>
-    ensures { IfOk result (λ it. MatchOption it.1 (modules.new ≡ modules.old) (λ undo. Fits undo modules.new × (undone undo modules.new ≡ modules.old))) }
-{
-    let module = module(alloc, source)?;
-    let name = module.name().copy(alloc)?;
-    match modules.load(&name, module) {
-        Ok(undo) => Ok((current_serial(modules, &name)?, Some(undo))),
-        Err(refusal) => Ok((refused(alloc, refusal)?, None)),
+    modules: &Modules<Module>,
+    place: &Place,
+) -> Result<Vec<Instance>, AllocError> {
+    let (Place::Server { module, .. } | Place::Loop { module, .. }) = place;
+    let mut code = Vec::new(alloc);
+    if let Some(loaded) = modules.current(module) {
+        code.push(Instance {
+            name: module.copy(alloc)?,
+            serial: loaded.serial,
+            module: loaded.code.copy(alloc)?,
+        })?;
     }
-}
-
-/// Deletes a module.
-fn delete(
-    alloc: Global,
-    modules: &mut Modules<Module>,
-    name: &Atom,
-) -> Result<(Term, Option<Undo<Module>>), Fail>
-    ensures { IfOk result (λ it. MatchOption it.1 (modules.new ≡ modules.old) (λ undo. Fits undo modules.new × (undone undo modules.new ≡ modules.old))) }
-{
-    match modules.delete(name) {
-        Ok(undo) => Ok((word(alloc, "ok")?, Some(undo))),
-        Err(refusal) => Ok((refused(alloc, refusal)?, None)),
-    }
-}
-
-/// A change of the code: a load of a source, or a delete or a purge of a module. Handed out are its answer, and what takes it back.
-pub fn change(
-    alloc: Global,
-    modules: &mut Modules<Module>,
-    verb: &str,
-    name: &str,
-) -> Result<(Term, Option<Undo<Module>>), Fail>
-    ensures { IfOk result (λ it. MatchOption it.1 (modules.new ≡ modules.old) (λ undo. Fits undo modules.new × (undone undo modules.new ≡ modules.old))) }
-{
-    match verb {
-        "load" => load(alloc, modules, name),
-        "delete" => delete(alloc, modules, &atom(alloc, name)?),
-        _ => {
-            let undo = modules.purge(&atom(alloc, name)?);
-            Ok((word(alloc, "ok")?, Some(undo)))
-        }
-    }
+    Ok(code)
 }

@@ -6,22 +6,18 @@
 #![tactic(auto)]
 
 #[cfg(test)]
-mod answers;
-#[cfg(test)]
 mod cases;
 #[cfg(test)]
 mod code;
 #[cfg(test)]
-mod ends;
-#[cfg(test)]
 mod node;
+#[cfg(test)]
+mod out;
+#[cfg(test)]
+mod read;
 #[cfg(test)]
 mod rows;
 #[cfg(test)]
 mod steps;
 #[cfg(test)]
 mod tables;
-#[cfg(test)]
-mod terms;
-#[cfg(test)]
-mod topics;

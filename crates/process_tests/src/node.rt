@@ -1,18 +1,15 @@
-// What a case has come to, and its steps.
-ghost use Rattle.std.specs.Prelude.{◌≡◌, IfOk, IfSome, MatchOption, OnOk, None};
-ghost use Rattle.code_server.specs.Undo.{Fits as FitsCode, undone as code_undone};
-ghost use Rattle.process_table.specs.Undo.{Fits, TakesBack, undone};
+// What a case has come to, and how its lines are played.
+ghost use Rattle.std.specs.Prelude.{◌≡◌, Some};
+ghost use Rattle.process_tests.specs.Reverts.{Reverts};
 
-use crate::code::{change, hashing};
+use crate::code::hashing;
+use crate::out::Out;
 use crate::rows::table;
-use crate::steps::{head, step};
 use code_server::Modules;
 use erl_forms::Module;
 use erl_machine::Job;
-use erl_term::Term;
-use process_table::Processes;
+use process_table::{Processes, Undo};
 use std::alloc::Global;
-use std::test::Fail;
 
 /// What a case has come to.
 #[derive(Drop)]
@@ -23,97 +20,138 @@ pub struct Node {
     pub modules: Modules<Module>,
     /// The processes.
     pub processes: Processes,
-    /// The jobs of the case, in order. They stay where their takes are taken back.
+    /// The jobs of the case, in order.
     pub jobs: Vec<Job>,
-}
-
-/// What takes a step back, of the code and of the processes.
-#[derive(Drop)]
-pub struct Back {
-    /// Of the code, if the step changed it.
-    pub code: Option<code_server::Undo<Module>>,
-    /// Of the processes, if the step changed them.
-    pub processes: Option<process_table::Undo>,
+    /// What the step answers that is made.
+    pub answer: Out,
+    /// The table before it.
+    pub before: Out,
+    /// Whether it was refused for want of memory.
+    pub was_refused: bool,
+    /// What went wrong.
+    pub wrong: Out,
 }
 
 impl Node {
-    /// No code and no process.
-    pub fn new(alloc: Global) -> Result<Node, Fail> {
-        Ok(Node {
+    /// No code and no process; none where memory is refused.
+    pub fn new(alloc: Global) -> Option<Node> {
+        let modules = Modules::new(alloc, hashing()?);
+        let processes = Processes::new(alloc, hashing()?, hashing()?).ok()?;
+        Some(Node {
             alloc,
-            modules: Modules::new(alloc, hashing()?),
-            processes: Processes::new(alloc, hashing()?, hashing()?)?,
+            modules,
+            processes,
             jobs: Vec::new(alloc),
+            answer: Out::new(alloc),
+            before: Out::new(alloc),
+            was_refused: false,
+            wrong: Out::new(alloc),
         })
     }
 
-    /// The text of the table of processes.
-    pub fn table(&self) -> Result<String, Fail> {
-        table(self.alloc, &self.processes)
+    /// Whether memory was refused at something that was written.
+    pub fn is_short(&self) -> bool {
+        self.answer.is_short || self.before.is_short || self.wrong.is_short
     }
 
-    /// Makes a step. Handed out are its answer, and what takes it back.
-    pub fn step(&mut self, text: &str) -> Result<(Term, Back), Fail>
-        ensures modules { IfOk result (λ it. MatchOption it.1.code (self.new.modules ≡ self.old.modules) (λ undo. FitsCode undo self.new.modules × (code_undone undo self.new.modules ≡ self.old.modules))) }
-        ensures processes { IfOk result (λ it. MatchOption it.1.processes (self.new.processes ≡ self.old.processes) (λ undo. TakesBack undo self.old.processes self.new.processes)) }
+    /// Writes a line down, and what was found.
+    fn blame(&mut self, line: &str, found: &Out)
+        ensures { self.new.processes ≡ self.old.processes }
     {
-        let (verb, rest) = head(text)?;
-        if let "load" | "delete" | "purge" = verb {
-            let (answer, code) = change(self.alloc, &mut self.modules, verb, rest)?;
-            let processes = None;
-            return Ok((answer, Back { code, processes }));
-        }
-        let (answer, processes) = step(
-            self.alloc,
-            &self.modules,
-            &mut self.processes,
-            &mut self.jobs,
-            verb,
-            rest,
-        )?;
-        let code = None;
-        Ok((answer, Back { code, processes }))
-    }
-
-    /// Takes a step of the code back.
-    fn revert_code(&mut self, undo: Option<code_server::Undo<Module>>) -> Result<(), Fail>
-        requires { IfSome undo (λ undo. FitsCode undo self.old.modules) }
-        ensures modules { OnOk result (MatchOption undo (self.new.modules ≡ self.old.modules) (λ undo. self.new.modules ≡ code_undone undo self.old.modules)) }
-        ensures processes { self.new.processes ≡ self.old.processes }
-    {
-        match undo {
-            Some(undo) => match self.modules.revert(undo) {
-                Ok(()) => Ok(()),
-                Err(_) => Err("no memory")?,
-            },
-            None => Ok(()),
+        self.wrong.put(line);
+        self.wrong.put("\nfound ");
+        self.wrong.put_bytes(found.bytes.as_slice());
+        self.wrong.put("\n");
+        if found.is_short {
+            self.wrong.is_short = true;
         }
     }
 
-    /// Takes a step of the processes back.
-    fn revert_processes(&mut self, undo: Option<process_table::Undo>) -> Result<(), Fail>
-        requires { IfSome undo (λ undo. Fits self.old.modules undo self.old.processes) }
-        ensures processes { OnOk result (MatchOption undo (self.new.processes ≡ self.old.processes) (λ undo. self.new.processes ≡ undone self.old.modules undo self.old.processes)) }
-        ensures modules { self.new.modules ≡ self.old.modules }
+    /// Sees that the table is the one that is wanted, or `same` as before.
+    fn see_table(&mut self, line: &str, wanted: &str)
+        ensures { self.new.processes ≡ self.old.processes }
     {
-        match undo {
-            Some(undo) => match self.processes.revert(&self.modules, undo) {
-                Ok(()) => Ok(()),
-                Err(_) => Err("no memory")?,
-            },
-            None => Ok(()),
+        let found = table(self.alloc, &self.processes);
+        let is_right = match wanted {
+            "same" => found.bytes.as_slice() == self.before.bytes.as_slice(),
+            _ => found.is(wanted),
+        };
+        if !is_right {
+            self.blame(line, &found);
         }
     }
 
-    /// Takes the newest step back.
-    pub fn revert(&mut self, back: Back) -> Result<(), Fail>
-        requires code { IfSome back.code (λ undo. FitsCode undo self.old.modules) }
-        requires fits { IfSome back.processes (λ undo. Fits self.old.modules undo self.old.processes) }
-        ensures modules { OnOk result (MatchOption back.code (self.new.modules ≡ self.old.modules) (λ undo. self.new.modules ≡ code_undone undo self.old.modules)) }
-        ensures processes { OnOk result (MatchOption back.processes (self.new.processes ≡ self.old.processes) (λ undo. self.new.processes ≡ undone self.old.modules undo self.old.processes)) }
+    /// Sees that the answer is the one that is wanted.
+    fn see_answer(&mut self, line: &str, wanted: &str)
+        ensures { self.new.processes ≡ self.old.processes }
     {
-        let Back { code, processes } = back;
-        self.revert_processes(processes)?;
-        self.revert_code(code)
+        if !self.answer.is(wanted) {
+            self.wrong.put(line);
+            self.wrong.put("\nanswer ");
+            self.wrong.put_bytes(self.answer.bytes.as_slice());
+            self.wrong.put("\n");
+        }
+    }
+
+    /// Sees what a step has answered, and what the table is behind it. Once it may be refused for want of memory, and has then left the
+    /// table as it was.
+    fn see(&mut self, line: &str, wanted: &str)
+        ensures { self.new.processes ≡ self.old.processes }
+    {
+        if self.answer.is("memory") && !self.was_refused {
+            self.was_refused = true;
+            return self.see_table(line, "same");
+        }
+        let (answer, behind) = wanted.split_once(" => ").unwrap_or((wanted, ""));
+        self.see_answer(line, answer);
+        self.see_table(line, behind);
+    }
+
+    /// Makes the step of a line, and sees what comes of it.
+    fn make(&mut self, line: &str) -> Option<Undo>
+        ensures { Reverts result self.new.processes }
+    {
+        let (text, wanted) = line.split_once(" => ").unwrap_or((line, ""));
+        self.answer.bytes.clear();
+        let undo = self.step(text);
+        self.see(line, wanted);
+        undo
+    }
+
+    /// Takes the newest step back, which was refused for want of memory and has left the table as it was: this time it is done.
+    fn take_back_again(&mut self, line: &str, behind: &Out, undo: Undo)
+        requires { Reverts (Some undo) self.old.processes }
+    {
+        let found = table(self.alloc, &self.processes);
+        if found.bytes.as_slice() != behind.bytes.as_slice() {
+            self.blame(line, &found);
+        }
+        if self.processes.revert(&self.modules, undo).is_err() {
+            self.wrong.put("no memory");
+        }
+    }
+
+    /// Takes the newest step back, and sees that the table is the one before.
+    fn take_back(&mut self, line: &str, undo: Undo)
+        requires { Reverts (Some undo) self.old.processes }
+    {
+        let behind = table(self.alloc, &self.processes);
+        if let Err(undo) = self.processes.revert(&self.modules, undo) {
+            self.take_back_again(line, &behind, undo);
+        }
+        self.see_table(line, "same");
+    }
+
+    /// Makes the step of a line, takes it back, and makes it again; and once more, if it was refused for want of memory.
+    pub fn play(&mut self, line: &str) {
+        self.was_refused = false;
+        self.before = table(self.alloc, &self.processes);
+        if let Some(undo) = self.make(line) {
+            self.take_back(line, undo);
+            self.make(line);
+        }
+        if self.answer.is("memory") {
+            self.make(line);
+        }
     }
 }

@@ -1,237 +1,379 @@
-// Steps of processes, each by its word. Handed out are the answer, and what takes the step back, if it changed the table.
-ghost use Rattle.std.specs.Prelude.{◌≡◌, IfOk, MatchOption};
-ghost use Rattle.process_table.specs.Undo.{TakesBack};
+// Steps of processes, each by its word. Each writes its answer, and hands out what takes it back, if it changed the processes.
+ghost use Rattle.std.specs.Prelude.{◌≡◌};
+ghost use Rattle.process_tests.specs.Reverts.{Reverts};
 
-use crate::answers::{job_row, number_of, pid_or_none, refused};
-use crate::terms::{atom, list, pid, term, word};
-use code_server::Modules;
+use crate::code::{code_at, delete, load, purge};
+use crate::node::Node;
+use crate::out::Out;
+use crate::read::{atom, body, head, number, pid, place, term};
 use erl_eval::Place;
-use erl_forms::Module;
-use erl_machine::{Instance, Job};
+use erl_machine::{Done, End, Job};
 use erl_term::{Atom, Term};
-use process_table::{Body, Processes, Undo};
-use std::alloc::Global;
-use std::test::Fail;
-use values::Duplicate;
+use process_table::{Body, ProcError, Reply, ReplyBody, Undo};
+use values::Same;
 
-/// What stands before the first blank, and what stands behind it.
-pub fn head(text: &str) -> Result<(&str, &str), Fail> {
-    Ok(text.split_once(' ').ok_or("no blank")?)
-}
-
-/// The module and the state of a server.
-fn server(alloc: Global, parts: &[Term]) -> Result<Place, Fail> {
-    let (_, module, state) = erl_term::three(parts).ok_or("no server")?;
-    let module = module.as_atom().ok_or("no module")?.copy(alloc)?;
-    let state = state.copy(alloc)?;
-    Ok(Place::Server { module, state })
-}
-
-/// The place of a loop function.
-fn looping(alloc: Global, parts: &[Term]) -> Result<Place, Fail> {
-    let (_, parts) = erl_term::first(parts).ok_or("no loop")?;
-    let (module, function, args, serial) = erl_term::four(parts).ok_or("no loop")?;
-    Ok(Place::Loop {
-        module: module.as_atom().ok_or("no module")?.copy(alloc)?,
-        serial: u64::try_from(serial.as_int().ok_or("no serial")?)?,
-        function: function.as_atom().ok_or("no function")?.copy(alloc)?,
-        args: args.as_list().ok_or("no arguments")?.copy(alloc)?,
-    })
-}
-
-/// The place that a text says.
-fn place(alloc: Global, text: &str) -> Result<Place, Fail> {
-    let term = term(alloc, text)?;
-    let parts = term.as_tuple().ok_or("no place")?.as_slice();
-    match text.starts_with("{server,") {
-        true => server(alloc, parts),
-        false => looping(alloc, parts),
+/// The word of a refusal.
+fn refusal_word(refusal: ProcError) -> &'static str {
+    match refusal {
+        ProcError::NoProc => "no_proc",
+        ProcError::Suspended => "suspended",
+        ProcError::Idle => "idle",
+        ProcError::Running => "running",
+        ProcError::NotRunning => "not_running",
+        ProcError::Stale => "stale",
+        ProcError::NameTaken => "name_taken",
+        ProcError::DuplicateCall => "duplicate_call",
+        ProcError::CounterEnd => "counter_end",
+        ProcError::Memory => "memory",
     }
 }
 
-/// Adds an instance of a module, if there is one.
-fn add(
-    alloc: Global,
-    code: &mut Vec<Instance>,
-    name: &Atom,
-    loaded: Option<&code_server::Instance<Module>>,
-) -> Result<(), Fail> {
-    if let Some(loaded) = loaded {
-        code.push(Instance {
-            name: name.copy(alloc)?,
-            serial: loaded.serial,
-            module: loaded.code.copy(alloc)?,
-        })?;
-    }
-    Ok(())
-}
-
-/// The code of the module that a place is in.
-fn code_at(alloc: Global, modules: &Modules<Module>, place: &Place) -> Result<Vec<Instance>, Fail> {
-    let (Place::Server { module, .. } | Place::Loop { module, .. }) = place;
-    let mut code = Vec::new(alloc);
-    add(alloc, &mut code, module, modules.current(module))?;
-    add(alloc, &mut code, module, modules.old(module))?;
-    Ok(code)
-}
-
-/// The name that a text says; `none` is no name.
-fn name_or_none(alloc: Global, text: &str) -> Result<Option<Atom>, Fail> {
-    match text {
-        "none" => Ok(None),
-        _ => Ok(Some(atom(alloc, text)?)),
-    }
-}
-
-/// `start NAME PLACE`
-fn start(
-    alloc: Global,
-    modules: &Modules<Module>,
-    processes: &mut Processes,
-    rest: &str,
-) -> Result<(Term, Option<Undo>), Fail>
-    ensures { IfOk result (λ it. MatchOption it.1 (processes.new ≡ processes.old) (λ undo. TakesBack undo processes.old processes.new)) }
-{
-    let (name, resting) = head(rest)?;
-    let name = name_or_none(alloc, name)?;
-    let place = place(alloc, resting)?;
-    let code = code_at(alloc, modules, &place)?;
-    match processes.start(name, place, code.as_slice()) {
-        Ok((pid, undo)) => Ok((Term::Pid(pid), Some(undo))),
-        Err(refusal) => Ok((refused(alloc, refusal)?, None)),
-    }
-}
-
-/// The client and the call that a text says.
-fn call(alloc: Global, text: &str) -> Result<(u64, Body), Fail> {
-    let (client, rest) = head(text)?;
-    let (number, request) = head(rest)?;
-    let number = number.parse::<u64>()?;
-    let term = term(alloc, request)?;
-    Ok((client.parse::<u64>()?, Body::Call { number, term }))
-}
-
-/// The client, and what it sends.
-fn body(alloc: Global, verb: &str, text: &str) -> Result<(u64, Body), Fail> {
-    match verb {
-        "call" => call(alloc, text),
-        "cast" => Ok((0, Body::Cast(term(alloc, text)?))),
-        _ => Ok((0, Body::Info(term(alloc, text)?))),
-    }
-}
-
-/// `call NAME CLIENT NUMBER TERM`, `cast NAME TERM`, `send NAME TERM`
-fn arrive(
-    alloc: Global,
-    processes: &mut Processes,
-    verb: &str,
-    rest: &str,
-) -> Result<(Term, Option<Undo>), Fail>
-    ensures { IfOk result (λ it. MatchOption it.1 (processes.new ≡ processes.old) (λ undo. TakesBack undo processes.old processes.new)) }
-{
-    let (name, text) = head(rest)?;
-    let name = atom(alloc, name)?;
-    let (client, body) = body(alloc, verb, text)?;
-    match processes.arrive(client, &name, &body) {
-        Ok(undo) => Ok((word(alloc, "ok")?, Some(undo))),
-        Err(refusal) => Ok((refused(alloc, refusal)?, None)),
-    }
-}
-
-/// The answer of a take. The job is the last of the case.
-fn keep(alloc: Global, jobs: &mut Vec<Job>, job: Job) -> Result<Term, Fail> {
-    let number = (jobs.len() as u64).saturating_add(1);
-    let answer = job_row(alloc, number, &job)?;
-    jobs.push(job)?;
-    Ok(answer)
-}
-
-/// `take PID`
-fn take(
-    alloc: Global,
-    modules: &Modules<Module>,
-    processes: &mut Processes,
-    jobs: &mut Vec<Job>,
-    rest: &str,
-) -> Result<(Term, Option<Undo>), Fail>
-    ensures { IfOk result (λ it. MatchOption it.1 (processes.new ≡ processes.old) (λ undo. TakesBack undo processes.old processes.new)) }
-{
-    match processes.take(modules, pid(rest)?) {
-        Ok((job, undo)) => Ok((keep(alloc, jobs, job)?, Some(undo))),
-        Err(refusal) => Ok((refused(alloc, refusal)?, None)),
-    }
-}
-
-/// `suspend PID`, `resume PID`
-fn suspension(
-    alloc: Global,
-    processes: &mut Processes,
-    verb: &str,
-    rest: &str,
-) -> Result<(Term, Option<Undo>), Fail>
-    ensures { IfOk result (λ it. MatchOption it.1 (processes.new ≡ processes.old) (λ undo. TakesBack undo processes.old processes.new)) }
-{
-    let pid = pid(rest)?;
-    let done = match verb {
-        "suspend" => processes.suspend(pid),
-        _ => processes.resume(pid),
+/// `{reply,Client,Number,Term}` or `{down,Client,Number,Reason}`.
+fn put_reply(out: &mut Out, reply: &Reply) {
+    out.separate();
+    let (word, told) = match &reply.body {
+        ReplyBody::Reply(told) => ("{reply,", told),
+        ReplyBody::Down(reason) => ("{down,", reason),
     };
-    match done {
-        Ok(undo) => Ok((word(alloc, "ok")?, Some(undo))),
-        Err(refusal) => Ok((refused(alloc, refusal)?, None)),
+    out.put(word);
+    out.number(reply.client);
+    out.put(",");
+    out.number(reply.number);
+    out.put(",");
+    out.term(told);
+    out.put("}");
+}
+
+/// `[{reply,Client,Number,Term},{down,Client,Number,Reason},..]`
+fn put_replies(out: &mut Out, replies: &[Reply]) {
+    out.put("[");
+    for reply in replies {
+        put_reply(out, reply);
+    }
+    out.put("]");
+}
+
+/// `{ended,Reason,Replies}`
+fn put_end(out: &mut Out, reason: &Term, replies: &[Reply]) {
+    out.put("{ended,");
+    out.term(reason);
+    out.put(",");
+    put_replies(out, replies);
+    out.put("}");
+}
+
+/// `{ended,Reason,Replies}` where the process of a result has ended, else `Replies`.
+fn put_done(out: &mut Out, done: &Done, replies: &[Reply]) {
+    match &done.outcome().end {
+        End::Rest(_) => put_replies(out, replies),
+        End::Value(_) => {
+            out.put("{ended,normal,");
+            put_replies(out, replies);
+            out.put("}");
+        }
+        End::Exit(reason) => put_end(out, reason, replies),
     }
 }
 
-/// `retake PID`
-fn retake(alloc: Global, processes: &Processes, jobs: &[Job], rest: &str) -> Result<Term, Fail> {
-    match processes.retake(pid(rest)?) {
-        Ok(job) => job_row(alloc, number_of(jobs, &job), &job),
-        Err(refusal) => refused(alloc, refusal),
-    }
+/// `{killed,Pids,Replies}`
+fn put_killed(out: &mut Out, pids: &[u64], replies: &[Reply]) {
+    out.put("{killed,");
+    out.pids(pids);
+    out.put(",");
+    put_replies(out, replies);
+    out.put("}");
 }
 
-/// `users SERIAL`
-fn users(alloc: Global, processes: &Processes, rest: &str) -> Result<Term, Fail> {
-    let mut pids = Vec::new(alloc);
-    for pid in processes.users(rest.parse::<u64>()?)? {
-        pids.push(Term::Pid(pid))?;
+/// The number of a job among those of the case, the first of which is 1. A new one is the next.
+fn number_of(jobs: &[Job], job: &Job) -> usize {
+    let mut number: usize = 1;
+    for known in jobs {
+        if known.same(job) {
+            return number;
+        }
+        number = number.saturating_add(1);
     }
-    list(alloc, pids)
+    number
 }
 
-/// What changes nothing: `retake PID`, `runnable AFTER`, `pid_of NAME`, `users SERIAL`
-fn read(
-    alloc: Global,
-    processes: &Processes,
-    jobs: &[Job],
-    verb: &str,
-    rest: &str,
-) -> Result<Term, Fail> {
-    match verb {
-        "retake" => retake(alloc, processes, jobs, rest),
-        "runnable" => pid_or_none(alloc, processes.runnable(rest.parse::<u64>()?)),
-        "pid_of" => pid_or_none(alloc, processes.pid_of(&atom(alloc, rest)?)),
-        "users" => users(alloc, processes, rest),
-        _ => Err("no step")?,
+impl Node {
+    /// A process starts.
+    fn begin(&mut self, name: Option<Atom>, place: Place) -> Option<Undo>
+        ensures { Reverts result self.new.processes }
+    {
+        let Ok(code) = code_at(self.alloc, &self.modules, &place) else {
+            self.answer.is_short = true;
+            return None;
+        };
+        match self.processes.start(name, place, code.as_slice()) {
+            Ok((pid, undo)) => {
+                self.answer.pid(pid);
+                Some(undo)
+            }
+            Err(refusal) => {
+                self.answer.put(refusal_word(refusal));
+                None
+            }
+        }
     }
-}
 
-/// A step of processes.
-pub fn step(
-    alloc: Global,
-    modules: &Modules<Module>,
-    processes: &mut Processes,
-    jobs: &mut Vec<Job>,
-    verb: &str,
-    rest: &str,
-) -> Result<(Term, Option<Undo>), Fail>
-    ensures { IfOk result (λ it. MatchOption it.1 (processes.new ≡ processes.old) (λ undo. TakesBack undo processes.old processes.new)) }
-{
-    match verb {
-        "start" => start(alloc, modules, processes, rest),
-        "call" | "cast" | "send" => arrive(alloc, processes, verb, rest),
-        "take" => take(alloc, modules, processes, jobs, rest),
-        "suspend" | "resume" => suspension(alloc, processes, verb, rest),
-        _ => Ok((read(alloc, processes, jobs.as_slice(), verb, rest)?, None)),
+    /// `start NAME PLACE`
+    fn start(&mut self, rest: &str) -> Option<Undo>
+        ensures { Reverts result self.new.processes }
+    {
+        let (name, resting) = head(rest);
+        let place = place(self.alloc, resting)?;
+        match name {
+            "none" => self.begin(None, place),
+            _ => {
+                let name = atom(self.alloc, name)?;
+                self.begin(Some(name), place)
+            }
+        }
+    }
+
+    /// A message comes.
+    fn deliver(&mut self, client: u64, name: &Atom, body: &Body) -> Option<Undo>
+        ensures { Reverts result self.new.processes }
+    {
+        match self.processes.arrive(client, name, body) {
+            Ok(undo) => {
+                self.answer.put("ok");
+                Some(undo)
+            }
+            Err(refusal) => {
+                self.answer.put(refusal_word(refusal));
+                None
+            }
+        }
+    }
+
+    /// `call NAME CLIENT NUMBER TERM`, `cast NAME TERM`, `send NAME TERM`
+    fn arrive(&mut self, verb: &str, rest: &str) -> Option<Undo>
+        ensures { Reverts result self.new.processes }
+    {
+        let (name, rest) = head(rest);
+        let name = atom(self.alloc, name)?;
+        match verb {
+            "call" => {
+                let (client, rest) = head(rest);
+                let body = body(self.alloc, verb, rest)?;
+                self.deliver(number(client)?, &name, &body)
+            }
+            _ => self.deliver(0, &name, &body(self.alloc, verb, rest)?),
+        }
+    }
+
+    /// Writes a job that was taken, and keeps it where it is new.
+    fn keep(&mut self, job: Job)
+        ensures { self.new.processes ≡ self.old.processes }
+    {
+        let number = number_of(self.jobs.as_slice(), &job);
+        self.answer.job(number, &job);
+        if number > self.jobs.len() && self.jobs.push(job).is_err() {
+            self.answer.is_short = true;
+        }
+    }
+
+    /// `take PID`
+    fn take(&mut self, pid: u64) -> Option<Undo>
+        ensures { Reverts result self.new.processes }
+    {
+        match self.processes.take(&self.modules, pid) {
+            Ok((job, undo)) => {
+                self.keep(job);
+                Some(undo)
+            }
+            Err(refusal) => {
+                self.answer.put(refusal_word(refusal));
+                None
+            }
+        }
+    }
+
+    /// `suspend PID`
+    fn suspend(&mut self, pid: u64) -> Option<Undo>
+        ensures { Reverts result self.new.processes }
+    {
+        match self.processes.suspend(pid) {
+            Ok(undo) => {
+                self.answer.put("ok");
+                Some(undo)
+            }
+            Err(refusal) => {
+                self.answer.put(refusal_word(refusal));
+                None
+            }
+        }
+    }
+
+    /// `resume PID`
+    fn resume(&mut self, pid: u64) -> Option<Undo>
+        ensures { Reverts result self.new.processes }
+    {
+        match self.processes.resume(pid) {
+            Ok(undo) => {
+                self.answer.put("ok");
+                Some(undo)
+            }
+            Err(refusal) => {
+                self.answer.put(refusal_word(refusal));
+                None
+            }
+        }
+    }
+
+    /// A process ends, when its clients have been told.
+    fn end(&mut self, pid: u64, reason: &Term, replies: &[Reply]) -> Option<Undo>
+        ensures { Reverts result self.new.processes }
+    {
+        match self.processes.end(pid) {
+            Ok(undo) => {
+                put_end(&mut self.answer, reason, replies);
+                Some(undo)
+            }
+            Err(refusal) => {
+                self.answer.put(refusal_word(refusal));
+                None
+            }
+        }
+    }
+
+    /// `exit PID REASON`
+    fn exit(&mut self, rest: &str) -> Option<Undo>
+        ensures { Reverts result self.new.processes }
+    {
+        let (process, reason) = head(rest);
+        let pid = pid(process)?;
+        let reason = term(self.alloc, reason)?;
+        match self.processes.downs(pid, &reason) {
+            Ok(replies) => self.end(pid, &reason, replies.as_slice()),
+            Err(_) => {
+                self.answer.put("memory");
+                None
+            }
+        }
+    }
+
+    /// A result is committed.
+    fn commit_done(&mut self, done: &Done) -> Option<Undo>
+        ensures { Reverts result self.new.processes }
+    {
+        match self.processes.commit(done) {
+            Ok((replies, undo)) => {
+                put_done(&mut self.answer, done, replies.as_slice());
+                Some(undo)
+            }
+            Err(refusal) => {
+                self.answer.put(refusal_word(refusal));
+                None
+            }
+        }
+    }
+
+    /// `commit K`: the job is run, and its result committed.
+    fn commit(&mut self, number: u64) -> Option<Undo>
+        ensures { Reverts result self.new.processes }
+    {
+        let place = usize::try_from(number).ok()?.checked_sub(1)?;
+        match self.jobs.get(place)?.run(self.alloc) {
+            Ok(done) => self.commit_done(&done),
+            Err(_) => {
+                self.answer.put("memory");
+                None
+            }
+        }
+    }
+
+    /// The users of an instance are killed, who are these.
+    fn kill_these(&mut self, serial: u64, pids: &[u64]) -> Option<Undo>
+        ensures { Reverts result self.new.processes }
+    {
+        match self.processes.kill_users(serial) {
+            Ok((replies, undo)) => {
+                put_killed(&mut self.answer, pids, replies.as_slice());
+                Some(undo)
+            }
+            Err(_) => {
+                self.answer.put("memory");
+                None
+            }
+        }
+    }
+
+    /// `kill SERIAL`
+    fn kill(&mut self, serial: u64) -> Option<Undo>
+        ensures { Reverts result self.new.processes }
+    {
+        match self.processes.users(serial) {
+            Ok(pids) => self.kill_these(serial, pids.as_slice()),
+            Err(_) => {
+                self.answer.put("memory");
+                None
+            }
+        }
+    }
+
+    /// `users SERIAL`
+    fn users(&mut self, serial: u64)
+        ensures { self.new.processes ≡ self.old.processes }
+    {
+        match self.processes.users(serial) {
+            Ok(pids) => self.answer.pids(pids.as_slice()),
+            Err(_) => self.answer.put("memory"),
+        }
+    }
+
+    /// `retake PID`
+    fn retake(&mut self, pid: u64)
+        ensures { self.new.processes ≡ self.old.processes }
+    {
+        match self.processes.retake(pid) {
+            Ok(job) => self.answer.job(number_of(self.jobs.as_slice(), &job), &job),
+            Err(refusal) => self.answer.put(refusal_word(refusal)),
+        }
+    }
+
+    /// Changes of the code, and what changes nothing: `load SOURCE`, `delete MODULE`, `purge MODULE`, `retake PID`, `runnable AFTER`,
+    /// `pid_of NAME`, `users SERIAL`. None where it is no step.
+    fn other(&mut self, verb: &str, rest: &str) -> Option<()>
+        ensures { self.new.processes ≡ self.old.processes }
+    {
+        match verb {
+            "load" => load(&mut self.modules, self.alloc, rest, &mut self.answer),
+            "delete" => delete(&mut self.modules, self.alloc, rest, &mut self.answer),
+            "purge" => purge(&mut self.modules, self.alloc, rest, &mut self.answer),
+            "runnable" => self
+                .answer
+                .pid_or_none(self.processes.runnable(number(rest)?)),
+            "pid_of" => self
+                .answer
+                .pid_or_none(self.processes.pid_of(&atom(self.alloc, rest)?)),
+            "users" => self.users(number(rest)?),
+            "retake" => self.retake(pid(rest)?),
+            _ => return None,
+        }
+        Some(())
+    }
+
+    /// Makes a step, and writes its answer. Handed out is what takes it back, if it changed the processes.
+    pub fn step(&mut self, text: &str) -> Option<Undo>
+        ensures { Reverts result self.new.processes }
+    {
+        let (verb, rest) = head(text);
+        match verb {
+            "start" => self.start(rest),
+            "call" | "cast" | "send" => self.arrive(verb, rest),
+            "take" => self.take(pid(rest)?),
+            "suspend" => self.suspend(pid(rest)?),
+            "resume" => self.resume(pid(rest)?),
+            "exit" => self.exit(rest),
+            "commit" => self.commit(number(rest)?),
+            "kill" => self.kill(number(rest)?),
+            _ => {
+                self.other(verb, rest);
+                None
+            }
+        }
     }
 }

@@ -4,6 +4,8 @@
 pub const CASES: &str = "
 case the empty table: reads find nothing, every step on a process is no_proc
 runnable 0 => none => {1,[],[]}
+users 1 => [] => same
+exit <0.1.0> why => no_proc => same
 pid_of ctr => none => same
 take <0.1.0> => no_proc => same
 take <0.0.0> => no_proc => same
