@@ -14,11 +14,13 @@ use Rattle.process.specs.Process.{ProcessState}
 use Rattle.process.specs.declared.process.ending.Told.{Told}
 use Rattle.process_commit.proofs.Commuting.{read_kept}
 use Rattle.process_commit.proofs.OwnMessages.{calls_at}
+use Rattle.process_commit.proofs.Reopening.{returned_reopens}
+use Rattle.process_ending.proofs.Ends.{ended_fits}
 use Rattle.process_commit.specs.Acts.{answered, closed_at, receiver_of, sent}
 use Rattle.process_commit.specs.Exits.{CanUnexit, unexited}
 use Rattle.process_commit.specs.Parted.{AllReopen, acts_sent, all_answered, all_reopened, all_unsent, other_than}
 use Rattle.process_commit.specs.declared.answers.Closed.{Closed}
-use Rattle.process_ending.specs.Ends.{AllStand, CanBeReturned, Stands, ended_as, returned, with_returned}
+use Rattle.process_ending.specs.Ends.{AllStand, Stands, ended_as, returned, with_returned}
 use Rattle.process_store.specs.Vacating.{CanReturn, occupied}
 use Rattle.process_commit.specs.declared.answers.Answer.{Answer}
 use Rattle.process_ending.specs.Told.{down, downs}
@@ -147,13 +149,17 @@ module _ (pid : ℕ) (acts : List Act) (answers : List Answer) (t mid : Table) (
       ] some telling (stand pid) (ap process_of there ∙ process_here)
 
 -- what takes it back
-pub exited_back : (modules : Loaded Forms) (pid : ℕ) (t mid after : Table) (l : Living) (told : Told) (receivers : List ℕ) (closed : List Closed) → lives modules (ended_with told.rests_in told.code l.process) ≡ Some l.process → CanReturn pid l after → occupied pid l after ≡ mid → AllReopen closed mid → all_unsent receivers (all_reopened closed mid) ≡ t → CanUnexit modules (record { ended = ended_as pid told.rests_in told.code l; receivers = receivers; closed = closed }) after × (unexited modules (record { ended = ended_as pid told.rests_in told.code l; receivers = receivers; closed = closed }) after ≡ t)
-exited_back modules pid t mid after l told receivers closed alive can back fits acted =
-    let e = ended_as pid told.rests_in told.code l in
-    let again : returned modules e after ≡ mid = ap (λ o. with_returned o pid l.calls after) alive ∙ back in (
-      (subst (λ o. CanBeReturned o pid l.calls after) (sym alive) can, subst (AllReopen closed) (sym again) fits),
-      ap (λ x. all_unsent receivers (all_reopened closed x)) again ∙ acted,
-    )
+pub exited_back : (modules : Loaded Forms) (pid : ℕ) (t mid after : Table) (l : Living) (told : Told) (receivers : List ℕ) (closed : List Closed) → lives modules (ended_with told.rests_in told.code l.process) ≡ Some l.process → occupied pid l after ≡ mid → all_unsent receivers (all_reopened closed mid) ≡ t → unexited modules (record { ended = ended_as pid told.rests_in told.code l; receivers = receivers; closed = closed }) after ≡ t
+exited_back modules pid t mid after l told receivers closed alive back acted =
+    let again : returned modules (ended_as pid told.rests_in told.code l) after ≡ mid = ap (λ o. with_returned o pid l.calls after) alive ∙ back in
+    ap (λ x. all_unsent receivers (all_reopened closed x)) again ∙ acted
+
+-- and that it can be asked for, over whatever table of modules
+pub exited_fits : (modules : Loaded Forms) (pid : ℕ) (mid after : Table) (l : Living) (told : Told) (receivers : List ℕ) (closed : List Closed) → CanReturn pid l after → occupied pid l after ≡ mid → AllReopen closed mid → CanUnexit modules (record { ended = ended_as pid told.rests_in told.code l; receivers = receivers; closed = closed }) after
+exited_fits modules pid mid after l told receivers closed can back fits = (
+  ended_fits modules after l (ended_with told.rests_in told.code l.process) pid refl can,
+  returned_reopens modules pid told.rests_in told.code l after mid closed back fits,
+)
 
 -- What is told.
 

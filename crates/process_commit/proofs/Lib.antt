@@ -2,5 +2,6 @@ pub mod Commuting
 pub mod Leaving
 pub mod OwnMessages
 pub mod Parting
+pub mod Reopening
 pub mod Rests
 pub mod Undoing

@@ -55,5 +55,5 @@ CanUnrest u t = AllReopen u.closed t × HasTurned u.pid (all_unsent u.receivers 
 
 -- it can be asked for, and gives the table before where the instances that processes used there stand in the table of modules
 abbrev pub RestsBack : Rested → Table → Table → Type 0
-RestsBack u before after = CanUnrest u after ×
-    ((modules : Loaded Forms) → IsSound modules → AllStand modules before → unrested modules u after ≡ before)
+RestsBack u before after = (modules : Loaded Forms) → CanUnrest u after ×
+    (IsSound modules → AllStand modules before → unrested modules u after ≡ before)

@@ -8,7 +8,7 @@ use Rattle.process_commit.specs.Acts.{acts_done, acts_told}
 use Rattle.process_commit.specs.Parted.{AllReopen, all_reopened, all_unsent}
 use Rattle.process_commit.specs.declared.exiting.Exited.{Exited}
 use Rattle.process_ending.specs.Told.{downs}
-use Rattle.process_ending.specs.Ends.{AllStand, Returns, returned}
+use Rattle.process_ending.specs.Ends.{AllStand, Lives, Returns, returned}
 use Rattle.process_ending.specs.declared.told.Reply.{Reply}
 use Rattle.process_store.specs.Table.{Table, living}
 use Rattle.process_store.specs.Vacating.{vacated}
@@ -27,9 +27,9 @@ abbrev pub unexited : Loaded Forms → Exited → Table → Table
 unexited modules u t = all_unsent u.receivers (all_reopened u.closed (returned modules u.ended t))
 
 abbrev pub CanUnexit : Loaded Forms → Exited → Table → Type 0
-CanUnexit modules u t = Returns modules u.ended t × AllReopen u.closed (returned modules u.ended t)
+CanUnexit modules u t = Returns modules u.ended t × (Lives modules u.ended → AllReopen u.closed (returned modules u.ended t))
 
--- where the instances that processes used there stand in the table of modules, it can be asked for, and gives the table before
+-- it can be asked for, and gives the table before where the instances that processes used there stand in the table of modules
 abbrev pub ExitsBack : Exited → Table → Table → Type 0
-ExitsBack u before after = (modules : Loaded Forms) → IsSound modules → AllStand modules before →
-    CanUnexit modules u after × (unexited modules u after ≡ before)
+ExitsBack u before after = (modules : Loaded Forms) → CanUnexit modules u after ×
+    (IsSound modules → AllStand modules before → unexited modules u after ≡ before)

@@ -51,12 +51,8 @@ IsKept modules (Killed es) = All (Lives modules) es
 abbrev pub TakesBack : Undo → Table → Table → Type 0
 TakesBack undo before after = (modules : Loaded Forms) → Fits modules undo after × (undone modules undo after ≡ before)
 
--- The same where processes have ended: the table before is given back where the instances that its processes use stand.
+-- The same where processes have ended, or have committed a job: the table before is given back where the instances that its processes
+-- use stand.
 abbrev pub TakesBackEnds : Undo → Table → Table → Type 0
 TakesBackEnds undo before after = (modules : Loaded Forms) →
     Fits modules undo after × (IsSound modules → AllStand modules before → undone modules undo after ≡ before)
-
--- The same of a commit: its undo can be asked for, and gives back the table before, where the instances that its processes use stand.
-abbrev pub CommitsBack : Undo → Table → Table → Type 0
-CommitsBack undo before after = (modules : Loaded Forms) → IsSound modules → AllStand modules before →
-    Fits modules undo after × (undone modules undo after ≡ before)

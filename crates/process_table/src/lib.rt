@@ -17,10 +17,10 @@
 //!   (`RefusesCommit`). It takes a [`erl_machine::Done`], which nobody can make up.
 //! - [`Processes::kill_users`] takes each user of an instance out, and nobody else (`without_users` of
 //!   [`process_ending`]).
-//! - What an undo gives back is the table before the step, whole (`undone`, `TakesBack`). A process that has ended is kept without
-//!   code, so of an end and a kill this is said over the tables of modules in which the instances that the processes use stand
-//!   (`TakesBackEnds`), and so of a commit (`CommitsBack`). An undo that is done loses no process and no job, whatever the table of
-//!   modules (`IsKept`).
+//! - What an undo gives back is the table before the step, whole (`undone`, `TakesBack`). A process that has ended and a job that was
+//!   committed are kept without code, so of a commit, an end and a kill this is said over the tables of modules in which the instances
+//!   that the processes use stand (`TakesBackEnds`). An undo that is done loses no process and no job, whatever the table of modules
+//!   (`IsKept`).
 //! - [`Processes::downs`] tells each open call of a process once, in order of client and number, and a kill those of each process that
 //!   it kills, in order of pid (`told_by_kill`). [`Processes::users`] tells who uses an instance, in order (`users`).
 //! - The code of a job is the instance that is entered and what it can reach (`IsCodeOf`, over `IsJobCode` of [`job_code`]).

@@ -1,6 +1,6 @@
 -- What the process sends to itself goes with it, and all else of it is as it was.
 use Rattle.std.proofs.Common.{◌≡◌, ◌++◌, arith, map, sym, ap, subst, ◌∙◌}
-use Rattle.process_commit.proofs.Leaving.{downs_by_calls, enough_reasons, exited_back, leaver_lives, still_lives}
+use Rattle.process_commit.proofs.Leaving.{downs_by_calls, enough_reasons, exited_back, exited_fits, leaver_lives, still_lives}
 use Rattle.process_commit.proofs.OwnMessages.{calls_at, ended_calls, ended_the_same, ended_told}
 use Rattle.process_commit.specs.Acts.{acts_done}
 use Rattle.process_commit.specs.Exits.{ExitsBack}
@@ -47,6 +47,9 @@ returns-clause-inverse c =
     let told = c.in_ok-told.told in
     let acted = c.in_ok-acted.acted in
     let is : ◌≡◌ {A = Exited} (record { ended = c.ended_process.result; receivers = c.new.result; closed = c.new-in-Some.result }) (record { ended = ended_as pid told.rests_in told.code l; receivers = acted.receivers.items; closed = acted.closed.items }) = λ i. record { ended = c.ended_process.ensures i; receivers = c.new.ensures i; closed = c.new-in-Some.ensures i } in
-    subst (λ (u : Exited). ExitsBack u t c.remove.new.self) (sym is) (λ modules sound stand.
-    let alive = leaver_lives pid c.args.acts.now (answers_of c.args.acts.now) t c.act_all.new.store c.in_ok-acted.ensures.table modules l told c.in-Some.ensures.process c.requires c.in_ok-told.ensures sound stand in
-    exited_back modules pid t c.act_all.new.store c.remove.new.self l told acted.receivers.items acted.closed.items alive c.in-Some.ensures.returns c.in-Some.ensures.back c.in_ok-acted.ensures.fits c.in_ok-acted.ensures.back)
+    subst (λ (u : Exited). ExitsBack u t c.remove.new.self) (sym is) (λ modules. (
+      exited_fits modules pid c.act_all.new.store c.remove.new.self l told acted.receivers.items acted.closed.items c.in-Some.ensures.returns c.in-Some.ensures.back c.in_ok-acted.ensures.fits,
+      λ sound stand.
+          let alive = leaver_lives pid c.args.acts.now (answers_of c.args.acts.now) t c.act_all.new.store c.in_ok-acted.ensures.table modules l told c.in-Some.ensures.process c.requires c.in_ok-told.ensures sound stand in
+          exited_back modules pid t c.act_all.new.store c.remove.new.self l told acted.receivers.items acted.closed.items alive c.in-Some.ensures.back c.in_ok-acted.ensures.back,
+    ))

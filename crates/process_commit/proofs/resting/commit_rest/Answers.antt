@@ -22,7 +22,7 @@ returns-in-Ok-clause-inverse c =
     let ran = c.in_ok-ran.ran in
     let told_so : c.named.result ≡ ran_with told.rests_in told.code ran = c.named.ensures in
     let is : ◌≡◌ {A = Rested} (record { pid = c.args.job.now.pid; ran = c.named.result; receivers = c.new.result; closed = c.new-in-Ok.result }) (record { pid = c.args.job.now.pid; ran = ran_with told.rests_in told.code ran; receivers = acted.receivers.items; closed = acted.closed.items }) = λ i. record { pid = c.args.job.now.pid; ran = told_so i; receivers = c.new.ensures i; closed = c.new-in-Ok.ensures i } in
-    subst (λ (u : Rested). RestsBack u c.args.store.now c.act_all.new.store) (sym is) (
+    subst (λ (u : Rested). RestsBack u c.args.store.now c.act_all.new.store) (sym is) (λ modules. (
       (c.in-Ok.ensures.fits, subst (HasTurned c.args.job.now.pid) (sym c.in-Ok.ensures.back) c.in_ok-ran.ensures.fits),
-      λ modules sound stand. rested_back modules c.args.job.now c.args.store.now c.rest.new.self c.act_all.new.store told ran acted.receivers.items acted.closed.items sound stand c.requires.running c.in_ok-told.ensures c.in_ok-ran.ensures.back c.in-Ok.ensures.back,
-    )
+      λ sound stand. rested_back modules c.args.job.now c.args.store.now c.rest.new.self c.act_all.new.store told ran acted.receivers.items acted.closed.items sound stand c.requires.running c.in_ok-told.ensures c.in_ok-ran.ensures.back c.in-Ok.ensures.back,
+    ))
