@@ -62,7 +62,7 @@ impl Node {
         self.wrong.put("\nfound ");
         self.wrong.put_bytes(found.bytes.as_slice());
         self.wrong.put("\n");
-        if found.is_short {
+        if found.is_short || self.before.is_short {
             self.wrong.is_short = true;
         }
     }
@@ -81,7 +81,7 @@ impl Node {
         }
     }
 
-    /// Sees that the answer is the one that is wanted.
+    /// Sees that the answer is the one that is wanted. A step without an answer was not made, for want of memory for its words.
     fn see_answer(&mut self, line: &str, wanted: &str)
         ensures { self.new.processes ≡ self.old.processes }
     {
@@ -90,6 +90,7 @@ impl Node {
             self.wrong.put("\nanswer ");
             self.wrong.put_bytes(self.answer.bytes.as_slice());
             self.wrong.put("\n");
+            self.wrong.is_short = self.wrong.is_short || self.answer.bytes.is_empty();
         }
     }
 
@@ -125,6 +126,7 @@ impl Node {
         let found = table(self.alloc, &self.processes);
         if found.bytes.as_slice() != behind.bytes.as_slice() {
             self.blame(line, &found);
+            self.wrong.is_short = self.wrong.is_short || behind.is_short;
         }
         if self.processes.revert(&self.modules, undo).is_err() {
             self.wrong.put("no memory");
