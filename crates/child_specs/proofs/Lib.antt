@@ -1,0 +1,4 @@
+pub mod Apart
+pub mod Children
+pub mod Distinct
+pub mod Forms
