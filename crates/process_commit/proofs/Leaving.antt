@@ -157,7 +157,7 @@ exited_back modules pid t mid after l told receivers closed alive back acted =
 -- and that it can be asked for, over whatever table of modules
 pub exited_fits : (modules : Loaded Forms) (pid : ℕ) (mid after : Table) (l : Living) (told : Told) (receivers : List ℕ) (closed : List Closed) → CanReturn pid l after → occupied pid l after ≡ mid → AllReopen closed mid → CanUnexit modules (record { ended = ended_as pid told.rests_in told.code l; receivers = receivers; closed = closed }) after
 exited_fits modules pid mid after l told receivers closed can back fits = (
-  ended_fits modules after l (ended_with told.rests_in told.code l.process) pid refl can,
+  ended_fits modules after l (ended_with told.rests_in told.code l.process) pid refl refl can,
   returned_reopens modules pid told.rests_in told.code l after mid closed back fits,
 )
 

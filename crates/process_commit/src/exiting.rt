@@ -3,8 +3,10 @@ ghost use Rattle.std.specs.Prelude.{◌≡◌, ◌+◌, ◌≤◌, ◌++◌, All
 ghost use Rattle.erl_term.specs.declared.term.Term.{Term};
 ghost use Rattle.process_commit.specs.Acts.{acts_done};
 ghost use Rattle.process_commit.specs.Exits.{CanUnexit, ExitsBack, exit_told, exited, unexited};
+ghost use Rattle.process_ending.specs.Pieces.{held_by};
 ghost use Rattle.process_ending.specs.Told.{down};
 ghost use Rattle.process_ending.specs.Ends.{Lives};
+ghost use Rattle.process_store.specs.Pieces.{HoldsLost};
 ghost use Rattle.process_store.specs.Table.{living};
 
 use crate::acting::{Acted, act_all};
@@ -90,6 +92,7 @@ pub fn commit_exit(
     ensures exited { OnOk result (store.new ≡ exited pid acts.now store.old) }
     ensures told { IfOk result (λ it. it.0.items ≡ exit_told pid reason.now acts.now store.old) }
     ensures inverse { IfOk result (λ it. ExitsBack it.1 store.old store.new) }
+    ensures pieces { IfOk result (λ it. HoldsLost (held_by it.1.ended) store.old store.new) }
     ensures err { OnErr result (store.new ≡ store.old) }
 {
     let told = told_of(store, alloc, pid)?;

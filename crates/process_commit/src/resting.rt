@@ -5,7 +5,9 @@ ghost use Rattle.process.specs.Ended.{ended, ended_with};
 ghost use Rattle.process.specs.Rerun.{runs_again};
 ghost use Rattle.process_commit.specs.Acts.{acts_told};
 ghost use Rattle.process_commit.specs.Commits.{CanUnrest, IsRunning, RestsBack, loaded_as, rested_after, rests_in, unrested};
+ghost use Rattle.process_commit.specs.Pieces.{held_of};
 ghost use Rattle.process_store.specs.Changes.{CanTurnAt};
+ghost use Rattle.process_store.specs.Pieces.{HoldsLost};
 ghost use Rattle.process_store.specs.Table.{living};
 
 use crate::acting::{Acted, act_all};
@@ -91,6 +93,7 @@ pub fn commit_rest(
     ensures rested { OnOk result (store.new ≡ rested_after job.now place.now acts.now store.old) }
     ensures told { IfOk result (λ it. it.0.items ≡ acts_told acts.now store.old) }
     ensures inverse { IfOk result (λ it. RestsBack it.1 store.old store.new) }
+    ensures pieces { IfOk result (λ it. HoldsLost (held_of it.1 store.new) store.old store.new) }
     ensures err { OnErr result (store.new ≡ store.old) }
 {
     let pid = job.pid;

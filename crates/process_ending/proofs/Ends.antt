@@ -38,14 +38,19 @@ named_by None code e p is = absurd (none-some p is)
 named_by (Some rests_in) None e p is = absurd (none-some p is)
 named_by (Some rests_in) (Some code) e p is = sym (ap (λ x. x.name) (same_Some (lived rests_in code e) p is))
 
+pid_by : (rests_in : Option (Option Instance)) (code : Option (List Instance)) (e : EndedState) (p : ProcessState) → lives_by rests_in code e ≡ Some p → p.pid ≡ e.pid
+pid_by None code e p is = absurd (none-some p is)
+pid_by (Some rests_in) None e p is = absurd (none-some p is)
+pid_by (Some rests_in) (Some code) e p is = sym (ap (λ x. x.pid) (same_Some (lived rests_in code e) p is))
+
 -- so it can come back where the one that ended can
-pub ended_fits : (modules : Loaded Forms) (after : Table) (l : Living) (e : EndedState) (pid : ℕ) → e.name ≡ l.process.name → CanReturn pid l after → CanBeReturned (lives modules e) pid l.calls after
-ended_fits modules after l e pid same can =
+pub ended_fits : (modules : Loaded Forms) (after : Table) (l : Living) (e : EndedState) (pid : ℕ) → e.name ≡ l.process.name → e.pid ≡ l.process.pid → CanReturn pid l after → CanBeReturned (lives modules e) pid l.calls after
+ended_fits modules after l e pid same same_pid can =
     elim (lives modules e) as (λ o. lives modules e ≡ o → CanBeReturned o pid l.calls after) [
       | None ↦ λ is. tt
       | Some p ↦ λ is.
           let name : l.process.name ≡ p.name = sym same ∙ sym (named_by (rests_found modules e.rests_in) (code_found modules e.did) e p is) in
-          (can.0, subst (λ n. IfSome n (λ k. pid_of k after ≡ None)) name can.1, can.2)
+          (can.0, subst (λ n. IfSome n (λ k. pid_of k after ≡ None)) name can.1, can.2, pid_by (rests_found modules e.rests_in) (code_found modules e.did) e p is ∙ same_pid ∙ can.3)
     ] refl
 
 -- the undo of an end
@@ -131,6 +136,7 @@ can_within pid l now t w can = (
   (can.0.0, within_vacant now.slots t.slots pid w can.0.1),
   free_within l.process.name now t w can.1,
   ((λ c there. ap is_some (test_within (is_asked c.number) refl (number_within c.number) now.slots t.slots w (nowhere (position (is_asked c.number) t.slots) (can.2.0 c there)))), can.2.1),
+  can.3,
 )
 
 -- what has ended lives again within the table as it does in the table

@@ -1,4 +1,5 @@
 pub mod Ends
 pub mod Kills
-pub mod Returns
 pub mod Pids
+pub mod Pieces
+pub mod Returns

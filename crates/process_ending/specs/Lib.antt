@@ -1,4 +1,5 @@
 pub mod Ends
 pub mod Kills
+pub mod Pieces
 pub mod Told
 pub mod Uses

@@ -1,8 +1,10 @@
 // A process ends, and lives again.
 ghost use Rattle.std.specs.Prelude.{◌≡◌, IfErr, IfOk, IfSome, IsSome, OnErr, OnOk};
+ghost use Rattle.process_store.specs.Pieces.{HoldsLost};
 ghost use Rattle.process_store.specs.Table.{living};
 ghost use Rattle.process_store.specs.Vacating.{vacated};
 ghost use Rattle.process_ending.specs.Ends.{EndsAs, EndsBack, IsTold, Lives, Returns, ended_as, ended_of, returned};
+ghost use Rattle.process_ending.specs.Pieces.{held_by};
 
 use code_server::Modules;
 use erl_forms::Module;
@@ -48,6 +50,7 @@ pub(crate) fn take_out(store: &mut ProcessStore, leaves: ToldProcess) -> Option<
     ensures table { store.new ≡ vacated leaves.pid store.old }
     ensures process { result ≡ ended_of leaves (living leaves.pid store.old) }
     ensures back { IsTold leaves.told (living leaves.pid store.old) → IfSome result (λ e. EndsBack e store.old store.new) }
+    ensures pieces { IfSome result (λ e. HoldsLost (held_by e) store.old store.new) }
 {
     let ToldProcess { pid, told } = leaves;
     match store.remove(pid) {
@@ -65,6 +68,7 @@ pub fn end(store: &mut ProcessStore, alloc: Global, pid: u64) -> Result<EndedPro
     requires { IsSome (living pid store.old) }
     ensures ended { OnOk result (store.new ≡ vacated pid store.old) }
     ensures inverse { IfOk result (λ e. EndsBack e store.old store.new) }
+    ensures pieces { IfOk result (λ e. HoldsLost (held_by e) store.old store.new) }
     ensures err { OnErr result (store.new ≡ store.old) }
 {
     let Some(living) = store.get(pid) else {

@@ -1,9 +1,11 @@
 // All processes that use an instance are killed.
 ghost use Rattle.std.specs.Prelude.{◌≡◌, ◌+◌, ◌++◌, ◌≤◌, [], All, IfOk, IfSome, OnErr, OnOk, if◌then◌else◌, None, Some, map, option_map, vec_capacity, vec_len};
 ghost use Rattle.std.specs.List.{flat_map};
+ghost use Rattle.process_store.specs.Pieces.{HoldsLost};
 ghost use Rattle.process_store.specs.Table.{living};
 ghost use Rattle.process_ending.specs.Ends.{IsTold, KillsBack, all_vacated};
 ghost use Rattle.process_ending.specs.Kills.{told_by_kill, without_users};
+ghost use Rattle.process_ending.specs.Pieces.{held_by_all};
 ghost use Rattle.process_ending.specs.Told.{downs, killed};
 ghost use Rattle.process_ending.specs.Uses.{users, uses};
 
@@ -96,6 +98,7 @@ fn take_all_out(
     requires told { All (λ p. IsTold p.told (living p.pid store.old)) leaving.items }
     ensures table { store.new ≡ all_vacated (map (λ p. p.pid) leaving.items) store.old }
     ensures back { KillsBack result.items store.old store.new }
+    ensures pieces { HoldsLost (held_by_all result.items) store.old store.new }
 {
     while let Some(leaves) = leaving.pop() {
         if let Some(process) = take_out(store, leaves) {
@@ -119,6 +122,7 @@ pub fn kill_users(
     ensures killed { OnOk result (store.new ≡ without_users serial store.old) }
     ensures told { IfOk result (λ it. it.0.items ≡ told_by_kill serial store.old) }
     ensures inverse { IfOk result (λ it. KillsBack it.1.items store.old store.new) }
+    ensures pieces { IfOk result (λ it. HoldsLost (held_by_all it.1.items) store.old store.new) }
     ensures err { OnErr result (store.new ≡ store.old) }
 {
     let leaving = told_users(store, alloc, serial)?;

@@ -74,18 +74,18 @@ arrived_fits message call slots now pid is lives =
 
 pub arrived_indexed : (message : Term) (names : Names) (open_calls after : Owners) (slots now : List (Option Living)) (call : Option Call) (pid : ℕ) → IsIndexed names open_calls slots → IsSome (living_at slots pid) → IfSome call (λ c. get open_calls c.number ≡ None) → after ≡ asked_of pid call open_calls → now ≡ changed_slots (arrived message call) pid slots → IsIndexed names after now
 arrived_indexed message names open_calls after slots now None pid indexed lives free was is =
-    subst (λ o. IsIndexed names o now) (sym was) (subst (IsIndexed names open_calls) (sym is) (IsIndexed-kept (arrived message None) (λ l. refl) (λ l. refl) names open_calls slots pid indexed))
+    subst (λ o. IsIndexed names o now) (sym was) (subst (IsIndexed names open_calls) (sym is) (IsIndexed-kept (arrived message None) (λ l. refl) (λ l. refl) (λ l. refl) names open_calls slots pid indexed))
 arrived_indexed message names open_calls after slots now (Some c) pid indexed lives free was is =
     elim (living_at slots pid) as (λ o. living_at slots pid ≡ o → IsSome o → IsIndexed names after now) [
       | None ↦ λ e none. absurd (nobody_lives none)
-      | Some l ↦ λ e some. subst (λ o. IsIndexed names o now) (sym was) (subst (IsIndexed names (asked_of pid (Some c) open_calls)) (sym is) (IsIndexed-opened (arrived message (Some c)) c (λ x. refl) (λ x. refl) names open_calls slots pid l indexed e free))
+      | Some l ↦ λ e some. subst (λ o. IsIndexed names o now) (sym was) (subst (IsIndexed names (asked_of pid (Some c) open_calls)) (sym is) (IsIndexed-opened (arrived message (Some c)) c (λ x. refl) (λ x. refl) (λ x. refl) names open_calls slots pid l indexed e free))
     ] refl lives
 
 pub unarrived_indexed : (names : Names) (open_calls after : Owners) (slots now : List (Option Living)) (call : Option Call) (pid : ℕ) → IsIndexed names open_calls slots → WasCalled call (living_at slots pid) → after ≡ answered call open_calls → now ≡ changed_slots (unarrived call) pid slots → IsIndexed names after now
 unarrived_indexed names open_calls after slots now None pid indexed called was is =
-    subst (λ o. IsIndexed names o now) (sym was) (subst (IsIndexed names open_calls) (sym is) (IsIndexed-kept (unarrived None) (λ l. refl) (λ l. refl) names open_calls slots pid indexed))
+    subst (λ o. IsIndexed names o now) (sym was) (subst (IsIndexed names open_calls) (sym is) (IsIndexed-kept (unarrived None) (λ l. refl) (λ l. refl) (λ l. refl) names open_calls slots pid indexed))
 unarrived_indexed names open_calls after slots now (Some c) pid indexed called was is =
     elim (living_at slots pid) as (λ o. living_at slots pid ≡ o → WasCalled (Some c) o → IsIndexed names after now) [
       | None ↦ λ e none. absurd none
-      | Some l ↦ λ e asked. subst (λ o. IsIndexed names o now) (sym was) (subst (IsIndexed names (answered (Some c) open_calls)) (sym is) (IsIndexed-closed (unarrived (Some c)) c (λ x. refl) (λ x. refl) names open_calls slots pid l indexed e asked))
+      | Some l ↦ λ e asked. subst (λ o. IsIndexed names o now) (sym was) (subst (IsIndexed names (answered (Some c) open_calls)) (sym is) (IsIndexed-closed (unarrived (Some c)) c (λ x. refl) (λ x. refl) (λ x. refl) names open_calls slots pid l indexed e asked))
     ] refl called

@@ -11,10 +11,10 @@ use Rattle.process_store.specs.Table.{changed_slots, living_at}
 use Rattle.process_store.proofs.Indexes.{IsIndexed-kept}
 use Rattle.process_store.proofs.Slots.{living_changed, living_within}
 
--- a change that leaves name and calls alone leaves the indexes right
-pub changed_indexed : (f : Living → Living) → ((l : Living) → (f l).process.name ≡ l.process.name) → ((l : Living) → (f l).calls ≡ l.calls) → (names : Names) (open_calls : Owners) (slots now : List (Option Living)) (pid : ℕ) → IsIndexed names open_calls slots → now ≡ changed_slots f pid slots → IsIndexed names open_calls now
-changed_indexed f same_name same_calls names open_calls slots now pid indexed is =
-    subst (IsIndexed names open_calls) (sym is) (IsIndexed-kept f same_name same_calls names open_calls slots pid indexed)
+-- a change that leaves name, pid and calls alone leaves the indexes right
+pub changed_indexed : (f : Living → Living) → ((l : Living) → (f l).process.name ≡ l.process.name) → ((l : Living) → (f l).process.pid ≡ l.process.pid) → ((l : Living) → (f l).calls ≡ l.calls) → (names : Names) (open_calls : Owners) (slots now : List (Option Living)) (pid : ℕ) → IsIndexed names open_calls slots → now ≡ changed_slots f pid slots → IsIndexed names open_calls now
+changed_indexed f same_name same_pid same_calls names open_calls slots now pid indexed is =
+    subst (IsIndexed names open_calls) (sym is) (IsIndexed-kept f same_name same_pid same_calls names open_calls slots pid indexed)
 
 -- what is asked of the process of a pid, asked of its slot
 pub asked_in_slot : (P : Option Living → Type 0) (slots : List (Option Living)) (pid : ℕ) (d : Option Living) → pid < length slots → d ≡ get_or slots pid d → P (living_at slots pid) → P d

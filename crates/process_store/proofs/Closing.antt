@@ -76,7 +76,7 @@ pub closed_indexed : (names : Names) (open_calls after : Owners) (slots now : Li
 closed_indexed names open_calls after slots now c pid indexed asked was is =
     elim (living_at slots pid) as (λ o. living_at slots pid ≡ o → is_asked_by c o ≡ true → IsIndexed names after now) [
       | None ↦ λ e none. absurd (true≢false (sym none))
-      | Some l ↦ λ e some. subst (λ o. IsIndexed names o now) (sym was) (subst (IsIndexed names (answered (Some c) open_calls)) (sym is) (IsIndexed-closed (closed_living c) c (λ x. refl) (λ x. refl) names open_calls slots pid l indexed e some))
+      | Some l ↦ λ e some. subst (λ o. IsIndexed names o now) (sym was) (subst (IsIndexed names (answered (Some c) open_calls)) (sym is) (IsIndexed-closed (closed_living c) c (λ x. refl) (λ x. refl) (λ x. refl) names open_calls slots pid l indexed e some))
     ] refl asked
 
 -- it can be open again
@@ -104,7 +104,7 @@ pub reopened_indexed : (names : Names) (open_calls after : Owners) (slots now : 
 reopened_indexed names open_calls after slots now c pid indexed lives free was is =
     elim (living_at slots pid) as (λ o. living_at slots pid ≡ o → IsSome o → IsIndexed names after now) [
       | None ↦ λ e none. absurd (true≢false (sym none))
-      | Some l ↦ λ e some. subst (λ o. IsIndexed names o now) (sym was) (subst (IsIndexed names (asked_of pid (Some c) open_calls)) (sym is) (IsIndexed-opened (reopened_living c) c (λ x. refl) (λ x. refl) names open_calls slots pid l indexed e free))
+      | Some l ↦ λ e some. subst (λ o. IsIndexed names o now) (sym was) (subst (IsIndexed names (asked_of pid (Some c) open_calls)) (sym is) (IsIndexed-opened (reopened_living c) c (λ x. refl) (λ x. refl) (λ x. refl) names open_calls slots pid l indexed e free))
     ] refl lives
 
 pub slots_reopened_back : (slots : List (Option Living)) (c : Call) (pid : ℕ) → IfSome (living_at slots pid) (λ l. has c l.calls ≡ false) → changed_slots (closed_living c) pid (changed_slots (reopened_living c) pid slots) ≡ slots

@@ -19,7 +19,7 @@ use Rattle.process_index.specs.Index.{Names}
 use Rattle.process_index.specs.Numbers.{Owners}
 use Rattle.process_index.specs.declared.numbers.Owner.{Owner}
 use Rattle.process_store.specs.declared.living.Living.{Living}
-use Rattle.process_store.specs.Indexed.{IsIndexed, answered, asked_of, is_pid, is_owner, is_asked_by, registered, unregistered}
+use Rattle.process_store.specs.Indexed.{HasPid, IsIndexed, answered, asked_of, is_pid, is_owner, is_asked_by, registered, unregistered}
 use Rattle.process_store.specs.Table.{Table, changed_slots, has_number, is_asked, is_name, is_named, is_open, living_at, pid_of}
 use Rattle.process_store.proofs.Slots.{changed_nobody, kept, kept_all, kept_behind, living_before, living_changed, living_elsewhere, living_given, living_last, living_past, living_within, nobody_before, nobody_given}
 
@@ -108,15 +108,17 @@ IsIndexed-empty = record {
   named = λ name pid. ap (is_pid pid) (get-empty (slice_cmp nat_cmp) name) ∙ elim pid as (λ p. false ≡ is_named name (living_at (None ∷ []) p)) [ zero ↦ refl | suc p ↦ refl ];
   asked = λ number client pid. ap (is_owner pid client) (get-empty nat_cmp number) ∙ elim pid as (λ p. false ≡ is_asked_by (record { client = client; number = number }) (living_at (None ∷ []) p)) [ zero ↦ refl | suc p ↦ refl ];
   ordered = λ pid. elim pid as (λ p. IfSome (living_at (None ∷ []) p) (λ l. AreInOrder l.calls)) [ zero ↦ tt | suc p ↦ tt ];
+  owned = λ pid. elim pid as (λ p. IfSome (living_at (None ∷ []) p) (HasPid p)) [ zero ↦ tt | suc p ↦ tt ];
   nobody = refl;
 }
 
 -- a change of a process that leaves its name and its calls alone
-pub IsIndexed-kept : (f : Living → Living) → ((l : Living) → (f l).process.name ≡ l.process.name) → ((l : Living) → (f l).calls ≡ l.calls) → (names : Names) (open_calls : Owners) (slots : List (Option Living)) (pid : ℕ) → IsIndexed names open_calls slots → IsIndexed names open_calls (changed_slots f pid slots)
-IsIndexed-kept f same_name same_calls names open_calls slots pid indexed = record {
+pub IsIndexed-kept : (f : Living → Living) → ((l : Living) → (f l).process.name ≡ l.process.name) → ((l : Living) → (f l).process.pid ≡ l.process.pid) → ((l : Living) → (f l).calls ≡ l.calls) → (names : Names) (open_calls : Owners) (slots : List (Option Living)) (pid : ℕ) → IsIndexed names open_calls slots → IsIndexed names open_calls (changed_slots f pid slots)
+IsIndexed-kept f same_name same_pid same_calls names open_calls slots pid indexed = record {
   named = λ name q. indexed.named name q ∙ sym (kept (is_named name) f (λ l. ap (is_name name) (same_name l)) slots pid q);
   asked = λ number client q. indexed.asked number client q ∙ sym (kept (is_asked_by (record { client = client; number = number })) f (λ l. ap (has (record { client = client; number = number })) (same_calls l)) slots pid q);
   ordered = λ q. kept_all (λ l. AreInOrder l.calls) f (λ l in_order. subst AreInOrder (sym (same_calls l)) in_order) slots pid q (indexed.ordered q);
+  owned = λ q. kept_all (HasPid q) f (λ x is. same_pid x ∙ is) slots pid q (indexed.owned q);
   nobody = changed_nobody f slots pid indexed.nobody;
 }
 
@@ -146,8 +148,8 @@ pub other_pid : (there : Option ℕ) (p q : ℕ) → is_pid p there ≡ true →
 other_pid None p q is apart = refl
 other_pid (Some r) p q is apart = let same = eqb-true r p is in ap (λ k. nat_eq k q) same ∙ apart
 
-pub IsIndexed-started : (names : Names) (open_calls : Owners) (slots : List (Option Living)) (name : Option (List ℕ)) (l : Living) → IsIndexed names open_calls slots → l.process.name ≡ name → l.calls ≡ [] → IfSome name (λ n. get names n ≡ None) → IsIndexed (registered name (length slots) names) open_calls (slots ++ Some l ∷ [])
-IsIndexed-started names open_calls slots name l indexed named uncalled untaken = record {
+pub IsIndexed-started : (names : Names) (open_calls : Owners) (slots : List (Option Living)) (name : Option (List ℕ)) (l : Living) → IsIndexed names open_calls slots → l.process.name ≡ name → l.process.pid ≡ length slots → l.calls ≡ [] → IfSome name (λ n. get names n ≡ None) → IsIndexed (registered name (length slots) names) open_calls (slots ++ Some l ∷ [])
+IsIndexed-started names open_calls slots name l indexed named own uncalled untaken = record {
   named = λ n q. elim name as (λ o. l.process.name ≡ o → IfSome o (λ m. get names m ≡ None) → is_pid q (get (registered o (length slots) names) n) ≡ is_named n (living_at (slots ++ Some l ∷ []) q)) [
     | None ↦ λ e free. indexed.named n q ∙ sym (kept_behind (is_named n) refl slots (Some l) (ap (is_name n) e) q)
     | Some m ↦ λ e free. ap (is_pid q) (names_read names m (Some (length slots)) n) ∙ named_last m n (length slots) q (get names n) (is_named n (living_at slots q)) (is_named n (living_at (slots ++ Some l ∷ []) q)) (indexed.named n q)
@@ -160,6 +162,10 @@ IsIndexed-started names open_calls slots name l indexed named uncalled untaken =
   ordered = λ q. elim (eqb_tells (length slots) q) [
     | inl here ↦ subst (λ k. IfSome (living_at (slots ++ Some l ∷ []) k) (λ x. AreInOrder x.calls)) here.1 (subst (λ o. IfSome o (λ x. AreInOrder x.calls)) (sym (living_last slots (Some l))) (subst AreInOrder (sym uncalled) tt))
     | inr apart ↦ subst (λ o. IfSome o (λ x. AreInOrder x.calls)) (sym (living_before slots (Some l) q apart.1)) (indexed.ordered q)
+  ];
+  owned = λ q. elim (eqb_tells (length slots) q) [
+    | inl here ↦ subst (λ k. IfSome (living_at (slots ++ Some l ∷ []) k) (HasPid k)) here.1 (subst (λ o. IfSome o (HasPid (length slots))) (sym (living_last slots (Some l))) own)
+    | inr apart ↦ subst (λ o. IfSome o (HasPid q)) (sym (living_before slots (Some l) q apart.1)) (indexed.owned q)
   ];
   nobody = nobody_before slots (Some l) (nobody_given slots indexed.nobody) ∙ indexed.nobody;
 }
@@ -183,6 +189,10 @@ IsIndexed-unstarted names open_calls slots l indexed uncalled given = record {
   ordered = λ q. elim (eqb_tells (length slots) q) [
     | inl here ↦ subst (λ o. IfSome o (λ x. AreInOrder x.calls)) (sym (living_past slots q (let is = here.1 in omega (arith, is)))) tt
     | inr apart ↦ subst (λ o. IfSome o (λ x. AreInOrder x.calls)) (living_before slots (Some l) q apart.1) (indexed.ordered q)
+  ];
+  owned = λ q. elim (eqb_tells (length slots) q) [
+    | inl here ↦ subst (λ o. IfSome o (HasPid q)) (sym (living_past slots q (let is = here.1 in omega (arith, is)))) tt
+    | inr apart ↦ subst (λ o. IfSome o (HasPid q)) (living_before slots (Some l) q apart.1) (indexed.owned q)
   ];
   nobody = sym (nobody_before slots (Some l) given) ∙ indexed.nobody;
 }
@@ -229,8 +239,8 @@ told_closed c number client pid q there before after is here elsewhere owned =
       ] refl
     ] refl
 
-pub IsIndexed-opened : (f : Living → Living) (c : Call) → ((l : Living) → (f l).process.name ≡ l.process.name) → ((l : Living) → (f l).calls ≡ with_call c l.calls) → (names : Names) (open_calls : Owners) (slots : List (Option Living)) (pid : ℕ) (l : Living) → IsIndexed names open_calls slots → living_at slots pid ≡ Some l → get open_calls c.number ≡ None → IsIndexed names (asked_of pid (Some c) open_calls) (changed_slots f pid slots)
-IsIndexed-opened f c same_name one_more names open_calls slots pid l indexed lives free = record {
+pub IsIndexed-opened : (f : Living → Living) (c : Call) → ((l : Living) → (f l).process.name ≡ l.process.name) → ((l : Living) → (f l).process.pid ≡ l.process.pid) → ((l : Living) → (f l).calls ≡ with_call c l.calls) → (names : Names) (open_calls : Owners) (slots : List (Option Living)) (pid : ℕ) (l : Living) → IsIndexed names open_calls slots → living_at slots pid ≡ Some l → get open_calls c.number ≡ None → IsIndexed names (asked_of pid (Some c) open_calls) (changed_slots f pid slots)
+IsIndexed-opened f c same_name same_pid one_more names open_calls slots pid l indexed lives free = record {
   named = λ name q. indexed.named name q ∙ sym (kept (is_named name) f (λ x. ap (is_name name) (same_name x)) slots pid q);
   asked = λ number client q.
       let d : Call = record { client = client; number = number } in
@@ -243,11 +253,12 @@ IsIndexed-opened f c same_name one_more names open_calls slots pid l indexed liv
     | inl here ↦ subst (λ k. IfSome (living_at (changed_slots f pid slots) k) (λ x. AreInOrder x.calls)) here.1 (subst (λ o. IfSome o (λ x. AreInOrder x.calls)) (sym (living_changed f slots pid ∙ ap (option_map f) lives)) (subst AreInOrder (sym (one_more l)) (AreInOrder-with_call c l.calls (subst (λ o. IfSome o (λ x. AreInOrder x.calls)) lives (indexed.ordered pid)) (unasked_now c pid (get open_calls c.number) free (living_at slots pid) l (indexed.asked c.number c.client pid) lives))))
     | inr apart ↦ subst (λ o. IfSome o (λ x. AreInOrder x.calls)) (sym (living_elsewhere f slots pid q apart.1)) (indexed.ordered q)
   ];
+  owned = λ q. kept_all (HasPid q) f (λ x is. same_pid x ∙ is) slots pid q (indexed.owned q);
   nobody = changed_nobody f slots pid indexed.nobody;
 }
 
-pub IsIndexed-closed : (f : Living → Living) (c : Call) → ((l : Living) → (f l).process.name ≡ l.process.name) → ((l : Living) → (f l).calls ≡ without c l.calls) → (names : Names) (open_calls : Owners) (slots : List (Option Living)) (pid : ℕ) (l : Living) → IsIndexed names open_calls slots → living_at slots pid ≡ Some l → has c l.calls ≡ true → IsIndexed names (answered (Some c) open_calls) (changed_slots f pid slots)
-IsIndexed-closed f c same_name one_less names open_calls slots pid l indexed lives asked = record {
+pub IsIndexed-closed : (f : Living → Living) (c : Call) → ((l : Living) → (f l).process.name ≡ l.process.name) → ((l : Living) → (f l).process.pid ≡ l.process.pid) → ((l : Living) → (f l).calls ≡ without c l.calls) → (names : Names) (open_calls : Owners) (slots : List (Option Living)) (pid : ℕ) (l : Living) → IsIndexed names open_calls slots → living_at slots pid ≡ Some l → has c l.calls ≡ true → IsIndexed names (answered (Some c) open_calls) (changed_slots f pid slots)
+IsIndexed-closed f c same_name same_pid one_less names open_calls slots pid l indexed lives asked = record {
   named = λ name q. indexed.named name q ∙ sym (kept (is_named name) f (λ x. ap (is_name name) (same_name x)) slots pid q);
   asked = λ number client q.
       let d : Call = record { client = client; number = number } in
@@ -257,5 +268,6 @@ IsIndexed-closed f c same_name one_less names open_calls slots pid l indexed liv
       (λ apart. ap (is_asked_by d) (living_elsewhere f slots pid q (not_within pid q apart)))
       (λ same. ap (λ n. is_owner pid c.client (get open_calls n)) (sym (eqb-true c.number number same)) ∙ indexed.asked c.number c.client pid ∙ ap (is_asked_by c) lives ∙ asked);
   ordered = λ q. kept_all (λ x. AreInOrder x.calls) f (λ x in_order. subst AreInOrder (sym (one_less x)) (AreInOrder-without c x.calls in_order)) slots pid q (indexed.ordered q);
+  owned = λ q. kept_all (HasPid q) f (λ x is. same_pid x ∙ is) slots pid q (indexed.owned q);
   nobody = changed_nobody f slots pid indexed.nobody;
 }

@@ -4,6 +4,7 @@ pub mod Closing
 pub mod Indexes
 pub mod Runs
 pub mod Slots
+pub mod Sound
 pub mod Starting
 pub mod Suspending
 pub mod Vacating

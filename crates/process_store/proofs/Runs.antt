@@ -29,13 +29,22 @@ run_name : (message : Option Term) (position entry_serial : ℕ) (code : List In
 run_name None position entry_serial code p = refl
 run_name (Some message) position entry_serial code p = refl
 
+untaken_pid : (position : ℕ) (a : Activity) (p : ProcessState) → (untaken_by position a p).pid ≡ p.pid
+untaken_pid position Idle p = refl
+untaken_pid position Suspended p = refl
+untaken_pid position (Runs r) p = refl
+
+run_pid : (message : Option Term) (position entry_serial : ℕ) (code : List Instance) (p : ProcessState) → (run_by message position entry_serial code p).pid ≡ p.pid
+run_pid None position entry_serial code p = refl
+run_pid (Some message) position entry_serial code p = refl
+
 pub untook_indexed : (position : ℕ) (names : Names) (open_calls : Owners) (slots now : List (Option Living)) (pid : ℕ) → IsIndexed names open_calls slots → now ≡ changed_slots (untook position) pid slots → IsIndexed names open_calls now
 untook_indexed position names open_calls slots now pid indexed is =
-    subst (IsIndexed names open_calls) (sym is) (IsIndexed-kept (untook position) (λ l. untaken_name position l.process.activity l.process) (λ l. refl) names open_calls slots pid indexed)
+    subst (IsIndexed names open_calls) (sym is) (IsIndexed-kept (untook position) (λ l. untaken_name position l.process.activity l.process) (λ l. untaken_pid position l.process.activity l.process) (λ l. refl) names open_calls slots pid indexed)
 
 pub run_indexed : (position entry_serial : ℕ) (code : List Instance) (names : Names) (open_calls : Owners) (slots now : List (Option Living)) (pid : ℕ) → IsIndexed names open_calls slots → now ≡ changed_slots (run position entry_serial code) pid slots → IsIndexed names open_calls now
 run_indexed position entry_serial code names open_calls slots now pid indexed is =
-    subst (IsIndexed names open_calls) (sym is) (IsIndexed-kept (run position entry_serial code) (λ l. run_name (slice_get l.process.mailbox position) position entry_serial code l.process) (λ l. refl) names open_calls slots pid indexed)
+    subst (IsIndexed names open_calls) (sym is) (IsIndexed-kept (run position entry_serial code) (λ l. run_name (slice_get l.process.mailbox position) position entry_serial code l.process) (λ l. run_pid (slice_get l.process.mailbox position) position entry_serial code l.process) (λ l. refl) names open_calls slots pid indexed)
 
 -- a process that takes a message is idle, and the message is the first that it takes
 idle_of : (a : Activity) (first : Option ℕ) (position : ℕ) → can_take_by a first ≡ Some position → (a ≡ Idle) × (awaited_by a first ≡ Some position)

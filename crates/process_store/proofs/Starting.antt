@@ -22,9 +22,9 @@ free_name names open_calls slots (Some n) indexed able =
       | Some pid ↦ λ e. let told : is_some (pid_of n (record { slots = slots })) ≡ true = ap is_some e in absurd (grind (arith, common_steps, told, able))
     ] refl
 
-pub started_indexed : (names after : Names) (open_calls : Owners) (slots now : List (Option Living)) (name : Option (List ℕ)) (pid : ℕ) (l : Living) → IsIndexed names open_calls slots → is_taken name (record { slots = slots }) ≡ false → l.process.name ≡ name → l.calls ≡ [] → pid ≡ length slots → after ≡ registered name pid names → now ≡ slots ++ Some l ∷ [] → IsIndexed after open_calls now
-started_indexed names after open_calls slots now name pid l indexed able named uncalled last was is =
-    subst (λ x. IsIndexed x open_calls now) (sym (was ∙ ap (λ p. registered name p names) last)) (subst (IsIndexed (registered name (length slots) names) open_calls) (sym is) (IsIndexed-started names open_calls slots name l indexed named uncalled (free_name names open_calls slots name indexed able)))
+pub started_indexed : (names after : Names) (open_calls : Owners) (slots now : List (Option Living)) (name : Option (List ℕ)) (pid : ℕ) (l : Living) → IsIndexed names open_calls slots → is_taken name (record { slots = slots }) ≡ false → l.process.name ≡ name → l.process.pid ≡ pid → l.calls ≡ [] → pid ≡ length slots → after ≡ registered name pid names → now ≡ slots ++ Some l ∷ [] → IsIndexed after open_calls now
+started_indexed names after open_calls slots now name pid l indexed able named own uncalled last was is =
+    subst (λ x. IsIndexed x open_calls now) (sym (was ∙ ap (λ p. registered name p names) last)) (subst (IsIndexed (registered name (length slots) names) open_calls) (sym is) (IsIndexed-started names open_calls slots name l indexed named (own ∙ last) uncalled (free_name names open_calls slots name indexed able)))
 
 -- the last process goes, and the table is as it was
 pub started_back : (slots now : List (Option Living)) (t : Table) (l : Living) → now ≡ slots ++ Some l ∷ [] → l.calls ≡ [] → record { slots = slots } ≡ t → WasStarted (living_at now (length now - 1)) × ◌≡◌ {A = Table} (record { slots = take (length now - 1) now }) t

@@ -15,7 +15,7 @@ use Rattle.process_index.specs.Index.{Names, put}
 use Rattle.process_index.specs.Numbers.{Owners}
 use Rattle.process_index.specs.declared.numbers.Owner.{Owner}
 use Rattle.process_store.specs.declared.living.Living.{Living}
-use Rattle.process_store.specs.Indexed.{IsIndexed, is_asked_by, is_owner, is_pid, registered, unregistered}
+use Rattle.process_store.specs.Indexed.{HasPid, IsIndexed, is_asked_by, is_owner, is_pid, registered, unregistered}
 use Rattle.process_store.specs.Table.{Table, has_number, is_name, is_named, living_at, pid_of}
 use Rattle.process_store.specs.Vacating.{AreFreeNumbers, AreOfOwnNumbers, CanReturn, HasFreeCalls, HasFreeName, IsFreeName, IsSameElsewhere, all_answered, all_asked, occupied_slots, vacated_slots}
 use Rattle.process_store.proofs.Arriving.{free_number}
@@ -42,7 +42,7 @@ vacated_nobody (s ∷ ss) (suc pid) is = ap (λ xs. s ∷ xs) (vacated_nobody ss
 
 -- who lives there then, and elsewhere
 
-living_vacated : (slots : List (Option Living)) (pid : ℕ) → living_at (vacated_slots pid slots) pid ≡ None
+pub living_vacated : (slots : List (Option Living)) (pid : ℕ) → living_at (vacated_slots pid slots) pid ≡ None
 living_vacated [] pid = refl
 living_vacated (s ∷ ss) zero = refl
 living_vacated (s ∷ ss) (suc pid) = living_vacated ss pid
@@ -57,7 +57,7 @@ living_occupied l [] pid vacant = absurd (none-some None vacant)
 living_occupied l (s ∷ ss) zero vacant = refl
 living_occupied l (s ∷ ss) (suc pid) vacant = living_occupied l ss pid vacant
 
-other_slot : (f : Option Living → Option Living) (slots : List (Option Living)) (pid q : ℕ) → (pid ≡ q → ⊥) → living_at (changed_at f slots pid) q ≡ living_at slots q
+pub other_slot : (f : Option Living → Option Living) (slots : List (Option Living)) (pid q : ℕ) → (pid ≡ q → ⊥) → living_at (changed_at f slots pid) q ≡ living_at slots q
 other_slot f [] pid q apart = refl
 other_slot f (s ∷ ss) zero zero apart = absurd (apart refl)
 other_slot f (s ∷ ss) zero (suc q) apart = refl
@@ -171,6 +171,10 @@ IsIndexed-vacated names open_calls slots pid l indexed lives = record {
     | inl here ↦ subst (λ o. IfSome o (λ x. AreInOrder x.calls)) (sym (ap (living_at (vacated_slots pid slots)) (sym here.1) ∙ living_vacated slots pid)) tt
     | inr apart ↦ subst (λ o. IfSome o (λ x. AreInOrder x.calls)) (sym (other_slot (λ o. None) slots pid q apart.1)) (indexed.ordered q)
   ];
+  owned = λ q. elim (eqb_tells pid q) [
+    | inl here ↦ subst (λ o. IfSome o (HasPid q)) (sym (ap (living_at (vacated_slots pid slots)) (sym here.1) ∙ living_vacated slots pid)) tt
+    | inr apart ↦ subst (λ o. IfSome o (HasPid q)) (sym (other_slot (λ o. None) slots pid q apart.1)) (indexed.owned q)
+  ];
   nobody = nobody_vacated slots pid indexed.nobody;
 }
 
@@ -203,6 +207,7 @@ vacated_returns names open_calls slots pid l t indexed lives is =
       (somebody_late slots pid l indexed.nobody lives, subst (λ x. slice_get x.slots pid ≡ Some None) is (vacated_slot slots pid l lives)),
       name_returns (unregistered l.process.name names) left (vacated_slots pid slots) l.process.name t after is (name_gone l.process.name names),
       ((λ c there. sym (asked_by_index (unregistered l.process.name names) left (vacated_slots pid slots) t c.number after is) ∙ ap is_some (read_answered l.calls open_calls c.number ∙ ap (λ b. cond b None (get open_calls c.number)) (asked_calls l.calls c.number c.client there))), own_numbers names open_calls slots pid l indexed lives),
+      subst (λ o. IfSome o (HasPid pid)) lives (indexed.owned pid),
     )
 
 -- A process is put back.
@@ -243,8 +248,8 @@ read_asked pid (c ∷ cs) owners number client q own =
     (λ e. let apart : is_same d c ≡ false = grind (arith, nat_tests, e) in apart)
     (λ e. let is : is_same d c ≡ nat_eq c.client client = grind (arith, nat_tests, e) in is)
 
-pub IsIndexed-occupied : (names : Names) (open_calls : Owners) (slots : List (Option Living)) (pid : ℕ) (l : Living) → IsIndexed names open_calls slots → 0 < pid → slice_get slots pid ≡ Some None → IsFreeName l.process.name names → AreFreeNumbers l.calls open_calls → AreOfOwnNumbers l.calls → AreInOrder l.calls → IsIndexed (registered l.process.name pid names) (all_asked pid l.calls open_calls) (occupied_slots pid l slots)
-IsIndexed-occupied names open_calls slots pid l indexed late vacant free unasked own in_order = record {
+pub IsIndexed-occupied : (names : Names) (open_calls : Owners) (slots : List (Option Living)) (pid : ℕ) (l : Living) → IsIndexed names open_calls slots → 0 < pid → slice_get slots pid ≡ Some None → IsFreeName l.process.name names → AreFreeNumbers l.calls open_calls → AreOfOwnNumbers l.calls → AreInOrder l.calls → HasPid pid l → IsIndexed (registered l.process.name pid names) (all_asked pid l.calls open_calls) (occupied_slots pid l slots)
+IsIndexed-occupied names open_calls slots pid l indexed late vacant free unasked own in_order has_pid = record {
   named = λ n q. ap (is_pid q) (read_registered l.process.name pid names n) ∙ elim (eqb_tells pid q) [
     | inl here ↦
         let before : living_at slots q ≡ None = ap (living_at slots) (sym here.1) ∙ vacant_living slots pid vacant in
@@ -273,6 +278,10 @@ IsIndexed-occupied names open_calls slots pid l indexed late vacant free unasked
     | inl here ↦ subst (λ o. IfSome o (λ x. AreInOrder x.calls)) (sym (ap (living_at (occupied_slots pid l slots)) (sym here.1) ∙ living_occupied l slots pid vacant)) in_order
     | inr apart ↦ subst (λ o. IfSome o (λ x. AreInOrder x.calls)) (sym (other_slot (λ o. Some l) slots pid q apart.1)) (indexed.ordered q)
   ];
+  owned = λ q. elim (eqb_tells pid q) [
+    | inl here ↦ subst (λ k. IfSome (living_at (occupied_slots pid l slots) k) (HasPid k)) here.1 (subst (λ o. IfSome o (HasPid pid)) (sym (living_occupied l slots pid vacant)) has_pid)
+    | inr apart ↦ subst (λ o. IfSome o (HasPid q)) (sym (other_slot (λ o. Some l) slots pid q apart.1)) (indexed.owned q)
+  ];
   nobody = nobody_occupied l slots pid late indexed.nobody;
 }
 
@@ -292,7 +301,7 @@ pub occupied_indexed : (names after : Names) (open_calls left : Owners) (slots n
 occupied_indexed names after open_calls left slots now pid l t indexed view able in_order named asked is =
     subst (λ n. IsIndexed n left now) (sym named) (subst (λ o. IsIndexed (registered l.process.name pid names) o now) (sym asked)
     (subst (IsIndexed (registered l.process.name pid names) (all_asked pid l.calls open_calls)) (sym is)
-    (IsIndexed-occupied names open_calls slots pid l indexed able.0.0 (subst (λ x. slice_get x.slots pid ≡ Some None) (sym view) able.0.1) (name_is_free names open_calls slots l t indexed view able.1) (calls_are_free names open_calls slots l t indexed view able.2) able.2.1 in_order)))
+    (IsIndexed-occupied names open_calls slots pid l indexed able.0.0 (subst (λ x. slice_get x.slots pid ≡ Some None) (sym view) able.0.1) (name_is_free names open_calls slots l t indexed view able.1) (calls_are_free names open_calls slots l t indexed view able.2) able.2.1 in_order able.3)))
 
 -- Where memory is refused, the indexes are as they were.
 

@@ -21,12 +21,18 @@ abbrev pub is_asked_by : Call → Option Living → Bool
 is_asked_by c None = false
 is_asked_by c (Some l) = has c l.calls
 
--- Who has a name, and to whom the call of a number is open; calls are in order of client and number; nobody has pid 0.
+-- a process stands under its own pid
+abbrev pub HasPid : ℕ → Living → Type 0
+HasPid pid l = l.process.pid ≡ pid
+
+-- Who has a name, and to whom the call of a number is open; a process stands under its own pid, and its calls are in order of client
+-- and number; nobody has pid 0.
 pub record IsIndexed (names : Names) (open_calls : Owners) (slots : List (Option Living)) : Type 0 where
   pub named : (name : List ℕ) (pid : ℕ) → is_pid pid (get names name) ≡ is_named name (living_at slots pid)
   pub asked : (number client pid : ℕ) →
       is_owner pid client (get open_calls number) ≡ is_asked_by (record { client = client; number = number }) (living_at slots pid)
   pub ordered : (pid : ℕ) → IfSome (living_at slots pid) (λ l. AreInOrder l.calls)
+  pub owned : (pid : ℕ) → IfSome (living_at slots pid) (HasPid pid)
   pub nobody : slice_get slots 0 ≡ Some None
 
 -- the names with one more, if it is one, and with one less

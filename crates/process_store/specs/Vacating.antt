@@ -7,6 +7,7 @@ use Rattle.process_index.specs.Index.{Names, put}
 use Rattle.process_index.specs.Numbers.{Owners}
 use Rattle.process_index.specs.declared.calls.Call.{Call}
 use Rattle.process_store.specs.declared.living.Living.{Living}
+use Rattle.process_store.specs.Indexed.{HasPid}
 use Rattle.process_store.specs.Table.{Table, has_number, is_open, pid_of}
 
 -- the processes without the one of a pid, and with this one in its slot
@@ -23,7 +24,7 @@ occupied_slots pid l slots = changed_at (λ o. Some l) slots pid
 abbrev pub occupied : ℕ → Living → Table → Table
 occupied pid l t = record { slots = occupied_slots pid l t.slots }
 
--- What a process needs to come back: its slot is empty, nobody has its name, and no call of the number of one of its own is
+-- What a process needs to come back: the slot of its pid is empty, nobody has its name, and no call of the number of one of its own is
 -- open. No two calls of its own have one number.
 
 abbrev pub IsVacant : ℕ → Table → Type 0
@@ -40,7 +41,7 @@ abbrev pub HasFreeCalls : Living → Table → Type 0
 HasFreeCalls l t = ((c : Call) → has c l.calls ≡ true → is_open c.number t ≡ false) × AreOfOwnNumbers l.calls
 
 abbrev pub CanReturn : ℕ → Living → Table → Type 0
-CanReturn pid l t = IsVacant pid t × HasFreeName l t × HasFreeCalls l t
+CanReturn pid l t = IsVacant pid t × HasFreeName l t × HasFreeCalls l t × HasPid pid l
 
 -- the index of open calls without these, and with these of one process
 

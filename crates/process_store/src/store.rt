@@ -89,6 +89,7 @@ fn unregister(names: &mut NameIndex, name: Option<&Atom>)
 impl ProcessStore {
     ghost use Rattle.process_store.specs.Inverses.{WasCalled, WasStarted, WasTaken};
     ghost use Rattle.process_store.specs.Living.{arrived, run, takes_next, unarrived, untook};
+    ghost use Rattle.process_store.specs.Sound.{IsSound};
     ghost use Rattle.process_store.specs.Table.{added, changed, empty_table, is_open, is_taken, living, next_pid, pid_of, without_last};
 
     /// No process. Names and numbers are hashed by keys that nobody outside knows.
@@ -115,7 +116,8 @@ impl ProcessStore {
 
     /// The pid that the next process gets. Takes no memory.
     pub fn next_pid(&self) -> u64
-        ensures { result ≡ next_pid self.now }
+        ensures pid { result ≡ next_pid self.now }
+        ensures sound { IsSound self.now }
     {
         self.slots.len() as u64
     }
@@ -181,18 +183,6 @@ impl ProcessStore {
         }
     }
 
-    /// A message that is no call comes for a process that lives.
-    fn deliver_to(&mut self, pid: u64, message: Term) -> Result<(), AllocError>
-        requires { IsSome (living pid self.old) }
-        ensures ok { OnOk result (self.new ≡ changed (arrived message None) pid self.old) }
-        ensures fits { OnOk result (WasCalled None (living pid self.new)) }
-        ensures back { OnOk result (changed (unarrived None) pid self.new ≡ self.old) }
-        ensures err { OnErr result (self.new ≡ self.old) }
-    {
-        arrive_at(&mut self.slots, pid, self.alloc, message, None)?;
-        Ok(())
-    }
-
     /// A call comes for a process that lives, and is open.
     fn ask(&mut self, pid: u64, message: Term, call: Call) -> Result<(), AllocError>
         requires lives { IsSome (living pid self.old) }
@@ -231,7 +221,7 @@ impl ProcessStore {
     {
         match call {
             Some(call) => self.ask(pid, message, call),
-            None => self.deliver_to(pid, message),
+            None => self.deliver(pid, message),
         }
     }
 

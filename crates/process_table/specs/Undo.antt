@@ -1,14 +1,17 @@
 -- What takes a step of the processes back.
-use Rattle.std.specs.Prelude.{◌≡◌, ◌-◌, All, IsSome}
+use Rattle.std.specs.Prelude.{◌≡◌, ℕ, ◌-◌, All, List, IsSome}
 use Rattle.erl_forms.specs.Module.{Forms}
 use Rattle.code_server.specs.Modules.{IsSound, Table as Loaded}
 use Rattle.process.specs.Rerun.{runs_again}
 use Rattle.process_commit.specs.Commits.{CanUnrest, unrested}
 use Rattle.process_commit.specs.Exits.{CanUnexit, unexited}
+use Rattle.process_commit.specs.Pieces.{held_of}
 use Rattle.process_ending.specs.Ends.{AllReturn, AllStand, Lives, Returns, all_returned, returned}
+use Rattle.process_ending.specs.Pieces.{held_by, held_by_all}
 use Rattle.process_store.specs.Changes.{suspended_as}
 use Rattle.process_store.specs.Inverses.{WasCalled, WasStarted, WasTaken}
 use Rattle.process_store.specs.Living.{unarrived, untook}
+use Rattle.process_store.specs.Pieces.{Piece, no_pieces}
 use Rattle.process_store.specs.Table.{Table, changed, living, next_pid, without_last}
 use Rattle.process_table.specs.declared.undo.Undo.{Undo}
 use Rattle.process_table.specs.declared.undo.Undo.TheVariants.{Started, Arrived, Taken, Suspension, Rested, Exited, Ended, Killed}
@@ -56,3 +59,14 @@ TakesBack undo before after = (modules : Loaded Forms) → Fits modules undo aft
 abbrev pub TakesBackEnds : Undo → Table → Table → Type 0
 TakesBackEnds undo before after = (modules : Loaded Forms) →
     Fits modules undo after × (IsSound modules → AllStand modules before → undone modules undo after ≡ before)
+
+-- The pieces that an undo holds of the process of a pid, by the table after its step.
+abbrev pub held : Undo → Table → ℕ → List Piece
+held Started t = no_pieces
+held (Arrived pid call) t = no_pieces
+held (Taken pid position) t = no_pieces
+held (Suspension pid was) t = no_pieces
+held (Rested u) t = held_of u t
+held (Exited u) t = held_by u.ended
+held (Ended e) t = held_by e
+held (Killed es) t = held_by_all es

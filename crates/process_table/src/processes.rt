@@ -52,7 +52,9 @@ impl Processes {
     ghost use Rattle.process_ending.specs.Kills.{told_by_kill, without_users};
     ghost use Rattle.process_ending.specs.Told.{downs};
     ghost use Rattle.process_ending.specs.Uses.{users};
-    ghost use Rattle.process_table.specs.Undo.{Fits, IsKept, TakesBack, TakesBackEnds, undone};
+    ghost use Rattle.process_table.specs.Undo.{Fits, IsKept, TakesBack, TakesBackEnds, held, undone};
+    ghost use Rattle.process_store.specs.Pieces.{HoldsLost};
+    ghost use Rattle.process_store.specs.Sound.{IsSound};
 
     /// No process. Names and numbers are hashed by keys that nobody outside knows.
     ///
@@ -79,7 +81,8 @@ impl Processes {
 
     /// The pid that the next process gets. Takes no memory.
     pub fn next_pid(&self) -> u64
-        ensures { result ≡ next_pid self.now }
+        ensures pid { result ≡ next_pid self.now }
+        ensures sound { IsSound self.now }
     {
         self.store.next_pid()
     }
@@ -129,6 +132,7 @@ impl Processes {
         ensures pid { IfOk result (λ it. it.0 ≡ next_pid self.old) }
         ensures started { OnOk result (self.new ≡ with_process name place code.now self.old) }
         ensures inverse { IfOk result (λ it. TakesBack it.1 self.old self.new) }
+        ensures pieces { IfOk result (λ it. HoldsLost (held it.1 self.new) self.old self.new) }
         ensures refused { IfErr result (λ e. Tells e (start_refusal name self.old)) }
         ensures err { OnErr result (self.new ≡ self.old) }
     {
@@ -161,6 +165,7 @@ impl Processes {
         ensures ok { OnOk result (arrive_refusal name.now body.now self.old ≡ None) }
         ensures arrived { OnOk result (self.new ≡ after_arrival client name.now body.now self.old) }
         ensures inverse { IfOk result (λ undo. TakesBack undo self.old self.new) }
+        ensures pieces { IfOk result (λ undo. HoldsLost (held undo self.new) self.old self.new) }
         ensures refused { IfErr result (λ e. Tells e (arrive_refusal name.now body.now self.old)) }
         ensures err { OnErr result (self.new ≡ self.old) }
     {
@@ -218,6 +223,7 @@ impl Processes {
         ensures taken { IfOk result (λ it. self.new ≡ taken pid it.0.entry_serial it.0.code self.old) }
         ensures job { IfOk result (λ it. job_at (living pid self.new) ≡ Some it.0) }
         ensures inverse { IfOk result (λ it. TakesBack it.1 self.old self.new) }
+        ensures pieces { IfOk result (λ it. HoldsLost (held it.1 self.new) self.old self.new) }
         ensures refused { IfErr result (λ e. Tells e (take_refusal pid self.old)) }
         ensures err { OnErr result (self.new ≡ self.old) }
     {
@@ -277,6 +283,7 @@ impl Processes {
     pub fn suspend(&mut self, pid: u64) -> Result<Undo, ProcError>
         ensures suspended { OnOk result (self.new ≡ changed suspend_living pid self.old) }
         ensures inverse { IfOk result (λ undo. TakesBack undo self.old self.new) }
+        ensures pieces { IfOk result (λ undo. HoldsLost (held undo self.new) self.old self.new) }
         ensures ok { OnOk result (missing pid self.old ≡ None) }
         ensures refused { IfErr result (λ e. missing pid self.old ≡ Some e) }
         ensures err { OnErr result (self.new ≡ self.old) }
@@ -296,6 +303,7 @@ impl Processes {
     pub fn resume(&mut self, pid: u64) -> Result<Undo, ProcError>
         ensures resumed { OnOk result (self.new ≡ changed resume_living pid self.old) }
         ensures inverse { IfOk result (λ undo. TakesBack undo self.old self.new) }
+        ensures pieces { IfOk result (λ undo. HoldsLost (held undo self.new) self.old self.new) }
         ensures ok { OnOk result (missing pid self.old ≡ None) }
         ensures refused { IfErr result (λ e. missing pid self.old ≡ Some e) }
         ensures err { OnErr result (self.new ≡ self.old) }
@@ -331,6 +339,7 @@ impl Processes {
     pub fn end(&mut self, pid: u64) -> Result<Undo, ProcError>
         ensures ended { OnOk result (self.new ≡ vacated pid self.old) }
         ensures inverse { IfOk result (λ undo. TakesBackEnds undo self.old self.new) }
+        ensures pieces { IfOk result (λ undo. HoldsLost (held undo self.new) self.old self.new) }
         ensures ok { OnOk result (missing pid self.old ≡ None) }
         ensures refused { IfErr result (λ e. Tells e (missing pid self.old)) }
         ensures err { OnErr result (self.new ≡ self.old) }
@@ -338,10 +347,8 @@ impl Processes {
         if self.store.get(pid).is_none() {
             return Err(ProcError::NoProc);
         }
-        match end(&mut self.store, self.alloc, pid) {
-            Ok(ended) => Ok(Undo::Ended(ended)),
-            Err(_) => Err(ProcError::Memory),
-        }
+        let ended = end(&mut self.store, self.alloc, pid)?;
+        Ok(Undo::Ended(ended))
     }
 
     /// Kills each process that uses the instance of a serial: it leaves, with its name, its mailbox and its open calls. What clients
@@ -354,6 +361,7 @@ impl Processes {
         ensures killed { OnOk result (self.new ≡ without_users serial self.old) }
         ensures told { IfOk result (λ it. it.0.items ≡ told_by_kill serial self.old) }
         ensures inverse { IfOk result (λ it. TakesBackEnds it.1 self.old self.new) }
+        ensures pieces { IfOk result (λ it. HoldsLost (held it.1 self.new) self.old self.new) }
         ensures err { OnErr result (self.new ≡ self.old) }
     {
         let (replies, killed) = kill_users(&mut self.store, self.alloc, serial)?;

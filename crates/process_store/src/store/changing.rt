@@ -1,6 +1,7 @@
 // Elementary changes of one process of the table, each with the one that takes it back.
-ghost use Rattle.std.specs.Prelude.{◌≡◌, IfNone, IfOk, IfSome, None, OnErr, OnOk, Some};
+ghost use Rattle.std.specs.Prelude.{◌≡◌, IfNone, IfOk, IfSome, IsSome, None, OnErr, OnOk, Some};
 ghost use Rattle.process_store.specs.Changes.{CanReopen, CanTurnAt, HasTurned, IsRunningAt, closed_in, is_suspended, owner_of, reopened, rest_living, resume_living, suspend_living, suspended_as, unrest_living, was_suspended};
+ghost use Rattle.process_store.specs.Inverses.{WasCalled};
 ghost use Rattle.process_store.specs.Living.{arrived, unarrived};
 ghost use Rattle.process_store.specs.Table.{changed, living};
 
@@ -74,6 +75,7 @@ impl ProcessStore {
     /// `AllocError` where memory is refused. The table is then as it was.
     pub fn deliver(&mut self, pid: u64, message: Term) -> Result<(), AllocError>
         ensures ok { OnOk result (self.new ≡ changed (arrived message None) pid self.old) }
+        ensures fits { OnOk result (IsSome (living pid self.old) → WasCalled None (living pid self.new)) }
         ensures back { OnOk result (changed (unarrived None) pid self.new ≡ self.old) }
         ensures err { OnErr result (self.new ≡ self.old) }
     {

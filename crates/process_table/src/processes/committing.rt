@@ -5,7 +5,8 @@ ghost use Rattle.process_store.specs.Changes.{CanTurnAt};
 ghost use Rattle.process_store.specs.Table.{living};
 ghost use Rattle.process_commit.specs.Exits.{exit_told, exited};
 ghost use Rattle.process_table.specs.Commit.{RefusesCommit, commit_told, committed, concluded, told_by};
-ghost use Rattle.process_table.specs.Undo.{Fits, IsKept, TakesBackEnds, undone};
+ghost use Rattle.process_store.specs.Pieces.{HoldsLost};
+ghost use Rattle.process_table.specs.Undo.{Fits, IsKept, TakesBackEnds, held, undone};
 
 use super::Processes;
 use crate::error::ProcError;
@@ -51,6 +52,7 @@ impl Processes {
         ensures exited { OnOk result (self.new ≡ exited pid acts.now self.old) }
         ensures told { IfOk result (λ it. it.0.items ≡ exit_told pid reason.now acts.now self.old) }
         ensures inverse { IfOk result (λ it. TakesBackEnds it.1 self.old self.new) }
+        ensures pieces { IfOk result (λ it. HoldsLost (held it.1 self.new) self.old self.new) }
         ensures err { OnErr result (self.new ≡ self.old) }
     {
         let (replies, exited) = commit_exit(&mut self.store, self.alloc, pid, acts, reason)?;
@@ -69,6 +71,7 @@ impl Processes {
         ensures concluded { OnOk result (self.new ≡ concluded job.now acts.now end.now self.old) }
         ensures told { IfOk result (λ it. it.0.items ≡ told_by job.now.pid acts.now end.now self.old) }
         ensures inverse { IfOk result (λ it. TakesBackEnds it.1 self.old self.new) }
+        ensures pieces { IfOk result (λ it. HoldsLost (held it.1 self.new) self.old self.new) }
         ensures err { OnErr result (self.new ≡ self.old) }
     {
         match end {
@@ -95,6 +98,7 @@ impl Processes {
         ensures committed { OnOk result (self.new ≡ committed done.now self.old) }
         ensures told { IfOk result (λ it. it.0.items ≡ commit_told done.now self.old) }
         ensures inverse { IfOk result (λ it. TakesBackEnds it.1 self.old self.new) }
+        ensures pieces { IfOk result (λ it. HoldsLost (held it.1 self.new) self.old self.new) }
         ensures ok { OnOk result (IsRunning done.now.job self.old × CanTurnAt done.now.job.pid self.old) }
         ensures refused { IfErr result (λ e. RefusesCommit e done.now.job self.old) }
         ensures err { OnErr result (self.new ≡ self.old) }

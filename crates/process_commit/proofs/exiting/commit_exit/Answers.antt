@@ -1,7 +1,8 @@
--- What the process sends to itself goes with it, and all else of it is as it was.
+-- What the process sends to itself goes with it, and all else of it is as it was: its record holds that, which nobody has any more.
 use Rattle.std.proofs.Common.{◌≡◌, ◌++◌, arith, map, sym, ap, subst, ◌∙◌}
-use Rattle.process_commit.proofs.Leaving.{downs_by_calls, enough_reasons, exited_back, exited_fits, leaver_lives, still_lives}
+use Rattle.process_commit.proofs.Leaving.{downs_by_calls, enough_reasons, exited_back, exited_fits, leaver_lives, process_of, same_process, still_lives}
 use Rattle.process_commit.proofs.OwnMessages.{calls_at, ended_calls, ended_the_same, ended_told}
+use Rattle.process_commit.proofs.Pieces.{exited_lost}
 use Rattle.process_commit.specs.Acts.{acts_done}
 use Rattle.process_commit.specs.Exits.{ExitsBack}
 use Rattle.process_commit.specs.Parted.{answers_of}
@@ -53,3 +54,11 @@ returns-clause-inverse c =
           let alive = leaver_lives pid c.args.acts.now (answers_of c.args.acts.now) t c.act_all.new.store c.in_ok-acted.ensures.table modules l told c.in-Some.ensures.process c.requires c.in_ok-told.ensures sound stand in
           exited_back modules pid t c.act_all.new.store c.remove.new.self l told acted.receivers.items acted.closed.items alive c.in-Some.ensures.back c.in_ok-acted.ensures.back,
     ))
+
+pub returns-clause-pieces : goal.returns-clause-pieces
+returns-clause-pieces c =
+    let pid = c.args.pid in
+    let t = c.args.store.now in
+    let told = c.in_ok-told.told in
+    let same = ap (λ x. process_of (living pid x)) c.in_ok-acted.ensures.table ∙ same_process pid c.args.acts.now (answers_of c.args.acts.now) t in
+    exited_lost c.ended_process.result told.rests_in told.code t c.act_all.new.store c.remove.new.self pid c.in-Some.living c.ended_process.ensures (sym c.in-Some.ensures.process) same c.in-Some.ensures.table

@@ -1,10 +1,12 @@
--- The process rests before its acts are done, which is the same.
-use Rattle.std.proofs.Common.{◌≡◌, sym, subst}
+-- The process rests before its acts are done, which is the same; its record holds its job's place and message, which nobody has any more.
+use Rattle.std.proofs.Common.{◌≡◌, refl, sym, subst}
 use Rattle.process.specs.Rerun.{ran_with}
+use Rattle.process_commit.proofs.Pieces.{rested_lost, running_lives}
 use Rattle.process_commit.proofs.Rests.{rested_back, rested_is, rested_told}
-use Rattle.process_commit.specs.Commits.{RestsBack}
+use Rattle.process_commit.specs.Commits.{RestsBack, rests_in}
 use Rattle.process_commit.specs.declared.resting.Rested.{Rested}
 use Rattle.process_store.specs.Changes.{HasTurned}
+use Rattle.process_store.specs.Table.{living}
 use Rattle.process_commit.proofs.resting.commit_rest.Goals as goal
 
 pub returns-in-Ok-clause-rested : goal.returns-in-Ok-clause-rested
@@ -26,3 +28,12 @@ returns-in-Ok-clause-inverse c =
       (c.in-Ok.ensures.fits, subst (HasTurned c.args.job.now.pid) (sym c.in-Ok.ensures.back) c.in_ok-ran.ensures.fits),
       λ sound stand. rested_back modules c.args.job.now c.args.store.now c.rest.new.self c.act_all.new.store told ran acted.receivers.items acted.closed.items sound stand c.requires.running c.in_ok-told.ensures c.in_ok-ran.ensures.back c.in-Ok.ensures.back,
     ))
+
+pub returns-in-Ok-clause-pieces : goal.returns-in-Ok-clause-pieces
+returns-in-Ok-clause-pieces c =
+    let job = c.args.job.now in
+    let told = c.in_ok-told.told in
+    let u : Rested = record { pid = job.pid; ran = c.named.result; receivers = c.new.result; closed = c.new-in-Ok.result } in
+    let (l, lives) = running_lives (living job.pid c.args.store.now) job c.requires.running in
+    let done = rested_is job c.args.place.now c.in_ok-copy.field-0 c.in_ok-rests_in.rests_in c.as_slice.result.now c.args.acts.now c.args.store.now c.rest.new.self c.act_all.new.store c.in_ok-copy.ensures c.as_slice.ensures c.in_ok-rests_in.ensures c.in_ok-ran.ensures.ok c.in-Ok.ensures.table in
+    rested_lost u c.args.place.now (rests_in c.args.place.now job.code) told.rests_in told.code c.in_ok-ran.ran c.args.acts.now c.args.store.now c.rest.new.self c.act_all.new.store job.pid l lives c.in_ok-ran.ensures.back done refl c.named.ensures

@@ -1,11 +1,12 @@
--- The process lives again, with its name and its open calls.
-use Rattle.std.proofs.Common.{◌≡◌, Some, refl, sym, subst}
+-- The process lives again, with its name and its open calls, and its record holds what nobody has any more.
+use Rattle.std.proofs.Common.{◌≡◌, Some, refl, sym, ap, subst, ◌∙◌}
 use Rattle.process.specs.Ended.{ended_with}
 use Rattle.process_store.specs.declared.living.Living.{Living}
 use Rattle.process_store.specs.Table.{living}
-use Rattle.process_ending.specs.Ends.{EndsBack, IsTold}
+use Rattle.process_ending.specs.Ends.{EndsBack, IsTold, ended_of}
 use Rattle.process_ending.specs.declared.ending.EndedProcess.{EndedProcess}
 use Rattle.process_ending.proofs.Ends.{ended_back, ended_fits}
+use Rattle.process_ending.proofs.Pieces.{one_left}
 use Rattle.process_ending.proofs.ending.take_out.Goals as goal
 
 pub returns-in-Some-clause-back : goal.returns-in-Some-clause-back
@@ -17,6 +18,11 @@ returns-in-Some-clause-back c = λ told.
     let e = ended_with c.args.leaves.told.rests_in c.args.leaves.told.code l.process in
     let is = sym c.ended_process.ensures in
     subst (λ (x : EndedProcess). EndsBack x before c.remove.new.self) is (λ modules. (
-      ended_fits modules c.remove.new.self l e pid refl c.in-Some.ensures.returns,
+      ended_fits modules c.remove.new.self l e pid refl refl c.in-Some.ensures.returns,
       λ sound stands. ended_back modules before c.remove.new.self l e pid sound stands there (subst (IsTold c.args.leaves.told) there told) c.in-Some.ensures.back,
     ))
+
+pub returns-in-Some-clause-pieces : goal.returns-in-Some-clause-pieces
+returns-in-Some-clause-pieces c =
+    one_left c.ended_process.result c.args.leaves c.args.store.now c.remove.new.self
+    (ap (λ x. Some x) c.ended_process.ensures ∙ sym (ap (ended_of c.args.leaves) (sym c.in-Some.ensures.process))) c.remove.ensures.table

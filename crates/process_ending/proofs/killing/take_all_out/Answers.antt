@@ -1,6 +1,8 @@
 -- One more has left, or nobody lives there.
 use Rattle.std.proofs.Common.{sym, subst, ◌∙◌, arith}
 use Rattle.process_ending.specs.Ends.{KillsBack}
+use Rattle.process_ending.specs.Pieces.{held_by_all}
+use Rattle.process_ending.proofs.Pieces.{HaveLeft, left_lost, more_left, none_left}
 use Rattle.process_ending.proofs.Returns.{kills_back, leaves_last, nobody_leaves, still_stand, told_last, told_others}
 use Rattle.process_ending.proofs.killing.take_all_out.Goals as goal
 
@@ -21,6 +23,7 @@ loop-leaves-preserved-in-Some-take_out c =
       stands = still_stand before t after p.pid gone i.stands;
       back = kills_back before t after c.loop-leaves.ended.items c.push_reserved.new.self.items c.in-Some-take_out.process p c.in-Some-take_out.ensures.process gone c.push_reserved.ensures.items i.stands (c.in-Some-take_out.ensures.back (told_last ps others p t last i.told)) i.back;
       room = omega (arith, i.room, c.in-Some.ensures.cases, c.push_reserved.ensures.len, c.push_reserved.ensures.capacity);
+      left = more_left c.loop-leaves.ended.items c.push_reserved.new.self.items c.in-Some-take_out.process p before t after c.in-Some-take_out.ensures.process gone c.push_reserved.ensures.items i.left;
     }
 
 pub loop-leaves-preserved : goal.loop-leaves-preserved
@@ -40,4 +43,8 @@ loop-leaves-preserved c =
       stands = still_stand before t after p.pid gone i.stands;
       back = subst (KillsBack c.loop-leaves.ended.items before) (sym (nobody_leaves p t after c.in_default-take_out.ensures.process gone)) i.back;
       room = omega (arith, i.room, c.in-Some.ensures.cases);
+      left = subst (HaveLeft (held_by_all c.loop-leaves.ended.items) before) (sym (nobody_leaves p t after c.in_default-take_out.ensures.process gone)) i.left;
     }
+
+pub returns-clause-pieces : goal.returns-clause-pieces
+returns-clause-pieces c = left_lost (held_by_all c.loop-leaves.ended.items) c.args.store.now c.loop-leaves.store c.loop-leaves.invariant.left

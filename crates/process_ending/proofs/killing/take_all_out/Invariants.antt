@@ -4,6 +4,8 @@ use Rattle.erl_forms.specs.Module.{Forms}
 use Rattle.code_server.specs.Modules.{Table as Loaded}
 use Rattle.process_store.specs.Table.{living}
 use Rattle.process_ending.specs.Ends.{AllStand, IsTold, KillsBack, all_vacated}
+use Rattle.process_ending.specs.Pieces.{held_by_all}
+use Rattle.process_ending.proofs.Pieces.{HaveLeft}
 use Rattle.process_ending.proofs.killing.take_all_out.Given as goal
 
 abbrev pub invariant-loop-leaves : goal.invariant-loop-leaves
@@ -12,6 +14,7 @@ invariant-loop-leaves l = record {
   told : All (λ p. IsTold p.told (living p.pid l.store)) l.leaving.items;
   stands : (modules : Loaded Forms) → AllStand modules l.fn.store → AllStand modules l.store;
   back : KillsBack l.ended.items l.fn.store l.store;
+  left : HaveLeft (held_by_all l.ended.items) l.fn.store l.store;
   room : vec_len l.ended + vec_len l.leaving ≤ vec_capacity l.ended;
 }
 

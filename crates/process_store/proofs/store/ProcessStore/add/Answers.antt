@@ -12,7 +12,7 @@ invariant_of-self-2 c =
     let l : Living = record { process = c.new.result; calls = c.new-2.result } in
     let last : c.len-pid.result ≡ length i.slots.items = omega arith in
     started_indexed i.names c.register.new.names i.open_calls i.slots.items c.push_last.new.slots.items c.args.name c.len-pid.result l c.self.invariant (subst (λ t. is_taken c.args.name t ≡ false) (sym c.self.view_is) c.requires)
-    (ap (λ p. p.name) c.new.ensures) c.new-2.ensures last
+    (ap (λ p. p.name) c.new.ensures) (ap (λ p. p.pid) c.new.ensures) c.new-2.ensures last
     (c.in_ok-register.ensures.ok ∙ ap (λ n. registered n c.len-pid.result i.names) c.as_ref.ensures.value)
     (c.push_last.ensures ∙ ap (λ x. x ++ Some l ∷ []) c.in_ok-reserve.ensures.items)
 

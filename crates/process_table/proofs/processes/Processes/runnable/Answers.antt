@@ -8,7 +8,7 @@ use Rattle.process_table.proofs.processes.Processes.runnable.Goals as goal
 pub returns : goal.returns
 returns c = λ pid above _. elim (cases_lt pid c.loop-pid.pid) [
   | inl below ↦ c.loop-pid.invariant pid above below
-  | inr past ↦ ap is_runnable (living_past c.args.self.now.slots pid (omega (arith, past, c.loop-pid-test.false, c.next_pid-pid-end.ensures)))
+  | inr past ↦ ap is_runnable (living_past c.args.self.now.slots pid (omega (arith, past, c.loop-pid-test.false, c.next_pid-pid-end.ensures.pid)))
 ]
 
 pub returns-then-can_run : goal.returns-then-can_run

@@ -1,0 +1,10 @@
+-- The record of a commit is that of the step, and holds what that holds.
+use Rattle.std.proofs.Common.{subst}
+use Rattle.process_ending.specs.Pieces.{held_by}
+use Rattle.process_store.specs.Pieces.{HoldsLost}
+use Rattle.process_store.specs.Table.{Table}
+use Rattle.process_table.proofs.processes.Processes.exit.Goals as goal
+
+pub returns-clause-pieces : goal.returns-clause-pieces
+returns-clause-pieces c =
+    subst (λ (t : Table). HoldsLost (held_by c.in_ok-replies.exited.ended) t c.commit_exit.new.store) c.self.view_is c.in_ok-replies.ensures.pieces
