@@ -45,7 +45,7 @@ closed_names : (name : List ℕ) (o : Option (ℕ × Call)) (t : Table) → pid_
 closed_names name None t = refl
 closed_names name (Some it) t = names_kept (closed_living it.1) (λ l. refl) name t it.0
 
-receiver_answered : (to : Receiver) (number : ℕ) (t : Table) → receiver_of to (answered number t) ≡ receiver_of to t
+pub receiver_answered : (to : Receiver) (number : ℕ) (t : Table) → receiver_of to (answered number t) ≡ receiver_of to t
 receiver_answered (Named name) number t = closed_names name (owner_of number t) t
 receiver_answered (Process pid) number t = refl
 
@@ -62,7 +62,7 @@ acts_sent_answered spared (act.Reply n reply ∷ others) number t = acts_sent_an
 acts_sent_answered spared (act.Start place ∷ others) number t = acts_sent_answered spared others number t
 acts_sent_answered spared (act.Name name by_register ∷ others) number t = acts_sent_answered spared others number t
 
-sent_owners : (number : ℕ) (message : Term) (r : Option ℕ) (t : Table) → owner_of number (sent message r t) ≡ owner_of number t
+pub sent_owners : (number : ℕ) (message : Term) (r : Option ℕ) (t : Table) → owner_of number (sent message r t) ≡ owner_of number t
 sent_owners number message None t = refl
 sent_owners number message (Some q) t = owners_kept (arrived message None) (λ l. refl) number t q
 

@@ -14,11 +14,11 @@ use values::Duplicate;
 
 /// A reply, and the number of the call that it is for.
 #[derive(Drop)]
-pub(crate) struct Answer {
+pub struct Answer {
     /// The number.
-    pub(crate) number: u64,
+    pub number: u64,
     /// The reply.
-    pub(crate) reply: Term,
+    pub reply: Term,
 }
 
 /// A call that was closed, and the process that it was open to.
@@ -31,7 +31,11 @@ pub struct Closed {
 }
 
 /// The reply that an act gives, if it is one.
-fn answer_of(alloc: Global, act: &Act) -> Result<Option<Answer>, AllocError>
+///
+/// # Errors
+///
+/// `AllocError` where memory is refused.
+pub fn answer_of(alloc: Global, act: &Act) -> Result<Option<Answer>, AllocError>
     ensures { IfOk result (λ it. option_to_list it ≡ act_answers act.now) }
 {
     let Act::Reply { number, term } = act else {
@@ -84,7 +88,7 @@ fn answer_call(
 }
 
 /// Closes the calls that replies are for, in order, and tells their clients. There is room for what is told and noted.
-pub(crate) fn answer_all(
+pub fn answer_all(
     store: &mut ProcessStore,
     replies: &mut Vec<Reply>,
     closed: &mut Vec<Closed>,
@@ -118,7 +122,7 @@ fn close_again(store: &mut ProcessStore, closed: &[Closed])
 /// # Errors
 ///
 /// `AllocError` where memory is refused. The processes are then as they were.
-pub(crate) fn reopen_all(store: &mut ProcessStore, closed: &[Closed]) -> Result<(), AllocError>
+pub fn reopen_all(store: &mut ProcessStore, closed: &[Closed]) -> Result<(), AllocError>
     requires { AllReopen closed.now store.old }
     ensures ok { OnOk result (store.new ≡ all_reopened closed.now store.old) }
     ensures again { OnOk result (all_reclosed closed.now store.new ≡ store.old) }

@@ -11,8 +11,8 @@ use process_store::ProcessStore;
 use std::alloc::{AllocError, Global};
 use values::Duplicate;
 
-/// The pid of the process that a message is for; none where nobody has the name.
-fn receiver_of(store: &ProcessStore, to: &Receiver) -> Option<u64>
+/// The pid of the process that a message is for; none where nobody has the name. Takes no memory.
+pub fn receiver_of(store: &ProcessStore, to: &Receiver) -> Option<u64>
     ensures { result ≡ receiver_of to.now store.now }
 {
     match to {

@@ -3,6 +3,7 @@ use Rattle.std.specs.Prelude.{◌≡◌, ℕ, ◌-◌, All, List, IsSome}
 use Rattle.erl_forms.specs.Module.{Forms}
 use Rattle.code_server.specs.Modules.{IsSound, Table as Loaded}
 use Rattle.process.specs.Rerun.{runs_again}
+use Rattle.process_batch.specs.Batches.{CanUnbatch, unbatched}
 use Rattle.process_commit.specs.Commits.{CanUnrest, unrested}
 use Rattle.process_commit.specs.Exits.{CanUnexit, unexited}
 use Rattle.process_commit.specs.Pieces.{held_of}
@@ -14,7 +15,7 @@ use Rattle.process_store.specs.Living.{unarrived, untook}
 use Rattle.process_store.specs.Pieces.{Piece, no_pieces}
 use Rattle.process_store.specs.Table.{Table, changed, living, next_pid, without_last}
 use Rattle.process_table.specs.declared.undo.Undo.{Undo}
-use Rattle.process_table.specs.declared.undo.Undo.TheVariants.{Started, Arrived, Taken, Suspension, Rested, Exited, Ended, Killed}
+use Rattle.process_table.specs.declared.undo.Undo.TheVariants.{Started, Arrived, Taken, Suspension, Rested, Exited, Batched, Ended, Killed}
 
 -- The table that an undo gives back. A process that has ended lives again with the instances that it used, as they stand in the
 -- table of modules.
@@ -25,6 +26,7 @@ undone modules (Taken pid position) t = changed (untook position) pid t
 undone modules (Suspension pid was) t = changed (suspended_as was) pid t
 undone modules (Rested u) t = unrested modules u t
 undone modules (Exited u) t = unexited modules u t
+undone modules (Batched u) t = unbatched u t
 undone modules (Ended e) t = returned modules e t
 undone modules (Killed es) t = all_returned modules es t
 
@@ -36,6 +38,7 @@ Fits modules (Taken pid position) t = WasTaken position (living pid t)
 Fits modules (Suspension pid was) t = Unit {0}
 Fits modules (Rested u) t = CanUnrest u t
 Fits modules (Exited u) t = CanUnexit modules u t
+Fits modules (Batched u) t = CanUnbatch u t
 Fits modules (Ended e) t = Returns modules e t
 Fits modules (Killed es) t = AllReturn modules es t
 
@@ -47,6 +50,7 @@ IsKept modules (Taken pid position) = Unit {0}
 IsKept modules (Suspension pid was) = Unit {0}
 IsKept modules (Rested u) = IsSome (runs_again modules u.ran)
 IsKept modules (Exited u) = Lives modules u.ended
+IsKept modules (Batched u) = Unit {0}
 IsKept modules (Ended e) = Lives modules e
 IsKept modules (Killed es) = All (Lives modules) es
 
@@ -68,5 +72,6 @@ held (Taken pid position) t = no_pieces
 held (Suspension pid was) t = no_pieces
 held (Rested u) t = held_of u t
 held (Exited u) t = held_by u.ended
+held (Batched u) t = no_pieces
 held (Ended e) t = held_by e
 held (Killed es) t = held_by_all es

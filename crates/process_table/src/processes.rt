@@ -2,6 +2,7 @@
 ghost use Rattle.std.specs.Prelude.{◌≡◌, None, Some, IfOk, IfErr, OnOk, OnErr};
 ghost use Rattle.std.specs.Option.{option_copied};
 
+mod batching;
 mod committing;
 
 use crate::body::Body;
@@ -433,6 +434,7 @@ impl Processes {
             }
             Undo::Rested(rested) => self.revert_rested(modules, rested),
             Undo::Exited(exited) => self.revert_exited(modules, exited),
+            Undo::Batched(batched) => self.revert_batched(batched),
             Undo::Ended(ended) => self.revert_end(modules, ended),
             Undo::Killed(killed) => self.revert_kill(modules, killed),
         }

@@ -1,4 +1,5 @@
 // What takes a step back.
+use process_batch::Batched;
 use process_commit::{Exited, Rested};
 use process_ending::EndedProcess;
 use process_index::Call;
@@ -35,6 +36,8 @@ pub enum Undo {
     Rested(Rested),
     /// A job was committed, and its process has ended.
     Exited(Exited),
+    /// What was evaluated inside a step is done.
+    Batched(Batched),
     /// A process has ended.
     Ended(EndedProcess),
     /// Processes were killed.

@@ -1,0 +1,78 @@
+// What was evaluated inside a step is done.
+ghost use Rattle.std.specs.Prelude.{◌≡◌, ◌++◌, IfErr, IfOk, List, OnErr, OnOk, false};
+ghost use Rattle.process_batch.specs.Batches.{AllFit, CanUnbatch, all_undone, unbatched};
+ghost use Rattle.process_batch.specs.Begins.{CanGiveUp, IsUnderWay, acts_begun, begun_told};
+ghost use Rattle.process_ending.specs.declared.told.Reply.{Reply as Told};
+ghost use Rattle.process_store.specs.Pieces.{HoldsLost};
+ghost use Rattle.process_store.specs.Table.{Table, is_taken};
+ghost use Rattle.process_table.specs.Undo.{TakesBack, held};
+
+use super::Processes;
+use crate::undo::Undo;
+use erl_eval::Act;
+use erl_machine::Instance;
+use erl_term::Atom;
+use process_batch::{Batch, Batched, begin, finish, give_up, revert_batch};
+use process_ending::Reply;
+use std::alloc::AllocError;
+use values::Row;
+
+impl Processes {
+    /// Does what evaluating has done, as a part of a batch: its acts, in order, of which the replies are given when the batch is
+    /// finished. What it starts is of this code, and has this name, which is free, if it is to have one.
+    ///
+    /// # Errors
+    ///
+    /// `AllocError` where memory is refused. The batch can then only be given up.
+    pub fn begin(
+        &mut self,
+        batch: &mut Batch,
+        name: Option<Atom>,
+        code: &[Instance],
+        acts: Row<Act>,
+    ) -> Result<(), AllocError>
+        requires { is_taken name self.old ≡ false }
+        ensures begun { OnOk result ((before after : Table) (told : List Told) → IsUnderWay batch.old.changes.items batch.old.answers.items before self.old after told → IsUnderWay batch.new.changes.items batch.new.answers.items before self.new (acts_begun name code.now acts after) (told ++ begun_told name code.now acts after)) }
+        ensures back { (before : Table) → CanGiveUp batch.old.changes.items before self.old → CanGiveUp batch.new.changes.items before self.new }
+    {
+        begin(&mut self.store, self.alloc, batch, name, code, acts)
+    }
+
+    /// Gives a batch up: the table is as it was before it. Takes no memory.
+    pub fn give_up(&mut self, batch: Batch)
+        requires { AllFit batch.changes.items self.old }
+        ensures { self.new ≡ all_undone batch.changes.items self.old }
+    {
+        give_up(&mut self.store, batch);
+    }
+
+    /// Finishes a batch: all of it stands, and its replies are given. What clients are told is handed out.
+    ///
+    /// # Errors
+    ///
+    /// `AllocError` where memory is refused. The batch is then given up.
+    pub fn finish(&mut self, batch: Batch) -> Result<(Vec<Reply>, Undo), AllocError>
+        requires { AllFit batch.changes.items self.old }
+        ensures stands { OnOk result ((before after : Table) (told : List Told) → IsUnderWay batch.changes.items batch.answers.items before self.old after told → self.new ≡ after) }
+        ensures told { IfOk result (λ it. (before after : Table) (told : List Told) → IsUnderWay batch.changes.items batch.answers.items before self.old after told → it.0.items ≡ told) }
+        ensures inverse { IfOk result (λ it. (before : Table) → CanGiveUp batch.changes.items before self.old → TakesBack it.1 before self.new) }
+        ensures pieces { IfOk result (λ it. (before : Table) → HoldsLost (held it.1 self.new) before self.new) }
+        ensures err { OnErr result (self.new ≡ all_undone batch.changes.items self.old) }
+    {
+        let (replies, batched) = finish(&mut self.store, self.alloc, batch)?;
+        Ok((replies, Undo::Batched(batched)))
+    }
+
+    /// What was evaluated inside a step is taken back.
+    pub(super) fn revert_batched(&mut self, batched: Batched) -> Result<(), Undo>
+        requires { CanUnbatch batched self.old }
+        ensures ok { OnOk result (self.new ≡ unbatched batched self.old) }
+        ensures back { IfErr result (λ it. it ≡ Undo.Batched batched) }
+        ensures err { OnErr result (self.new ≡ self.old) }
+    {
+        match revert_batch(&mut self.store, batched) {
+            Ok(()) => Ok(()),
+            Err(batched) => Err(Undo::Batched(batched)),
+        }
+    }
+}
