@@ -1,0 +1,140 @@
+// Children of a supervisor start.
+ghost use Rattle.std.specs.Prelude.{◌≡◌, ◌++◌, ◌∷◌, [], IfErr, IfOk, List, None, OnOk, map, option_map};
+ghost use Rattle.erl_eval.specs.Jobs.{Evaluates};
+ghost use Rattle.erl_eval.specs.State.{start_mode};
+ghost use Rattle.erl_machine.specs.Views.{outcome_of};
+ghost use Rattle.erl_machine.specs.declared.evaluation.Outcome.{Outcome as Given};
+ghost use Rattle.erl_steps.specs.Views.{instance};
+ghost use Rattle.child_starts.specs.Children.{AllStart, Starts, after_start, start_told};
+ghost use Rattle.child_starts.specs.Errors.{ChildFails, StartFails, TellsFault};
+ghost use Rattle.child_starts.specs.Results.{name_in, start_fault};
+ghost use Rattle.process_batch.specs.Begins.{CanGiveUp, IsUnderWay};
+ghost use Rattle.process_ending.specs.declared.told.Reply.{Reply as Told};
+ghost use Rattle.process_store.specs.Table.{Table, next_pid};
+
+use crate::error::StartError;
+use crate::results::{name_in, start_fault};
+use callback_lang::evaluate;
+use child_specs::ChildSpec;
+use erl_eval::Act;
+use erl_machine::{Instance, Mode, Outcome};
+use erl_term::Atom;
+use process_batch::Batch;
+use process_table::Processes;
+use std::alloc::{AllocError, Global};
+use values::{Duplicate, copied_slice};
+
+/// What a child's start function gives, in this code, where the child is to have a pid.
+fn outcome_of(
+    alloc: Global,
+    code: &[Instance],
+    pid: u64,
+    child: &ChildSpec,
+) -> Result<Outcome, AllocError>
+    ensures { IfOk result (λ it. Evaluates (record { code = map instance code.now; pid = pid; mode = start_mode }) child.now.name child.now.function child.now.arguments (outcome_of it)) }
+{
+    let arguments = copied_slice(alloc, child.arguments.as_slice())?;
+    evaluate(
+        alloc,
+        code,
+        Mode::Start,
+        pid,
+        &child.name,
+        &child.function,
+        arguments,
+    )
+}
+
+/// The name that acts ask for.
+fn asked_name(alloc: Global, acts: &[Act]) -> Result<Option<Atom>, AllocError>
+    ensures { IfOk result (λ name. name ≡ option_map (λ asked. asked.0) (name_in acts.now)) }
+{
+    match name_in(acts) {
+        Some((name, _)) => Ok(Some(name.copy(alloc)?)),
+        None => Ok(None),
+    }
+}
+
+/// Whether what a child's start function has given starts it, for the process of a pid.
+fn no_fault(
+    alloc: Global,
+    processes: &Processes,
+    pid: u64,
+    child: &ChildSpec,
+    outcome: &Outcome,
+) -> Result<(), StartError>
+    ensures ok { OnOk result (start_fault pid outcome.now processes.now ≡ None) }
+    ensures failed { IfErr result (λ e. TellsFault e child.now (start_fault pid outcome.now processes.now)) }
+{
+    match start_fault(alloc, processes, pid, outcome)? {
+        Some(reason) => Err(StartError::Failed {
+            id: child.id.copy(alloc)?,
+            reason,
+        }),
+        None => Ok(()),
+    }
+}
+
+/// A child starts, as a part of a batch, where its start function says that its process has started and the name that it asks for is
+/// free. Its pid is handed out, which is the next.
+///
+/// # Errors
+///
+/// In this order: `Failed` with the child's Id and the reason, `Memory`. The batch can then only be given up.
+pub fn start_child(
+    processes: &mut Processes,
+    alloc: Global,
+    batch: &mut Batch,
+    code: &[Instance],
+    child: &ChildSpec,
+) -> Result<u64, StartError>
+    ensures pid { IfOk result (λ pid. pid ≡ next_pid processes.old) }
+    ensures started { OnOk result ((before t : Table) (told : List Told) → IsUnderWay batch.old.changes.items batch.old.answers.items before processes.old t told → (o : Given) × Starts code.now child.now t o × IsUnderWay batch.new.changes.items batch.new.answers.items before processes.new (after_start code.now o t) (told ++ start_told code.now o t)) }
+    ensures failed { IfErr result (λ e. (before t : Table) (told : List Told) → IsUnderWay batch.old.changes.items batch.old.answers.items before processes.old t told → ChildFails e code.now child.now t) }
+    ensures back { (before : Table) → CanGiveUp batch.old.changes.items before processes.old → CanGiveUp batch.new.changes.items before processes.new }
+{
+    let pid = processes.next_pid();
+    let outcome = outcome_of(alloc, code, pid, child)?;
+    match no_fault(alloc, processes, pid, child, &outcome) {
+        Ok(()) => {
+            let name = asked_name(alloc, outcome.acts.as_slice())?;
+            processes.begin(batch, name, code, outcome.acts)?;
+            Ok(pid)
+        }
+        Err(error) => Err(error),
+    }
+}
+
+/// Notes a pid behind others.
+fn note(pids: &mut Vec<u64>, pid: u64) -> Result<(), AllocError>
+    ensures { OnOk result (pids.new.items ≡ pids.old.items ++ pid ∷ []) }
+{
+    pids.push(pid)?;
+    Ok(())
+}
+
+/// Children start, in order, as a part of a batch. Their pids are handed out.
+///
+/// # Errors
+///
+/// `Failed` of the first that fails, and `Memory`. The batch can then only be given up.
+pub fn start_children(
+    processes: &mut Processes,
+    alloc: Global,
+    batch: &mut Batch,
+    code: &[Instance],
+    children: &[ChildSpec],
+) -> Result<Vec<u64>, StartError>
+    ensures started { IfOk result (λ pids. (before t : Table) (told : List Told) → IsUnderWay batch.old.changes.items batch.old.answers.items before processes.old t told → (after : Table) × (others : List Told) × AllStart code.now children.now t pids.items after others × IsUnderWay batch.new.changes.items batch.new.answers.items before processes.new after (told ++ others)) }
+    ensures failed { IfErr result (λ e. (before t : Table) (told : List Told) → IsUnderWay batch.old.changes.items batch.old.answers.items before processes.old t told → StartFails e code.now children.now t) }
+    ensures back { (before : Table) → CanGiveUp batch.old.changes.items before processes.old → CanGiveUp batch.new.changes.items before processes.new }
+{
+    let mut pids = Vec::with_capacity(alloc, children.len())?;
+    for child in children {
+        match start_child(processes, alloc, batch, code, child) {
+            Ok(pid) => note(&mut pids, pid)?,
+            Err(error) => return Err(error),
+        }
+    }
+    Ok(pids)
+}
