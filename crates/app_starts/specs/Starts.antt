@@ -1,0 +1,69 @@
+-- An application starts: its supervision is asked for, and its children start (application(3); supervisor(3)).
+use Rattle.std.specs.Prelude.{◌≡◌, ℕ, List, [], ◌∷◌, ◌++◌, codes, map, Option, None, Some}
+use Rattle.erl_eval.specs.Jobs.{Evaluates}
+use Rattle.erl_eval.specs.State.{plain}
+use Rattle.erl_term.specs.Tree.{atom, tuple, none, more}
+use Rattle.erl_term.specs.Term.{tree}
+use Rattle.erl_term.specs.declared.term.Term.{Term}
+use Rattle.erl_term.specs.declared.term.Term.TheVariants as term
+use Rattle.erl_machine.specs.Views.{outcome_of}
+use Rattle.erl_machine.specs.declared.evaluation.Outcome.{Outcome}
+use Rattle.erl_steps.specs.Views.{instance}
+use Rattle.erl_steps.specs.declared.machine.End.{End}
+use Rattle.erl_steps.specs.declared.machine.End.TheVariants.{Rest, Value, Exit}
+use Rattle.erl_steps.specs.declared.world.Instance.{Instance}
+use Rattle.child_specs.specs.Reading.{children_of}
+use Rattle.child_specs.specs.declared.child.ChildSpec.{ChildSpec}
+use Rattle.child_starts.specs.Children.{AllStart, FirstFails}
+use Rattle.otp_files.specs.declared.app.StartModule.{StartModule}
+use Rattle.process_batch.specs.Begins.{acts_begun, begun_told}
+use Rattle.process_ending.specs.declared.told.Reply.{Reply}
+use Rattle.process_store.specs.Table.{Table}
+use Rattle.app_starts.specs.declared.error.AppError.{AppError}
+use Rattle.app_starts.specs.declared.error.AppError.TheVariants.{BadInit, StartFailed, Memory}
+
+-- What `init` of the callback module gives, in this code. It is evaluated outside of all processes.
+abbrev pub InitGives : List Instance → StartModule → Outcome → Type 0
+InitGives code m o =
+    Evaluates (record { code = map instance code; pid = 0; mode = plain }) m.name (codes "init") (more (tree m.arguments) none) (outcome_of o)
+
+-- the children of the supervision that it gives; none where it gives no supervision
+abbrev pub children_in : End → Option (List ChildSpec)
+children_in (Rest place) = None
+children_in (Value v) = children_of (tree v)
+children_in (Exit reason) = None
+
+-- `{bad_init,V}`; an exit counts as the value `{'EXIT',R}`
+
+abbrev pub bad_init : Term → Term
+bad_init v = term.Tuple (more (atom (codes "bad_init")) (more (tree v) none))
+
+abbrev pub exit_value : Term → Term
+exit_value reason = term.Tuple (more (atom (codes "EXIT")) (more (tree reason) none))
+
+abbrev pub init_fault : End → Term
+init_fault (Rest place) = bad_init (exit_value (term.Atom (codes "not_in_profile")))
+init_fault (Value v) = bad_init v
+init_fault (Exit reason) = bad_init (exit_value reason)
+
+-- the processes once that is done, before the children start
+abbrev pub initialized : List Instance → Outcome → Table → Table
+initialized code o t = acts_begun None code o.acts t
+
+-- The application starts: its children, their pids, the processes after it, and what clients are told.
+abbrev pub AppStarts : List Instance → StartModule → Table → List ChildSpec → List ℕ → Table → List Reply → Type 0
+AppStarts code m t cs pids after told = (o : Outcome) × (others : List Reply) × InitGives code m o × (children_in o.end ≡ Some cs) ×
+    AllStart code cs (initialized code o t) pids after others × (told ≡ begun_told None code o.acts t ++ others)
+
+-- Or it fails to: it has no supervision, or a child fails to start. Want of memory tells nothing.
+
+abbrev pub FailsFor : List Instance → Outcome → Table → AppError → Type 0
+FailsFor code o t (BadInit reason) = (children_in o.end ≡ None) × (reason ≡ init_fault o.end)
+FailsFor code o t (StartFailed id reason) = (cs : List ChildSpec) × (children_in o.end ≡ Some cs) ×
+    ((c : ChildSpec) × (id ≡ c.id) × FirstFails code cs (initialized code o t) c reason)
+FailsFor code o t Memory = Unit {0}
+
+abbrev pub AppFails : List Instance → StartModule → Table → AppError → Type 0
+AppFails code m t (BadInit reason) = (o : Outcome) × InitGives code m o × FailsFor code o t (BadInit reason)
+AppFails code m t (StartFailed id reason) = (o : Outcome) × InitGives code m o × FailsFor code o t (StartFailed id reason)
+AppFails code m t Memory = Unit {0}

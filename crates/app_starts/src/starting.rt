@@ -1,0 +1,149 @@
+// An application starts its children.
+ghost use Rattle.std.specs.Prelude.{◌≡◌, ◌++◌, ◌∷◌, [], IfErr, IfOk, List, OnErr, None, codes, map};
+ghost use Rattle.erl_eval.specs.Jobs.{Evaluates};
+ghost use Rattle.erl_term.specs.Term.{tree};
+ghost use Rattle.erl_term.specs.Tree.{atom, more, none};
+ghost use Rattle.erl_term.specs.declared.term.Term.TheVariants.{Tuple};
+ghost use Rattle.process_batch.specs.Begins.{CanGiveUp, IsUnderWay};
+ghost use Rattle.process_ending.specs.declared.told.Reply.{Reply as Told};
+ghost use Rattle.process_store.specs.Table.{Table};
+ghost use Rattle.process_table.specs.Undo.{TakesBack};
+ghost use Rattle.app_starts.specs.Starts.{AppFails, AppStarts, InitGives, bad_init, children_in, exit_value, init_fault};
+
+use crate::error::AppError;
+use callback_lang::evaluate;
+use child_specs::{ChildSpec, read_children};
+use child_starts::start_children;
+use erl_machine::{End, Instance, Mode, Outcome};
+use erl_term::{Atom, Term, Terms};
+use otp_files::StartModule;
+use process_batch::Batch;
+use process_ending::Reply;
+use process_table::{Processes, Undo};
+use std::alloc::{AllocError, Global};
+use values::{Duplicate, Row};
+
+/// What `init` of a callback module gives, in this code. It is evaluated outside of all processes.
+fn init(alloc: Global, code: &[Instance], module: &StartModule) -> Result<Outcome, AllocError>
+    ensures { IfOk result (λ it. InitGives code.now module.now it) }
+{
+    let mut arguments = Vec::with_capacity(alloc, 1)?;
+    arguments.push(module.arguments.copy(alloc)?)?;
+    let init = Atom::word(alloc, "init")?;
+    evaluate(alloc, code, Mode::Plain, 0, &module.name, &init, arguments)
+}
+
+/// `{Word,Term}`
+fn pair(alloc: Global, word: Atom, term: Term) -> Result<Term, AllocError>
+    ensures { IfOk result (λ it. it ≡ Tuple (more (atom word) (more (tree term) none))) }
+{
+    let mut parts = Vec::with_capacity(alloc, 2)?;
+    parts.push(Term::Atom(word))?;
+    parts.push(term)?;
+    Ok(Term::Tuple(Terms::new(alloc, parts)?))
+}
+
+/// `{'EXIT',Reason}`
+fn exit_value(alloc: Global, reason: Term) -> Result<Term, AllocError>
+    ensures { IfOk result (λ it. it ≡ exit_value reason) }
+{
+    pair(alloc, Atom::word(alloc, "EXIT")?, reason)
+}
+
+/// Why what `init` has ended in is no supervision: `{bad_init,V}`.
+fn init_fault(alloc: Global, end: &End) -> Result<Term, AllocError>
+    ensures { IfOk result (λ it. it ≡ init_fault end.now) }
+{
+    let value = match end {
+        End::Rest(_) => {
+            let reason = Term::Atom(Atom::word(alloc, "not_in_profile")?);
+            exit_value(alloc, reason)?
+        }
+        End::Value(value) => value.copy(alloc)?,
+        End::Exit(reason) => exit_value(alloc, reason.copy(alloc)?)?,
+    };
+    pair(alloc, Atom::word(alloc, "bad_init")?, value)
+}
+
+/// The children of the supervision that `init` has given.
+fn children_in(alloc: Global, end: &End) -> Result<Option<Row<ChildSpec>>, AllocError>
+    ensures { IfOk result (λ it. it ≡ children_in end.now) }
+{
+    match end {
+        End::Value(value) => read_children(alloc, value),
+        End::Rest(_) | End::Exit(_) => Ok(None),
+    }
+}
+
+/// What the start of an application has come to.
+#[derive(Drop)]
+pub struct Supervised {
+    /// The children of its supervisor, in order.
+    pub children: Row<ChildSpec>,
+    /// Their processes, in the same order.
+    pub pids: Row<u64>,
+    /// What clients are told.
+    pub replies: Vec<Reply>,
+    /// What takes the starts back.
+    pub undo: Undo,
+}
+
+/// Evaluates `init`, does what it has done, and starts the children of its supervision, all as a part of a batch. The children are
+/// handed out, and their pids.
+fn begin_supervision(
+    processes: &mut Processes,
+    alloc: Global,
+    batch: &mut Batch,
+    code: &[Instance],
+    module: &StartModule,
+) -> Result<(Row<ChildSpec>, Vec<u64>), AppError>
+    ensures started { IfOk result (λ it. (before t : Table) (told : List Told) → IsUnderWay batch.old.changes.items batch.old.answers.items before processes.old t told → (after : Table) × (others : List Told) × AppStarts code.now module.now t it.0 it.1.items after others × IsUnderWay batch.new.changes.items batch.new.answers.items before processes.new after (told ++ others)) }
+    ensures failed { IfErr result (λ e. (before t : Table) (told : List Told) → IsUnderWay batch.old.changes.items batch.old.answers.items before processes.old t told → AppFails code.now module.now t e) }
+    ensures back { (before : Table) → CanGiveUp batch.old.changes.items before processes.old → CanGiveUp batch.new.changes.items before processes.new }
+{
+    let outcome = init(alloc, code, module)?;
+    let Some(children) = children_in(alloc, &outcome.end)? else {
+        return Err(AppError::BadInit(init_fault(alloc, &outcome.end)?));
+    };
+    processes.begin(batch, None, code, outcome.acts)?;
+    match start_children(processes, alloc, batch, code, children.as_slice()) {
+        Ok(pids) => Ok((children, pids)),
+        Err(error) => Err(AppError::from(error)),
+    }
+}
+
+/// The application of a callback module starts, or one without: `init` is evaluated in this code, which is every module's current code,
+/// what it has done is done, and the children of its supervision start, in order.
+///
+/// # Errors
+///
+/// `BadInit` where `init` gives no supervision, `StartFailed` of the first child that fails, and `Memory`. The processes are then as
+/// they were.
+pub fn supervise(
+    processes: &mut Processes,
+    alloc: Global,
+    code: &[Instance],
+    module: &StartModule,
+) -> Result<Supervised, AppError>
+    ensures started { IfOk result (λ it. AppStarts code.now module.now processes.old it.children it.pids processes.new it.replies.items) }
+    ensures inverse { IfOk result (λ it. TakesBack it.undo processes.old processes.new) }
+    ensures failed { IfErr result (λ e. AppFails code.now module.now processes.old e) }
+    ensures err { OnErr result (processes.new ≡ processes.old) }
+{
+    let mut batch = Batch::new(alloc);
+    match begin_supervision(processes, alloc, &mut batch, code, module) {
+        Ok((children, pids)) => {
+            let (replies, undo) = processes.finish(batch)?;
+            Ok(Supervised {
+                children,
+                pids: Row::new(pids),
+                replies,
+                undo,
+            })
+        }
+        Err(error) => {
+            processes.give_up(batch);
+            Err(error)
+        }
+    }
+}
