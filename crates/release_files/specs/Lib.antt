@@ -1,0 +1,5 @@
+pub mod Faults
+pub mod Files
+pub mod Laws
+pub mod Paths
+pub mod Releases
