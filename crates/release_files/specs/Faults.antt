@@ -40,21 +40,21 @@ pub record StandsRefused (Refused : List ℕ → FileError → Type 0) (files : 
 
 -- what is wrong at its path: it is refused, or it says another version
 pub data RelWrong (files : Contents) (vsn : List ℕ) (path : List ℕ) (fault : FileFault) : Type 0 where
-  refused : StandsRefused (IsFileError RelRefused) files path fault → RelWrong files vsn path fault
-  other_version : (rel : RelSpec) → StandsAs (IsFile IsRel) files path rel → rel.vsn ≢ chars vsn → fault ≡ File (Shape 2) →
+  rel_refused : StandsRefused (IsFileError RelRefused) files path fault → RelWrong files vsn path fault
+  rel_of_other : (rel : RelSpec) → StandsAs (IsFile IsRel) files path rel → rel.vsn ≢ chars vsn → fault ≡ File (Shape 2) →
       RelWrong files vsn path fault
 
 -- there is none, or it is wrong
 pub data RelFault (files : Contents) (vsn : List ℕ) (path : List ℕ) (fault : FileFault) : Type 0 where
-  missing : HasNoRel (paths_of files) vsn → path ≡ release_path vsn → fault ≡ Missing → RelFault files vsn path fault
-  wrong : IsRelPath (paths_of files) vsn path → RelWrong files vsn path fault → RelFault files vsn path fault
+  no_rel : HasNoRel (paths_of files) vsn → path ≡ release_path vsn → fault ≡ Missing → RelFault files vsn path fault
+  wrong_rel : IsRelPath (paths_of files) vsn path → RelWrong files vsn path fault → RelFault files vsn path fault
 
 -- The relup
 
 -- it is refused, or it is of another version
 pub data RelupWrong (files : Contents) (vsn : List ℕ) (path : List ℕ) (fault : FileFault) : Type 0 where
-  refused : StandsRefused (IsFileError RelupRefused) files path fault → RelupWrong files vsn path fault
-  other_version : (relup : Upgrades Term Low) → StandsAs (IsFile IsRelup) files path relup → relup.vsn ≢ chars vsn →
+  relup_refused : StandsRefused (IsFileError RelupRefused) files path fault → RelupWrong files vsn path fault
+  relup_of_other : (relup : Upgrades Term Low) → StandsAs (IsFile IsRelup) files path relup → relup.vsn ≢ chars vsn →
       fault ≡ File (Shape 1) → RelupWrong files vsn path fault
 
 pub record RelupFault (files : Contents) (vsn : List ℕ) (path : List ℕ) (fault : FileFault) : Type 0 where
@@ -65,11 +65,11 @@ pub record RelupFault (files : Contents) (vsn : List ℕ) (path : List ℕ) (fau
 
 -- there is none, or it is refused, or it says another name, or this name and another version
 pub data SpecWrong (files : Contents) (app : RelApp) (path : List ℕ) (fault : FileFault) : Type 0 where
-  missing : file_of path files ≡ None → fault ≡ Missing → SpecWrong files app path fault
-  refused : StandsRefused (IsFileError AppRefused) files path fault → SpecWrong files app path fault
-  other_name : (spec : AppSpec) → StandsAs (IsFile IsApp) files path spec → spec.name ≢ app.name → fault ≡ File (Shape 2) →
+  no_spec : file_of path files ≡ None → fault ≡ Missing → SpecWrong files app path fault
+  spec_refused : StandsRefused (IsFileError AppRefused) files path fault → SpecWrong files app path fault
+  spec_of_name : (spec : AppSpec) → StandsAs (IsFile IsApp) files path spec → spec.name ≢ app.name → fault ≡ File (Shape 2) →
       SpecWrong files app path fault
-  other_version : (spec : AppSpec) → StandsAs (IsFile IsApp) files path spec → spec.name ≡ app.name → spec.vsn ≢ app.vsn →
+  spec_of_version : (spec : AppSpec) → StandsAs (IsFile IsApp) files path spec → spec.name ≡ app.name → spec.vsn ≢ app.vsn →
       fault ≡ File (Shape 3) → SpecWrong files app path fault
 
 pub record SpecFault (files : Contents) (app : RelApp) (path : List ℕ) (fault : FileFault) : Type 0 where
@@ -94,14 +94,14 @@ pub record StandsUnread (files : Contents) (path : List ℕ) (fault : FileFault)
 
 -- the source of a module's name: there is none, or it is no module's, or another module's
 pub data ModuleWrong (files : Contents) (name : List ℕ) (path : List ℕ) (fault : FileFault) : Type 0 where
-  missing : file_of path files ≡ None → fault ≡ Missing → ModuleWrong files name path fault
-  unread : StandsUnread files path fault → ModuleWrong files name path fault
-  wrong_module : (m : Forms) → StandsAs IsSource files path m → m.name ≢ name → fault ≡ WrongModule → ModuleWrong files name path fault
+  no_source : file_of path files ≡ None → fault ≡ Missing → ModuleWrong files name path fault
+  no_module : StandsUnread files path fault → ModuleWrong files name path fault
+  other_module : (m : Forms) → StandsAs IsSource files path m → m.name ≢ name → fault ≡ WrongModule → ModuleWrong files name path fault
 
 -- and behind modules of these names: or it is a module's that has one of them
 pub data SourceWrong (files : Contents) (before : List (List ℕ)) (name : List ℕ) (path : List ℕ) (fault : FileFault) : Type 0 where
-  no_module : ModuleWrong files name path fault → SourceWrong files before name path fault
-  duplicate_module : (m : Forms) → StandsAs IsSource files path m → m.name ≡ name → Contains before name →
+  wrong_source : ModuleWrong files name path fault → SourceWrong files before name path fault
+  known_module : (m : Forms) → StandsAs IsSource files path m → m.name ≡ name → Contains before name →
       fault ≡ DuplicateModule → SourceWrong files before name path fault
 
 pub record SourceFault (files : Contents) (app : RelApp) (before : List (List ℕ)) (name : List ℕ) (path : List ℕ) (fault : FileFault) : Type 0 where
@@ -121,9 +121,9 @@ pub record SourcesFault (files : Contents) (app : RelApp) (before : List (List �
 
 -- what stands first against an application, behind modules of these names
 pub data AppFault (files : Contents) (app : RelApp) (before : List (List ℕ)) (path : List ℕ) (fault : FileFault) : Type 0 where
-  spec : SpecFault files app path fault → AppFault files app before path fault
-  appup : (spec : AppSpec) → IsSpecOf files app spec → AppupFault files app path fault → AppFault files app before path fault
-  sources : (spec : AppSpec) → IsSpecOf files app spec → (appup : Option (Upgrades (Unit {0}) Instruction)) →
+  in_spec : SpecFault files app path fault → AppFault files app before path fault
+  in_appup : (spec : AppSpec) → IsSpecOf files app spec → AppupFault files app path fault → AppFault files app before path fault
+  in_sources : (spec : AppSpec) → IsSpecOf files app spec → (appup : Option (Upgrades (Unit {0}) Instruction)) →
       IsAppupOf files app appup → SourcesFault files app before spec.modules path fault → AppFault files app before path fault
 
 -- The release whole
@@ -139,7 +139,7 @@ pub record AppsFault (files : Contents) (apps : List RelApp) (path : List ℕ) (
   pub wrong : AppFault files app (names_of read) path fault
 
 pub data IsFirstFault (files : Contents) (vsn : List ℕ) (path : List ℕ) (fault : FileFault) : Type 0 where
-  rel : RelFault files vsn path fault → IsFirstFault files vsn path fault
-  relup : (rel : RelSpec) → IsRelOf files vsn rel → RelupFault files vsn path fault → IsFirstFault files vsn path fault
-  apps : (rel : RelSpec) → IsRelOf files vsn rel → (relup : Upgrades Term Low) → IsRelupOf files vsn relup →
+  in_rel : RelFault files vsn path fault → IsFirstFault files vsn path fault
+  in_relup : (rel : RelSpec) → IsRelOf files vsn rel → RelupFault files vsn path fault → IsFirstFault files vsn path fault
+  in_apps : (rel : RelSpec) → IsRelOf files vsn rel → (relup : Upgrades Term Low) → IsRelupOf files vsn relup →
       AppsFault files (with_files rel.apps) path fault → IsFirstFault files vsn path fault

@@ -36,7 +36,7 @@ no_scripts vsn = record { vsn = vsn; up = []; down = [] }
 -- its relup says it, and that it is of this version; where there is none, there are no scripts
 pub data IsRelupOf (files : Contents) (vsn : List ℕ) (relup : Upgrades Term Low) : Type 0 where
   written : StandsAs (IsFile IsRelup) files (relup_path vsn) relup → relup.vsn ≡ chars vsn → IsRelupOf files vsn relup
-  missing : file_of (relup_path vsn) files ≡ None → relup ≡ no_scripts (chars vsn) → IsRelupOf files vsn relup
+  absent : file_of (relup_path vsn) files ≡ None → relup ≡ no_scripts (chars vsn) → IsRelupOf files vsn relup
 
 -- An application of its `.rel`
 

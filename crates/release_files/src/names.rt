@@ -42,9 +42,7 @@ impl Names {
             ((Contains self.old name.now → ⊥) × (self.new ≡ self.old ++ name.now ∷ [])) (Contains self.old name.now)) }
     {
         let name = name.copy(alloc)?;
-        match self.set.insert(name) {
-            Ok(is_new) => Ok(is_new),
-            Err(_) => Err(AllocError),
-        }
+        let is_new = self.set.insert(name)?;
+        Ok(is_new)
     }
 }

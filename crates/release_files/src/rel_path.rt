@@ -20,7 +20,7 @@ pub(crate) fn first_rel<'a>(paths: &'a [String], vsn: &str) -> Option<&'a str>
 
 /// The lesser of two paths, where there is another.
 fn lesser<'a>(first: Option<&'a str>, path: &'a str) -> &'a str
-    ensures { MatchOption first (result.now ≡ path.now)
+    ensures { MatchOption first.entry (result.now ≡ path.now)
         (λ other. ((result.now ≡ path.now) × IsBefore path.now other.now) ⊎ ((result.now ≡ other.now) × (IsBefore path.now other.now → ⊥))) }
 {
     match first {
