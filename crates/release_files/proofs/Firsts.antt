@@ -36,7 +36,7 @@ passed paths vsn path (Some found) other first = record {
 abbrev pub IsLesser : Option (Bor (List ℕ)) → List ℕ → List ℕ → Type 0
 IsLesser first path lesser =
     MatchOption first (lesser ≡ path)
-      (λ other. ((lesser ≡ path) × IsBefore path other.now) ⊎ ((lesser ≡ other.now) × (IsBefore path other.now → ⊥)))
+    (λ other. ((lesser ≡ path) × IsBefore path other.now) ⊎ ((lesser ≡ other.now) × (IsBefore path other.now → ⊥)))
 
 first_alone : (paths : List (List ℕ)) (vsn path : List ℕ) → IsRelName vsn path → HasNoRel paths vsn → IsRelPath (paths ++ path ∷ []) vsn path
 first_alone paths vsn path named none = record {

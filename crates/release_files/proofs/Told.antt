@@ -17,9 +17,9 @@ file_told Refused files path text error fault stands read told =
     elim told [
       | inl memory ↦ inl memory
       | inr known ↦ elim read [
-          | inl memory ↦ absurd (known.0 memory)
-          | inr refused ↦ inr (record { text = text; stands = stands; error = error; refused = refused; is = known.1 })
-        ]
+        | inl memory ↦ absurd (known.0 memory)
+        | inr refused ↦ inr (record { text = text; stands = stands; error = error; refused = refused; is = known.1 })
+      ]
     ]
 
 pub source_told : (files : Contents) (path text : List ℕ) (error : LangError) (fault : FileFault) → file_of path files ≡ Some text → Says text error → (error ≡ lang_refused) ⊎ IsNoSource text → (fault ≡ Memory) ⊎ ((error ≢ lang_refused) × (fault ≡ Lang error)) → (fault ≡ Memory) ⊎ StandsUnread files path fault
@@ -27,9 +27,9 @@ source_told files path text error fault stands says read told =
     elim told [
       | inl memory ↦ inl memory
       | inr known ↦ elim read [
-          | inl memory ↦ absurd (known.0 memory)
-          | inr none ↦ inr (record { text = text; stands = stands; error = error; no_source = none; says = says; told = known.0; is = known.1 })
-        ]
+        | inl memory ↦ absurd (known.0 memory)
+        | inr none ↦ inr (record { text = text; stands = stands; error = error; no_source = none; says = says; told = known.0; is = known.1 })
+      ]
     ]
 
 -- a fault that is told at a path
@@ -38,7 +38,7 @@ told_at Wrong path at fault said wrong told =
     elim told [
       | inl memory ↦ inl memory
       | inr same ↦ elim wrong [
-          | inl memory ↦ inl (same.1 ∙ memory)
-          | inr is ↦ inr (subst (λ p. Wrong p said) (sym same.0) (subst (Wrong path) (sym same.1) is))
-        ]
+        | inl memory ↦ inl (same.1 ∙ memory)
+        | inr is ↦ inr (subst (λ p. Wrong p said) (sym same.0) (subst (Wrong path) (sym same.1) is))
+      ]
     ]

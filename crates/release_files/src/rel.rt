@@ -25,9 +25,18 @@ pub(crate) fn rel_of(alloc: Global, files: &Files, vsn: &str) -> Result<RelSpec,
     ensures { MatchResult result (λ rel. IsRelOf files.now vsn.now rel)
         (λ f. (f.fault ≡ refused) ⊎ RelFault files.now vsn.now (string_bytes f.path) f.fault) }
 {
-    let Some(path) = first_rel(files.paths(), vsn) else {
-        return Err(missing_rel(alloc, vsn));
-    };
+    match first_rel(files.paths(), vsn) {
+        Some(path) => rel_told(alloc, files, path, vsn),
+        None => Err(missing_rel(alloc, vsn)),
+    }
+}
+
+/// Reads a `.rel` that stands at a path, which is told of a fault.
+fn rel_told(alloc: Global, files: &Files, path: &str, vsn: &str) -> Result<RelSpec, ReleaseFault>
+    requires { Contains (paths_of files.now) path.now }
+    ensures { MatchResult result (λ rel. StandsAs (IsFile IsRel) files.now path.now rel × (rel.vsn ≡ chars vsn.now))
+        (λ f. (f.fault ≡ refused) ⊎ ((string_bytes f.path ≡ path.now) × RelWrong files.now vsn.now path.now f.fault)) }
+{
     match rel_at(alloc, files, path, vsn) {
         Ok(rel) => Ok(rel),
         Err(fault) => Err(fault_at(alloc, path, fault)),
