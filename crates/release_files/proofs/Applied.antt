@@ -1,13 +1,14 @@
 -- The applications of a release, as they come.
-use Rattle.std.proofs.Common.{◌≡◌, ℕ, ◌+◌, ◌<◌, Bool, true, false, List, [], ◌∷◌, ◌++◌, Option, length, get_or, take, drop, refl, sym, ap, ◌∙◌, subst}
+use Rattle.std.proofs.Common.{◌≡◌, ◌⊎◌, ℕ, ◌+◌, ◌<◌, ◌≤◌, Bool, true, false, List, [], ◌∷◌, ◌++◌, Option, length, get_or, take, drop, inl, inr, refl, sym, ap, ◌∙◌, subst}
 use Rattle.std.specs.Prelude.{cond, not, filter}
 use Rattle.std.specs.List.{AllZip, flat_map}
-use Rattle.std.proofs.lemmas.List.{append-nil}
+use Rattle.std.proofs.lemmas.List.{append-nil, take_all}
 use Rattle.std.proofs.lemmas.List.Concat.{flat_map-append}
 use Rattle.std.proofs.lemmas.List.Elements.{filter-append}
 use Rattle.otp_files.specs.declared.applications.RelApp.{RelApp}
 use Rattle.release_table.specs.declared.table.AppFiles.{AppFiles}
 use Rattle.release_files.specs.declared.fault.FileFault.{FileFault}
+use Rattle.release_files.specs.declared.fault.FileFault.TheVariants.{Memory}
 use Rattle.release_files.specs.Faults.{AppFault, AppsFault}
 use Rattle.release_files.specs.Files.{Contents}
 use Rattle.release_files.specs.Releases.{AreAppsOf, AreDistinct, AreFilesOf, is_built_in, module_names, names_of, with_files}
@@ -40,7 +41,7 @@ none_read files = record { are = record { each = tt; distinct = none_distinct };
 pub app_skipped : (files : Contents) (apps : List RelApp) (seen : List (List ℕ)) (read : List AppFiles) (i : ℕ) (app : RelApp) → i < length apps → app ≡ get_or apps i app → is_built_in app ≡ true → AreReadSoFar files (take i apps) seen read → AreReadSoFar files (take (i + 1) apps) seen read
 app_skipped files apps seen read i app below is built_in so_far =
     let next = ap with_files (front_more apps i app below is) ∙ built_in_front (take i apps) app built_in in
-    record { are = subst (λ as'. AreAppsOf files as' read) (sym next) so_far.are; seen_are = so_far.seen_are }
+    record { are = subst (λ some. AreAppsOf files some read) (sym next) so_far.are; seen_are = so_far.seen_are }
 
 pub app_more : (files : Contents) (apps : List RelApp) (seen new : List (List ℕ)) (read : List AppFiles) (i : ℕ) (app : RelApp) (found : AppFiles) → i < length apps → app ≡ get_or apps i app → is_built_in app ≡ false → AreReadSoFar files (take i apps) seen read → AreFilesOf files app found → new ≡ seen ++ module_names found.modules → AreDistinct new → AreReadSoFar files (take (i + 1) apps) new (read ++ found ∷ [])
 app_more files apps seen new read i app found below is other so_far here more distinct =
@@ -48,7 +49,7 @@ app_more files apps seen new read i app found below is other so_far here more di
     let all = more ∙ ap (λ ns. ns ++ module_names found.modules) so_far.seen_are ∙ sym (names_more read found) in
     let each = zip_more (AreFilesOf files) (with_files (take i apps)) read app found so_far.are.each here in
     record {
-      are = subst (λ as'. AreAppsOf files as' (read ++ found ∷ [])) (sym next) (record { each = each; distinct = subst AreDistinct all distinct });
+      are = subst (λ some. AreAppsOf files some (read ++ found ∷ [])) (sym next) (record { each = each; distinct = subst AreDistinct all distinct });
       seen_are = all;
     }
 
@@ -62,3 +63,25 @@ app_wrong files apps seen read i app path fault below is other so_far wrong = re
   fine = so_far.are;
   wrong = subst (λ ns. AppFault files app ns path fault) so_far.seen_are wrong;
 }
+
+-- an application that is put behind what was read
+pub app_turn : (files : Contents) (apps : List RelApp) (seen new : List (List ℕ)) (read pushed : List AppFiles) (i : ℕ) (app : RelApp) (found : AppFiles) → i < length apps → app ≡ get_or apps i app → is_built_in app ≡ false → AreReadSoFar files (take i apps) seen read → AreFilesOf files app found → new ≡ seen ++ module_names found.modules → AreDistinct new → pushed ≡ read ++ found ∷ [] → AreReadSoFar files (take (i + 1) apps) new pushed
+app_turn files apps seen new read pushed i app found below is other so_far here more distinct all =
+    subst (λ rs. AreReadSoFar files (take (i + 1) apps) new rs) (sym all) (app_more files apps seen new read i app found below is other so_far here more distinct)
+
+pub apps_begin : (files : Contents) (seen : List (List ℕ)) (read : List AppFiles) → seen ≡ [] → read ≡ [] → AreReadSoFar files [] seen read
+apps_begin files seen read none unread =
+    subst (λ rs. AreReadSoFar files [] seen rs) (sym unread) (subst (λ ns. AreReadSoFar files [] ns []) (sym none) (none_read files))
+
+pub seen_distinct : (files : Contents) (apps : List RelApp) (seen : List (List ℕ)) (read : List AppFiles) → AreReadSoFar files apps seen read → AreDistinct seen
+seen_distinct files apps seen read so_far = subst AreDistinct (sym so_far.seen_are) so_far.are.distinct
+
+pub apps_end : (files : Contents) (apps : List RelApp) (seen : List (List ℕ)) (read : List AppFiles) (i : ℕ) → length apps ≤ i → AreReadSoFar files (take i apps) seen read → AreAppsOf files (with_files apps) read
+apps_end files apps seen read i over so_far = subst (λ some. AreAppsOf files (with_files some) read) (take_all i apps over) so_far.are
+
+pub apps_wrong : (files : Contents) (apps : List RelApp) (seen : List (List ℕ)) (read : List AppFiles) (i : ℕ) (app : RelApp) (path : List ℕ) (fault : FileFault) → i < length apps → app ≡ get_or apps i app → is_built_in app ≡ false → AreReadSoFar files (take i apps) seen read → (fault ≡ Memory) ⊎ AppFault files app seen path fault → (fault ≡ Memory) ⊎ AppsFault files (with_files apps) path fault
+apps_wrong files apps seen read i app path fault below is other so_far told =
+    elim told [
+      | inl memory ↦ inl memory
+      | inr wrong ↦ inr (app_wrong files apps seen read i app path fault below is other so_far wrong)
+    ]

@@ -1,11 +1,12 @@
 -- The first path of a `.rel`, as paths come.
-use Rattle.std.proofs.Common.{◌≡◌, ◌⊎◌, ℕ, List, [], ◌∷◌, ◌++◌, Option, None, Some, Bor, Contains, inl, inr, refl, ◌<◌, arith, sym, ap, ◌∙◌, subst}
+use Rattle.std.proofs.Common.{◌≡◌, ◌⊎◌, ℕ, ◌+◌, ◌≤◌, List, length, get_or, take, map, string_bytes, String, Global, [], ◌∷◌, ◌++◌, Option, None, Some, Bor, Contains, inl, inr, refl, ◌<◌, arith, sym, ap, ◌∙◌, subst}
 use Rattle.std.specs.Prelude.{MatchOption}
 use Rattle.std.specs.Cmp.Lexicographic.{slice_cmp, nat_list_cmp_total}
 use Rattle.std.specs.Ordering.{nat_cmp}
 use Rattle.std.specs.declared.cmp.Ordering.TheVariants.{Less, Equal}
 use Rattle.std.proofs.lemmas.Cmp.{tied_itself}
 use Rattle.std.proofs.lemmas.List.Elements.{Contains-append_left, Contains-push, Contains-push_cases}
+use Rattle.std.proofs.lemmas.List.{map-append, take_all, take_more}
 use Rattle.release_files.specs.Paths.{HasNoRel, IsBefore, IsRelName, IsRelPath}
 
 -- the first of these, if there is one
@@ -86,3 +87,23 @@ none_yet vsn = λ path stands named. absurd (no_place stands.0 stands.1)
   where
     no_place : (k : ℕ) → k < 0 → ⊥
     no_place k below = absurd (omega arith)
+
+-- Paths as texts that a program holds
+
+abbrev bytes_of : List (String Global) → List (List ℕ)
+bytes_of paths = map (λ path. string_bytes path) paths
+
+one_more : (paths : List (String Global)) (i : ℕ) (path : String Global) → i < length paths → path ≡ get_or paths i path → bytes_of (take (i + 1) paths) ≡ bytes_of (take i paths) ++ string_bytes path ∷ []
+one_more paths i path below is =
+    ap bytes_of (take_more paths i path below ∙ ap (λ p. take i paths ++ p ∷ []) (sym is)) ∙ map-append (λ p. string_bytes p) (take i paths) (path ∷ [])
+
+pub turn_passed : (paths : List (String Global)) (vsn : List ℕ) (i : ℕ) (path : String Global) (first : Option (Bor (List ℕ))) → i < length paths → path ≡ get_or paths i path → (IsRelName vsn (string_bytes path) → ⊥) → IsFirstOf (bytes_of (take i paths)) vsn first → IsFirstOf (bytes_of (take (i + 1) paths)) vsn first
+turn_passed paths vsn i path first below is other so_far =
+    subst (λ ps. IsFirstOf ps vsn first) (sym (one_more paths i path below is)) (passed (bytes_of (take i paths)) vsn (string_bytes path) first other so_far)
+
+pub turn_taken : (paths : List (String Global)) (vsn : List ℕ) (i : ℕ) (path : String Global) (first : Option (Bor (List ℕ))) (lesser : Bor (List ℕ)) → i < length paths → path ≡ get_or paths i path → IsRelName vsn (string_bytes path) → IsLesser first (string_bytes path) lesser.now → IsFirstOf (bytes_of (take i paths)) vsn first → IsFirstOf (bytes_of (take (i + 1) paths)) vsn (Some lesser)
+turn_taken paths vsn i path first lesser below is named least so_far =
+    subst (λ ps. IsRelPath ps vsn lesser.now) (sym (one_more paths i path below is)) (taken (bytes_of (take i paths)) vsn (string_bytes path) first lesser.now named least so_far)
+
+pub turns_end : (paths : List (String Global)) (vsn : List ℕ) (i : ℕ) (first : Option (Bor (List ℕ))) → length paths ≤ i → IsFirstOf (bytes_of (take i paths)) vsn first → IsFirstOf (bytes_of paths) vsn first
+turns_end paths vsn i first over so_far = subst (λ ps. IsFirstOf (bytes_of ps) vsn first) (take_all i paths over) so_far

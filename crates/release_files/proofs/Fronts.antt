@@ -8,8 +8,8 @@ use Rattle.std.proofs.lemmas.Slice.Eq.{bytes_eq-Decides}
 use Rattle.std.proofs.Math.Seq.{take-append_seam}
 use Rattle.release_files.specs.Paths.{IsRelName, rel_path}
 
-false_not : (b : Bool) → b ≡ false → b ≡ true → ⊥
-false_not b no yes = let impossible : ⊥ = cc in impossible
+pub false_not : (b : Bool) → b ≡ false → b ≡ true → ⊥
+false_not b told other = let impossible : ⊥ = cc in impossible
 
 -- Bytes
 
@@ -93,3 +93,7 @@ behind_told bytes front (Some rest) found = behind_is bytes front rest.now found
 pub in_front_told : (bytes ending : List ℕ) (found : Option (Bor (List ℕ))) → MatchOption found (bytes_eq (drop (length bytes - length ending) bytes) ending ≡ false) (λ rest. (bytes_eq (drop (length bytes - length ending) bytes) ending ≡ true) × (rest.now ≡ take (length bytes - length ending) bytes) × (length rest.now + length ending ≡ length bytes)) → MatchOption found ((rest : List ℕ) → bytes ≡ rest ++ ending → ⊥) (λ rest. bytes ≡ rest.now ++ ending)
 in_front_told bytes ending None other = not_in_front bytes ending other
 in_front_told bytes ending (Some rest) found = in_front_is bytes ending rest.now found.0 found.1
+
+pub name_told : (path vsn first second third : List ℕ) (found : Option (Bor (List ℕ))) → path ≡ codes "releases/" ++ first → first ≡ vsn ++ second → second ≡ codes "/" ++ third → MatchOption found ((rest : List ℕ) → third ≡ rest ++ codes ".rel" → ⊥) (λ rest. third ≡ rest.now ++ codes ".rel") → MatchOption found ((name : List ℕ) → path ≡ rel_path vsn name → ⊥) (λ name. path ≡ rel_path vsn name.now)
+name_told path vsn first second third None a b c none = no_fourth path vsn first second third a b c none
+name_told path vsn first second third (Some name) a b c is = path_is path vsn name.now first second third a b c is

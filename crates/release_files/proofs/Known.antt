@@ -13,7 +13,7 @@ stands : (names : List (List ℕ)) (name : List ℕ) → list_any (bytes_eq name
 stands names name told =
     let at = Any-from_list_any (bytes_eq name) names told in
     let same : name ≡ at.1 = (bytes_eq-Decides name at.1).0 at.4 in
-    subst (Contains names) (sym same) (at.0, (at.2, at.3))
+    subst (Contains names) (sym same) (at.0, at.2, at.3)
 
 told : (names : List (List ℕ)) (name : List ℕ) → Contains names name → list_any (bytes_eq name) names ≡ true
 told names name is = list_any_at (bytes_eq name) names is.0 name is.1 ((bytes_eq-Decides name _).1 (sym is.2))

@@ -3,6 +3,8 @@ pub mod Either
 pub mod Firsts
 pub mod Fronts
 pub mod Held
+pub mod Judged
 pub mod Known
 pub mod Sourced
 pub mod Told
+pub mod Whole

@@ -1,10 +1,11 @@
 -- The sources of an application, as its names come.
-use Rattle.std.proofs.Common.{◌≡◌, ℕ, ◌+◌, ◌<◌, List, [], ◌∷◌, ◌++◌, length, get_or, take, drop, Contains, refl, sym, ap, ◌∙◌, subst}
+use Rattle.std.proofs.Common.{◌≡◌, ◌⊎◌, ℕ, ◌+◌, ◌<◌, ◌≤◌, List, [], ◌∷◌, ◌++◌, length, get_or, take, drop, Contains, inl, inr, refl, sym, ap, ◌∙◌, subst}
 use Rattle.std.specs.List.{AllZip}
-use Rattle.std.proofs.lemmas.List.{append_assoc, append-nil, drop_more, take-append-drop, take_more}
+use Rattle.std.proofs.lemmas.List.{append_assoc, append-nil, drop_more, take-append-drop, take_all, take_more}
 use Rattle.erl_forms.specs.Module.{Forms}
 use Rattle.otp_files.specs.declared.applications.RelApp.{RelApp}
 use Rattle.release_files.specs.declared.fault.FileFault.{FileFault}
+use Rattle.release_files.specs.declared.fault.FileFault.TheVariants.{Memory}
 use Rattle.release_files.specs.Faults.{SourceFault, SourcesFault}
 use Rattle.release_files.specs.Files.{Contents}
 use Rattle.release_files.specs.Releases.{AreDistinct, IsModuleOf, module_names}
@@ -60,3 +61,24 @@ source_wrong files app before names seen modules i name path fault below is so_f
   distinct = subst AreDistinct so_far.seen_are so_far.distinct;
   wrong = subst (λ ns. SourceFault files app ns name path fault) so_far.seen_are wrong;
 }
+
+-- an item that is put behind what was read
+pub source_turn : (files : Contents) (app : RelApp) (before names seen new : List (List ℕ)) (modules pushed : List Forms) (i : ℕ) (name : List ℕ) (m : Forms) → i < length names → name ≡ get_or names i name → AreSoFar files app before (take i names) seen modules → IsModuleOf files app name m → (Contains seen name → ⊥) → new ≡ seen ++ name ∷ [] → pushed ≡ modules ++ m ∷ [] → AreSoFar files app before (take (i + 1) names) new pushed
+source_turn files app before names seen new modules pushed i name m below is so_far here other more all =
+    subst (λ ms. AreSoFar files app before (take (i + 1) names) new ms) (sym all) (source_more files app before names seen new modules i name m below is so_far here other more)
+
+pub sources_begin : (files : Contents) (app : RelApp) (before : List (List ℕ)) (modules : List Forms) → AreDistinct before → modules ≡ [] → AreSoFar files app before [] before modules
+sources_begin files app before modules distinct none =
+    subst (λ ms. AreSoFar files app before [] before ms) (sym none) (none_so_far files app before distinct)
+
+pub sources_end : (files : Contents) (app : RelApp) (before names seen : List (List ℕ)) (modules : List Forms) (i : ℕ) → length names ≤ i → AreSoFar files app before (take i names) seen modules → AllZip (IsModuleOf files app) names modules × (seen ≡ before ++ names) × AreDistinct seen
+sources_end files app before names seen modules i over so_far =
+    let all = take_all i names over in
+    (subst (λ ns. AllZip (IsModuleOf files app) ns modules) all so_far.fine, so_far.seen_are ∙ ap (λ ns. before ++ ns) all, so_far.distinct)
+
+pub sources_wrong : (files : Contents) (app : RelApp) (before names seen : List (List ℕ)) (modules : List Forms) (i : ℕ) (name path : List ℕ) (fault : FileFault) → i < length names → name ≡ get_or names i name → AreSoFar files app before (take i names) seen modules → (fault ≡ Memory) ⊎ SourceFault files app seen name path fault → (fault ≡ Memory) ⊎ SourcesFault files app before names path fault
+sources_wrong files app before names seen modules i name path fault below is so_far told =
+    elim told [
+      | inl memory ↦ inl memory
+      | inr wrong ↦ inr (source_wrong files app before names seen modules i name path fault below is so_far wrong)
+    ]

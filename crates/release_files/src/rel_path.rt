@@ -43,10 +43,10 @@ fn is_rel_name(path: &[u8], vsn: &[u8]) -> bool
 fn rel_name<'a>(path: &'a [u8], vsn: &[u8]) -> Option<&'a [u8]>
     ensures { MatchOption result ((name : _) → path.now ≡ rel_path vsn.now name → ⊥) (λ name. path.now ≡ rel_path vsn.now name.now) }
 {
-    let rest = behind(path, b"releases/")?;
-    let rest = behind(rest, vsn)?;
-    let rest = behind(rest, b"/")?;
-    in_front(rest, b".rel")
+    let versioned = behind(path, b"releases/")?;
+    let rest = behind(versioned, vsn)?;
+    let file = behind(rest, b"/")?;
+    in_front(file, b".rel")
 }
 
 /// What stands behind these bytes.
