@@ -1,5 +1,5 @@
 -- Files in a map, by their paths' bytes.
-use Rattle.std.proofs.Common.{◌≡◌, ℕ, List, [], ◌∷◌, Contains, Option, None, Some, cond, map, refl, sym, ap, ◌∙◌, subst, string_bytes, String, Global}
+use Rattle.std.proofs.Common.{◌≡◌, ℕ, List, [], ◌∷◌, Contains, None, Some, cond, map, refl, sym, ap, subst, string_bytes, String, Global}
 use Rattle.std.specs.Cmp.Lexicographic.{nat_list_eq_equiv}
 use Rattle.std.specs.Map.{keys_of, lookup}
 use Rattle.std.specs.Option.{IsSome}

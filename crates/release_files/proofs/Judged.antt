@@ -1,5 +1,5 @@
 -- What is wrong with a file, by what is found at its path.
-use Rattle.std.proofs.Common.{◌≡◌, ◌⊎◌, ℕ, List, [], ◌∷◌, ◌++◌, Option, None, Some, Result, Ok, Err, Contains, inl, inr, refl, sym, ap, ◌∙◌, subst, string_bytes}
+use Rattle.std.proofs.Common.{◌≡◌, ◌⊎◌, ℕ, List, None, Some, Result, Ok, Err, Contains, inl, inr, sym, ap, ◌∙◌, subst, string_bytes}
 use Rattle.std.specs.Prelude.{◌≢◌, MatchResult}
 use Rattle.std.specs.Str.{chars}
 use Rattle.erl_forms.specs.Module.{Forms}
@@ -19,10 +19,10 @@ use Rattle.otp_files.specs.Rels.{IsRel, RelRefused}
 use Rattle.otp_files.specs.Texts.{IsAppupError, IsFile, IsFileError}
 use Rattle.otp_files.specs.Upgrades.{AppupRefused, IsRelup, RelupRefused}
 use Rattle.release_files.specs.declared.fault.FileFault.{FileFault}
-use Rattle.release_files.specs.declared.fault.FileFault.TheVariants.{DuplicateModule, File, Lang, Memory, Missing}
+use Rattle.release_files.specs.declared.fault.FileFault.TheVariants.{File, Lang, Memory, Missing}
 use Rattle.release_files.specs.declared.fault.ReleaseFault.{ReleaseFault}
 use Rattle.release_files.specs.Faults.{AppupFault, ModuleWrong, RelFault, RelWrong, RelupFault, RelupWrong, SourceFault, SourceWrong, SpecFault, SpecWrong}
-use Rattle.release_files.specs.Faults.{known_module, no_module, no_rel, rel_refused, relup_refused, spec_refused, wrong_rel, wrong_source}
+use Rattle.release_files.specs.Faults.{no_module, no_rel, rel_refused, relup_refused, spec_refused, wrong_rel, wrong_source}
 use Rattle.release_files.specs.Files.{Contents, StandsAs, file_of, paths_of}
 use Rattle.release_files.specs.Paths.{HasNoRel, IsRelPath, app_path, appup_path, release_path, relup_path, source_path}
 use Rattle.release_files.specs.Releases.{IsModuleOf, IsRelOf, IsRelupOf, absent, no_scripts, written}

@@ -1,5 +1,4 @@
 pub mod Applied
-pub mod Either
 pub mod Firsts
 pub mod Fronts
 pub mod Held

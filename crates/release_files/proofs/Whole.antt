@@ -1,5 +1,5 @@
 -- What is wrong with an application, and with a release, by its parts in the order of reading.
-use Rattle.std.proofs.Common.{◌≡◌, ◌⊎◌, ℕ, List, ◌++◌, Option, Result, Ok, Err, IsErr, inl, inr, sym, ap, ◌∙◌, subst, string_bytes}
+use Rattle.std.proofs.Common.{◌≡◌, ◌⊎◌, ℕ, List, ◌++◌, Option, Result, Ok, Err, IsErr, inl, inr, sym, ap, ◌∙◌, subst}
 use Rattle.std.specs.Prelude.{MatchResult}
 use Rattle.std.specs.List.{AllZip}
 use Rattle.std.specs.Result.{IsErrAnd}
@@ -17,7 +17,6 @@ use Rattle.release_files.specs.Faults.{AppFault, AppsFault, AppupFault, IsFirstF
 use Rattle.release_files.specs.Faults.{in_appup, in_apps, in_rel, in_relup, in_sources, in_spec}
 use Rattle.release_files.specs.Files.{Contents}
 use Rattle.release_files.specs.Releases.{AreDistinct, AreFilesOf, IsAppupOf, IsModuleOf, IsRelOf, IsRelupOf, IsSpecOf, module_names, with_files}
-use Rattle.release_table.specs.declared.table.AppFiles.{AppFiles}
 use Rattle.release_files.proofs.Sourced.{names_are}
 
 -- an error that is passed on

@@ -20,12 +20,12 @@ loop-path-preserved c =
     let bytes = c.as_bytes.ensures.value ∙ c.as_str.ensures.value in
     elim c.if-is_rel_name.branch [
       | then-is_rel_name w ↦
-        let named = subst (λ (t : List ℕ). IsRelName vsn t) bytes (subst (λ (v : List ℕ). IsRelName v c.as_bytes.result.now) c.as_bytes-in-loop-path.ensures.value (c.is_rel_name.ensures.0 w.if-is_rel_name.true)) in
-        let lesser = subst (λ (t : List ℕ). IsLesser first t w.lesser.result.now) w.as_str-then-is_rel_name.ensures.value w.lesser.ensures in
-        subst (λ f. IsFirstOf behind vsn f) (sym w.first-is) (turn_taken paths vsn i path first w.lesser.result c.loop-path-test.true c.path-item.is named lesser c.loop-path.invariant)
+          let named = subst (λ (t : List ℕ). IsRelName vsn t) bytes (subst (λ (v : List ℕ). IsRelName v c.as_bytes.result.now) c.as_bytes-in-loop-path.ensures.value (c.is_rel_name.ensures.0 w.if-is_rel_name.true)) in
+          let lesser = subst (λ (t : List ℕ). IsLesser first t w.lesser.result.now) w.as_str-then-is_rel_name.ensures.value w.lesser.ensures in
+          subst (λ f. IsFirstOf behind vsn f) (sym w.first-is) (turn_taken paths vsn i path first w.lesser.result c.loop-path-test.true c.path-item.is named lesser c.loop-path.invariant)
       | else-is_rel_name w ↦
-        let other = λ (named : IsRelName vsn (string_bytes path)). false_not c.is_rel_name.result w.if-is_rel_name.false (c.is_rel_name.ensures.1 (subst (λ (v : List ℕ). IsRelName v c.as_bytes.result.now) (sym c.as_bytes-in-loop-path.ensures.value) (subst (λ (t : List ℕ). IsRelName vsn t) (sym bytes) named))) in
-        subst (λ f. IsFirstOf behind vsn f) (sym w.first-is) (turn_passed paths vsn i path first c.loop-path-test.true c.path-item.is other c.loop-path.invariant)
+          let other = λ (named : IsRelName vsn (string_bytes path)). false_not c.is_rel_name.result w.if-is_rel_name.false (c.is_rel_name.ensures.1 (subst (λ (v : List ℕ). IsRelName v c.as_bytes.result.now) (sym c.as_bytes-in-loop-path.ensures.value) (subst (λ (t : List ℕ). IsRelName vsn t) (sym bytes) named))) in
+          subst (λ f. IsFirstOf behind vsn f) (sym w.first-is) (turn_passed paths vsn i path first c.loop-path-test.true c.path-item.is other c.loop-path.invariant)
     ]
 
 pub returns : goal.returns

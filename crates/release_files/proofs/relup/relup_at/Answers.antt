@@ -1,5 +1,5 @@
 -- By what is read there, and its version.
-use Rattle.std.proofs.Common.{◌≡◌, inr, refl}
+use Rattle.std.proofs.Common.{inr, refl}
 use Rattle.release_files.specs.Faults.{relup_of_other}
 use Rattle.release_files.proofs.Fronts.{false_not}
 use Rattle.release_files.proofs.Judged.{relup_judged}

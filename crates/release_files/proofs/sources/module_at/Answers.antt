@@ -1,5 +1,5 @@
 -- By what is read there, and its name.
-use Rattle.std.proofs.Common.{◌≡◌, inr, refl, sym, ap, ◌∙◌}
+use Rattle.std.proofs.Common.{inr, refl, sym, ◌∙◌}
 use Rattle.release_files.specs.Faults.{no_source, other_module}
 use Rattle.release_files.proofs.Fronts.{false_not}
 use Rattle.release_files.proofs.Judged.{module_judged}

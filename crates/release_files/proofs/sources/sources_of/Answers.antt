@@ -1,5 +1,5 @@
 -- By the sources so far.
-use Rattle.std.proofs.Common.{string_bytes, ◌∙◌}
+use Rattle.std.proofs.Common.{string_bytes}
 use Rattle.release_files.proofs.Sourced.{source_turn, sources_begin, sources_end, sources_wrong}
 use Rattle.release_files.proofs.Whole.{passed}
 use Rattle.release_files.proofs.sources.sources_of.Goals as goal

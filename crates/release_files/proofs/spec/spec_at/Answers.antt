@@ -1,5 +1,5 @@
 -- By what is read there, its name and its version.
-use Rattle.std.proofs.Common.{◌≡◌, inr, refl}
+use Rattle.std.proofs.Common.{inr, refl}
 use Rattle.release_files.specs.Faults.{no_spec, spec_of_name, spec_of_version}
 use Rattle.release_files.proofs.Fronts.{false_not}
 use Rattle.release_files.proofs.Judged.{spec_judged}
