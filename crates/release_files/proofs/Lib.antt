@@ -1,0 +1,9 @@
+pub mod Applied
+pub mod Firsts
+pub mod Fronts
+pub mod Held
+pub mod Judged
+pub mod Known
+pub mod Sourced
+pub mod Told
+pub mod Whole

@@ -1,0 +1,4 @@
+pub mod Faults
+pub mod Files
+pub mod Paths
+pub mod Releases
