@@ -1,8 +1,9 @@
-//! A table of processes as it is written in plain Rust, for figures to compare with: the processes in a `BTreeMap` by pid, names and
-//! open calls in hash maps, mailboxes in `VecDeque`s, and a step's undo in an enum. Terms, places and instances share.
+//! A table of processes as it is written in plain Rust, for figures to compare with: the processes in a `BTreeMap` by pid, names
+//! and open calls in hash maps, mailboxes in `VecDeque`s, and a step's undo in an enum. Terms, places and instances share.
 //!
-//! `plain_table MEASURE PROCESSES SIZE TURNS` does as `main.rattle` does, by the same steps with the same refusals. What the callbacks
-//! do is written by hand: a counter that counts one on and replies. Build it by `rustc -O --edition 2021 bench/processes/plain_table.rs`.
+//! `plain_table MEASURE PROCESSES SIZE TURNS` does as `main.rattle` does, by the same steps with the same refusals. What the
+//! callbacks do is written by hand: a counter that counts one on and replies.
+//! Build it by `rustc -O --edition 2021 bench/processes/plain_table.rs`.
 
 use std::collections::{BTreeMap, BTreeSet, HashMap, VecDeque};
 use std::env;
@@ -18,6 +19,16 @@ enum Term {
     Atom(Atom),
     Pid(u64),
     Tuple(Arc<Vec<Term>>),
+}
+
+impl Term {
+    /// The elements of a tuple.
+    fn items(&self) -> &[Term] {
+        match self {
+            Term::Tuple(items) => items,
+            _ => &[],
+        }
+    }
 }
 
 /// The code of a module: here only which messages a process takes that rests in it.
@@ -46,7 +57,6 @@ enum Place {
     Loop { module: Atom, serial: u64, function: Atom, args: Arc<Vec<Term>> },
 }
 
-#[derive(Clone)]
 struct Running {
     entry_serial: u64,
     message: Term,
@@ -101,10 +111,7 @@ struct Answer {
 }
 
 /// What arrives from outside.
-enum Body {
-    Call { number: u64, term: Term },
-    Cast(Term),
-}
+enum Body { Call { number: u64, term: Term }, Cast(Term) }
 
 /// What a client is told of its call: a reply, or why the process is down.
 #[allow(dead_code)]
@@ -113,70 +120,40 @@ enum Told {
     Down(Term),
 }
 
-#[allow(dead_code)]
 struct Reply {
     call: Call,
     told: Told,
 }
 
 #[derive(Debug)]
-enum Refusal {
-    NoProc,
-    Suspended,
-    Running,
-    Idle,
-    Stale,
-    NameTaken,
-    DuplicateCall,
-    CounterEnd,
-}
+enum Refusal { NoProc, Suspended, Running, Idle, Stale, NameTaken, DuplicateCall, CounterEnd }
 
 /// What takes a step back.
 enum Undo {
     Arrived { pid: u64, call: Option<Call> },
     Taken { pid: u64, position: usize },
-    Rested { pid: u64, ran: Ran, closed: Vec<(u64, Call)> },
+    Rested { pid: u64, place: Place, rests_in: Option<Instance>, running: Running, closed: Vec<(u64, Call)> },
     Ended { pid: u64, process: Process },
     Killed(Vec<(u64, Process)>),
 }
 
-/// What a job leaves behind when its process rests again.
-struct Ran {
-    place: Place,
-    rests_in: Option<Instance>,
-    running: Running,
-}
-
-/// Whether a process takes a message at a place.
-fn takes(rests_in: &Option<Instance>, message: &Term) -> bool {
-    rests_in.as_ref().is_none_or(|instance| (instance.module.takes)(message))
-}
-
 impl Process {
-    fn first(rests_in: &Option<Instance>, mailbox: &VecDeque<Term>) -> Option<usize> {
-        mailbox.iter().position(|message| takes(rests_in, message))
+    /// Whether it takes a message where it rests.
+    fn takes(&self, message: &Term) -> bool {
+        self.rests_in.as_ref().is_none_or(|instance| (instance.module.takes)(message))
     }
 
     fn deliver(&mut self, message: Term) {
         let waits = !matches!(self.activity, Activity::Runs(_)) && self.next.is_none();
-        if waits && takes(&self.rests_in, &message) {
+        if waits && self.takes(&message) {
             self.next = Some(self.mailbox.len());
         }
         self.mailbox.push_back(message);
     }
 
-    fn undeliver(&mut self) {
-        self.mailbox.pop_back();
-        if self.next == Some(self.mailbox.len()) {
-            self.next = None;
-        }
-    }
-
     /// Whether it runs this job: equal by value, code included.
     fn runs(&self, pid: u64, job: &Job) -> bool {
-        let Activity::Runs(running) = &self.activity else {
-            return false;
-        };
+        let Activity::Runs(running) = &self.activity else { return false };
         pid == job.pid
             && self.turn == job.turn
             && running.entry_serial == job.entry_serial
@@ -191,11 +168,6 @@ impl Process {
             Activity::Idle | Activity::Suspended => self.rests_in.as_ref().is_some_and(|it| it.serial == serial),
         }
     }
-
-    /// What clients are told where it ends for a reason.
-    fn downs<'a>(&'a self, reason: &'a Term) -> impl Iterator<Item = Reply> + 'a {
-        self.calls.iter().map(|call| Reply { call: *call, told: Told::Down(reason.clone()) })
-    }
 }
 
 #[derive(Default)]
@@ -209,7 +181,7 @@ struct Processes {
 
 impl Processes {
     fn start(&mut self, name: Option<Atom>, place: Place, code: &[Instance]) -> Result<u64, Refusal> {
-        if name.as_ref().is_some_and(|name| self.names.contains_key(name)) {
+        if name.as_ref().is_some_and(|it| self.names.contains_key(it)) {
             return Err(Refusal::NameTaken);
         }
         let pid = self.next_pid.checked_add(1).ok_or(Refusal::CounterEnd)?;
@@ -270,10 +242,8 @@ impl Processes {
         process.turn = process.turn.checked_add(1).ok_or(Refusal::CounterEnd)?;
         let place = mem::replace(&mut process.place, rests.clone());
         let rests_in = mem::replace(&mut process.rests_in, rests_in(rests, &job.code));
-        let Activity::Runs(running) = mem::replace(&mut process.activity, Activity::Idle) else {
-            return Err(Refusal::Stale);
-        };
-        process.next = Process::first(&process.rests_in, &process.mailbox);
+        let Activity::Runs(running) = mem::replace(&mut process.activity, Activity::Idle) else { return Err(Refusal::Stale) };
+        process.next = process.mailbox.iter().position(|message| process.takes(message));
         let (mut replies, mut closed) = (Vec::new(), Vec::new());
         for Answer { number, term } in answers {
             if let Some((pid, client)) = self.open.remove(number) {
@@ -283,8 +253,7 @@ impl Processes {
                 replies.push(Reply { call, told: Told::Reply(term.clone()) });
             }
         }
-        let ran = Ran { place, rests_in, running };
-        Ok((replies, Undo::Rested { pid: job.pid, ran, closed }))
+        Ok((replies, Undo::Rested { pid: job.pid, place, rests_in, running, closed }))
     }
 
     /// Takes a process out, with its name and its open calls.
@@ -318,7 +287,8 @@ impl Processes {
     fn kill_users(&mut self, serial: u64) -> (Vec<Reply>, Undo) {
         let reason = atom("killed");
         let users: Vec<u64> = self.table.iter().filter(|(_, it)| it.uses(serial)).map(|(pid, _)| *pid).collect();
-        let replies = users.iter().flat_map(|pid| self.table[pid].downs(&reason)).collect();
+        let calls = users.iter().flat_map(|pid| &self.table[pid].calls);
+        let replies = calls.map(|call| Reply { call: *call, told: Told::Down(reason.clone()) }).collect();
         let killed = users.iter().filter_map(|pid| Some((*pid, self.remove(*pid)?))).collect();
         (replies, Undo::Killed(killed))
     }
@@ -328,7 +298,8 @@ impl Processes {
         match undo {
             Undo::Arrived { pid, call } => {
                 let process = self.table.get_mut(&pid).expect("a process");
-                process.undeliver();
+                process.mailbox.pop_back();
+                process.next = process.next.filter(|next| *next < process.mailbox.len());
                 if let Some(call) = call {
                     process.calls.remove(&call);
                     self.open.remove(&call.1);
@@ -341,21 +312,19 @@ impl Processes {
                     process.next = Some(position);
                 }
             }
-            Undo::Rested { pid, ran, closed } => self.unrest(pid, ran, &closed),
+            Undo::Rested { pid, place, rests_in, running, closed } => {
+                for (owner, call) in closed.iter().rev() {
+                    self.open.insert(call.1, (*owner, call.0));
+                    self.table.get_mut(owner).map(|it| it.calls.insert(*call));
+                }
+                let process = self.table.get_mut(&pid).expect("a process");
+                (process.place, process.rests_in) = (place, rests_in);
+                process.activity = Activity::Runs(running);
+                (process.turn, process.next) = (process.turn - 1, None);
+            }
             Undo::Ended { pid, process } => self.restore(pid, process),
             Undo::Killed(killed) => killed.into_iter().for_each(|(pid, process)| self.restore(pid, process)),
         }
-    }
-
-    fn unrest(&mut self, pid: u64, ran: Ran, closed: &[(u64, Call)]) {
-        for (owner, call) in closed.iter().rev() {
-            self.open.insert(call.1, (*owner, call.0));
-            self.table.get_mut(owner).map(|it| it.calls.insert(*call));
-        }
-        let process = self.table.get_mut(&pid).expect("a process");
-        (process.place, process.rests_in) = (ran.place, ran.rests_in);
-        process.activity = Activity::Runs(ran.running);
-        (process.turn, process.next) = (process.turn - 1, None);
     }
 }
 
@@ -379,23 +348,12 @@ fn tuple<const N: usize>(items: [Term; N]) -> Term {
 
 /// Whether a message is `{'$gen_call',_,bump}`.
 fn is_bump(message: &Term) -> bool {
-    let Term::Tuple(items) = message else {
-        return false;
-    };
-    matches!(items.as_slice(), [Term::Atom(word), _, Term::Atom(asked)] if &**word == "$gen_call" && &**asked == "bump")
+    matches!(message.items(), [Term::Atom(word), _, Term::Atom(asked)] if &**word == "$gen_call" && &**asked == "bump")
 }
 
 /// What a job of the counter gives.
 fn done(job: Job) -> Option<Done> {
-    let Term::Tuple(items) = &job.message else {
-        return None;
-    };
-    let [_, Term::Tuple(from), _] = items.as_slice() else {
-        return None;
-    };
-    let [_, Term::Int(number)] = from.as_slice() else {
-        return None;
-    };
+    let Term::Int(number) = job.message.items().get(1)?.items().get(1)? else { return None };
     let number = u64::try_from(*number).ok()?;
     let next = |term: &Term| if let Term::Int(n) = term { Some(Term::Int(n + 1)) } else { None };
     let (term, rests) = match &job.place {
@@ -414,13 +372,7 @@ fn done(job: Job) -> Option<Done> {
 
 // The program.
 
-enum Step {
-    Arrive(Atom, Body),
-    Take(u64),
-    Commit(Done),
-    End(u64),
-    Kill(u64),
-}
+enum Step { Arrive(Atom, Body), Take(u64), Commit(Done), End(u64), Kill(u64) }
 
 struct Node {
     modules: HashMap<Atom, Instance>,
@@ -428,29 +380,28 @@ struct Node {
 }
 
 impl Node {
-    fn load(&mut self, name: &str, takes: fn(&Term) -> bool) -> Instance {
-        let (name, serial): (Atom, u64) = (name.into(), self.modules.len() as u64 + 1);
-        let instance = Instance { name: name.clone(), serial, module: Arc::new(Module { takes }) };
-        self.modules.insert(name, instance.clone());
+    fn load(&mut self, serial: u64, name: &str, takes: fn(&Term) -> bool) -> Instance {
+        let instance = Instance { name: name.into(), serial, module: Arc::new(Module { takes }) };
+        self.modules.insert(name.into(), instance.clone());
         instance
     }
 
     fn begin(&mut self, name: Atom, instance: &Instance, is_loop: bool) {
-        let module = instance.name.clone();
+        let (module, serial, state) = (instance.name.clone(), instance.serial, Term::Int(4));
         let place = match is_loop {
-            true => Place::Loop { module, serial: instance.serial, function: "loop".into(), args: Arc::new(vec![Term::Int(4)]) },
-            false => Place::Server { module, state: Term::Int(4) },
+            true => Place::Loop { module, serial, function: "loop".into(), args: Arc::new(vec![state]) },
+            false => Place::Server { module, state },
         };
         self.processes.start(Some(name), place, std::slice::from_ref(instance)).expect("a start");
     }
 
-    fn ask(&mut self, name: &Atom, number: u64) {
-        self.processes.arrive(1, name, &bump(number)).expect("a call");
+    fn ask(&mut self, name: &Atom, body: &Body) {
+        self.processes.arrive(1, name, body).expect("an arrival");
     }
 
     /// Fills the table for a measure. The step that it measures is handed out.
     fn fill(&mut self, measure: &str, count: u64, size: u64) -> Step {
-        let (server, looping) = (self.load("ctr", |_| true), self.load("lp", is_bump));
+        let (server, looping) = (self.load(1, "ctr", |_| true), self.load(2, "lp", is_bump));
         let pid = count / 2;
         let every = match measure {
             "kill" => count / size,
@@ -463,15 +414,12 @@ impl Node {
         }
         let name = name_of(pid);
         match measure {
-            "kill" => (1..=size).for_each(|place| self.ask(&name_of(place * every), place * every)),
+            "kill" => (1..=size).map(|it| it * every).for_each(|pid| self.ask(&name_of(pid), &bump(pid))),
             "late_take" | "late_commit" => {
-                for _ in 0..size {
-                    self.processes.arrive(1, &name, &Body::Cast(Term::Int(0))).expect("a cast");
-                }
-                self.ask(&name, 1);
+                (0..size).for_each(|_| self.ask(&name, &Body::Cast(Term::Int(0))));
+                self.ask(&name, &bump(1));
             }
-            "commit" => (1..=size + 1).for_each(|number| self.ask(&name, number)),
-            _ => (1..=size).for_each(|number| self.ask(&name, number)),
+            _ => (1..=size + u64::from(measure == "commit")).for_each(|number| self.ask(&name, &bump(number))),
         }
         match measure {
             "arrive" => Step::Arrive(name, bump(size + 1)),
@@ -493,11 +441,7 @@ impl Node {
             _ => None,
         };
         let (undo, mut seen) = match step {
-            Step::Arrive(name, body) => {
-                let undo = self.processes.arrive(1, name, body)?;
-                let pid = receiver(&undo);
-                (undo, pid)
-            }
+            Step::Arrive(name, body) => (self.processes.arrive(1, name, body)?, 0),
             Step::Take(pid) => {
                 let (job, undo) = self.processes.take(&self.modules, *pid)?;
                 (undo, job.code.len() as u64)
@@ -513,8 +457,10 @@ impl Node {
             }
         };
         let time = start.map_or(Duration::ZERO, |start| start.elapsed());
-        if let Step::End(pid) = step {
-            seen = u64::from(!self.processes.table.contains_key(pid));
+        match &undo {
+            Undo::Arrived { pid, .. } => seen = *pid,
+            Undo::Ended { pid, .. } => seen = u64::from(!self.processes.table.contains_key(pid)),
+            _ => (),
         }
         self.processes.revert(undo);
         Ok((time, seen))
@@ -529,18 +475,10 @@ fn bump(number: u64) -> Body {
     Body::Call { number, term: atom("bump") }
 }
 
-/// The process that a message came for, by what takes this back.
-fn receiver(undo: &Undo) -> u64 {
-    match undo {
-        Undo::Arrived { pid, .. } => *pid,
-        _ => 0,
-    }
-}
-
 /// What is seen of a reply: the integer.
 fn seen_of(reply: &Reply) -> u64 {
-    match &reply.told {
-        Told::Reply(Term::Int(n)) => n.unsigned_abs(),
+    match reply {
+        Reply { call: (1, _), told: Told::Reply(Term::Int(n)) } => n.unsigned_abs(),
         _ => 0,
     }
 }
