@@ -11,7 +11,7 @@ use std::alloc::Global;
 use std::process::Abort;
 use std::test::Fail;
 use table::Table;
-use undo_journal::{Command, Journal, Replayed, marks_name_nodes, replay};
+use undo_journal::{Command, Journal, Replayed, commands_have_one_end, marks_name_nodes, replay};
 
 /// Gives a journal the command of each line, and sees what is answered.
 fn expect_script<S: Scripted>(
@@ -128,10 +128,11 @@ fn a_list_of_commands_is_replayed(rt: HostRuntime) -> Result<(), Fail> {
     expect_script(&rt, alloc, &mut journal, "undo 0 2 ⟶ 2:5:9 2:5:9 @0 0")
 }
 
-/// The law is a function that does nothing.
+/// The laws are functions that do nothing.
 #[test]
-fn marks(_rt: HostRuntime) {
+fn laws(_rt: HostRuntime) {
     marks_name_nodes::<Counter>();
+    commands_have_one_end::<Counter>();
 }
 
 /// Commands, four steps and an undo of three, each with the lines of what it may answer: first, and, where memory was

@@ -1,18 +1,24 @@
 -- Lemmas on outcomes and on lines for which there was no memory.
-use Rattle.std.proofs.Common.{◌≡◌, ◌≢◌, ℕ, ◌-◌, ◌^◌, Bool, true, false, List, Option, None, Some, Result, Ok, Err, IfOk, IfSome, eqb, refl, sym, ap, subst, ◌∙◌}
+use Rattle.std.proofs.Common.{◌≡◌, ◌≢◌, ℕ, ◌-◌, ◌^◌, Bool, true, false, List, replicate, Option, None, Some, Result, Ok, Err, IfOk, IfSome, eqb, refl, sym, ap, subst, ◌∙◌}
 use Rattle.std.proofs.lemmas.Bool.{cond-false, ne_eqb}
 use Rattle.code_server.specs.declared.error.CodeError.{CodeError}
+use Rattle.code_server.specs.Modules.{load_refusal, loaded, delete_refusal, deleted, purged, soft_purge_refusal}
+use Rattle.undo_journal.specs.declared.reversible.Told.{Told}
+use Rattle.undo_journal.specs.Reversible.{Accepts}
 use Rattle.undo_journal.specs.Timeline.{here}
 use Rattle.node_shell.specs.declared.answers.Fixed.TheVariants.{SerialEnd}
 use Rattle.node_shell.specs.declared.event.Answer.{Answer}
+use Rattle.node_shell.specs.declared.event.Answer.TheVariants.{Module, Truth}
+use Rattle.node_shell.specs.declared.event.Note.{Note}
 use Rattle.node_shell.specs.declared.event.Event.{Event}
-use Rattle.node_shell.specs.declared.event.Event.TheVariants.{Load}
+use Rattle.node_shell.specs.declared.event.Event.TheVariants.{Load, Delete, Purge, SoftPurge}
 use Rattle.node_shell.specs.declared.fate.Fate.{Fate}
 use Rattle.node_shell.specs.declared.fate.Fate.TheVariants.{Refused, StoppedAt}
 use Rattle.node_shell.specs.Answers.{fixed}
 use Rattle.node_shell.specs.Deeds.{IsDone, Meets, MeetsEvent, Misses}
 use Rattle.node_shell.specs.Files.{file_of}
-use Rattle.node_shell.specs.Node.{Node, Outcome, outcome, rule, refusal_in, refusal_of}
+use Rattle.node_shell.specs.Node.{Node, Outcome, outcome, rule, IsOutcome, refusal_in, refusal_of}
+use Rattle.node_shell.specs.Steps.{node_after, answer_to}
 use Rattle.node_shell.specs.Request.{load}
 use Rattle.node_shell.specs.Shell.{ShellState, answered, performed, ruled, event_deed}
 
@@ -20,12 +26,22 @@ pub refusal_in-outcome : (refusal : Option CodeError) (after : Node) (answer : A
 refusal_in-outcome None after answer = refl
 refusal_in-outcome (Some refusal) after answer = refl
 
--- a refusal of an outcome is why it is refused
-pub refused-by : (o : Outcome) (refusal : Option CodeError) → refusal ≡ refusal_in o → IfSome refusal (λ it. o ≡ Err it)
-refused-by (Ok a) None is = tt
-refused-by (Ok a) (Some r) is = absurd (let never : ⊥ = cc in never)
-refused-by (Err e) None is = tt
-refused-by (Err e) (Some r) is = let same : r ≡ e = cc in ap (λ x. Err x) (sym same)
+-- what an event comes to that is not refused
+outcome-unrefused : (refusal : Option CodeError) (after : Node) (answer : Answer) → refusal_in (outcome refusal after answer) ≡ None → Ok (record { node = after; answer = answer; note = record {} }) ≡ outcome refusal after answer
+outcome-unrefused None after answer is = refl
+outcome-unrefused (Some refusal) after answer is = absurd (let never : ⊥ = cc in never)
+
+rule-unrefused : (n : Node) (e : Event) → refusal_of n e ≡ None → IsOutcome n e (Ok (record { node = node_after n e; answer = answer_to e; note = record {} }))
+rule-unrefused n (Load name code) is =
+    outcome-unrefused (load_refusal name (purged name n)) (loaded name code (purged name n)) (Module name) is
+rule-unrefused n (Delete name) is = outcome-unrefused (delete_refusal name n) (deleted name n) (Truth true) is
+rule-unrefused n (Purge name) is = refl
+rule-unrefused n (SoftPurge name) is =
+    outcome-unrefused (soft_purge_refusal name false n) (purged name n) (Truth true) is
+
+pub Accepts-unrefused : (n : Node) (e : Event) (new : Node) (k : ℕ) (told : List (Told Answer Note)) → refusal_of n e ≡ None → new ≡ node_after n e → told ≡ replicate k (record { answer = answer_to e; note = record {} }) → Accepts (IsOutcome n e) new k told
+Accepts-unrefused n e new k told unrefused changed is =
+    (record { node = node_after n e; answer = answer_to e; note = record {} }, rule-unrefused n e unrefused, sym changed, is)
 
 performed-refused : (s : ShellState) (e : Event) (r : CodeError) (o : Outcome) → s.timeline.last ≢ 2 ^ 64 - 1 → o ≡ rule (here s.timeline).node e → Some r ≡ refusal_in o → performed s e ≡ ruled s e (Err r)
 performed-refused s e r (Ok a) left is refused = absurd (let never : ⊥ = cc in never)

@@ -34,6 +34,15 @@ rule n (Delete name) = outcome (delete_refusal name n) (deleted name n) (Truth t
 rule n (Purge name) = outcome None (purged name n) (Truth false)
 rule n (SoftPurge name) = outcome (soft_purge_refusal name false n) (purged name n) (Truth true)
 
+-- The rule, as the journal takes it: what an event comes to at a node. It is a function, so there is one such outcome.
+abbrev pub IsOutcome : Node → Event → Outcome → Type 0
+IsOutcome n e o = o ≡ rule n e
+
+-- the node that an outcome leaves; a refusal changes nothing
+abbrev pub node_left : Node → Outcome → Node
+node_left n (Ok accepted) = accepted.node
+node_left n (Err refusal) = n
+
 -- the refusal in an outcome
 abbrev pub refusal_in : Outcome → Option CodeError
 refusal_in (Ok accepted) = None

@@ -1,17 +1,17 @@
--- What lines leave of the journal: the timeline of the commands that they carry out, the fold of the rule over the steps
+-- What lines leave of the journal: where the commands that they carry out lead, the fold of the rule over the steps
 -- that are not undone, and what marks name.
-use Rattle.std.specs.Prelude.{◌≡◌, ℕ, ◌≤◌, List, [], ◌∷◌, ◌++◌, Option, option_to_list, None, Some, IfSome}
+use Rattle.std.specs.Prelude.{◌≡◌, ℕ, ◌≤◌, List, [], ◌∷◌, ◌++◌, fold, Option, option_to_list, None, Some, IfSome}
 use Rattle.code_server.specs.Modules.{empty_table}
 use Rattle.undo_journal.specs.declared.history.Command.{Command}
 use Rattle.undo_journal.specs.Timeline.{here, opened, cut_to, cut_stations, report_of, node_at}
-use Rattle.undo_journal.specs.History.{timeline_after, live_steps, fold_of, Makes}
+use Rattle.undo_journal.specs.History.{Live, Runs, Makes}
 use Rattle.line_server.specs.Lines.{heard}
 use Rattle.line_server.specs.Session.{first_fate, later_fates, session_after}
 use Rattle.node_shell.specs.declared.event.Event.{Event}
 use Rattle.node_shell.specs.declared.fate.Fate.{Fate}
 use Rattle.node_shell.specs.Answers.{line_of, undone_steps}
 use Rattle.node_shell.specs.Files.{Contents}
-use Rattle.node_shell.specs.Node.{rule}
+use Rattle.node_shell.specs.Node.{Node, IsOutcome, node_left, rule}
 use Rattle.node_shell.specs.Request.{asks, spoken, undo}
 use Rattle.node_shell.specs.Shell.{NodeTimeline, ShellState, Deed, deed, shell_turn, opened_shell}
 
@@ -29,15 +29,19 @@ carried_out fates s (line ∷ lines) =
 abbrev pub timeline_behind : Contents → List (Option Fate) → List (List ℕ) → NodeTimeline
 timeline_behind files fates lines = (session_after shell_turn fates (opened_shell files) lines).timeline
 
--- A journal behind lines: it is the timeline of the commands that they carried out, the stations behind the first are
--- those that the live steps make, and its node is the fold of the rule over them.
+-- the fold of the rule over the events of steps
+abbrev pub fold_of : Node → List (Live Event) → Node
+fold_of node steps = fold (λ n step. node_left n (rule n step.event)) node steps
+
+-- A journal behind lines: the commands that they carried out lead to its timeline, the stations behind the first are
+-- those that the live steps make, and its node is the fold of the rule over them. Commands lead to one timeline at
+-- most, with one list of live steps.
 pub record IsReplayed (files : Contents) (fates : List (Option Fate)) (lines : List (List ℕ)) : Type 0 where
-  pub timeline : timeline_behind files fates lines
-      ≡ timeline_after rule (carried_out fates (opened_shell files) lines) (opened empty_table)
-  pub stations : Makes rule empty_table (live_steps rule (carried_out fates (opened_shell files) lines) (opened empty_table) [])
-      (timeline_behind files fates lines).later
-  pub fold : (here (timeline_behind files fates lines)).node
-      ≡ fold_of rule empty_table (live_steps rule (carried_out fates (opened_shell files) lines) (opened empty_table) [])
+  pub live : List (Live Event)
+  pub runs : Runs IsOutcome (carried_out fates (opened_shell files) lines) (opened empty_table) []
+      (timeline_behind files fates lines) live
+  pub stations : Makes IsOutcome empty_table live (timeline_behind files fates lines).later
+  pub fold : (here (timeline_behind files fates lines)).node ≡ fold_of empty_table live
 
 -- A mark that was given by some of the lines, and is alive behind more of them, names the node that it named; so a
 -- dead mark stays dead.
@@ -61,7 +65,7 @@ pub record Undoes (files : Contents) (fates : List (Option Fate)) (front : List 
   pub answer : (shell_turn None (session_after shell_turn fates (opened_shell files) front) (heard line)).text
       ≡ line_of (undone_steps (report_of (cut_stations (timeline_behind files fates front) end)))
 
--- The headline, of lines that are answered: behind each front of them the journal is the timeline of what that front
+-- The headline, of lines that are answered: behind each front of them the journal is where the commands lead that the front
 -- carried out, with its node the fold of the steps that are not undone; marks name the nodes that they named; and an
 -- undo at which no memory was refused gives its mark's node, and reports what was cut.
 pub record IsHeadline (files : Contents) (fates : List (Option Fate)) (lines : List (List ℕ)) : Type 0 where

@@ -1,7 +1,7 @@
 //! The shell over the node: commands, one a line, and their answers.
 //!
 //! [`run`] serves the lines of a reader to a node over [`Files`], and writes the answers. Its contract carries the
-//! headline: behind each front of the lines that were answered, the journal is the timeline of the commands that they
+//! headline: behind each front of the lines that were answered, the journal is where the commands lead that they
 //! carried out, and its node the fold of the node's rule over the steps that are not undone; an undo gives its mark's
 //! node, and reports what it cut.
 //!

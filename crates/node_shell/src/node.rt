@@ -2,7 +2,8 @@
 ghost use Rattle.std.specs.Prelude.{◌≡◌, ℕ, List, None, IfOk, OnErr, replicate};
 ghost use Rattle.std.specs.Str.{chars};
 ghost use Rattle.code_server.specs.Modules.{empty_table};
-ghost use Rattle.node_shell.specs.Node.{rule, refusal_of, undoes, event_of};
+ghost use Rattle.std.proofs.Common.{sym, ◌∙◌};
+ghost use Rattle.node_shell.specs.Node.{IsOutcome, refusal_of, undoes, event_of};
 ghost use Rattle.node_shell.specs.Steps.{Changes, answer_to};
 ghost use Rattle.node_shell.specs.declared.event.Event.TheVariants.{Load};
 
@@ -115,9 +116,9 @@ impl Reversible for Node {
 
     type Refusal = CodeError;
 
-    ghost rule = { rule };
+    ghost rule = { IsOutcome };
 
-    ghost refusal_without_memory = { refusal_of };
+    ghost may_run_out = { λ n event. refusal_of n event ≡ None };
 
     ghost undoes = { undoes };
 
@@ -145,6 +146,8 @@ impl Reversible for Node {
             Event::Purge(_) | Event::SoftPurge(_) => None,
         }
     }
+
+    ghost has_one_outcome = { λ n event r s first second. first ∙ sym second };
 }
 
 /// What is told of an event that is accepted, in as many equal values as are asked for.

@@ -5,9 +5,11 @@ use Rattle.std.proofs.lemmas.Bool.{cond-true, cond-false, ne_eqb, eqb-true, le-l
 use Rattle.std.proofs.lemmas.List.{take_at}
 use Rattle.undo_journal.specs.declared.history.Command.{Command}
 use Rattle.undo_journal.specs.declared.history.Command.TheVariants.{Perform, Undo}
+use Rattle.undo_journal.specs.declared.reversible.Told.{Told}
+use Rattle.undo_journal.specs.Journal.{Performs}
 use Rattle.undo_journal.specs.Reversible.{Accepted}
 use Rattle.undo_journal.specs.Timeline.{Station, Timeline, newest, here, opened, appended, kept_to, cut_to, node_at, Rises, IsOrdered}
-use Rattle.undo_journal.specs.History.{Rule, Live, after_event, after_command, timeline_after, live_after_event, live_after, live_steps, node_after, fold_of, IsMadeBy, Makes, CarriedOut, none, done, left_out, stopped, IsMissed, IsReplayOf}
+use Rattle.undo_journal.specs.History.{Rule, Live, after_event, IsAfter, AreAfter, live_after_event, live_after_undo, IsLiveAfter, Runs, FoldsTo, IsMadeBy, Makes, CarriedOut, none, done, left_out, stopped, IsMissed, IsReplayOf}
 use Rattle.undo_journal.proofs.Stations.{kept_to-cases, kept_to-one_more, kept_to-names, newest-push, newest-take, Rises-push, Rises-take}
 
 -- Order
@@ -56,13 +58,25 @@ module _ {S E A N F : Type 0} (rule : Rule S E A N F) where
   IsOrdered-undo m t None is ordered = ordered
   IsOrdered-undo m t (Some u) is ordered = IsOrdered-cut m t u is ordered
 
-  pub IsOrdered-command : (t : Timeline S N) (c : Command E) → IsOrdered t → IsOrdered (after_command rule t c)
-  IsOrdered-command t (Perform e) ordered = IsOrdered-event t (rule (here t).node e) ordered
-  IsOrdered-command t (Undo m) ordered = IsOrdered-undo m t (cut_to m t) refl ordered
+  pub IsOrdered-command : (t u : Timeline S N) (c : Command E) → IsAfter rule t c u → IsOrdered t → IsOrdered u
+  IsOrdered-command t u (Perform e) is ordered =
+      subst (λ (v : Timeline S N). IsOrdered v) (sym is.2) (IsOrdered-event t is.0 ordered)
+  IsOrdered-command t u (Undo m) is ordered =
+      subst (λ (v : Timeline S N). IsOrdered v) (sym is) (IsOrdered-undo m t (cut_to m t) refl ordered)
 
-  pub IsOrdered-after : (cs : List (Command E)) (t : Timeline S N) → IsOrdered t → IsOrdered (timeline_after rule cs t)
-  IsOrdered-after [] t ordered = ordered
-  IsOrdered-after (c ∷ cs) t ordered = IsOrdered-after cs (after_command rule t c) (IsOrdered-command t c ordered)
+  pub IsOrdered-after : (cs : List (Command E)) (t u : Timeline S N) → AreAfter rule cs t u → IsOrdered t → IsOrdered u
+  IsOrdered-after [] t u are ordered = subst (λ (v : Timeline S N). IsOrdered v) (sym are) ordered
+  IsOrdered-after (c ∷ cs) t u are ordered =
+      IsOrdered-after cs are.0 u are.2 (IsOrdered-command t are.0 c are.1 ordered)
+
+  -- a command that a journal carried out, where it performed the event, and where the event is refused
+
+  pub IsAfter-performed : (t u : Timeline S N) (c : Command E) (e : E) (n : ℕ) (told : List (Told A N)) → c ≡ Perform e → Performs (rule (here t).node e) n t told u → IsAfter rule t c u
+  IsAfter-performed t u c e n told is performs =
+      subst (λ d. IsAfter rule t d u) (sym is) (Ok performs.0, performs.1, performs.2)
+
+  pub IsAfter-refused : (t u : Timeline S N) (c : Command E) (e : E) (f : F) → c ≡ Perform e → rule (here t).node e (Err f) → u ≡ t → IsAfter rule t c u
+  IsAfter-refused t u c e f is refused same = subst (λ d. IsAfter rule t d u) (sym is) (Err f, refused, same)
 
   -- serials go on by one at most, and never back
   last-event : (t : Timeline S N) (ruled : Result (Accepted S A N) F) → (t.last ≤ (after_event t ruled).last) × ((after_event t ruled).last ≤ t.last + 1)
@@ -73,9 +87,12 @@ module _ {S E A N F : Type 0} (rule : Rule S E A N F) where
   last-undo m t None is = refl
   last-undo m t (Some u) is = (cut_to-parts m t u is).2
 
-  pub last-command : (t : Timeline S N) (c : Command E) → (t.last ≤ (after_command rule t c).last) × ((after_command rule t c).last ≤ t.last + 1)
-  last-command t (Perform e) = last-event t (rule (here t).node e)
-  last-command t (Undo m) = let same = last-undo m t (cut_to m t) refl in (omega (arith, same), omega (arith, same))
+  pub last-command : (t u : Timeline S N) (c : Command E) → IsAfter rule t c u → (t.last ≤ u.last) × (u.last ≤ t.last + 1)
+  last-command t u (Perform e) is =
+      subst (λ (v : Timeline S N). (t.last ≤ v.last) × (v.last ≤ t.last + 1)) (sym is.2) (last-event t is.0)
+  last-command t u (Undo m) is =
+      let same = ap (λ (v : Timeline S N). v.last) is ∙ last-undo m t (cut_to m t) refl in
+      (omega (arith, same), omega (arith, same))
 
 -- Live steps
 
@@ -149,14 +166,13 @@ module _ {S E A N F : Type 0} (rule : Rule S E A N F) where
   pub Follows-opened : (node : S) → Follows node (opened node) []
   Follows-opened node = record { ordered = IsOrdered-opened node; first_node = refl; makes = tt }
 
-  Follows-event : (node : S) (t : Timeline S N) (steps : List (Live E)) (e : E) (ruled : Result (Accepted S A N) F) → rule (here t).node e ≡ ruled → Follows node t steps → Follows node (after_event t ruled) (live_after_event t e ruled steps)
+  Follows-event : (node : S) (t : Timeline S N) (steps : List (Live E)) (e : E) (r : Result (Accepted S A N) F) → rule (here t).node e r → Follows node t steps → Follows node (after_event t r) (live_after_event t e r steps)
   Follows-event node t steps e (Ok a) is follows =
       let station : Station S N = record { serial = t.last + 1; node = a.node; note = Some a.note } in
-      let made = subst (λ r. IsMadeBy r station) (sym is) (refl, refl) in
       record {
         ordered = IsOrdered-appended t a.node a.note follows.ordered;
         first_node = follows.first_node;
-        makes = Makes-push t.first steps t.later record { serial = t.last + 1; event = e } station follows.makes refl made;
+        makes = Makes-push t.first steps t.later record { serial = t.last + 1; event = e } station follows.makes refl (a, is, refl, refl);
       }
   Follows-event node t steps e (Err f) is follows = follows
 
@@ -170,38 +186,103 @@ module _ {S E A N F : Type 0} (rule : Rule S E A N F) where
         makes = rw parts.1 (Makes-kept m t.first steps t.later u.later follows.ordered.rises follows.makes parts.0);
       }
 
-  pub Follows-command : (node : S) (t : Timeline S N) (steps : List (Live E)) (c : Command E) → Follows node t steps → Follows node (after_command rule t c) (live_after rule t c steps)
-  Follows-command node t steps (Perform e) follows = Follows-event node t steps e (rule (here t).node e) refl follows
-  Follows-command node t steps (Undo m) follows = Follows-undo node t steps m (cut_to m t) refl follows
+  pub Follows-command : (node : S) (t u : Timeline S N) (steps live : List (Live E)) (c : Command E) → IsLiveAfter rule t steps c u live → Follows node t steps → Follows node u live
+  Follows-command node t u steps live (Perform e) is follows =
+      subst (λ xs. Follows node u xs) (sym is.3) (subst (λ v. Follows node v (live_after_event t e is.0 steps)) (sym is.2) (Follows-event node t steps e is.0 is.1 follows))
+  Follows-command node t u steps live (Undo m) is follows =
+      subst (λ xs. Follows node u xs) (sym is.1) (subst (λ v. Follows node v (live_after_undo m t steps)) (sym is.0) (Follows-undo node t steps m (cut_to m t) refl follows))
 
-  pub Follows-after : (node : S) (cs : List (Command E)) (t : Timeline S N) (steps : List (Live E)) → Follows node t steps → Follows node (timeline_after rule cs t) (live_steps rule cs t steps)
-  Follows-after node [] t steps follows = follows
-  Follows-after node (c ∷ cs) t steps follows =
-      Follows-after node cs (after_command rule t c) (live_after rule t c steps) (Follows-command node t steps c follows)
+  pub Follows-after : (node : S) (cs : List (Command E)) (t u : Timeline S N) (steps live : List (Live E)) → Runs rule cs t steps u live → Follows node t steps → Follows node u live
+  Follows-after node [] t u steps live runs follows =
+      subst (λ xs. Follows node u xs) (sym runs.1) (subst (λ v. Follows node v steps) (sym runs.0) follows)
+  Follows-after node (c ∷ cs) t u steps live runs follows =
+      Follows-after node cs runs.0 u runs.1 live runs.3 (Follows-command node t runs.0 steps runs.1 c runs.2 follows)
 
-  -- the last of the stations that steps make is the fold of the rule over them
-  node_after-made : (node : S) (s : Station S N) (ruled : Result (Accepted S A N) F) → IsMadeBy ruled s → node_after node ruled ≡ s.node
-  node_after-made node s (Ok a) made = sym made.0
-  node_after-made node s (Err f) made = absurd made
-
-  pub fold_of-made : (s : Station S N) (xs : List (Live E)) (ss : List (Station S N)) → Makes rule s.node xs ss → (newest s ss).node ≡ fold_of rule s.node xs
-  fold_of-made s [] [] makes = refl
-  fold_of-made s [] (t ∷ ts) makes = absurd makes
-  fold_of-made s (x ∷ xs) [] makes = absurd makes
-  fold_of-made s (x ∷ xs) (t ∷ ts) makes =
-      let made = node_after-made s.node t (rule s.node x.event) makes.1 in
-      fold_of-made t xs ts makes.2 ∙ ap (λ n. fold_of rule n xs) (sym made)
+  -- steps that make stations are accepted, and lead to the last of them
+  pub FoldsTo-made : (s : Station S N) (xs : List (Live E)) (ss : List (Station S N)) → Makes rule s.node xs ss → FoldsTo rule s.node xs (newest s ss).node
+  FoldsTo-made s [] [] makes = refl
+  FoldsTo-made s [] (t ∷ ts) makes = absurd makes
+  FoldsTo-made s (x ∷ xs) [] makes = absurd makes
+  FoldsTo-made s (x ∷ xs) (t ∷ ts) makes =
+      let made = makes.1 in
+      (made.0, made.1, subst (λ n. FoldsTo rule n xs (newest t ts).node) made.2 (FoldsTo-made t xs ts makes.2))
 
   -- the live steps of a whole list make its stations, and their fold is its node
-  pub Makes-live : (node : S) (cs : List (Command E)) → Makes rule node (live_steps rule cs (opened node) []) (timeline_after rule cs (opened node)).later
-  Makes-live node cs =
-      let follows = Follows-after node cs (opened node) [] (Follows-opened node) in
-      subst (λ n. Makes rule n (live_steps rule cs (opened node) []) (timeline_after rule cs (opened node)).later) follows.first_node follows.makes
+  pub Makes-live : (node : S) (cs : List (Command E)) (t : Timeline S N) (live : List (Live E)) → Runs rule cs (opened node) [] t live → Makes rule node live t.later
+  Makes-live node cs t live runs =
+      let follows = Follows-after node cs (opened node) t [] live runs (Follows-opened node) in
+      subst (λ n. Makes rule n live t.later) follows.first_node follows.makes
 
-  pub fold_of-live : (node : S) (cs : List (Command E)) → (here (timeline_after rule cs (opened node))).node ≡ fold_of rule node (live_steps rule cs (opened node) [])
-  fold_of-live node cs =
-      let follows = Follows-after node cs (opened node) [] (Follows-opened node) in
-      fold_of-made (timeline_after rule cs (opened node)).first (live_steps rule cs (opened node) []) (timeline_after rule cs (opened node)).later follows.makes ∙ ap (λ n. fold_of rule n (live_steps rule cs (opened node) [])) follows.first_node
+  pub FoldsTo-live : (node : S) (cs : List (Command E)) (t : Timeline S N) (live : List (Live E)) → Runs rule cs (opened node) [] t live → FoldsTo rule node live (here t).node
+  FoldsTo-live node cs t live runs =
+      let follows = Follows-after node cs (opened node) t [] live runs (Follows-opened node) in
+      subst (λ n. FoldsTo rule n live (here t).node) follows.first_node (FoldsTo-made t.first live t.later follows.makes)
+
+  -- commands with their live steps, and without them
+
+  pub IsAfter-live : (t u : Timeline S N) (steps live : List (Live E)) (c : Command E) → IsLiveAfter rule t steps c u live → IsAfter rule t c u
+  IsAfter-live t u steps live (Perform e) is = (is.0, is.1, is.2)
+  IsAfter-live t u steps live (Undo m) is = is.0
+
+  pub AreAfter-runs : (cs : List (Command E)) (t u : Timeline S N) (steps live : List (Live E)) → Runs rule cs t steps u live → AreAfter rule cs t u
+  AreAfter-runs [] t u steps live runs = runs.0
+  AreAfter-runs (c ∷ cs) t u steps live runs =
+      (runs.0, IsAfter-live t runs.0 steps runs.1 c runs.2, AreAfter-runs cs runs.0 u runs.1 live runs.3)
+
+  IsLiveAfter-of : (t u : Timeline S N) (steps : List (Live E)) (c : Command E) → IsAfter rule t c u → (live : List (Live E)) × IsLiveAfter rule t steps c u live
+  IsLiveAfter-of t u steps (Perform e) is = (live_after_event t e is.0 steps, (is.0, is.1, is.2, refl))
+  IsLiveAfter-of t u steps (Undo m) is = (live_after_undo m t steps, (is, refl))
+
+  pub Runs-of : (cs : List (Command E)) (t u : Timeline S N) (steps : List (Live E)) → AreAfter rule cs t u → (live : List (Live E)) × Runs rule cs t steps u live
+  Runs-of [] t u steps are = (steps, (are, refl))
+  Runs-of (c ∷ cs) t u steps are =
+      let first = IsLiveAfter-of t are.0 steps c are.1 in
+      let rest = Runs-of cs are.0 u first.0 are.2 in
+      (rest.0, (are.0, first.0, first.1, rest.1))
+
+  -- one list of commands behind another
+  pub AreAfter-append : (cs ds : List (Command E)) (t u v : Timeline S N) → AreAfter rule cs t u → AreAfter rule ds u v → AreAfter rule (cs ++ ds) t v
+  AreAfter-append [] ds t u v first rest = subst (λ w. AreAfter rule ds w v) first rest
+  AreAfter-append (c ∷ cs) ds t u v first rest = (first.0, first.1, AreAfter-append cs ds first.0 u v first.2 rest)
+
+-- A rule that gives one outcome at most leads to one end at most.
+
+module _ {S E A N F : Type 0} (rule : Rule S E A N F) (one : (node : S) (event : E) (r s : Result (Accepted S A N) F) → rule node event r → rule node event s → r ≡ s) where
+  IsAfter-one : (t u v : Timeline S N) (c : Command E) → IsAfter rule t c u → IsAfter rule t c v → u ≡ v
+  IsAfter-one t u v (Perform e) first second =
+      first.2 ∙ ap (λ r. after_event t r) (one (here t).node e first.0 second.0 first.1 second.1) ∙ sym second.2
+  IsAfter-one t u v (Undo m) first second = first ∙ sym second
+
+  pub AreAfter-one : (cs : List (Command E)) (t u v : Timeline S N) → AreAfter rule cs t u → AreAfter rule cs t v → u ≡ v
+  AreAfter-one [] t u v first second = first ∙ sym second
+  AreAfter-one (c ∷ cs) t u v first second =
+      let same = IsAfter-one t first.0 second.0 c first.1 second.1 in
+      AreAfter-one cs second.0 u v (subst (λ w. AreAfter rule cs w u) same first.2) second.2
+
+  IsLiveAfter-one : (t u v : Timeline S N) (steps live others : List (Live E)) (c : Command E) → IsLiveAfter rule t steps c u live → IsLiveAfter rule t steps c v others → (u ≡ v) × (live ≡ others)
+  IsLiveAfter-one t u v steps live others (Perform e) first second =
+      let same = one (here t).node e first.0 second.0 first.1 second.1 in (
+        first.2 ∙ ap (λ r. after_event t r) same ∙ sym second.2,
+        first.3 ∙ ap (λ r. live_after_event t e r steps) same ∙ sym second.3,
+      )
+  IsLiveAfter-one t u v steps live others (Undo m) first second =
+      (first.0 ∙ sym second.0, first.1 ∙ sym second.1)
+
+  pub Runs-one : (cs : List (Command E)) (t u v : Timeline S N) (steps live others : List (Live E)) → Runs rule cs t steps u live → Runs rule cs t steps v others → (u ≡ v) × (live ≡ others)
+  Runs-one [] t u v steps live others first second = (first.0 ∙ sym second.0, first.1 ∙ sym second.1)
+  Runs-one (c ∷ cs) t u v steps live others first second =
+      let same = IsLiveAfter-one t first.0 second.0 steps first.1 second.1 c first.2 second.2 in
+      let moved = subst (λ w. Runs rule cs w first.1 u live) same.0 first.3 in
+      Runs-one cs second.0 u v second.1 live others (subst (λ xs. Runs rule cs second.0 xs u live) same.1 moved) second.3
+
+  pub FoldsTo-one : (xs : List (Live E)) (node end other : S) → FoldsTo rule node xs end → FoldsTo rule node xs other → end ≡ other
+  FoldsTo-one [] node end other first second = first ∙ sym second
+  FoldsTo-one (x ∷ xs) node end other first second =
+      let same : first.0 ≡ second.0 = accepted first.0 second.0 (Ok first.0) refl (one node x.event (Ok first.0) (Ok second.0) first.1 second.1) in
+      FoldsTo-one xs second.0.node end other (subst (λ (a : Accepted S A N). FoldsTo rule a.node xs end) same first.2) second.2
+    where
+      accepted : (a b : Accepted S A N) (r : Result (Accepted S A N) F) → r ≡ Ok a → r ≡ Ok b → a ≡ b
+      accepted a b r first second = cc
 
 -- Marks
 
@@ -287,18 +368,20 @@ module _ {S E A N F : Type 0} (rule : Rule S E A N F) where
       let left = node_at-cut end m t u ordered is in
       elim (cases_lt end m) [ inl above ↦ inr (left.1 above) | inr below ↦ inl (left.0 below) ]
 
-  node_at-command : (m : ℕ) (t : Timeline S N) (c : Command E) → IsOrdered t → m ≤ t.last → (node_at m (after_command rule t c) ≡ node_at m t) ⊎ (node_at m (after_command rule t c) ≡ None)
-  node_at-command m t (Perform e) ordered given = inl (node_at-event m t (rule (here t).node e) given)
-  node_at-command m t (Undo end) ordered given = node_at-undo m end t (cut_to end t) ordered refl
+  node_at-command : (m : ℕ) (t u : Timeline S N) (c : Command E) → IsAfter rule t c u → IsOrdered t → m ≤ t.last → (node_at m u ≡ node_at m t) ⊎ (node_at m u ≡ None)
+  node_at-command m t u (Perform e) is ordered given =
+      inl (ap (λ (v : Timeline S N). node_at m v) is.2 ∙ node_at-event m t is.0 given)
+  node_at-command m t u (Undo end) is ordered given =
+      subst (λ (v : Timeline S N). (node_at m v ≡ node_at m t) ⊎ (node_at m v ≡ None)) (sym is) (node_at-undo m end t (cut_to end t) ordered refl)
 
   -- a mark that is alive after commands names what it named before them
-  pub node_at-after : (m : ℕ) (cs : List (Command E)) (t : Timeline S N) (n : S) → IsOrdered t → m ≤ t.last → node_at m (timeline_after rule cs t) ≡ Some n → node_at m t ≡ Some n
-  node_at-after m [] t n ordered given alive = alive
-  node_at-after m (c ∷ cs) t n ordered given alive =
-      let next = after_command rule t c in
-      let rise = last-command rule t c in
-      let before = node_at-after m cs next n (IsOrdered-command rule t c ordered) (omega (arith, rise.0)) alive in
-      elim (node_at-command m t c ordered given) [
+  pub node_at-after : (m : ℕ) (cs : List (Command E)) (t u : Timeline S N) (n : S) → AreAfter rule cs t u → IsOrdered t → m ≤ t.last → node_at m u ≡ Some n → node_at m t ≡ Some n
+  node_at-after m [] t u n are ordered given alive = ap (λ (v : Timeline S N). node_at m v) (sym are) ∙ alive
+  node_at-after m (c ∷ cs) t u n are ordered given alive =
+      let next = are.0 in
+      let rise = last-command rule t next c are.1 in
+      let before = node_at-after m cs next u n are.2 (IsOrdered-command rule t next c are.1 ordered) (omega (arith, rise.0)) alive in
+      elim (node_at-command m t next c are.1 ordered given) [
         | inl same ↦ sym same ∙ before
         | inr dead ↦ absurd (let e = sym dead ∙ before in let no : ⊥ = cc in no)
       ]
@@ -325,51 +408,53 @@ module _ {E : Type 0} where
   CarriedOut-stopped m r above (stopped l q over h) = stopped l q over (CarriedOut-stopped m r above h)
 
 module _ {S E A N F : Type 0} (rule : Rule S E A N F) where
-  timeline_after-push : (cs : List (Command E)) (c : Command E) (t : Timeline S N) → timeline_after rule (cs ++ c ∷ []) t ≡ after_command rule (timeline_after rule cs t) c
-  timeline_after-push [] c t = refl
-  timeline_after-push (d ∷ ds) c t = timeline_after-push ds c (after_command rule t d)
+  -- one command more
+  AreAfter-push : (cs : List (Command E)) (c : Command E) (t u v : Timeline S N) → AreAfter rule cs t u → IsAfter rule u c v → AreAfter rule (cs ++ c ∷ []) t v
+  AreAfter-push cs c t u v are is = AreAfter-append rule cs (c ∷ []) t u v are (v, is, refl)
 
   -- what is known of a journal after some of the commands
   pub record CarriedOn (begun t : Timeline S N) (asked : List (Command E)) (missed : ℕ) : Type 0 where
     pub carried : List (Command E)
     pub carried_out : CarriedOut missed asked carried
-    pub timeline : t ≡ timeline_after rule carried begun
+    pub leads : AreAfter rule carried begun t
 
   pub CarriedOn-none : (t : Timeline S N) → CarriedOn t t [] 0
-  CarriedOn-none t = record { carried = []; carried_out = none; timeline = refl }
+  CarriedOn-none t = record { carried = []; carried_out = none; leads = refl }
 
   -- a command more that was carried out
-  pub CarriedOn-done : (begun t u : Timeline S N) (asked : List (Command E)) (missed : ℕ) (c : Command E) → CarriedOn begun t asked missed → u ≡ after_command rule t c → CarriedOn begun u (asked ++ c ∷ []) missed
+  pub CarriedOn-done : (begun t u : Timeline S N) (asked : List (Command E)) (missed : ℕ) (c : Command E) → CarriedOn begun t asked missed → IsAfter rule t c u → CarriedOn begun u (asked ++ c ∷ []) missed
   CarriedOn-done begun t u asked missed c on is = record {
     carried = on.carried ++ c ∷ [];
     carried_out = CarriedOut-done c on.carried_out;
-    timeline = is ∙ ap (λ v. after_command rule v c) on.timeline ∙ sym (timeline_after-push on.carried c begun);
+    leads = AreAfter-push on.carried c begun t u on.leads is;
   }
 
   -- or that met want of memory
-  pub CarriedOn-missed : (begun t u : Timeline S N) (asked : List (Command E)) (missed : ℕ) (c : Command E) → CarriedOn begun t asked missed → IsMissed rule t c u → CarriedOn begun u (asked ++ c ∷ []) (suc missed)
+  pub CarriedOn-missed : (begun t u : Timeline S N) (asked : List (Command E)) (missed : ℕ) (c : Command E) → CarriedOn begun t asked missed → IsMissed t c u → CarriedOn begun u (asked ++ c ∷ []) (suc missed)
   CarriedOn-missed begun t u asked missed (Perform e) on is = record {
     carried = on.carried;
     carried_out = CarriedOut-left_out e on.carried_out;
-    timeline = is ∙ on.timeline;
+    leads = subst (λ v. AreAfter rule on.carried begun v) (sym is) on.leads;
   }
   CarriedOn-missed begun t u asked missed (Undo m) on is = record {
     carried = on.carried ++ Undo is.0 ∷ [];
     carried_out = CarriedOut-stopped m is.0 is.1 on.carried_out;
-    timeline = is.2 ∙ ap (λ v. after_command rule v (Undo is.0)) on.timeline ∙ sym (timeline_after-push on.carried (Undo is.0) begun);
+    leads = AreAfter-push on.carried (Undo is.0) begun t u on.leads is.2;
   }
 
-  pub last-missed : (t u : Timeline S N) (c : Command E) → IsMissed rule t c u → u.last ≤ t.last + 1
+  pub last-missed : (t u : Timeline S N) (c : Command E) → IsMissed t c u → u.last ≤ t.last + 1
   last-missed t u (Perform e) is = let same = ap (λ (v : Timeline S N). v.last) is in omega (arith, same)
-  last-missed t u (Undo m) is =
-      let same = ap (λ (v : Timeline S N). v.last) is.2 in omega (arith, same, (last-command rule t (Undo is.0)).1)
+  last-missed t u (Undo m) is = (last-command rule t u (Undo is.0) is.2).1
 
   -- at the end
   pub IsReplayOf-all : (node : S) (commands : List (Command E)) (missed : ℕ) (t : Timeline S N) → CarriedOn (opened node) t commands missed → IsReplayOf rule node commands missed t
-  IsReplayOf-all node commands missed t on = record {
-    carried = on.carried;
-    carried_out = on.carried_out;
-    timeline = on.timeline;
-    stations = subst (λ (u : Timeline S N). Makes rule node (live_steps rule on.carried (opened node) []) u.later) (sym on.timeline) (Makes-live rule node on.carried);
-    fold = ap (λ (u : Timeline S N). (here u).node) on.timeline ∙ fold_of-live rule node on.carried;
-  }
+  IsReplayOf-all node commands missed t on =
+      let runs = Runs-of rule on.carried (opened node) t [] on.leads in
+      record {
+        carried = on.carried;
+        carried_out = on.carried_out;
+        live = runs.0;
+        runs = runs.1;
+        stations = Makes-live rule node on.carried t runs.0 runs.1;
+        fold = FoldsTo-live rule node on.carried t runs.0 runs.1;
+      }

@@ -1,5 +1,5 @@
 -- Lemmas on what a call of a journal does to its timeline.
-use Rattle.std.proofs.Common.{◌≡◌, ℕ, zero, suc, ◌+◌, ◌-◌, ◌<◌, ◌≤◌, List, [], ◌∷◌, ◌++◌, length, take, drop, map, replicate, Option, Some, None, Result, Ok, Err, option_map, sym, ap, subst, ◌∙◌, refl, inl, inr, arith}
+use Rattle.std.proofs.Common.{◌≡◌, ℕ, zero, suc, ◌+◌, ◌-◌, ◌<◌, ◌≤◌, List, [], ◌∷◌, ◌++◌, length, take, drop, map, replicate, Some, None, Option, Result, option_map, sym, ap, subst, ◌∙◌, refl, inl, inr, add-one, arith}
 use Rattle.std.proofs.lemmas.List.{append-nil, map_push, take-map, drop-map, take_all, drop_all, take-take, length-take-le, length-drop, length-map, drop-drop, take-append-drop, drop-append-le, take_rest}
 use Rattle.std.proofs.Math.Seq.{take-length, drop-length}
 use Rattle.std.proofs.lemmas.Bool.{cases_lt}
@@ -9,7 +9,7 @@ use Rattle.undo_journal.specs.declared.reversible.Told.{Told}
 use Rattle.undo_journal.specs.declared.error.JournalError.{JournalError}
 use Rattle.undo_journal.specs.declared.error.JournalError.TheVariants.{Step, DeadMark, SerialEnd, Memory}
 use Rattle.undo_journal.specs.Past.{Chained, station_of, stations, timeline_of, shortened}
-use Rattle.undo_journal.specs.Reversible.{Accepted, AcceptsWith}
+use Rattle.undo_journal.specs.Reversible.{Accepted, Accepts, AcceptsWith, told_of}
 use Rattle.undo_journal.specs.Timeline.{Station, Timeline, newest, here, appended, kept_to, cut_to, cut_stations, notes_of, report_of, Rises, IsFront, IsOrdered}
 use Rattle.undo_journal.specs.Journal.{IsOutOfMemoryAt, Performs, PerformFails, UndoFails, Stopped, stopped_reports}
 use Rattle.undo_journal.proofs.Chains.{Chained-push}
@@ -42,18 +42,36 @@ pub want-at : {S R N F : Type 0} (floor : ℕ) (node : S) (noted : Option N) (pa
 want-at floor node noted past items last t e same is want =
     subst (λ u. IsOutOfMemoryAt (here u).serial e) (ap (λ ps. timeline_of floor node noted ps last) same ∙ is) want
 
+-- of one value more than n equal ones, what is left when one is set aside
+replicate-popped : {X : Type 0} (n : ℕ) (x : X) (rest : List X) (aside : X) → rest ++ aside ∷ [] ≡ replicate (suc n) x → (rest ≡ replicate n x) × (aside ≡ x)
+replicate-popped zero x [] aside is = (refl, cc)
+replicate-popped zero x (r ∷ []) aside is = absurd (let no : ⊥ = cc in no)
+replicate-popped zero x (r ∷ q ∷ rest) aside is = absurd (let no : ⊥ = cc in no)
+replicate-popped (suc n) x [] aside is = absurd (let no : ⊥ = cc in no)
+replicate-popped (suc n) x (r ∷ rest) aside is =
+    let first : r ≡ x = cc in
+    let others = replicate-popped n x rest aside cc in
+    (rw (first, others.0) refl, others.1)
+
+-- of what tells of a step, one value is set aside
+pub AcceptsWith-aside : {S A N F : Type 0} (IsRuled : Result (Accepted S A N) F → Type 0) (node : S) (n count : ℕ) (told rest : List (Told A N)) (aside : Told A N) → count ≡ n → Accepts IsRuled node (count + 1) told → told ≡ rest ++ aside ∷ [] → AcceptsWith IsRuled node n rest aside.note
+AcceptsWith-aside {S} {A} {N} {F} IsRuled node n count told rest aside same accepts is =
+    let all = sym is ∙ accepts.3 ∙ ap (λ k. replicate (k + 1) (told_of accepts.0)) same ∙ ap (λ k. replicate k (told_of accepts.0)) (add-one n) in
+    let parts = replicate-popped n (told_of accepts.0) rest aside all in
+    (accepts.0, accepts.1, accepts.2, parts.0, ap (λ (t : Told A N). t.note) (sym parts.1))
+
 -- the rule's step is performed
-pub Performs-from : {S A N F : Type 0} (ruled : Result (Accepted S A N) F) (node : S) (n : ℕ) (told : List (Told A N)) (note : N) (old new : Timeline S N) → AcceptsWith ruled node n told note → new ≡ appended old node note → Performs ruled n old told new
-Performs-from (Ok a) node n told note old new accepts is =
-    (is ∙ ap (λ s. appended old s note) (sym accepts.0) ∙ ap (λ k. appended old a.node k) (sym accepts.2), accepts.1)
-Performs-from (Err f) node n told note old new accepts is = absurd accepts
+pub Performs-from : {S A N F : Type 0} (IsRuled : Result (Accepted S A N) F → Type 0) (node : S) (n : ℕ) (told : List (Told A N)) (note : N) (old new : Timeline S N) → AcceptsWith IsRuled node n told note → new ≡ appended old node note → Performs IsRuled n old told new
+Performs-from IsRuled node n told note old new accepts is =
+    let a = accepts.0 in
+    (a, accepts.1, is ∙ ap (λ s. appended old s note) (sym accepts.2) ∙ ap (λ k. appended old a.node k) (sym accepts.4), accepts.3)
 
 -- want of memory that changed nothing, in `perform`
-pub PerformFails-from_want : {S A N F : Type 0} (ruled : Result (Accepted S A N) F) (without_memory : Option F) (old : Timeline S N) (e : JournalError F N) → without_memory ≡ None → IsOutOfMemoryAt (here old).serial e → PerformFails ruled without_memory old e
-PerformFails-from_want ruled without_memory old (Step f) none want = absurd want
-PerformFails-from_want ruled without_memory old DeadMark none want = absurd want
-PerformFails-from_want ruled without_memory old SerialEnd none want = absurd want
-PerformFails-from_want ruled without_memory old (Memory mark reports) none want = (none, want.0, want.1)
+pub PerformFails-from_want : {S A N F : Type 0} (IsRuled : Result (Accepted S A N) F → Type 0) (MayRunOut : Type 0) (old : Timeline S N) (e : JournalError F N) → MayRunOut → IsOutOfMemoryAt (here old).serial e → PerformFails IsRuled MayRunOut old e
+PerformFails-from_want IsRuled MayRunOut old (Step f) may want = absurd want
+PerformFails-from_want IsRuled MayRunOut old DeadMark may want = absurd want
+PerformFails-from_want IsRuled MayRunOut old SerialEnd may want = absurd want
+PerformFails-from_want IsRuled MayRunOut old (Memory mark reports) may want = (may, want.0, want.1)
 
 -- reports of fewer stations, made from those of more
 pub shortened-report_of : {S R N : Type 0} (keep k : ℕ) (past : List (Entry S R N)) → keep ≤ k → k ≤ length past → shortened (length past - k) (report_of (stations (drop keep past))) ≡ report_of (stations (drop k past))

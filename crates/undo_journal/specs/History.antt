@@ -1,5 +1,5 @@
 -- Whole lists of commands: what they leave of a timeline, and which of their steps are live.
-use Rattle.std.specs.Prelude.{◌≡◌, ℕ, ◌+◌, ◌≤◌, nat_le, List, [], ◌∷◌, ◌++◌, filter, fold, is_some, if◌then◌else◌, Some, Result}
+use Rattle.std.specs.Prelude.{◌≡◌, ℕ, ◌+◌, ◌≤◌, nat_le, List, [], ◌∷◌, ◌++◌, filter, is_some, if◌then◌else◌, Some, Result}
 use Rattle.std.specs.Prelude.{Ok, Err, unwrap_or}
 use Prim.Native.Nat.{suc}
 use Rattle.undo_journal.specs.declared.history.Command.{Command}
@@ -7,30 +7,38 @@ use Rattle.undo_journal.specs.declared.history.Command.TheVariants.{Perform, Und
 use Rattle.undo_journal.specs.Reversible.{Accepted}
 use Rattle.undo_journal.specs.Timeline.{Station, Timeline, here, opened, appended, cut_to}
 
--- A rule says what an event does to a node, or why it is refused.
-abbrev pub Rule : Type 0 → Type 0 → Type 0 → Type 0 → Type 0 → Type 0
-Rule S E A N F = S → E → Result (Accepted S A N) F
+-- A rule says what an event does to a node, or why it is refused: it relates them with the outcome.
+-- That of a reversible machine gives one outcome at most.
+abbrev pub Rule : Type 0 → Type 0 → Type 0 → Type 0 → Type 0 → Type 1
+Rule S E A N F = S → E → Result (Accepted S A N) F → Type 0
 
 -- an accepted event appends its station, a refused one changes nothing
 abbrev pub after_event : {S A N F : Type 0} → Timeline S N → Result (Accepted S A N) F → Timeline S N
 after_event t (Ok a) = appended t a.node a.note
 after_event t (Err f) = t
 
--- One command; an undo to a dead mark changes nothing. No list of commands in a memory is so long
--- that a journal that begins with it runs out of serials.
-abbrev pub after_command : {S E A N F : Type 0} → Rule S E A N F → Timeline S N → Command E → Timeline S N
-after_command rule t (Perform e) = after_event t (rule (here t).node e)
-after_command rule t (Undo m) = unwrap_or (cut_to m t) t
+-- an undo to a mark; one to a dead mark changes nothing
+abbrev pub after_undo : {S N : Type 0} → ℕ → Timeline S N → Timeline S N
+after_undo m t = unwrap_or (cut_to m t) t
+
+-- One command, from the one timeline to the other. No list of commands in a memory is so long that a
+-- journal that begins with it runs out of serials.
+abbrev pub IsAfter : {S E A N F : Type 0} → Rule S E A N F → Timeline S N → Command E → Timeline S N → Type 0
+IsAfter {S} {E} {A} {N} {F} rule old (Perform e) new =
+    (r : Result (Accepted S A N) F) × rule (here old).node e r × (new ≡ after_event old r)
+IsAfter {S} {E} {A} {N} {F} rule old (Undo m) new = new ≡ after_undo m old
 
 -- a list of commands, in order
-abbrev pub timeline_after : {S E A N F : Type 0} → Rule S E A N F → List (Command E) → Timeline S N → Timeline S N
-timeline_after rule commands t = fold (λ u c. after_command rule u c) t commands
+abbrev pub AreAfter : {S E A N F : Type 0} → Rule S E A N F → List (Command E) → Timeline S N → Timeline S N → Type 0
+AreAfter {S} {E} {A} {N} {F} rule [] old new = new ≡ old
+AreAfter {S} {E} {A} {N} {F} rule (c ∷ cs) old new =
+    (mid : Timeline S N) × IsAfter rule old c mid × AreAfter rule cs mid new
 
 -- A command that met want of memory: an event changes nothing, and an undo stops at a mark at or
 -- after its own.
-abbrev pub IsMissed : {S E A N F : Type 0} → Rule S E A N F → Timeline S N → Command E → Timeline S N → Type 0
-IsMissed rule old (Perform e) new = new ≡ old
-IsMissed rule old (Undo m) new = (reached : ℕ) × (m ≤ reached) × (new ≡ after_command rule old (Undo reached))
+abbrev pub IsMissed : {S E N : Type 0} → Timeline S N → Command E → Timeline S N → Type 0
+IsMissed old (Perform e) new = new ≡ old
+IsMissed old (Undo m) new = (reached : ℕ) × (m ≤ reached) × (new ≡ after_undo reached old)
 
 -- an accepted event with the serial of its step
 pub record Live (E : Type 0) : Type 0 where
@@ -43,29 +51,32 @@ abbrev pub live_after_event : {S E A N F : Type 0} → Timeline S N → E → Re
 live_after_event t e (Ok a) steps = steps ++ record { serial = t.last + 1; event = e } ∷ []
 live_after_event t e (Err f) steps = steps
 
-abbrev pub live_after : {S E A N F : Type 0} → Rule S E A N F → Timeline S N → Command E → List (Live E) → List (Live E)
-live_after rule t (Perform e) steps = live_after_event t e (rule (here t).node e) steps
-live_after rule t (Undo m) steps =
-    if is_some (cut_to m t) then filter (λ step. nat_le step.serial m) steps else steps
+abbrev pub live_after_undo : {S E N : Type 0} → ℕ → Timeline S N → List (Live E) → List (Live E)
+live_after_undo m t steps = if is_some (cut_to m t) then filter (λ step. nat_le step.serial m) steps else steps
 
--- the live steps after a list of commands, where those before it are `steps`
-abbrev pub live_steps : {S E A N F : Type 0} → Rule S E A N F → List (Command E) → Timeline S N → List (Live E) → List (Live E)
-live_steps rule [] t steps = steps
-live_steps rule (c ∷ cs) t steps = live_steps rule cs (after_command rule t c) (live_after rule t c steps)
+-- one command with its live steps: those before it are `steps`, and those after it are `live`
+abbrev pub IsLiveAfter : {S E A N F : Type 0} → Rule S E A N F → Timeline S N → List (Live E) → Command E → Timeline S N → List (Live E) → Type 0
+IsLiveAfter {S} {E} {A} {N} {F} rule old steps (Perform e) new live =
+    (r : Result (Accepted S A N) F) × rule (here old).node e r × (new ≡ after_event old r) × (live ≡ live_after_event old e r steps)
+IsLiveAfter {S} {E} {A} {N} {F} rule old steps (Undo m) new live =
+    (new ≡ after_undo m old) × (live ≡ live_after_undo m old steps)
 
--- the node after one event; a refused one changes nothing
-abbrev pub node_after : {S A N F : Type 0} → S → Result (Accepted S A N) F → S
-node_after node (Ok a) = a.node
-node_after node (Err f) = node
+-- a list of commands, in order, with its live steps
+abbrev pub Runs : {S E A N F : Type 0} → Rule S E A N F → List (Command E) → Timeline S N → List (Live E) → Timeline S N → List (Live E) → Type 0
+Runs {S} {E} {A} {N} {F} rule [] old steps new live = (new ≡ old) × (live ≡ steps)
+Runs {S} {E} {A} {N} {F} rule (c ∷ cs) old steps new live =
+    (mid : Timeline S N) × (between : List (Live E)) × IsLiveAfter rule old steps c mid between × Runs rule cs mid between new live
 
--- the fold of the rule over the events of steps
-abbrev pub fold_of : {S E A N F : Type 0} → Rule S E A N F → S → List (Live E) → S
-fold_of rule node steps = fold (λ n step. node_after n (rule n step.event)) node steps
+-- from the node the rule accepts the event of each step, in turn, and they lead to the end
+abbrev pub FoldsTo : {S E A N F : Type 0} → Rule S E A N F → S → List (Live E) → S → Type 0
+FoldsTo {S} {E} {A} {N} {F} rule node [] end = end ≡ node
+FoldsTo {S} {E} {A} {N} {F} rule node (x ∷ xs) end =
+    (a : Accepted S A N) × rule node x.event (Ok a) × FoldsTo rule a.node xs end
 
--- the station is the one that the rule makes of an accepted event
-abbrev pub IsMadeBy : {S A N F : Type 0} → Result (Accepted S A N) F → Station S N → Type 0
-IsMadeBy (Ok a) s = (s.node ≡ a.node) × (s.note ≡ Some a.note)
-IsMadeBy (Err f) s = ⊥
+-- the station is the one that the rule makes of an event that it accepts
+abbrev pub IsMadeBy : {S A N F : Type 0} → (Result (Accepted S A N) F → Type 0) → Station S N → Type 0
+IsMadeBy {S} {A} {N} {F} IsRuled s =
+    (a : Accepted S A N) × IsRuled (Ok a) × (s.node ≡ a.node) × (s.note ≡ Some a.note)
 
 -- The steps, in turn from a node, are all accepted, and they make these stations, each under the
 -- serial of its step.
@@ -87,12 +98,13 @@ pub data CarriedOut {E : Type 0} : ℕ → List (Command E) → List (Command E)
   stopped : {missed : ℕ} {asked carried : List (Command E)} (m reached : ℕ) → m ≤ reached → CarriedOut missed asked carried →
       CarriedOut (suc missed) (Undo m ∷ asked) (Undo reached ∷ carried)
 
--- A journal that began at a node and was given commands: what it carried out makes its timeline, the
--- live steps of that make its stations, and their fold is its node.
+-- A journal that began at a node and was given commands: what it carried out leads to its timeline,
+-- the live steps of that make its stations, and the fold of the rule over them is its node.
 pub record IsReplayOf {S E A N F : Type 0} (rule : Rule S E A N F) (node : S) (commands : List (Command E)) (missed : ℕ)
     (t : Timeline S N) : Type 0 where
   pub carried : List (Command E)
   pub carried_out : CarriedOut missed commands carried
-  pub timeline : t ≡ timeline_after rule carried (opened node)
-  pub stations : Makes rule node (live_steps rule carried (opened node) []) t.later
-  pub fold : (here t).node ≡ fold_of rule node (live_steps rule carried (opened node) [])
+  pub live : List (Live E)
+  pub runs : Runs rule carried (opened node) [] t live
+  pub stations : Makes rule node live t.later
+  pub fold : FoldsTo rule node live (here t).node

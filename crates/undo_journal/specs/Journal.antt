@@ -1,5 +1,5 @@
 -- What each call of a journal does to its timeline, and what it answers.
-use Rattle.std.specs.Prelude.{◌≡◌, ℕ, ◌^◌, ◌-◌, ◌≤◌, ◌++◌, List, [], ◌∷◌, Option, Some, None, IsSome, Result, Ok, Err, replicate}
+use Rattle.std.specs.Prelude.{◌≡◌, ℕ, ◌^◌, ◌-◌, ◌≤◌, ◌++◌, List, [], ◌∷◌, Some, None, IsSome, Result, Ok, Err, replicate}
 use Rattle.undo_journal.specs.declared.reversible.Told.{Told}
 use Rattle.undo_journal.specs.declared.report.Report.{Report}
 use Rattle.undo_journal.specs.declared.error.JournalError.{JournalError}
@@ -8,9 +8,9 @@ use Rattle.undo_journal.specs.Reversible.{Accepted, told_of}
 use Rattle.undo_journal.specs.Timeline.{Station, Timeline, here, appended, cut_to, cut_stations, report_of}
 
 -- the rule accepted the event, its station is appended, and n equal values tell of it
-abbrev pub Performs : {S A N F : Type 0} → Result (Accepted S A N) F → ℕ → Timeline S N → List (Told A N) → Timeline S N → Type 0
-Performs (Ok a) n old told new = (new ≡ appended old a.node a.note) × (told ≡ replicate n (told_of a))
-Performs (Err f) n old told new = ⊥
+abbrev pub Performs : {S A N F : Type 0} → (Result (Accepted S A N) F → Type 0) → ℕ → Timeline S N → List (Told A N) → Timeline S N → Type 0
+Performs {S} {A} {N} {F} IsRuled n old told new =
+    (a : Accepted S A N) × IsRuled (Ok a) × (new ≡ appended old a.node a.note) × (told ≡ replicate n (told_of a))
 
 -- want of memory that changed nothing, where the journal stands at this mark
 abbrev pub IsOutOfMemoryAt : {F N : Type 0} → ℕ → JournalError F N → Type 0
@@ -19,13 +19,13 @@ IsOutOfMemoryAt at DeadMark = ⊥
 IsOutOfMemoryAt at SerialEnd = ⊥
 IsOutOfMemoryAt at (Memory mark reports) = (mark ≡ at) × (reports.items ≡ [])
 
--- Why an event was not performed. `without_memory` is the refusal that is told without memory.
-abbrev pub PerformFails : {S A N F : Type 0} → Result (Accepted S A N) F → Option F → Timeline S N → JournalError F N → Type 0
-PerformFails ruled without_memory old (Step refusal) = ruled ≡ Err refusal
-PerformFails ruled without_memory old DeadMark = ⊥
-PerformFails ruled without_memory old SerialEnd = old.last ≡ 2 ^ 64 - 1
-PerformFails ruled without_memory old (Memory mark reports) =
-    (without_memory ≡ None) × (mark ≡ (here old).serial) × (reports.items ≡ [])
+-- Why an event was not performed. Want of memory is told only where memory may run out.
+abbrev pub PerformFails : {S A N F : Type 0} → (Result (Accepted S A N) F → Type 0) → Type 0 → Timeline S N → JournalError F N → Type 0
+PerformFails IsRuled MayRunOut old (Step refusal) = IsRuled (Err refusal)
+PerformFails IsRuled MayRunOut old DeadMark = ⊥
+PerformFails IsRuled MayRunOut old SerialEnd = old.last ≡ 2 ^ 64 - 1
+PerformFails IsRuled MayRunOut old (Memory mark reports) =
+    MayRunOut × (mark ≡ (here old).serial) × (reports.items ≡ [])
 
 -- What an undo that stopped reports of the stations that it cut: n equal reports, but none where it cut nothing.
 abbrev pub stopped_reports : {S N : Type 0} → ℕ → List (Station S N) → List (Report N)

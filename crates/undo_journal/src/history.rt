@@ -1,8 +1,9 @@
 // Whole lists of commands.
-ghost use Rattle.std.specs.Prelude.{◌≡◌, ◌<◌, ◌≤◌, ◌-◌, ◌^◌, List, ℕ, IfOk, IfSome, Some, None};
+ghost use Rattle.std.specs.Prelude.{◌≡◌, ◌<◌, ◌≤◌, ◌-◌, ◌^◌, List, ℕ, Result, IfOk, IfSome, Some, None};
 ghost use Rattle.std.specs.Bool.{OnTrue, OnFalse};
+ghost use Rattle.undo_journal.specs.Reversible.{Accepted};
 ghost use Rattle.undo_journal.specs.Timeline.{Timeline, here, cut_to, node_at, IsOrdered};
-ghost use Rattle.undo_journal.specs.History.{after_command, after_event, timeline_after, IsMissed, IsReplayOf};
+ghost use Rattle.undo_journal.specs.History.{Live, after_event, IsAfter, AreAfter, Runs, FoldsTo, IsMissed, IsReplayOf};
 ghost use Rattle.undo_journal.specs.declared.history.Command.{Command};
 
 use crate::error::JournalError;
@@ -32,9 +33,10 @@ pub struct Replayed<S: Reversible> {
 /// refuses changes nothing, and one that meets want of memory does what [`Journal`] says of it; the
 /// next one follows all the same.
 ///
-/// So the journal's timeline is that of the commands as they were carried out, and with none missed
+/// So the journal's timeline is where the commands lead as they were carried out, and with none missed
 /// these are all of them. Its stations behind the first are those that the live steps make, in turn:
 /// the accepted events that no undo took away. Its node is the fold of the rule over the live steps.
+/// Each of these is the only one ([`commands_have_one_end`]).
 ///
 /// # Errors
 ///
@@ -60,12 +62,13 @@ pub fn replay<S: Reversible>(
 /// Gives one command to a journal that has a serial left, and answers whether there was memory.
 fn carry_out<S: Reversible>(journal: &mut Journal<S>, command: &Command<S::Event>) -> bool
     requires { journal.old.last < 2 ^ 64 - 1 }
-    ensures done { OnTrue result (journal.new ≡ after_command S.rule journal.old command.now) }
-    ensures missed { OnFalse result (IsMissed S.rule journal.old command.now journal.new) }
+    ensures done { OnTrue result (IsAfter S.rule journal.old command.now journal.new) }
+    ensures missed { OnFalse result (IsMissed journal.old command.now journal.new) }
 {
     match command {
         Command::Perform(event) => match journal.perform(event, 0) {
-            Ok(_) | Err(JournalError::Step(_)) => true,
+            Ok(_) => true,
+            Err(JournalError::Step(_)) => true,
             Err(JournalError::DeadMark | JournalError::SerialEnd) => unreachable!(),
             Err(JournalError::Memory { .. }) => false,
         },
@@ -83,18 +86,42 @@ fn carry_out<S: Reversible>(journal: &mut Journal<S>, command: &Command<S::Event
 /// It is proved of every machine, of every timeline whose serials rise, as those of journals do
 /// ([`Journal::mark`]), and of every mark given by then:
 ///
-/// - `steps_keep`: an event, accepted or refused, leaves the node that the mark names.
+/// - `steps_keep`: an event, accepted or refused, leaves the node that the mark names, whatever
+///   outcome the rule gives.
 /// - `undos_cut`: an undo leaves it where the mark isn't after its own, and else kills the mark.
-/// - `never_again`: whatever commands follow, a mark that is alive after them names the node that
-///   it named before them; so a dead mark stays dead.
+/// - `never_again`: whatever commands follow, and wherever they lead, a mark that is alive after them
+///   names the node that it named before them; so a dead mark stays dead.
 pub fn marks_name_nodes<S: Reversible>()
     ensures steps_keep { (t : Timeline S S.Note) (event : S.Event) (mark : ℕ)
-        → IsOrdered t → mark ≤ t.last
-        → node_at mark (after_event t (S.rule (here t).node event)) ≡ node_at mark t }
+        (r : Result (Accepted S S.Answer S.Note) S.Refusal)
+        → IsOrdered t → mark ≤ t.last → S.rule (here t).node event r
+        → node_at mark (after_event t r) ≡ node_at mark t }
     ensures undos_cut { (t : Timeline S S.Note) (end mark : ℕ)
         → IsOrdered t → IfSome (cut_to end t) (λ u. (mark ≤ end → node_at mark u ≡ node_at mark t)
         × (end < mark → node_at mark u ≡ None)) }
-    ensures never_again { (t : Timeline S S.Note) (commands : List (Command S.Event)) (mark : ℕ)
-        → IsOrdered t → mark ≤ t.last
-        → IfSome (node_at mark (timeline_after S.rule commands t)) (λ n. node_at mark t ≡ Some n) }
+    ensures never_again { (t u : Timeline S S.Note) (commands : List (Command S.Event)) (mark : ℕ)
+        → IsOrdered t → mark ≤ t.last → AreAfter S.rule commands t u
+        → IfSome (node_at mark u) (λ n. node_at mark t ≡ Some n) }
+{}
+
+/// A law, and so a function whose body is empty on purpose: commands lead to one end at most.
+///
+/// It is proved of every machine, from `has_one_outcome`, of every timeline, list of commands and list
+/// of live steps that they begin with:
+///
+/// - `timeline`: the timeline after the commands is one at most.
+/// - `steps`: so are that timeline and the live steps together.
+/// - `node`: the fold of the rule over steps is one node at most.
+///
+/// So what [`replay`] and [`marks_name_nodes`] say of where commands lead leaves no choice, although
+/// the rule is a relation.
+pub fn commands_have_one_end<S: Reversible>()
+    ensures timeline { (t u v : Timeline S S.Note) (commands : List (Command S.Event))
+        → AreAfter S.rule commands t u → AreAfter S.rule commands t v → u ≡ v }
+    ensures steps { (t u v : Timeline S S.Note) (commands : List (Command S.Event))
+        (steps live others : List (Live S.Event))
+        → Runs S.rule commands t steps u live → Runs S.rule commands t steps v others
+        → (u ≡ v) × (live ≡ others) }
+    ensures node { (begun end other : S) (steps : List (Live S.Event))
+        → FoldsTo S.rule begun steps end → FoldsTo S.rule begun steps other → end ≡ other }
 {}

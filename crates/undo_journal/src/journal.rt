@@ -106,7 +106,7 @@ impl<S: Reversible> Journal<S> {
             (λ told. Performs (S.rule (here self.old).node event.now) n self.old told.items self.new) }
         ensures refused { IfErr result
             (PerformFails (S.rule (here self.old).node event.now)
-            (S.refusal_without_memory (here self.old).node event.now) self.old) }
+            (S.may_run_out (here self.old).node event.now) self.old) }
         ensures serial_end { self.old.last ≡ 2 ^ 64 - 1 → result ≡ Err JournalError.SerialEnd }
         ensures err { OnErr result (self.new ≡ self.old) }
     {
@@ -198,7 +198,7 @@ fn step<S: Reversible>(
         (λ done. AcceptsWith (S.rule state.old event.now) state.new n done.0.items done.2) }
     ensures reversible { IfOk result (λ done. S.undoes done.1 state.old state.new) }
     ensures refused { IfErr result
-        (Refuses (S.rule state.old event.now) (S.refusal_without_memory state.old event.now)) }
+        (Refuses (S.rule state.old event.now) (S.may_run_out state.old event.now)) }
     ensures err { OnErr result (state.new ≡ state.old) }
 {
     let Stepped { mut told, trace } = state.step(event, usize::from(n) + 1)?;

@@ -1,7 +1,7 @@
 //! An undo log in memory: a machine that can go back to any mark.
 //!
-//! A [`Reversible`] machine says by a rule what an event does to it, and hands out with each step a
-//! record that takes the step back. A [`Journal`] owns such a machine with the records of its steps:
+//! A [`Reversible`] machine says by a rule what an event does to it, which relates the two with one
+//! outcome at most, and hands out with each step a record that takes the step back. A [`Journal`] owns such a machine with the records of its steps:
 //! it performs events, gives marks, and undoes to any mark that it keeps. Marks are savepoints; the
 //! journal lives in memory alone, and outlives no program.
 //!
@@ -21,8 +21,10 @@
 //!   were and their notes, oldest first. An undo that finds no memory stands at a station at or after
 //!   the mark, names it, and reports what it cut; the same undo, called again, has the same end.
 //! - [`Journal::mark`] names the node where the machine stands, and [`Journal::state`] lends it.
-//! - [`replay`]: after any list of commands, want of memory among them, the timeline is that of the
-//!   commands as they were carried out, and the node is the fold of the rule over the live steps.
+//! - [`replay`]: after any list of commands, want of memory among them, the timeline is where the
+//!   commands lead as they were carried out, and the node is the fold of the rule over the live steps.
+//! - [`commands_have_one_end`]: from a timeline commands lead to one timeline at most, with one list of
+//!   live steps, whose fold is one node.
 //! - [`marks_name_nodes`]: a mark names its node until its station is cut, and never again after that.
 //!
 //! # What no contract says
@@ -41,7 +43,7 @@ mod report;
 mod reversible;
 
 pub use error::JournalError;
-pub use history::{Command, Replayed, marks_name_nodes, replay};
+pub use history::{Command, Replayed, commands_have_one_end, marks_name_nodes, replay};
 pub use journal::{Journal, Mark};
 pub use report::Report;
 pub use reversible::{Reversible, StepError, Stepped, Told};

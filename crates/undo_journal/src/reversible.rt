@@ -1,5 +1,5 @@
 // A machine whose steps can be taken back.
-ghost use Rattle.std.specs.Prelude.{◌≡◌, ◌+◌, Option, Result, Err, IfOk, IfErr, IfSome, OnOk, OnErr};
+ghost use Rattle.std.specs.Prelude.{◌≡◌, ◌+◌, Result, Err, IfOk, IfErr, MatchOption, OnOk, OnErr};
 ghost use Rattle.undo_journal.specs.Reversible.{Accepted, Accepts, Refuses};
 
 use values::Duplicate;
@@ -34,8 +34,9 @@ pub enum StepError<F> {
 
 /// A machine whose steps can be taken back, one by one, the newest first.
 ///
-/// Its `rule` is a function of the node, which knows no want of memory. A step is made whole or
-/// changes nothing: so make all growths before the first change.
+/// Its `rule` relates a node and an event with their outcome, and knows no want of memory. There is
+/// one outcome at most (`has_one_outcome`), and a step that ends without want of memory has it. A step
+/// is made whole or changes nothing: so make all growths before the first change.
 ///
 /// The contracts compare nodes, answers, notes and refusals by `≡`, which sees a bare `Vec` or `Arc`
 /// with its capacity and address. Give a type that holds one a `Model`, or hold a `values::Row` or a
@@ -56,11 +57,11 @@ pub trait Reversible: Drop {
     /// Why an event is refused.
     type Refusal: Drop;
 
-    /// What an event does to a node, or why it is refused.
-    ghost rule: { Self → Self.Event → Result (Accepted Self Self.Answer Self.Note) Self.Refusal };
+    /// What an event does to a node, or why it is refused: a relation with the outcome.
+    ghost rule: { Self → Self.Event → Result (Accepted Self Self.Answer Self.Note) Self.Refusal → Type 0 };
 
-    /// The refusal of an event that is told without memory, if there is one.
-    ghost refusal_without_memory: { Self → Self.Event → Option Self.Refusal };
+    /// Whether memory may run out in a step: nothing stands against the event that is told without memory.
+    ghost may_run_out: { Self → Self.Event → Type 0 };
 
     /// Whether a record takes back the step from the one node to the other.
     ghost undoes: { Self.Record → Self → Self → Type 0 };
@@ -79,7 +80,7 @@ pub trait Reversible: Drop {
         ensures accepted { IfOk result (λ done. Accepts (rule self.old event.now) self.new n done.told.items) }
         ensures reversible { IfOk result (λ done. undoes done.trace self.old self.new) }
         ensures refused { IfErr result
-            (Refuses (rule self.old event.now) (refusal_without_memory self.old event.now)) }
+            (Refuses (rule self.old event.now) (may_run_out self.old event.now)) }
         ensures err { OnErr result (self.new ≡ self.old) };
 
     /// Takes back the newest step, whose record this is: the machine stands right after that step.
@@ -95,6 +96,10 @@ pub trait Reversible: Drop {
 
     /// The refusal of an event that is told without memory, if there is one. Takes no memory.
     fn refusal(&self, event: &Self::Event) -> Option<Self::Refusal>
-        ensures given { result ≡ refusal_without_memory self.now event.now }
-        ensures refused { IfSome result (λ it. rule self.now event.now ≡ Err it) };
+        ensures { MatchOption result (may_run_out self.now event.now) (λ it. rule self.now event.now (Err it)) };
+
+    /// The law of the rule: an event has one outcome at most.
+    ghost has_one_outcome: { (node : Self) (event : Self.Event)
+        (r s : Result (Accepted Self Self.Answer Self.Note) Self.Refusal)
+        → rule node event r → rule node event s → r ≡ s };
 }

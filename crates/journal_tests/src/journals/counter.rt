@@ -1,5 +1,6 @@
 // A counter, whose record is the amount that was added, and whose memory can be refused.
-ghost use Rattle.std.specs.Prelude.{◌≡◌, ◌+◌, ◌-◌, ◌^◌, ℕ, nat_lt, if◌then◌else◌, IfOk, None, Some, Ok, Err, replicate};
+ghost use Rattle.std.specs.Prelude.{◌≡◌, ◌+◌, ◌-◌, ◌<◌, ◌^◌, ℕ, nat_lt, if◌then◌else◌, IfOk, Ok, Err, replicate};
+ghost use Rattle.std.proofs.Common.{sym, ◌∙◌};
 
 use super::scripts::Scripted;
 use std::alloc::{AllocError, Global};
@@ -124,12 +125,11 @@ impl Reversible for Counter {
 
     type Refusal = Overflow;
 
-    ghost rule = { λ value amount. if nat_lt (value + amount) (2 ^ 64)
+    ghost rule = { λ value amount r. r ≡ (if nat_lt (value + amount) (2 ^ 64)
         then Ok (record { node = value + amount; answer = value + amount; note = amount })
-        else Err (record {}) };
+        else Err (record {})) };
 
-    ghost refusal_without_memory = { λ value amount. if nat_lt (value + amount) (2 ^ 64)
-        then None else Some (record {}) };
+    ghost may_run_out = { λ value amount. value + amount < 2 ^ 64 };
 
     ghost undoes = { λ amount before after. after ≡ before + amount };
 
@@ -168,6 +168,8 @@ impl Reversible for Counter {
             None => Some(Overflow),
         }
     }
+
+    ghost has_one_outcome = { λ value amount r s first second. first ∙ sym second };
 }
 
 /// As many equal values as are asked for.

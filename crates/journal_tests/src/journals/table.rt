@@ -1,5 +1,6 @@
 // A table, whose record of a removal is what was removed and where.
-ghost use Rattle.std.specs.Prelude.{◌≡◌, ◌+◌, ◌-◌, ◌<◌, ◌≤◌, ◌++◌, [], ◌∷◌, ℕ, List, length, nat_lt, if◌then◌else◌, slice_index, insert, remove, take, None, Some, Ok, Err, IfOk, replicate};
+ghost use Rattle.std.specs.Prelude.{◌≡◌, ◌+◌, ◌-◌, ◌<◌, ◌≤◌, ◌++◌, [], ◌∷◌, ℕ, List, length, nat_lt, if◌then◌else◌, slice_index, insert, remove, take, Ok, Err, IfOk, replicate};
+ghost use Rattle.std.proofs.Common.{sym, ◌∙◌};
 ghost use Rattle.journal_tests.specs.declared.journals.table.Change.TheVariants.{Push, Remove};
 ghost use Rattle.journal_tests.specs.declared.journals.table.Back.TheVariants.{Pushed, Removed};
 
@@ -66,16 +67,16 @@ impl Reversible for Table {
 
     type Refusal = OutOfRange;
 
-    ghost rule = { λ items change. elim change [
+    ghost rule = { λ items change r. r ≡ elim change [
       | Push item ↦ Ok (record { node = items ++ item ∷ []; answer = length items; note = item })
       | Remove at ↦ if nat_lt at (length items)
           then Ok (record { node = remove items at; answer = at; note = slice_index items at })
           else Err (record {})
     ] };
 
-    ghost refusal_without_memory = { λ items change. elim change [
-      | Push _ ↦ None
-      | Remove at ↦ if nat_lt at (length items) then None else Some (record {})
+    ghost may_run_out = { λ items change. elim change [
+      | Push _ ↦ Unit {0}
+      | Remove at ↦ at < length items
     ] };
 
     ghost undoes = { λ back before after. elim back [
@@ -133,6 +134,8 @@ impl Reversible for Table {
             Change::Remove(_) => Some(OutOfRange),
         }
     }
+
+    ghost has_one_outcome = { λ items change r s first second. first ∙ sym second };
 }
 
 /// As many equal values as are asked for.

@@ -1,7 +1,6 @@
 -- Serials rise, so a mark has one station at most.
 use Rattle.std.proofs.Common.{◌≡◌, ℕ, ◌<◌, ◌≤◌, Option, Some, None, IfSome, refl}
-use Rattle.undo_journal.specs.Timeline.{Timeline, here, cut_to, node_at, IsOrdered}
-use Rattle.undo_journal.specs.History.{timeline_after}
+use Rattle.undo_journal.specs.Timeline.{Timeline, cut_to, node_at, IsOrdered}
 use Rattle.undo_journal.proofs.Histories.{node_at-event, node_at-cut, node_at-after}
 use Rattle.undo_journal.proofs.history.marks_name_nodes.Goals as goal
 
@@ -14,13 +13,12 @@ if_alive None p named = tt
 if_alive (Some n) p named = named n refl
 
 pub returns-clause-steps_keep : goal.returns-clause-steps_keep
-returns-clause-steps_keep g c = λ t event mark ordered given.
-    node_at-event g.S.Reversible.rule mark t (g.S.Reversible.rule (here t).node event) given
+returns-clause-steps_keep g c = λ t event mark r ordered given ruled.
+    node_at-event g.S.Reversible.rule mark t r given
 
 pub returns-clause-undos_cut : goal.returns-clause-undos_cut
 returns-clause-undos_cut g c = λ t end mark ordered. if_cut end mark t (cut_to end t) ordered refl
 
 pub returns-clause-never_again : goal.returns-clause-never_again
-returns-clause-never_again g c = λ t commands mark ordered given.
-    let after = timeline_after g.S.Reversible.rule commands t in
-    if_alive (node_at mark after) (node_at mark t) (λ n. node_at-after g.S.Reversible.rule mark commands t n ordered given)
+returns-clause-never_again g c = λ t u commands mark ordered given are.
+    if_alive (node_at mark u) (node_at mark t) (λ n. node_at-after g.S.Reversible.rule mark commands t u n are ordered given)

@@ -38,11 +38,10 @@ loop-command-preserved g c =
           }
       | else-not-carry_out w ↦
           let done = OnTrue_at w.if-not-carry_out.false c.carry_out.ensures.done in
-          let last = last-command rule before command in
-          let same = ap (λ t. t.last) done in
+          let last = last-command rule before after command done in
           record {
             on = rw (more, w.missed-is) (CarriedOn-done rule begun before after asked c.loop-command.missed command c.loop-command.invariant.on done);
-            given = omega (arith, last.1, same, c.loop-command.invariant.given);
+            given = omega (arith, last.1, c.loop-command.invariant.given);
             missed = omega (arith, w.missed-is, c.loop-command.invariant.missed);
           }
     ]

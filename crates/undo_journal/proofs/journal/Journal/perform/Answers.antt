@@ -1,6 +1,6 @@
 -- The state is the last station's node, so the rule that the step follows is that node's. The entry
 -- that is put is the next station's.
-use Rattle.std.proofs.Common.{◌≡◌, ◌+◌, ◌∷◌, [], ◌++◌, None, Err, subst, sym, ap, ◌∙◌, refl}
+use Rattle.std.proofs.Common.{◌≡◌, ◌+◌, ◌∷◌, [], ◌++◌, Err, subst, sym, ap, ◌∙◌, refl}
 use Rattle.undo_journal.specs.declared.past.Entry.{Entry}
 use Rattle.undo_journal.specs.Past.{timeline_of}
 use Rattle.undo_journal.specs.Reversible.{AcceptsWith}
@@ -13,7 +13,7 @@ pub returns-in-Some-clause-refused : goal.returns-in-Some-clause-refused
 returns-in-Some-clause-refused g c =
     let j = c.self.inside in
     let node = state_of-timeline g.S.Reversible.undoes j.floor j.first.value j.first_note j.past.items j.last j.state c.self.invariant.0 ∙ ap (λ t. (here t).node) c.self.view_is in
-    subst (λ s. g.S.Reversible.rule s c.args.event.now ≡ Err c.in-Some.refusal) node c.in-Some.ensures.refused
+    subst (λ s. g.S.Reversible.rule s c.args.event.now (Err c.in-Some.refusal)) node c.in-Some.ensures
 
 pub returns-in-None-clause-refused : goal.returns-in-None-clause-refused
 returns-in-None-clause-refused g c =
@@ -21,13 +21,13 @@ returns-in-None-clause-refused g c =
     let t = c.args.self.now in
     let node = state_of-timeline g.S.Reversible.undoes j.floor j.first.value j.first_note j.past.items j.last j.state c.self.invariant.0 ∙ ap (λ u. (here u).node) c.self.view_is in
     let want = want-at j.floor j.first.value j.first_note j.past.items c.reserve.new.self.items j.last t c.out_of_memory.result c.reserve.ensures.items c.self.view_is c.out_of_memory.ensures in
-    PerformFails-from_want _ _ t c.out_of_memory.result (subst (λ s. g.S.Reversible.refusal_without_memory s c.args.event.now ≡ None) node (sym c.in-None.ensures.given)) want
+    PerformFails-from_want (g.S.Reversible.rule (here t).node c.args.event.now) _ t c.out_of_memory.result (subst (λ s. g.S.Reversible.may_run_out s c.args.event.now) node c.in-None.ensures) want
 
 pub returns-in-Err-Rule-clause-refused : goal.returns-in-Err-Rule-clause-refused
 returns-in-Err-Rule-clause-refused g c =
     let j = c.self.inside in
     let node = state_of-timeline g.S.Reversible.undoes j.floor j.first.value j.first_note j.past.items j.last j.state c.self.invariant.0 ∙ ap (λ t. (here t).node) c.self.view_is in
-    subst (λ s. g.S.Reversible.rule s c.args.event.now ≡ Err c.in-Err-Rule.refusal) node (rw c.in-Err-Rule.field-0-is at c.in-Err-Rule.ensures.refused)
+    subst (λ s. g.S.Reversible.rule s c.args.event.now (Err c.in-Err-Rule.refusal)) node (rw c.in-Err-Rule.field-0-is at c.in-Err-Rule.ensures.refused)
 
 pub returns-in-Err-Memory-clause-refused : goal.returns-in-Err-Memory-clause-refused
 returns-in-Err-Memory-clause-refused g c =
@@ -35,7 +35,7 @@ returns-in-Err-Memory-clause-refused g c =
     let t = c.args.self.now in
     let node = state_of-timeline g.S.Reversible.undoes j.floor j.first.value j.first_note j.past.items j.last j.state c.self.invariant.0 ∙ ap (λ u. (here u).node) c.self.view_is in
     let want = want-at j.floor j.first.value j.first_note j.past.items c.reserve.new.self.items j.last t c.out_of_memory-in-Err-Memory.result c.reserve.ensures.items c.self.view_is c.out_of_memory-in-Err-Memory.ensures in
-    PerformFails-from_want _ _ t c.out_of_memory-in-Err-Memory.result (subst (λ s. g.S.Reversible.refusal_without_memory s c.args.event.now ≡ None) node (rw c.in-Err-Memory.field-0-is at c.in-Err-Memory.ensures.refused)) want
+    PerformFails-from_want (g.S.Reversible.rule (here t).node c.args.event.now) _ t c.out_of_memory-in-Err-Memory.result (subst (λ s. g.S.Reversible.may_run_out s c.args.event.now) node (rw c.in-Err-Memory.field-0-is at c.in-Err-Memory.ensures.refused)) want
 
 pub invariant_of-self-2 : goal.invariant_of-self-2
 invariant_of-self-2 g c =
@@ -51,4 +51,4 @@ returns-clause-performed g c =
     let items = c.put.ensures ∙ ap (λ ps. ps ++ entry ∷ []) c.reserve.ensures.items in
     let node = state_of-timeline g.S.Reversible.undoes j.floor j.first.value j.first_note j.past.items j.last j.state c.self.invariant.0 ∙ ap (λ u. (here u).node) c.self.view_is in
     let new = ap (λ ps. timeline_of j.floor j.first.value j.first_note ps (j.last + 1)) items ∙ timeline_of-push j.floor j.first.value j.first_note j.past.items j.last entry refl ∙ ap (λ u. appended u c.of.result.value entry.note) c.self.view_is ∙ ap (λ s. appended t s entry.note) c.of.ensures in
-    Performs-from _ c.step.new.state c.args.n c.in-Ok.stepped.0.items entry.note t _ (subst (λ s. AcceptsWith (g.S.Reversible.rule s c.args.event.now) c.step.new.state c.args.n c.in-Ok.stepped.0.items entry.note) node c.in-Ok.ensures.accepted) new
+    Performs-from (g.S.Reversible.rule (here t).node c.args.event.now) c.step.new.state c.args.n c.in-Ok.stepped.0.items entry.note t _ (subst (λ s. AcceptsWith (g.S.Reversible.rule s c.args.event.now) c.step.new.state c.args.n c.in-Ok.stepped.0.items entry.note) node c.in-Ok.ensures.accepted) new
