@@ -1,4 +1,5 @@
 pub mod Changes
+pub mod Redoing
 pub mod Reloads
 pub mod Serials
 pub mod Sound

@@ -1,10 +1,9 @@
 -- A purge and a load in one: what it does where the module stands, and which undo takes it back.
 use Rattle.std.proofs.Common.{◌≡◌, ℕ, ◌+◌, ◌-◌, ◌^◌, ◌<◌, ◌==◌, Bool, true, false, if◌then◌else◌, List, [], ◌∷◌, ◌++◌, length, take, insert, remove, slice_get, position, Option, None, Some, option_and_then, is_some, refl, sym, ap, ◌∙◌, length-append, arith}
 use Rattle.std.proofs.lemmas.Bool.{eq-eqb, ne_eqb}
-use Rattle.std.proofs.lemmas.List.Edits.{insert_end, length-remove}
+use Rattle.std.proofs.lemmas.List.Edits.{length-remove}
 use Rattle.std.proofs.lemmas.Option.{same_Some}
 use Rattle.std.specs.Map.{lookup}
-use Rattle.std.specs.Option.{option_map_or}
 use Rattle.std.specs.Str.{bytes_eq}
 use Rattle.indexmap.specs.IndexMap.{move_index}
 use Rattle.indexmap.proofs.MapLemmas.{some_index}
@@ -18,7 +17,7 @@ use Rattle.code_server.specs.Places.{former_at}
 use Rattle.code_server.specs.Undo.{Fits, moved_back, undone}
 use Rattle.code_server.proofs.Changes.{none_from_test, old_of-slots, purged-absent, purged-gone, purged-kept, same_slots, taken_back}
 use Rattle.code_server.proofs.Sound.{IsSound-added, IsSound-removed}
-use Rattle.code_server.proofs.Standing.{Stands, Stands-place, absent_from_place, keys-with_slots}
+use Rattle.code_server.proofs.Standing.{Stands, Stands-place, absent_from_place, keys-with_slots, last_is, move_index-end}
 
 module _ {C : Type 0} where
   -- No old code stays
@@ -81,28 +80,16 @@ module _ {C : Type 0} where
 
   -- A module with old code alone goes last
 
-  moved-last : (name : List ℕ) (es : List (Entry C)) (place : ℕ) (at : Stands name es place) → move_index es place (length es - 1) ≡ remove es place ++ (name, at.slots) ∷ []
-  moved-last name es place at =
-      let others = remove es place in
-      let shorter = length-remove es place at.within in
-      let last : length es - 1 ≡ length others = omega arith in
-      ap (λ o. option_map_or (λ e. insert others (length es - 1) e) o es) at.entry ∙ ap (λ n. insert others n (name, at.slots)) last ∙ insert_end others (name, at.slots)
-
-  last_is : (name : List ℕ) (es : List (Entry C)) (place : ℕ) → Stands name es place → length es - 1 ≡ length (remove es place)
-  last_is name es place at =
-      let shorter = length-remove es place at.within in
-      omega arith
-
   pub stacked-last : (name : List ℕ) (es : List (Entry C)) (place : ℕ) (instance : Instance C) (at : Stands name es place) → at.slots.current ≡ None → with_slots (stacked instance) (move_index es place (length es - 1)) (length es - 1) ≡ remove es place ++ (name, record { current = Some instance; former = None }) ∷ []
   stacked-last name es place instance at none =
       let others = remove es place in
-      (λ j. with_slots (stacked instance) (moved-last name es place at j) (last_is name es place at j))
+      (λ j. with_slots (stacked instance) (move_index-end es place (name, at.slots) at.within at.entry j) (last_is es place at.within j))
       ∙ changed_at-end (λ e. (e.0, stacked instance e.1)) others (name, at.slots)
       ∙ (λ j. others ++ (name, record { current = Some instance; former = none j }) ∷ [])
 
   pub former-last : (name : List ℕ) (es : List (Entry C)) (place : ℕ) (at : Stands name es place) → former_at (move_index es place (length es - 1)) (length es - 1) ≡ at.slots.former
   former-last name es place at =
-      (λ j. former_at (moved-last name es place at j) (last_is name es place at j)) ∙ ap (option_and_then (λ entry. entry.1.former)) (slice_get-end (remove es place) (name, at.slots))
+      (λ j. former_at (move_index-end es place (name, at.slots) at.within at.entry j) (last_is es place at.within j)) ∙ ap (option_and_then (λ entry. entry.1.former)) (slice_get-end (remove es place) (name, at.slots))
 
   pub loaded-gone : (name : List ℕ) (code : C) (t : Table C) (place : ℕ) → IsSound t → place_of name t.entries ≡ Some place → is_some (current_of name t) ≡ false → loaded name code (purged name t) ≡ record { entries = remove t.entries place ++ (name, record { current = Some (record { serial = t.next; code = code }); former = None }) ∷ []; next = t.next + 1 }
   loaded-gone name code t place sound found there =

@@ -1,6 +1,7 @@
 -- A module at its place: what a write there is, and what a look-up by its name finds.
 use Rattle.std.proofs.Common.{◌≡◌, ℕ, zero, suc, ◌+◌, ◌-◌, ◌<◌, ◌≤◌, true, cond, List, [], ◌∷◌, ◌++◌, length, length-take-le, insert, remove, take, slice_get, Option, None, Some, option_and_then, option_map, inl, inr, refl, sym, ap, ◌∙◌, arith}
 use Rattle.std.proofs.lemmas.List.{take_all, take_more}
+use Rattle.std.proofs.lemmas.List.Edits.{insert_end, length-remove}
 use Rattle.std.proofs.lemmas.List.Quantifiers.{position-Some}
 use Rattle.std.proofs.lemmas.Map.{lookup-remove_entry}
 use Rattle.std.proofs.lemmas.Option.{get_or_from_slice_get, none-some, same_Some, slice_get-map, slice_get_cases}
@@ -8,17 +9,18 @@ use Rattle.std.proofs.lemmas.Slice.Eq.{bytes_eq-Decides}
 use Rattle.std.specs.Cmp.Lexicographic.{nat_list_eq_equiv}
 use Rattle.std.specs.List.{IsDistinct}
 use Rattle.std.specs.Map.{keys_of, values_of, lookup}
+use Rattle.std.specs.Option.{option_map_or}
 use Rattle.std.specs.Str.{bytes_eq}
 use Rattle.indexmap.specs.IndexMap.{IndexMap, insert_entry, insert_index, move_index, set_value_at}
 use Rattle.indexmap.proofs.CallerLemmas.{insert_entry-new}
 use Rattle.indexmap.proofs.MapLemmas.{Found-position, Missing-position, absent_from_lookup, or_len-absent, remove_entry-first}
 use Rattle.indexmap.proofs.MoveLemmas.{push_moved}
-use Rattle.values.proofs.Edits.{changed_at-insert, map-changed_at}
+use Rattle.values.proofs.Edits.{changed_at-end, changed_at-insert, map-changed_at, slice_get-end}
 use Rattle.code_server.specs.declared.modules.Instance.{Instance}
 use Rattle.code_server.specs.declared.modules.Slots.{Slots}
 use Rattle.code_server.specs.Modules.{Entry, place_of, with_slots}
-use Rattle.code_server.specs.Places.{old_alone}
-use Rattle.code_server.specs.Undo.{moved_back}
+use Rattle.code_server.specs.Places.{former_at, old_alone}
+use Rattle.code_server.specs.Undo.{moved_back, moved_last}
 
 module _ {C : Type 0} where
   -- a write through what the map lent at a place
@@ -56,6 +58,57 @@ module _ {C : Type 0} where
             ap (λ l. with_slots (old_alone instance) l place) moved ∙ changed_at-insert (λ e. (e.0, old_alone instance e.1)) others place entry (omega arith) ∙ ap (λ o. moved_back place instance o others) (sym there.2)
         | inr past ↦ absurd (omega (arith, past.0))
       ]
+
+  -- what a place has
+  pub entry_at : (es : List (Entry C)) (i : ℕ) → i < length es → (entry : Entry C) × (slice_get es i ≡ Some entry)
+  entry_at [] i within = absurd (omega arith)
+  entry_at (e ∷ es) zero within = (e, refl)
+  entry_at (e ∷ es) (suc i) within = entry_at es i (omega arith)
+
+  -- what was put in at a place is there
+  pub slice_get-insert : (es : List (Entry C)) (i : ℕ) (e : Entry C) → i ≤ length es → slice_get (insert es i e) i ≡ Some e
+  slice_get-insert es zero e within = refl
+  slice_get-insert [] (suc i) e within = absurd (omega arith)
+  slice_get-insert (d ∷ es) (suc i) e within = slice_get-insert es i e (omega arith)
+
+  -- the instances that the last module has, lent where it was moved to
+  pub lent_from_move_back : (es : List (Entry C)) (place : ℕ) (v : Slots C) → place < length es → slice_get (values_of (move_index es (length es - 1) place)) place ≡ Some v → Some v ≡ option_map (λ entry. entry.1) (slice_get es (length es - 1))
+  lent_from_move_back es place v within at =
+      let last = length es - 1 in
+      let there = entry_at es last (omega arith) in
+      let others = remove es last in
+      let shorter = length-remove es last (omega arith) in
+      let moved : move_index es last place ≡ insert others place there.0 = ap (λ o. option_map_or (λ e. insert others place e) o es) there.1 in
+      let found = slice_get-insert others place there.0 (omega arith) in
+      sym at ∙ ap (λ l. slice_get (values_of l) place) moved ∙ slice_get-map (λ e. e.1) (insert others place there.0) place ∙ ap (option_map (λ e. e.1)) (found ∙ sym there.1)
+
+  -- a module, moved to the end
+
+  pub last_is : (es : List (Entry C)) (place : ℕ) → place < length es → length es - 1 ≡ length (remove es place)
+  last_is es place within = let shorter = length-remove es place within in omega arith
+
+  pub move_index-end : (es : List (Entry C)) (place : ℕ) (entry : Entry C) → place < length es → slice_get es place ≡ Some entry → move_index es place (length es - 1) ≡ remove es place ++ entry ∷ []
+  move_index-end es place entry within at =
+      let others = remove es place in
+      ap (λ o. option_map_or (λ e. insert others (length es - 1) e) o es) at ∙ ap (λ n. insert others n entry) (last_is es place within) ∙ insert_end others entry
+
+  -- it is left there with other instances
+  pub moved_last_from_move : (slots : Slots C) (es : List (Entry C)) (place : ℕ) → place < length es → with_slots (λ _. slots) (move_index es place (length es - 1)) (length es - 1) ≡ moved_last slots (slice_get es place) (remove es place)
+  moved_last_from_move slots es place within =
+      let there = entry_at es place within in
+      let others = remove es place in
+      (λ j. with_slots (λ _. slots) (move_index-end es place there.0 within there.1 j) (last_is es place within j))
+      ∙ changed_at-end (λ e. (e.0, slots)) others there.0
+      ∙ ap (λ o. moved_last slots o others) (sym there.1)
+
+  -- the old code of what is lent there
+  pub former_from_move : (es : List (Entry C)) (place : ℕ) (v : Slots C) → place < length es → slice_get (values_of (move_index es place (length es - 1))) (length es - 1) ≡ Some v → v.former ≡ former_at es place
+  former_from_move es place v within at =
+      let there = entry_at es place within in
+      let others = remove es place in
+      at_lent (λ slots. slots.former) (move_index es place (length es - 1)) (length es - 1) v at
+      ∙ (λ j. former_at (move_index-end es place there.0 within there.1 j) (last_is es place within j))
+      ∙ ap (option_and_then (λ entry. entry.1.former)) (slice_get-end others there.0 ∙ sym there.1)
 
   -- no change of instances touches a name
   pub keys-with_slots : (f : Slots C → Slots C) (es : List (Entry C)) (i : ℕ) → keys_of (with_slots f es i) ≡ keys_of es

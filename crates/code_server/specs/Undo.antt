@@ -1,12 +1,15 @@
--- What takes a change of the code server's table back.
-use Rattle.std.specs.Prelude.{◌≡◌, ℕ, ◌-◌, ◌<◌, ◌≤◌, List, length, take, insert, slice_get, Option, None, Some}
+-- What takes a change of the code server's table back, and what makes it again.
+use Rattle.std.specs.Prelude.{◌≡◌, ℕ, ◌+◌, ◌-◌, ◌<◌, ◌≤◌, List, [], ◌∷◌, ◌++◌, length, take, insert, remove, slice_get, Option, None, Some, option_and_then, option_map}
 use Rattle.std.specs.Map.{lookup}
 use Rattle.std.specs.Str.{bytes_eq}
 use Rattle.code_server.specs.declared.modules.Instance.{Instance}
 use Rattle.code_server.specs.declared.modules.Slots.{Slots}
 use Rattle.code_server.specs.declared.undo.Undo.{Undo}
 use Rattle.code_server.specs.declared.undo.Undo.TheVariants.{Nothing, Added, Stacked, Replaced, Moved, Retired, Purged, Removed}
+use Rattle.code_server.specs.declared.undo.Redo.{Redo}
+use Rattle.code_server.specs.declared.undo.Redo.TheVariants.{Replace, Move, Purge, Remove}
 use Rattle.code_server.specs.Modules.{Entry, Table, IsSound, with_slots}
+use Rattle.code_server.specs.Places.{former_at}
 
 -- what was old is current again
 abbrev pub restored : {C : Type 0} → Slots C → Slots C
@@ -68,3 +71,56 @@ IsRemoval (Moved place instance) = ⊥
 IsRemoval (Retired place) = ⊥
 IsRemoval (Purged place instance) = ⊥
 IsRemoval (Removed place name instance) = Unit {0}
+
+-- the undo of a change that has purged old code
+abbrev pub HasPurged : {C : Type 0} → Undo C → Type 0
+HasPurged Nothing = ⊥
+HasPurged Added = ⊥
+HasPurged (Stacked place) = ⊥
+HasPurged (Replaced place instance) = Unit {0}
+HasPurged (Moved place instance) = Unit {0}
+HasPurged (Retired place) = ⊥
+HasPurged (Purged place instance) = Unit {0}
+HasPurged (Removed place name instance) = Unit {0}
+
+-- A change that has purged old code, made again once it was taken back.
+
+-- this instance is current, what was current is old, and what was old is gone
+abbrev pub replaced : {C : Type 0} → Option (Instance C) → Slots C → Slots C
+replaced instance slots = record { current = instance; former = slots.current }
+
+-- this instance is old, and what was old is gone
+abbrev pub with_old : {C : Type 0} → Option (Instance C) → Slots C → Slots C
+with_old instance slots = record { current = slots.current; former = instance }
+
+-- an entry is behind the others, with these instances
+abbrev pub moved_last : {C : Type 0} → Slots C → Option (Entry C) → List (Entry C) → List (Entry C)
+moved_last slots None others = others
+moved_last slots (Some entry) others = others ++ (entry.0, slots) ∷ []
+
+-- the table that the change leads to
+abbrev pub redone : {C : Type 0} → Redo C → Table C → Table C
+redone (Replace place instance) t = record { entries = with_slots (replaced instance) t.entries place; next = t.next + 1 }
+redone (Move place slots) t = record {
+  entries = moved_last slots (slice_get t.entries place) (remove t.entries place);
+  next = t.next + 1;
+}
+redone (Purge place instance) t = record { entries = with_slots (with_old instance) t.entries place; next = t.next }
+redone (Remove place) t = record { entries = remove t.entries place; next = t.next }
+
+-- the undo that the change hands out: with it is the old code that the module at the place has, which goes
+abbrev pub undo_of : {C : Type 0} → Redo C → Table C → Option (Undo C)
+undo_of (Replace place instance) t = option_map (Replaced place) (former_at t.entries place)
+undo_of (Move place slots) t = option_map (Moved place) (former_at t.entries place)
+undo_of (Purge place instance) t = option_map (Purged place) (former_at t.entries place)
+undo_of (Remove place) t =
+    option_and_then (λ entry. option_map (Removed place entry.0) entry.1.former) (slice_get t.entries place)
+
+-- what `redo` needs: made again over the table `before` the change leads to the sound table `after`, and hands out the
+-- undo, which takes it back then
+pub record Redoes {C : Type 0} (redo : Redo C) (undo : Undo C) (after before : Table C) : Type 0 where
+  pub again : redone redo before ≡ after
+  pub hands : undo_of redo before ≡ Some undo
+  pub fits : Fits undo after
+  pub back : undone undo after ≡ before
+  pub sound : IsSound after

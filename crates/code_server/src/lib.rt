@@ -19,4 +19,4 @@ mod undo;
 
 pub use error::CodeError;
 pub use modules::{Instance, Modules, Slots};
-pub use undo::Undo;
+pub use undo::{Redo, Undo};

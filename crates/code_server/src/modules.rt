@@ -1,4 +1,6 @@
 // The table of modules.
+mod redoing;
+
 ghost use Rattle.std.specs.Prelude.{◌≡◌, ◌↔◌, ℕ, List, [], None, Some, length, slice_get, IsTrue, IfOk, IfErr, OnOk, OnErr, MatchOption, MatchResult};
 ghost use Rattle.std.specs.Str.{chars};
 ghost use Rattle.std.specs.Map.Iter.{deref_pair};
@@ -336,7 +338,7 @@ impl<C: Drop> Modules<C> {
                 Ok(())
             }
             Undo::Moved(place, instance) => {
-                move_back(&mut self.table, place, instance);
+                let _ = move_back(&mut self.table, place, instance);
                 self.last -= 1;
                 Ok(())
             }

@@ -5,7 +5,7 @@ ghost use Rattle.std.specs.Str.{bytes_eq};
 ghost use Rattle.indexmap.specs.IndexMap.{move_index};
 ghost use Rattle.code_server.specs.Modules.{with_slots, stacked};
 ghost use Rattle.code_server.specs.Places.{changed_slots, current_at, former_at, gone_slot};
-ghost use Rattle.code_server.specs.Undo.{moved_back};
+ghost use Rattle.code_server.specs.Undo.{moved_back, moved_last};
 
 use crate::error::CodeError;
 use crate::modules::{ByName, Instance, Slots};
@@ -99,17 +99,35 @@ pub(crate) fn stack_last<C>(
     change_at(table, last, SlotChange::Stack(Some(instance)))
 }
 
-/// Moves the last module to a place, and leaves it with this old code alone.
-pub(crate) fn move_back<C: Drop>(table: &mut ByName<C>, place: usize, instance: Instance<C>)
+/// Moves the last module to a place, leaves it with this old code alone, and gives the instances that it had.
+pub(crate) fn move_back<C>(table: &mut ByName<C>, place: usize, instance: Instance<C>) -> Slots<C>
     requires { place < length table.old.entries }
-    ensures { table.new.entries ≡ moved_back place instance (slice_get table.old.entries (length table.old.entries - 1)) (take (length table.old.entries - 1) table.old.entries) }
+    ensures moved { table.new.entries ≡ moved_back place instance (slice_get table.old.entries (length table.old.entries - 1)) (take (length table.old.entries - 1) table.old.entries) }
+    ensures gone { Some result ≡ option_map (λ entry. entry.1) (slice_get table.old.entries (length table.old.entries - 1)) }
 {
     let last = table.len() - 1;
     table.move_index(last, place);
-    table[place] = Slots {
+    let slots = Slots {
         current: None,
         former: Some(instance),
     };
+    mem::replace(&mut table[place], slots)
+}
+
+/// Moves the module at a place to the end, leaves it with these instances, and gives the old code that it had.
+pub(crate) fn move_last<C: Drop>(
+    table: &mut ByName<C>,
+    place: usize,
+    slots: Slots<C>,
+) -> Option<Instance<C>>
+    requires { place < length table.old.entries }
+    ensures moved { table.new.entries ≡ moved_last slots (slice_get table.old.entries place) (remove table.old.entries place) }
+    ensures former { result ≡ former_at table.old.entries place }
+{
+    let last = table.len() - 1;
+    table.move_index(place, last);
+    let gone = mem::replace(&mut table[last], slots);
+    gone.former
 }
 
 /// Takes the module at a place out of the table, with its old code, where it has no other.

@@ -1,5 +1,5 @@
-// What takes a change back.
-use crate::modules::Instance;
+// What takes a change back, and what makes it again.
+use crate::modules::{Instance, Slots};
 use erl_term::Atom;
 
 /// What takes one change of the table back: what the change took away, and where. Places are counted
@@ -23,4 +23,20 @@ pub enum Undo<C> {
     Purged(usize, Instance<C>),
     /// The module with this name stood at this place, and left the table with this old code, its last.
     Removed(usize, Atom, Instance<C>),
+}
+
+/// What makes a change of the table that has purged old code again, once it was taken back: what the take-back took away,
+/// and where. Places are counted from 0, in the table's order. [`Modules::unpurge`](crate::Modules::unpurge) alone makes it.
+#[derive(Drop)]
+pub enum Redo<C> {
+    /// A load makes the current code of the module at this place old, and purges its old code. The instance is the load's,
+    /// which is current again.
+    Replace(usize, Option<Instance<C>>),
+    /// A load of the module at this place, which has old code alone, purges that, and puts the module last. The instances
+    /// are those that the load left it with.
+    Move(usize, Slots<C>),
+    /// The module at this place loses its old code. The instance is what the purge left for old code: none.
+    Purge(usize, Option<Instance<C>>),
+    /// The module at this place leaves the table with its old code, its last.
+    Remove(usize),
 }

@@ -1,0 +1,49 @@
+-- What makes the change again: what was taken away, at its place.
+use Rattle.std.proofs.Common.{◌≡◌, ◌+◌, ◌-◌, arith}
+use Rattle.code_server.specs.declared.undo.Redo.TheVariants.{Replace, Move, Purge, Remove}
+use Rattle.code_server.specs.declared.undo.Undo.TheVariants.{Replaced, Moved, Purged, Removed}
+use Rattle.code_server.specs.Modules.{Table}
+use Rattle.code_server.proofs.Redoing.{Moved-again, Purged-again, Removed-again, Replaced-again, again_of}
+use Rattle.code_server.proofs.modules.Modules.unpurge.Goals as goal
+use Rattle.code_server.proofs.modules.Modules.unpurge.Goals.{in-Ok, in-Err}
+
+pub returns-in-Replaced-clause-again : goal.returns-in-Replaced-clause-again
+returns-in-Replaced-clause-again g c =
+    let t : Table g.row.C.Denot = record { entries = c.self.inside.table.entries; next = c.self.inside.last + 1 } in
+    let place = c.in-Replaced.place in
+    let instance = c.in-Replaced.instance in
+    let gone = c.change_at-gone.result in
+    again_of (Replace place gone) c.args.undo (Replaced place instance) t c.args.self.now _ c.in-Replaced.is c.self.view_is c.requires.fits (λ fits.
+    let count : c.self.inside.last - 1 + 1 + 1 ≡ t.next = omega (arith, fits.sound.counted.0) in
+    Replaced-again place instance gone t c.change_at-gone.new.table.entries (c.self.inside.last - 1 + 1) c.self.invariant c.change_at-gone.ensures.changed c.change_at-gone.ensures.gone count fits)
+
+pub returns-in-Moved-clause-again : goal.returns-in-Moved-clause-again
+returns-in-Moved-clause-again g c =
+    let t : Table g.row.C.Denot = record { entries = c.self.inside.table.entries; next = c.self.inside.last + 1 } in
+    let place = c.in-Moved.place in
+    let instance = c.in-Moved.instance in
+    let gone = c.move_back-gone.result in
+    again_of (Move place gone) c.args.undo (Moved place instance) t c.args.self.now _ c.in-Moved.is c.self.view_is c.requires.fits (λ fits.
+    let count : c.self.inside.last - 1 + 1 + 1 ≡ t.next = omega (arith, fits.sound.counted.0) in
+    Moved-again place instance gone t c.move_back-gone.new.table.entries (c.self.inside.last - 1 + 1) c.self.invariant c.move_back-gone.ensures.moved c.move_back-gone.ensures.gone count fits)
+
+pub returns-in-Purged-clause-again : goal.returns-in-Purged-clause-again
+returns-in-Purged-clause-again g c =
+    let t : Table g.row.C.Denot = record { entries = c.self.inside.table.entries; next = c.self.inside.last + 1 } in
+    let place = c.in-Purged.place in
+    let instance = c.in-Purged.instance in
+    let gone = c.change_at-gone-in-Purged.result in
+    again_of (Purge place gone) c.args.undo (Purged place instance) t c.args.self.now _ c.in-Purged.is c.self.view_is c.requires.fits
+    (Purged-again place instance gone t c.change_at-gone-in-Purged.new.table.entries c.self.invariant c.change_at-gone-in-Purged.ensures.changed c.change_at-gone-in-Purged.ensures.gone)
+
+pub returns-after-put_back-clause-again : goal.returns-after-put_back-clause-again
+returns-after-put_back-clause-again g c =
+    let t : Table g.row.C.Denot = record { entries = c.self.inside.table.entries; next = c.self.inside.last + 1 } in
+    let place = c.in-Removed.place in
+    let name = c.in-Removed.name in
+    let instance = c.in-Removed.instance in
+    elim c.match-put_back.branch [
+      | in-Ok w ↦
+          rw w.result-is (again_of (Remove place) c.args.undo (Removed place name instance) t c.args.self.now _ c.in-Removed.is c.self.view_is c.requires.fits (Removed-again place name instance t c.put_back.new.table.entries c.self.invariant w.in-Ok.ensures.put))
+      | in-Err w ↦ rw w.result-is tt
+    ]
