@@ -1,7 +1,7 @@
 // The table of modules.
 mod redoing;
 
-ghost use Rattle.std.specs.Prelude.{◌≡◌, ◌↔◌, ℕ, List, [], None, Some, length, slice_get, IsTrue, IfOk, IfErr, OnOk, OnErr, MatchOption, MatchResult};
+ghost use Rattle.std.specs.Prelude.{◌≡◌, ◌↔◌, ℕ, List, [], None, Some, length, slice_get, IsSome, IsTrue, IfOk, IfErr, OnOk, OnErr, MatchOption, MatchResult};
 ghost use Rattle.std.specs.Str.{chars};
 ghost use Rattle.std.specs.Map.Iter.{deref_pair};
 ghost use Rattle.std.specs.Option.{option_map, option_copied};
@@ -59,7 +59,7 @@ impl<C> Model for Modules<C> {
 
 impl<C: Drop> Modules<C> {
     ghost use Rattle.code_server.specs.Modules.{Table, IsSound, Tells, empty_table, slots_of, current_of, old_of, place_of, load_refusal, loaded, delete_refusal, deleted, purged, soft_purge_refusal};
-    ghost use Rattle.code_server.specs.Undo.{Fits, IsRemoval, undone};
+    ghost use Rattle.code_server.specs.Undo.{Fits, HasPurged, IsRemoval, undone};
 
     /// A table without modules, whose first load has serial 1. Names are hashed by `hashing`. Takes no memory.
     pub fn new(alloc: Global, hashing: RandomState) -> Modules<C>
@@ -181,6 +181,7 @@ impl<C: Drop> Modules<C> {
         ensures loaded { OnOk result (self.new ≡ loaded name.now code self.old) }
         ensures inverse { IfOk result (λ undo. Fits undo self.new × (undone undo self.new ≡ self.old)) }
         ensures refused { IfErr result (λ e. Tells e (load_refusal name.now self.old)) }
+        ensures old_code { IfOk result (λ undo. IsSome (old_of name.now self.old) → HasPurged undo) }
         ensures memory { IfErr result (λ e. e ≡ CodeError.Memory → slots_of name.now self.old ≡ None) }
         ensures err { OnErr result (self.new ≡ self.old) }
     {
@@ -216,6 +217,7 @@ impl<C: Drop> Modules<C> {
         ensures loaded { OnOk result (self.new ≡ loaded name.now code (purged name.now self.old)) }
         ensures inverse { IfOk result (λ undo. Fits undo self.new × (undone undo self.new ≡ self.old)) }
         ensures refused { IfErr result (λ e. Tells e (load_refusal name.now (purged name.now self.old))) }
+        ensures old_code { IfOk result (λ undo. IsSome (old_of name.now self.old) → HasPurged undo) }
         ensures memory { IfErr result (λ e. e ≡ CodeError.Memory → slots_of name.now self.old ≡ None) }
         ensures err { OnErr result (self.new ≡ self.old) }
     {
@@ -273,6 +275,7 @@ impl<C: Drop> Modules<C> {
     pub fn purge(&mut self, name: &Atom) -> Undo<C>
         ensures purged { self.new ≡ purged name.now self.old }
         ensures inverse { Fits result self.new × (undone result self.new ≡ self.old) }
+        ensures old_code { IsSome (old_of name.now self.old) → HasPurged result }
     {
         let Some(place) = self.table.get_index_of(name) else {
             return Undo::Nothing;
