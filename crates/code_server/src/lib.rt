@@ -6,10 +6,19 @@
 //!
 //! [`Modules`] is the table, first loaded first. Each change hands out an [`Undo`], by which
 //! [`Modules::revert`] takes the newest change back, whole: instances, the module's place in the table,
-//! the serial of the next load.
+//! the serial of the next load. One that has purged old code can be taken back so that it can be made again without memory:
+//! [`Modules::unpurge`] hands out a [`Redo`] for [`Modules::redo`].
 //!
 //! Contracts see a `Modules<C>` as a `Table C`: the entries (name, instances) in order, and the next
 //! serial.
+//!
+//! # What is proved
+//!
+//! - Each change makes of the table what its definition says, is refused in the order that it says, and leaves the table
+//!   as it was where it is refused. `purge` and `purge_and_load` of a module with old code hand out the undo of a purge.
+//! - [`Modules::revert`] and [`Modules::unpurge`] give the table before the change, or, where a module comes back to the
+//!   table and memory is refused, their undo, with the table as it was.
+//! - [`Modules::redo`] gives exactly the table that the change led to, and the undo that takes it back; it cannot fail.
 #![tactic(auto)]
 
 mod error;

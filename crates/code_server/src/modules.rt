@@ -335,30 +335,13 @@ impl<C: Drop> Modules<C> {
                 self.last -= 1;
                 Ok(())
             }
-            Undo::Replaced(place, instance) => {
-                let _ = change_at(&mut self.table, place, SlotChange::Unstack(Some(instance)));
-                self.last -= 1;
-                Ok(())
-            }
-            Undo::Moved(place, instance) => {
-                let _ = move_back(&mut self.table, place, instance);
-                self.last -= 1;
-                Ok(())
-            }
             Undo::Retired(place) => {
                 let _ = change_at(&mut self.table, place, SlotChange::Unstack(None));
                 Ok(())
             }
-            Undo::Purged(place, instance) => {
-                let change = SlotChange::ReplaceOld(Some(instance));
-                let _ = change_at(&mut self.table, place, change);
+            Undo::Replaced(..) | Undo::Moved(..) | Undo::Purged(..) | Undo::Removed(..) => {
+                self.unpurge(undo)?;
                 Ok(())
-            }
-            Undo::Removed(place, name, instance) => {
-                match put_back(&mut self.table, place, name, instance) {
-                    Ok(()) => Ok(()),
-                    Err((name, instance)) => Err(Undo::Removed(place, name, instance)),
-                }
             }
         }
     }

@@ -124,9 +124,9 @@ pub(crate) fn move_last<C: Drop>(
     ensures moved { table.new.entries ≡ moved_last slots (slice_get table.old.entries place) (remove table.old.entries place) }
     ensures former { result ≡ former_at table.old.entries place }
 {
-    let last = table.len() - 1;
-    table.move_index(place, last);
-    let gone = mem::replace(&mut table[last], slots);
+    let end = table.len() - 1;
+    table.move_index(place, end);
+    let gone = mem::replace(&mut table[end], slots);
     gone.former
 }
 

@@ -10,15 +10,15 @@ pub returns-clause-moved : goal.returns-clause-moved
 returns-clause-moved g c =
     let es = c.args.table.now.entries in
     let slots = c.args.slots in
-    let count = c.len-last.ensures.len in
+    let count = c.len-end.ensures.len in
     let moved : c.move_index.new.self.entries ≡ move_index es c.args.place (length es - 1) = c.move_index.ensures.entries ∙ ap (λ n. move_index es c.args.place (n - 1)) count in
-    let written = with_slots_from_write (λ _. slots) c.move_index.new.self.entries (c.len-last.result - 1) c.index_mut.result.now c.replace-gone.new.dest c.index_mut.ensures.value c.replace-gone.ensures.after in
+    let written = with_slots_from_write (λ _. slots) c.move_index.new.self.entries (c.len-end.result - 1) c.index_mut.result.now c.replace-gone.new.dest c.index_mut.ensures.value c.replace-gone.ensures.after in
     written ∙ (λ j. with_slots (λ _. slots) (moved j) (count j - 1)) ∙ moved_last_from_move slots es c.args.place c.requires
 
 pub returns-clause-former : goal.returns-clause-former
 returns-clause-former g c =
     let es = c.args.table.now.entries in
-    let count = c.len-last.ensures.len in
+    let count = c.len-end.ensures.len in
     let moved : c.move_index.new.self.entries ≡ move_index es c.args.place (length es - 1) = c.move_index.ensures.entries ∙ ap (λ n. move_index es c.args.place (n - 1)) count in
     let lent = sym (λ j. slice_get (values_of (moved j)) (count j - 1)) ∙ c.index_mut.ensures.value in
     ap (λ slots. slots.former) c.replace-gone.ensures.value ∙ former_from_move es c.args.place c.index_mut.result.now c.requires lent
