@@ -11,7 +11,7 @@ ghost use Rattle.process_ending.specs.Uses.{users, uses};
 
 use crate::ending::{EndedProcess, ToldProcess, take_out};
 use crate::told::{Reply, tell};
-use crate::using::uses;
+use crate::using::{users, uses};
 use erl_term::{Atom, Term};
 use process_store::ProcessStore;
 use std::alloc::{AllocError, Global};
@@ -83,6 +83,28 @@ fn replies_of(
     let mut replies = Vec::new(alloc);
     for process in leaving {
         tell_of(&mut replies, store, alloc, process.pid, &reason)?;
+    }
+    Ok(replies)
+}
+
+/// What clients would be told by the kill of all users of the instance of a serial: that the processes of their calls were killed,
+/// process after process in order of pid.
+///
+/// # Errors
+///
+/// `AllocError` where memory is refused.
+pub fn told_by_kill(
+    store: &ProcessStore,
+    alloc: Global,
+    serial: u64,
+) -> Result<Vec<Reply>, AllocError>
+    ensures { IfOk result (λ it. it.items ≡ told_by_kill serial store.now) }
+{
+    let reason = Term::Atom(Atom::word(alloc, "killed")?);
+    let pids = users(store, alloc, serial)?;
+    let mut replies = Vec::new(alloc);
+    for pid in pids.as_slice() {
+        tell_of(&mut replies, store, alloc, *pid, &reason)?;
     }
     Ok(replies)
 }

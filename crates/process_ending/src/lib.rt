@@ -30,7 +30,7 @@ mod told;
 mod using;
 
 pub use ending::{EndedProcess, end, ended_process, return_ended};
-pub use killing::kill_users;
+pub use killing::{kill_users, told_by_kill};
 pub use returning::return_all;
 pub use told::{Reply, ReplyBody, downs_of};
 pub use using::{users, uses};
