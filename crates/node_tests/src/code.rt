@@ -1,6 +1,6 @@
 // What loads, deletes and purges do to small tables, by Erlang's rules, and that each is taken back.
 ghost use Rattle.std.specs.Prelude.{◌≡◌, ◌<◌, length, IfOk, OnOk};
-ghost use Rattle.code_server.specs.Undo.{Fits, undone};
+ghost use Rattle.code_server.specs.Undo.{Fits, HasPurged, undone};
 
 use crate::cases::{expect, halves, hashing, head};
 use code_server::{CodeError, Instance, Modules, Undo};
@@ -206,6 +206,47 @@ fn walk(
     expect_rows(rt, alloc, modules, wanted)
 }
 
+/// Takes a change back that has purged old code, sees that the table is as it is wanted before the change, and makes it again.
+fn purge_again(
+    rt: &impl Abort,
+    alloc: Global,
+    modules: &mut Modules<u32>,
+    undo: Undo<u32>,
+    wanted: &str,
+) -> Result<(), Fail>
+    requires fits { Fits undo modules.old }
+    requires purged { HasPurged undo }
+{
+    let redo = modules.unpurge(undo).map_err(|_| "no memory")?;
+    expect_rows(rt, alloc, modules, wanted)?;
+    let _ = modules.redo(redo);
+    Ok(())
+}
+
+/// Makes the changes of the lines, each that has purged old code twice. Each line has the table that is wanted before its change.
+fn walk_again(
+    rt: &impl Abort,
+    alloc: Global,
+    modules: &mut Modules<u32>,
+    lines: &[&str],
+) -> Result<(), Fail> {
+    for line in lines {
+        let (wanted, what) = halves(line)?;
+        expect_rows(rt, alloc, modules, wanted)?;
+        if what == "end" {
+            return Ok(());
+        }
+        let undo = change_of(alloc, modules, what)?;
+        match undo {
+            Undo::Replaced(..) | Undo::Moved(..) | Undo::Purged(..) | Undo::Removed(..) => {
+                purge_again(rt, alloc, modules, undo, wanted)?;
+            }
+            Undo::Nothing | Undo::Added | Undo::Stacked(_) | Undo::Retired(_) => {}
+        }
+    }
+    Ok(())
+}
+
 /// Changes of each kind.
 const EACH_CHANGE: [&str; 12] = [
     ". ⟶ load a 1",
@@ -247,6 +288,12 @@ fn changes_are_taken_back_in_turn(rt: HostRuntime) -> Result<(), Fail> {
     let mut modules = Modules::new(rt.alloc(), hashing()?);
     walk(&rt, rt.alloc(), &mut modules, EACH_CHANGE.as_slice(), 11)?;
     expect_calls(&rt, rt.alloc(), &mut modules, "load d 5 ⟶ d 1 0; .")
+}
+
+#[test]
+fn changes_that_purge_are_made_again(rt: HostRuntime) -> Result<(), Fail> {
+    let mut modules = Modules::new(rt.alloc(), hashing()?);
+    walk_again(&rt, rt.alloc(), &mut modules, EACH_CHANGE.as_slice())
 }
 
 #[test]
