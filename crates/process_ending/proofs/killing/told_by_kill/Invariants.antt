@@ -6,4 +6,7 @@ use Rattle.process_ending.specs.Told.{downs, killed}
 use Rattle.process_ending.proofs.killing.told_by_kill.Given as goal
 
 abbrev pub invariant-loop-pid : goal.invariant-loop-pid
-invariant-loop-pid l = l.replies.items ≡ flat_map (λ pid. downs killed (living pid l.store)) (take l.pid-index l.pids.items)
+invariant-loop-pid l = record {
+  reason : l.reason ≡ killed;
+  told : l.replies.items ≡ flat_map (λ pid. downs killed (living pid l.store)) (take l.pid-index l.pid-items);
+}
