@@ -1,5 +1,5 @@
 -- Commit: what a job gave is done, where its process runs it (gen_server behaviour).
-use Rattle.std.specs.Prelude.{ℕ, codes, List}
+use Rattle.std.specs.Prelude.{ℕ, codes, List, Option, None, Some}
 use Rattle.erl_term.specs.declared.term.Term.{Term}
 use Rattle.erl_term.specs.declared.term.Term.TheVariants as term
 use Rattle.erl_eval.specs.declared.acts.Act.{Act}
@@ -46,3 +46,9 @@ RefusesCommit Stale job t = IsRunning job t → ⊥
 RefusesCommit CounterEnd job t = IsRunning job t × (CanTurnAt job.pid t → ⊥)
 RefusesCommit Memory job t = IsRunning job t × CanTurnAt job.pid t
 RefusesCommit e job t = ⊥
+
+-- Whether this, or nothing, stands against a commit that there is memory for.
+abbrev pub IsCommitRefusal : Option ProcError → Job → Table → Type 0
+IsCommitRefusal None job t = IsRunning job t × CanTurnAt job.pid t
+IsCommitRefusal (Some Memory) job t = ⊥
+IsCommitRefusal (Some e) job t = RefusesCommit e job t

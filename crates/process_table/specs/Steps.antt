@@ -1,6 +1,6 @@
 -- Steps of processes: why each is refused, in order, and the table after it (Erlang Reference Manual, Processes; gen_server
 -- behaviour).
-use Rattle.std.specs.Prelude.{◌≡◌, ℕ, ◌^◌, ◌<◌, ◌==◌, Bool, true, false, if◌then◌else◌, List, [], map}
+use Rattle.std.specs.Prelude.{◌≡◌, ℕ, ◌^◌, ◌<◌, ◌==◌, Bool, true, false, if◌then◌else◌, List, [], map, replicate}
 use Rattle.std.specs.Prelude.{Option, None, Some, is_some, option_map}
 use Rattle.erl_term.specs.declared.term.Term.{Term}
 use Rattle.erl_eval.specs.declared.acts.Place.{Place}
@@ -14,7 +14,7 @@ use Rattle.erl_machine.specs.declared.jobs.Job.{Job}
 use Rattle.process.specs.declared.activity.Activity.{Activity}
 use Rattle.process.specs.declared.activity.Activity.TheVariants as activity
 use Rattle.process.specs.Process.{can_take, job_of}
-use Rattle.process_commit.specs.Commits.{rests_in}
+use Rattle.process_commit.specs.Commits.{job_at, rests_in}
 use Rattle.process_index.specs.declared.calls.Call.{Call}
 use Rattle.process_table.specs.declared.body.Body.{Body}
 use Rattle.process_table.specs.declared.body.Body.TheVariants as body
@@ -104,6 +104,14 @@ IsCode modules (Some i) entry_serial code = (entry_serial ≡ i.serial) × IsJob
 abbrev pub IsCodeOf : Loaded Forms → Option Living → Job → Type 0
 IsCodeOf modules None job = ⊥
 IsCodeOf modules (Some l) job = IsCode modules (entered modules l.process.place l.process.rests_in) job.entry_serial job.code
+
+-- A process has taken a message up: what it runs, n times, in the code that it then has.
+pub record Takes (modules : Loaded Forms) (pid n : ℕ) (jobs : List Job) (before after : Table) : Type 0 where
+  pub job : Job
+  pub told : jobs ≡ replicate n job
+  pub code : IsCodeOf modules (living pid before) job
+  pub table : after ≡ taken pid job.entry_serial job.code before
+  pub runs : job_at (living pid after) ≡ Some job
 
 -- Retake: the job that a process runs is given once more.
 

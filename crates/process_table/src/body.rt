@@ -39,8 +39,22 @@ impl Body {
         }
     }
 
+    /// Whether there is a message that it comes as. Takes no memory.
+    pub(crate) fn has_message(&self) -> bool
+        ensures { result ≡ is_some (message_of self.now) }
+    {
+        match self {
+            Body::Call { number, .. } => i64::try_from(*number).is_ok(),
+            Body::Cast(_) | Body::Info(_) => true,
+        }
+    }
+
     /// The message that it comes as. The number of a call is below `2^63`, for it is an integer there.
-    pub(crate) fn message(&self, alloc: Global) -> Result<Option<Term>, AllocError>
+    ///
+    /// # Errors
+    ///
+    /// `AllocError` where memory is refused.
+    pub fn message(&self, alloc: Global) -> Result<Option<Term>, AllocError>
         ensures message { IfOk result (λ it. it ≡ message_of self.now) }
         ensures memory { OnErr result (is_some (message_of self.now) ≡ true) }
     {

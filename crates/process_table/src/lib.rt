@@ -12,11 +12,13 @@
 //!   [`Processes::end`] give the table of the rules (`with_process`, `after_arrival`, `taken`, `suspend_living`, `resume_living`,
 //!   `vacated`), are refused by them, in their order, and change nothing where they are; `Memory` is told only where there is no
 //!   other refusal.
-//! - [`Processes::commit`] does what a job gave, its acts in order and then its end, and tells what clients are told of it (`committed`,
-//!   `commit_told`), just where the process of the job's pid runs an equal job, code included, and can be counted one turn on
+//! - [`Processes::commit`] does what a job gave, its acts in order and then its end, and tells what clients are told of it, in as many
+//!   equal values as are asked for (`committed`, `commit_told`), just where the process of the job's pid runs an equal job, code included, and can be counted one turn on
 //!   (`RefusesCommit`). It takes a [`erl_machine::Done`], which nobody can make up.
 //! - [`Processes::kill_users`] takes each user of an instance out, and nobody else (`without_users` of
 //!   [`process_ending`]).
+//! - [`Processes::arrive_refusal`], [`Processes::take_refusal`] and [`Processes::commit_refusal`] tell without memory why a step would be
+//!   refused, but for want of it (`IsCommitRefusal`).
 //! - What an undo gives back is the table before the step, whole (`undone`, `TakesBack`). A process that has ended and a job that was
 //!   committed are kept without code, so of a commit, an end and a kill this is said over the tables of modules in which the instances
 //!   that the processes use stand (`TakesBackEnds`). An undo that is done loses no process and no job, whatever the table of modules

@@ -7,7 +7,7 @@ mod committing;
 
 use crate::body::Body;
 use crate::error::ProcError;
-use crate::taking::{job_for, next_of};
+use crate::taking::{copies, job_for, next_of};
 use crate::undo::Undo;
 use code_server::Modules;
 use erl_eval::Place;
@@ -16,7 +16,7 @@ use erl_machine::{Instance, Job};
 use erl_term::{Atom, Term};
 use process_commit::rests_in;
 use process_ending::{
-    EndedProcess, Reply, downs_of, end, kill_users, return_all, return_ended, users,
+    EndedProcess, Reply, downs_of, end, kill_users, return_all, return_ended, told_by_kill, users,
 };
 use process_store::{Living, ProcessStore};
 use std::alloc::{AllocError, Global};
@@ -45,7 +45,7 @@ impl Model for Processes {
 }
 
 impl Processes {
-    ghost use Rattle.process_table.specs.Steps.{IsCodeOf, IsNextRunnable, Tells, after_arrival, arrive_refusal, is_repeated, is_runnable, missing, retake_refusal, start_refusal, take_refusal, taken, with_process};
+    ghost use Rattle.process_table.specs.Steps.{IsNextRunnable, Takes, Tells, after_arrival, arrive_refusal, is_repeated, is_runnable, missing, retake_refusal, start_refusal, take_refusal, with_process};
     ghost use Rattle.process_store.specs.Table.{changed, empty_table, is_open, living, next_pid, pid_of};
     ghost use Rattle.process_commit.specs.Commits.{job_at};
     ghost use Rattle.process_store.specs.Changes.{resume_living, suspend_living};
@@ -155,6 +155,18 @@ impl Processes {
         }
     }
 
+    /// Why the arrival of this for the process of a name would be refused, but for want of memory. Takes no memory.
+    pub fn arrive_refusal(&self, name: &Atom, body: &Body) -> Option<ProcError>
+        ensures { result ≡ arrive_refusal name.now body.now self.now }
+    {
+        match self.pid_of(name) {
+            Some(_) if self.is_repeated(body) => Some(ProcError::DuplicateCall),
+            Some(_) if body.has_message() => None,
+            Some(_) => Some(ProcError::CounterEnd),
+            None => Some(ProcError::NoProc),
+        }
+    }
+
     /// A message of a client comes for the process that is registered under a name, and goes last in its mailbox. A call is open
     /// from then on, until it is answered or the process ends.
     ///
@@ -211,18 +223,34 @@ impl Processes {
         }
     }
 
-    /// A process takes the first message that it takes where it rests, and runs it. The job is handed out: the message, and the
-    /// code, which is the instance that is entered and what it can reach.
+    /// Why a take by the process of a pid would be refused, but for want of memory. Takes no memory.
+    pub fn take_refusal(&self, pid: u64) -> Option<ProcError>
+        ensures { result ≡ take_refusal pid self.now }
+    {
+        match self.get(pid) {
+            Some(living) => match next_of(&living.process) {
+                Ok(_) => None,
+                Err(refusal) => Some(refusal),
+            },
+            None => Some(ProcError::NoProc),
+        }
+    }
+
+    /// A process takes the first message that it takes where it rests, and runs it. The job is handed out in `n` equal values: the
+    /// message, and the code, which is the instance that is entered and what it can reach.
     ///
     /// # Errors
     ///
     /// In this order: `NoProc` where no process has the pid, `Suspended`, `Running`, `Idle` where it takes no message, `Memory`.
     /// The table is then as it was.
-    pub fn take(&mut self, modules: &Modules<Module>, pid: u64) -> Result<(Job, Undo), ProcError>
+    pub fn take(
+        &mut self,
+        modules: &Modules<Module>,
+        pid: u64,
+        n: usize,
+    ) -> Result<(Vec<Job>, Undo), ProcError>
         ensures ok { OnOk result (take_refusal pid self.old ≡ None) }
-        ensures code { IfOk result (λ it. IsCodeOf modules.now (living pid self.old) it.0) }
-        ensures taken { IfOk result (λ it. self.new ≡ taken pid it.0.entry_serial it.0.code self.old) }
-        ensures job { IfOk result (λ it. job_at (living pid self.new) ≡ Some it.0) }
+        ensures taken { IfOk result (λ it. Takes modules.now pid n it.0.items self.old self.new) }
         ensures inverse { IfOk result (λ it. TakesBack it.1 self.old self.new) }
         ensures pieces { IfOk result (λ it. HoldsLost (held it.1 self.new) self.old self.new) }
         ensures refused { IfErr result (λ e. Tells e (take_refusal pid self.old)) }
@@ -238,11 +266,11 @@ impl Processes {
         let Ok(Some(job)) = job_for(self.alloc, modules, living, position) else {
             return Err(ProcError::Memory);
         };
-        let Ok(code) = job.code.copy(self.alloc) else {
+        let Ok(jobs) = copies(self.alloc, &job, n) else {
             return Err(ProcError::Memory);
         };
-        self.store.run(pid, position, job.entry_serial, code);
-        Ok((job, Undo::Taken { pid, position }))
+        self.store.run(pid, position, job.entry_serial, job.code);
+        Ok((jobs, Undo::Taken { pid, position }))
     }
 
     /// The job that a process runs.
@@ -350,6 +378,18 @@ impl Processes {
         }
         let ended = end(&mut self.store, self.alloc, pid)?;
         Ok(Undo::Ended(ended))
+    }
+
+    /// What clients would be told by the kill of all users of the instance of a serial: that the processes of their calls were killed,
+    /// process after process in order of pid.
+    ///
+    /// # Errors
+    ///
+    /// `AllocError` where memory is refused.
+    pub fn told_by_kill(&self, serial: u64) -> Result<Vec<Reply>, AllocError>
+        ensures { IfOk result (λ it. it.items ≡ told_by_kill serial self.now) }
+    {
+        told_by_kill(&self.store, self.alloc, serial)
     }
 
     /// Kills each process that uses the instance of a serial: it leaves, with its name, its mailbox and its open calls. What clients

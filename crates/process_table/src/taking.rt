@@ -1,5 +1,5 @@
 // What a process takes up with a message: the instance that it enters, and the code of its job.
-ghost use Rattle.std.specs.Prelude.{◌≡◌, IfOk, IfErr, MatchOption, None, Some, slice_get};
+ghost use Rattle.std.specs.Prelude.{◌≡◌, IfOk, IfErr, MatchOption, None, Some, replicate, slice_get};
 ghost use Rattle.process.specs.Process.{can_take};
 ghost use Rattle.process_table.specs.Steps.{IsCode, IsCodeOf, entered, resting_refusal};
 ghost use Rattle.process_table.specs.Jobs.{IsJobFor};
@@ -97,4 +97,15 @@ pub(crate) fn job_for(
         message,
         code,
     }))
+}
+
+/// So many equal values.
+pub(crate) fn copies<T: Duplicate>(alloc: Global, item: &T, n: usize) -> Result<Vec<T>, AllocError>
+    ensures { IfOk result (λ it. it.items ≡ replicate n item.now) }
+{
+    let mut copied = Vec::with_capacity(alloc, n)?;
+    for _i in 0..n {
+        copied.push(item.copy(alloc)?)?;
+    }
+    Ok(copied)
 }

@@ -10,7 +10,7 @@ use erl_eval::Place;
 use erl_machine::{Done, End, Job};
 use erl_term::{Atom, Term};
 use process_table::{Body, ProcError, Reply, ReplyBody, Undo};
-use values::Same;
+use values::{Row, Same};
 
 /// The word of a refusal.
 fn refusal_word(refusal: ProcError) -> &'static str {
@@ -51,6 +51,14 @@ fn put_replies(out: &mut Out, replies: &[Reply]) {
         put_reply(out, reply);
     }
     out.put("]");
+}
+
+/// What clients were told in two equal values: the copy, or nothing where there are not two, or the two differ in length.
+fn told_once(told: &[Row<Reply>]) -> &[Reply] {
+    match told {
+        [copy, other] if copy.as_slice().len() == other.as_slice().len() => copy.as_slice(),
+        _ => &[],
+    }
 }
 
 /// `{ended,Reason,Replies}`
@@ -175,13 +183,32 @@ impl Node {
         }
     }
 
+    /// Keeps a job that was taken in two equal values.
+    fn keep_one(&mut self, jobs: Vec<Job>)
+        ensures { self.new.processes ≡ self.old.processes }
+    {
+        let mut jobs = jobs;
+        let Some(job) = jobs.pop() else {
+            return self.answer.put("unequal");
+        };
+        let is_same = match jobs.pop() {
+            Some(other) => job.same(&other),
+            None => false,
+        };
+        if is_same && jobs.is_empty() {
+            self.keep(job);
+        } else {
+            self.answer.put("unequal");
+        }
+    }
+
     /// `take PID`
     fn take(&mut self, pid: u64) -> Option<Undo>
         ensures { Reverts result self.new.processes }
     {
-        match self.processes.take(&self.modules, pid) {
-            Ok((job, undo)) => {
-                self.keep(job);
+        match self.processes.take(&self.modules, pid, 2) {
+            Ok((jobs, undo)) => {
+                self.keep_one(jobs);
                 Some(undo)
             }
             Err(refusal) => {
@@ -259,9 +286,9 @@ impl Node {
     fn commit_done(&mut self, done: &Done) -> Option<Undo>
         ensures { Reverts result self.new.processes }
     {
-        match self.processes.commit(done) {
-            Ok((replies, undo)) => {
-                put_done(&mut self.answer, done, replies.as_slice());
+        match self.processes.commit(done, 2) {
+            Ok((told, undo)) => {
+                put_done(&mut self.answer, done, told_once(told.as_slice()));
                 Some(undo)
             }
             Err(refusal) => {

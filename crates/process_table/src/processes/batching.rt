@@ -1,10 +1,12 @@
 // What was evaluated inside a step is done.
-ghost use Rattle.std.specs.Prelude.{◌≡◌, ◌++◌, IfErr, IfOk, List, OnErr, OnOk, false};
+ghost use Rattle.std.specs.Prelude.{◌≡◌, ◌++◌, IfErr, IfOk, List, OnErr, OnOk, false, replicate};
+ghost use Rattle.process_commit.specs.Parted.{answers_told};
 ghost use Rattle.process_batch.specs.Batches.{AllFit, CanUnbatch, all_undone, unbatched};
 ghost use Rattle.process_batch.specs.Begins.{CanGiveUp, IsUnderWay, acts_begun, begun_told};
 ghost use Rattle.process_ending.specs.declared.told.Reply.{Reply as Told};
 ghost use Rattle.process_store.specs.Pieces.{HoldsLost};
 ghost use Rattle.process_store.specs.Table.{Table, is_taken};
+ghost use Rattle.process_told.specs.Telling.{IsReadyFor};
 ghost use Rattle.process_table.specs.Undo.{TakesBack, held};
 
 use super::Processes;
@@ -14,6 +16,7 @@ use erl_machine::Instance;
 use erl_term::Atom;
 use process_batch::{Batch, Batched, begin, finish, give_up, revert_batch};
 use process_ending::Reply;
+use process_told::Telling;
 use std::alloc::AllocError;
 use values::Row;
 
@@ -46,6 +49,23 @@ impl Processes {
         give_up(&mut self.store, batch);
     }
 
+    /// Makes ready to tell what a batch tells, in `n` equal values, and gives it up where memory is refused.
+    fn ready_to_finish(&mut self, batch: Batch, n: usize) -> Result<(Batch, Telling), AllocError>
+        requires { AllFit batch.changes.items self.old }
+        ensures batch { IfOk result (λ it. it.0 ≡ batch) }
+        ensures ready { IfOk result (λ it. (t : Table) → IsReadyFor (answers_told batch.answers.items t) n it.1) }
+        ensures ok { OnOk result (self.new ≡ self.old) }
+        ensures err { OnErr result (self.new ≡ all_undone batch.changes.items self.old) }
+    {
+        match Telling::of_answers(self.alloc, batch.answers.as_slice(), n) {
+            Ok(telling) => Ok((batch, telling)),
+            Err(refused) => {
+                give_up(&mut self.store, batch);
+                Err(refused)
+            }
+        }
+    }
+
     /// Finishes a batch: all of it stands, and its replies are given. What clients are told is handed out.
     ///
     /// # Errors
@@ -61,6 +81,29 @@ impl Processes {
     {
         let (replies, batched) = finish(&mut self.store, self.alloc, batch)?;
         Ok((replies, Undo::Batched(batched)))
+    }
+
+    /// Finishes a batch as [`Processes::finish`] does. What clients are told is handed out in `n` equal values, for which there is memory
+    /// before the batch stands.
+    ///
+    /// # Errors
+    ///
+    /// `AllocError` where memory is refused. The batch is then given up.
+    pub fn finish_telling(
+        &mut self,
+        batch: Batch,
+        n: usize,
+    ) -> Result<(Vec<Row<Reply>>, Undo), AllocError>
+        requires { AllFit batch.changes.items self.old }
+        ensures stands { OnOk result ((before after : Table) (told : List Told) → IsUnderWay batch.changes.items batch.answers.items before self.old after told → self.new ≡ after) }
+        ensures told { IfOk result (λ it. (before after : Table) (told : List Told) → IsUnderWay batch.changes.items batch.answers.items before self.old after told → it.0.items ≡ replicate n told) }
+        ensures inverse { IfOk result (λ it. (before : Table) → CanGiveUp batch.changes.items before self.old → TakesBack it.1 before self.new) }
+        ensures pieces { IfOk result (λ it. (before : Table) → HoldsLost (held it.1 self.new) before self.new) }
+        ensures err { OnErr result (self.new ≡ all_undone batch.changes.items self.old) }
+    {
+        let (batch, telling) = self.ready_to_finish(batch, n)?;
+        let (replies, batched) = finish(&mut self.store, self.alloc, batch)?;
+        Ok((telling.tell(replies), Undo::Batched(batched)))
     }
 
     /// What was evaluated inside a step is taken back.

@@ -1,11 +1,12 @@
 // A job is committed.
-ghost use Rattle.std.specs.Prelude.{◌≡◌, ◌↔◌, IfErr, IfOk, IsSome, IsTrue, OnErr, OnOk};
+ghost use Rattle.std.specs.Prelude.{◌≡◌, ◌↔◌, IfErr, IfOk, IsSome, IsTrue, None, OnErr, OnOk, replicate};
 ghost use Rattle.process_commit.specs.Commits.{IsRunning};
 ghost use Rattle.process_store.specs.Changes.{CanTurnAt};
 ghost use Rattle.process_store.specs.Table.{living};
 ghost use Rattle.process_commit.specs.Exits.{exit_told, exited};
-ghost use Rattle.process_table.specs.Commit.{RefusesCommit, commit_told, committed, concluded, told_by};
+ghost use Rattle.process_table.specs.Commit.{IsCommitRefusal, RefusesCommit, commit_told, committed, concluded, normal, told_by};
 ghost use Rattle.process_store.specs.Pieces.{HoldsLost};
+ghost use Rattle.process_told.specs.Telling.{IsReadyFor};
 ghost use Rattle.process_table.specs.Undo.{Fits, IsKept, TakesBackEnds, held, undone};
 
 use super::Processes;
@@ -18,7 +19,16 @@ use erl_machine::{Done, End, Job};
 use erl_term::{Atom, Term};
 use process_commit::{Exited, Rested, commit_exit, commit_rest, revert_exit, revert_rest};
 use process_ending::Reply;
-use std::alloc::AllocError;
+use process_told::Telling;
+use std::alloc::{AllocError, Global};
+use values::Row;
+
+/// The reason of a process that has given a value.
+fn normal(alloc: Global) -> Result<Term, AllocError>
+    ensures { IfOk result (λ it. it ≡ normal) }
+{
+    Ok(Term::Atom(Atom::word(alloc, "normal")?))
+}
 
 impl Processes {
     /// Whether a process runs a job: equal by value, code included. Takes no memory.
@@ -80,38 +90,86 @@ impl Processes {
                 Ok((replies, Undo::Rested(rested)))
             }
             End::Value(_) => {
-                let normal = Term::Atom(Atom::word(self.alloc, "normal")?);
+                let normal = normal(self.alloc)?;
                 self.exit(job.pid, acts, &normal)
             }
             End::Exit(reason) => self.exit(job.pid, acts, reason),
         }
     }
 
+    /// Makes ready to tell what the commit of a job tells, in `n` equal values.
+    fn telling(&self, pid: u64, acts: &[Act], end: &End, n: usize) -> Result<Telling, AllocError>
+        requires { IsSome (living pid self.now) }
+        ensures { IfOk result (IsReadyFor (told_by pid acts.now end.now self.now) n) }
+    {
+        match end {
+            End::Rest(_) => Telling::of_rest(self.alloc, acts, n),
+            End::Value(_) => {
+                let normal = normal(self.alloc)?;
+                Telling::of_exit(self.alloc, &self.store, pid, &normal, acts, n)
+            }
+            End::Exit(reason) => Telling::of_exit(self.alloc, &self.store, pid, reason, acts, n),
+        }
+    }
+
+    /// What a job that a process runs has done is done, and the process rests or ends. What clients are told is handed out in `n` equal
+    /// values.
+    fn conclude_telling(
+        &mut self,
+        job: &Job,
+        acts: &[Act],
+        end: &End,
+        n: usize,
+    ) -> Result<(Vec<Row<Reply>>, Undo), AllocError>
+        requires running { IsRunning job.now self.old }
+        requires turns { CanTurnAt job.now.pid self.old }
+        ensures concluded { OnOk result (self.new ≡ concluded job.now acts.now end.now self.old) }
+        ensures told { IfOk result (λ it. it.0.items ≡ replicate n (told_by job.now.pid acts.now end.now self.old)) }
+        ensures inverse { IfOk result (λ it. TakesBackEnds it.1 self.old self.new) }
+        ensures pieces { IfOk result (λ it. HoldsLost (held it.1 self.new) self.old self.new) }
+        ensures err { OnErr result (self.new ≡ self.old) }
+    {
+        let telling = self.telling(job.pid, acts, end, n)?;
+        let (replies, undo) = self.conclude(job, acts, end)?;
+        Ok((telling.tell(replies), undo))
+    }
+
+    /// Why the commit of what a job gave would be refused, but for want of memory. Takes no memory.
+    pub fn commit_refusal(&self, done: &Done) -> Option<ProcError>
+        ensures { IsCommitRefusal result done.now.job self.now }
+    {
+        let job = done.job();
+        if !self.runs(job) {
+            return Some(ProcError::Stale);
+        }
+        if !self.can_turn(job.pid) {
+            return Some(ProcError::CounterEnd);
+        }
+        None
+    }
+
     /// Commits what a job gave: its acts are done, in order, and then its process rests, one turn on, or ends. What clients are told
-    /// is handed out: the replies, in order, and then, where the process ends, its open calls, in order of client and number.
+    /// is handed out in `n` equal values: the replies, in order, and then, where the process ends, its open calls, in order of client
+    /// and number.
     ///
     /// # Errors
     ///
     /// In this order: `Stale` where the process of the job's pid doesn't run an equal job, code included; `CounterEnd` where its turn
     /// is the last; `Memory`. The table is then as it was.
-    pub fn commit(&mut self, done: &Done) -> Result<(Vec<Reply>, Undo), ProcError>
+    pub fn commit(&mut self, done: &Done, n: usize) -> Result<(Vec<Row<Reply>>, Undo), ProcError>
         ensures committed { OnOk result (self.new ≡ committed done.now self.old) }
-        ensures told { IfOk result (λ it. it.0.items ≡ commit_told done.now self.old) }
+        ensures told { IfOk result (λ it. it.0.items ≡ replicate n (commit_told done.now self.old)) }
         ensures inverse { IfOk result (λ it. TakesBackEnds it.1 self.old self.new) }
         ensures pieces { IfOk result (λ it. HoldsLost (held it.1 self.new) self.old self.new) }
-        ensures ok { OnOk result (IsRunning done.now.job self.old × CanTurnAt done.now.job.pid self.old) }
+        ensures ok { OnOk result (IsCommitRefusal None done.now.job self.old) }
         ensures refused { IfErr result (λ e. RefusesCommit e done.now.job self.old) }
         ensures err { OnErr result (self.new ≡ self.old) }
     {
-        let job = done.job();
-        if !self.runs(job) {
-            return Err(ProcError::Stale);
+        if let Some(refusal) = self.commit_refusal(done) {
+            return Err(refusal);
         }
-        if !self.can_turn(job.pid) {
-            return Err(ProcError::CounterEnd);
-        }
-        let outcome = done.outcome();
-        match self.conclude(job, outcome.acts.as_slice(), &outcome.end) {
+        let (job, outcome) = (done.job(), done.outcome());
+        match self.conclude_telling(job, outcome.acts.as_slice(), &outcome.end, n) {
             Ok(told) => Ok(told),
             Err(_) => Err(ProcError::Memory),
         }
