@@ -40,6 +40,11 @@ pub record Fails (code : List Instance) (c : ChildSpec) (t : Table) (reason : Te
   pub gives : Gives code c t outcome
   pub faulty : start_fault (next_pid t) outcome t ≡ Some reason
 
+-- One child starts, alone: its pid, the processes after it, and what clients are told.
+abbrev pub Restarts : List Instance → ChildSpec → Table → ℕ → Table → List Reply → Type 0
+Restarts code c t pid after told = (pid ≡ next_pid t) ×
+    ((o : Outcome) × Starts code c t o × (after ≡ after_start code o t) × (told ≡ start_told code o t))
+
 -- All children start, in order: their pids, the processes after it, and what clients are told.
 abbrev pub AllStart : List Instance → List ChildSpec → Table → List ℕ → Table → List Reply → Type 0
 AllStart code [] t [] after told = (after ≡ t) × (told ≡ [])

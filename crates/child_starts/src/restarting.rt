@@ -1,0 +1,59 @@
+// A child starts again.
+ghost use Rattle.std.specs.Prelude.{◌≡◌, IfErr, IfOk, List, OnErr, replicate};
+ghost use Rattle.child_starts.specs.Children.{Restarts};
+ghost use Rattle.child_starts.specs.Errors.{ChildFails};
+ghost use Rattle.process_ending.specs.declared.told.Reply.{Reply as Told};
+ghost use Rattle.process_store.specs.Table.{Table};
+ghost use Rattle.process_table.specs.Undo.{TakesBack};
+
+use crate::error::StartError;
+use crate::starting::start_child;
+use child_specs::ChildSpec;
+use erl_machine::Instance;
+use process_batch::Batch;
+use process_ending::Reply;
+use process_table::{Processes, Undo};
+use std::alloc::Global;
+use values::Row;
+
+/// What the start of one child has come to.
+#[derive(Drop)]
+pub struct Restarted {
+    /// Its process.
+    pub pid: u64,
+    /// What clients are told, in as many equal values as were asked for.
+    pub told: Vec<Row<Reply>>,
+    /// What takes the start back.
+    pub undo: Undo,
+}
+
+/// One child starts, alone: its start function is evaluated in this code, and what it has done is done. What clients are told is handed
+/// out in `n` equal values.
+///
+/// # Errors
+///
+/// In this order: `Failed` with the child's Id and the reason, `Memory`. The processes are then as they were.
+pub fn restart_child(
+    processes: &mut Processes,
+    alloc: Global,
+    code: &[Instance],
+    child: &ChildSpec,
+    n: usize,
+) -> Result<Restarted, StartError>
+    ensures started { IfOk result (λ it. (told : List Told) × Restarts code.now child.now processes.old it.pid processes.new told × (it.told.items ≡ replicate n told)) }
+    ensures inverse { IfOk result (λ it. TakesBack it.undo processes.old processes.new) }
+    ensures failed { IfErr result (λ e. ChildFails e code.now child.now processes.old) }
+    ensures err { OnErr result (processes.new ≡ processes.old) }
+{
+    let mut batch = Batch::new(alloc);
+    match start_child(processes, alloc, &mut batch, code, child) {
+        Ok(pid) => {
+            let (told, undo) = processes.finish_telling(batch, n)?;
+            Ok(Restarted { pid, told, undo })
+        }
+        Err(error) => {
+            processes.give_up(batch);
+            Err(error)
+        }
+    }
+}
