@@ -1,0 +1,42 @@
+-- A change that is made and taken back.
+use Rattle.std.proofs.Common.{◌≡◌, ℕ, zero, suc, Bool, false, true, List, [], ◌∷◌, ◌++◌, Option, None, Some, refl, sym, ap, ◌∙◌, subst, slice_get}
+use Rattle.std.specs.Prelude.{option_and_then}
+use Rattle.values.specs.Edits.{changed_at}
+use Rattle.app_table.proofs.Options.{none_some, some_is}
+use Rattle.app_table.specs.Applications.{Application, changed_child, child_at, with_child, with_children}
+use Rattle.app_table.specs.Undo.{all_unended, unended}
+use Rattle.app_table.specs.declared.child.Child.{Child}
+use Rattle.app_table.specs.declared.spot.Spot.{Spot}
+use Rattle.app_table.specs.declared.undo.Ended.{Ended}
+
+module _ {A : Type 0} where
+  pub changed_back : (f g : A → A) (xs : List A) (place : ℕ) (x : A) → slice_get xs place ≡ Some x → g (f x) ≡ x → changed_at g (changed_at f xs place) place ≡ xs
+  changed_back f g [] place x at back = refl
+  changed_back f g (y ∷ xs) zero x at back = ap (λ z. z ∷ xs) (subst (λ z. g (f z) ≡ z) (sym (some_is at)) back)
+  changed_back f g (y ∷ xs) (suc place) x at back = ap (λ ys. y ∷ ys) (changed_back f g xs place x at back)
+
+-- of a child
+
+children_back : (f g : Bool → Child → Child) (spot : Spot) (apps : List Application) (c : Child) (o : Option Application) → slice_get apps spot.app ≡ o → option_and_then (λ a. slice_get a.children spot.child) o ≡ Some c → ((b : Bool) → g b (f b c) ≡ c) → changed_child g spot (changed_child f spot apps) ≡ apps
+children_back f g spot apps c None here at back = absurd (none_some at)
+children_back f g spot apps c (Some a) here at back =
+    changed_back (with_child f spot.child) (with_child g spot.child) apps spot.app a here (
+    ap (λ cs. record { spec = a.spec; is_started = a.is_started; children = cs }) (changed_back (f a.is_started) (g a.is_started) a.children spot.child c at (back a.is_started))
+    )
+
+pub child_back : (f g : Bool → Child → Child) (spot : Spot) (apps : List Application) (c : Child) → child_at spot apps ≡ Some c → ((b : Bool) → g b (f b c) ≡ c) → changed_child g spot (changed_child f spot apps) ≡ apps
+child_back f g spot apps c at back = children_back f g spot apps c (slice_get apps spot.app) refl at back
+
+-- of the children that an application has
+
+pub started_back : (children before : List Child) (apps : List Application) (place : ℕ) (a : Application) → slice_get apps place ≡ Some a → a.is_started ≡ false → before ≡ a.children → changed_at (with_children false before) (changed_at (with_children true children) apps place) place ≡ apps
+started_back children before apps place a at stopped same =
+    changed_back (with_children true children) (with_children false before) apps place a at (
+    ap (λ b. record { spec = a.spec; is_started = b; children = before }) (sym stopped) ∙ ap (λ cs. record { spec = a.spec; is_started = a.is_started; children = cs }) same
+    )
+
+-- of those that have ended: one more
+
+pub one_more : (es : List Ended) (e : Ended) (apps : List Application) → all_unended (es ++ e ∷ []) apps ≡ all_unended es (unended e apps)
+one_more [] e apps = refl
+one_more (first ∷ es) e apps = ap (λ t. unended first t) (one_more es e apps)

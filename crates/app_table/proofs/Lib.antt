@@ -1,0 +1,4 @@
+pub mod Backs
+pub mod Options
+pub mod Spots
+pub mod Writes

@@ -1,0 +1,15 @@
+-- A write at a place is a change there.
+use Rattle.std.proofs.Common.{◌≡◌, ℕ, zero, suc, ◌<◌, ◌≤◌, List, [], ◌∷◌, length, slice_set, get_or, refl, ap, ◌∙◌, arith}
+use Rattle.values.specs.Edits.{changed_at}
+
+module _ {A : Type 0} where
+  pub changed_from_write : (f : A → A) (xs : List A) (place : ℕ) (old w : A) → place < length xs → old ≡ get_or xs place old → w ≡ f old → slice_set xs place w ≡ changed_at f xs place
+  changed_from_write f [] place old w within is done = refl
+  changed_from_write f (x ∷ xs) zero old w within is done = ap (λ y. y ∷ xs) (done ∙ ap f is)
+  changed_from_write f (x ∷ xs) (suc place) old w within is done =
+      ap (λ ys. x ∷ ys) (changed_from_write f xs place old w (omega (arith, within)) is done)
+
+  pub changed_past : (f : A → A) (xs : List A) (place : ℕ) → length xs ≤ place → changed_at f xs place ≡ xs
+  changed_past f [] place past = refl
+  changed_past f (x ∷ xs) zero past = absurd (omega (arith, past))
+  changed_past f (x ∷ xs) (suc place) past = ap (λ ys. x ∷ ys) (changed_past f xs place (omega (arith, past)))

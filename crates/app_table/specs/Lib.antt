@@ -1,0 +1,3 @@
+pub mod Applications
+pub mod Children
+pub mod Undo

@@ -1,0 +1,241 @@
+// The applications of a node.
+ghost use Rattle.std.specs.Prelude.{◌≡◌, ◌↔◌, ◌+◌, ◌≤◌, ◌<◌, ◌++◌, ◌∷◌, [], IfOk, IfSome, IsSome, IsTrue, OnErr, OnOk, Some, false, length, map, position, slice_get, true, vec_capacity, vec_len};
+ghost use Rattle.std.specs.Option.{option_copied};
+ghost use Rattle.app_table.specs.Applications.{Application, all_ended, changed_child, child_at, ended, has_process, loaded, place_of, set_child, spot_by_pid, spot_of, with_children};
+ghost use Rattle.app_table.specs.Children.{after_end, is_due};
+ghost use Rattle.app_table.specs.Undo.{all_unended, undone, unended};
+ghost use Rattle.app_table.specs.declared.child.Child.{Child as OneChild};
+ghost use Rattle.app_table.specs.declared.child.ChildState.TheVariants.{Running};
+ghost use Rattle.values.specs.Edits.{changed_at};
+
+use crate::app::App;
+use crate::child::{Child, ChildState};
+use crate::spot::Spot;
+use crate::undo::{Ended, Undo};
+use erl_term::{Atom, Term};
+use otp_files::AppSpec;
+use std::alloc::{AllocError, Global};
+use std::marker::Model;
+use values::Row;
+
+/// The applications of a node, in order, each with its specification and the children of its supervisor.
+#[derive(Drop)]
+pub struct AppTable {
+    alloc: Global,
+    list: Vec<App>,
+}
+
+impl Model for AppTable {
+    ghost use Rattle.std.specs.Prelude.{List};
+    ghost use Rattle.std.specs.Coded.{codes};
+    ghost use Rattle.erl_term.specs.contracts.term.Terms as terms;
+    ghost use Rattle.app_table.specs.Applications.{Application};
+
+    ghost Value = { List Application };
+
+    ghost coded = { Prim.hlevel (codes, terms.the_row.coded) };
+
+    ghost view = { λ a. a.list.items };
+}
+
+/// Puts an application that is loaded behind others.
+fn push_loaded(list: &mut Vec<App>, alloc: Global, spec: AppSpec) -> Result<(), AllocError>
+    ensures { OnOk result (list.new.items ≡ list.old.items ++ loaded spec ∷ []) }
+{
+    list.push(App::new(alloc, spec))?;
+    Ok(())
+}
+
+impl AppTable {
+    /// Applications of these specifications, none of them started.
+    ///
+    /// # Errors
+    ///
+    /// `AllocError` where memory is refused.
+    pub fn new(alloc: Global, specs: Row<AppSpec>) -> Result<AppTable, AllocError>
+        ensures { IfOk result (λ apps. apps ≡ map loaded specs) }
+    {
+        let mut list = Vec::new(alloc);
+        for spec in specs.into_vec() {
+            push_loaded(&mut list, alloc, spec)?;
+        }
+        Ok(AppTable { alloc, list })
+    }
+
+    /// How many there are. Takes no memory.
+    pub fn len(&self) -> usize
+        ensures { result ≡ length self.now }
+    {
+        self.list.len()
+    }
+
+    /// Whether there is none. Takes no memory.
+    pub fn is_empty(&self) -> bool
+        ensures { IsTrue result ↔ (self.now ≡ []) }
+    {
+        self.list.is_empty()
+    }
+
+    /// The application at a place, counted from 0. Takes no memory.
+    pub fn app(&self, place: usize) -> Option<&App>
+        ensures { option_copied result ≡ slice_get self.now place }
+    {
+        self.list.get(place)
+    }
+
+    /// The place of the application of a name. Takes no memory.
+    pub fn place_of(&self, name: &Atom) -> Option<usize>
+        ensures { result ≡ place_of name.now self.now }
+    {
+        self.list.iter().position(|app| app.spec().name == *name)
+    }
+
+    /// The application at a place, counted from 0, where there is one. Takes no memory.
+    pub fn app_at(&self, place: usize) -> &App
+        requires { IsSome (slice_get self.now place) }
+        ensures { slice_get self.now place ≡ Some result.now }
+    {
+        &self.list[place]
+    }
+
+    /// The child at a spot, where there is one. Takes no memory.
+    pub fn child_at(&self, spot: Spot) -> &Child
+        requires { IsSome (child_at spot self.now) }
+        ensures { child_at spot self.now ≡ Some result.now }
+    {
+        &self.list[spot.app].children()[spot.child]
+    }
+
+    /// Where the child of an Id stands, in the application of a name. Takes no memory.
+    pub fn spot_of(&self, name: &Atom, id: &Term) -> Option<Spot>
+        ensures { result ≡ spot_of name.now id.now self.now }
+    {
+        let app = self.place_of(name)?;
+        let child = self.list[app].place_of(id)?;
+        Some(Spot { app, child })
+    }
+
+    /// The place of the application that has a child that runs as the process of a pid.
+    fn place_by_pid(&self, pid: u64) -> Option<usize>
+        ensures { result ≡ position (has_process pid) self.now }
+    {
+        self.list.iter().position(|app| app.has_process(pid))
+    }
+
+    /// Where the child stands that runs as the process of a pid. Takes no memory.
+    pub fn spot_by_pid(&self, pid: u64) -> Option<Spot>
+        ensures { result ≡ spot_by_pid pid self.now }
+    {
+        let app = self.place_by_pid(pid)?;
+        let child = self.list[app].place_by_pid(pid)?;
+        Some(Spot { app, child })
+    }
+
+    /// The application at a place is started, or not, and has these children. Those that it had are handed out; where there is none at
+    /// the place, these.
+    #[tactic(auto, using(crate::proofs::Writes::changed_from_write, crate::proofs::Writes::changed_past))]
+    fn set_children(&mut self, app: usize, is_started: bool, children: Row<Child>) -> Row<Child>
+        ensures set { self.new ≡ changed_at (with_children is_started children) self.old app }
+        ensures before { IfSome (slice_get self.old app) (λ a. result ≡ a.children) }
+    {
+        if app >= self.list.len() {
+            return children;
+        }
+        self.list[app].set_children(is_started, children)
+    }
+
+    /// The child at a spot, if there is one, is in this state.
+    #[tactic(auto, using(crate::proofs::Writes::changed_from_write, crate::proofs::Writes::changed_past))]
+    fn set_child(&mut self, spot: Spot, state: ChildState)
+        ensures { self.new ≡ set_child state spot self.old }
+    {
+        if spot.app < self.list.len() {
+            self.list[spot.app].set_child(spot.child, state);
+        }
+    }
+
+    /// The process of the child at a spot, if there is one, has ended for a reason.
+    #[tactic(auto, using(crate::proofs::Writes::changed_from_write, crate::proofs::Writes::changed_past))]
+    fn stop_child(&mut self, spot: Spot, reason: &Term)
+        ensures { self.new ≡ changed_child (λ is_started c. after_end is_started reason.now c) spot self.old }
+    {
+        if spot.app < self.list.len() {
+            self.list[spot.app].end_child(spot.child, reason);
+        }
+    }
+
+    /// The application at a place, counted from 0, is started, and has these children. Takes no memory.
+    pub fn start(&mut self, app: usize, children: Row<Child>) -> Undo
+        requires { (a : Application) × (slice_get self.old app ≡ Some a) × (a.is_started ≡ false) }
+        ensures started { self.new ≡ changed_at (with_children true children) self.old app }
+        ensures inverse { undone result self.new ≡ self.old }
+    {
+        Undo::Started(app, self.set_children(app, true, children))
+    }
+
+    /// The child at a spot, which is due, runs as the process of a pid. Takes no memory.
+    pub fn revive(&mut self, spot: Spot, pid: u64) -> Undo
+        requires { (c : OneChild) × (child_at spot self.old ≡ Some c) × (is_due c ≡ true) }
+        ensures revived { self.new ≡ set_child (Running pid) spot self.old }
+        ensures inverse { undone result self.new ≡ self.old }
+    {
+        self.set_child(spot, ChildState::Running(pid));
+        Undo::Revived(spot)
+    }
+
+    /// The process of a pid has ended for a reason: if it was a child's, the child is due now, or stopped. There is room for what takes it
+    /// back.
+    fn end(&mut self, pid: u64, reason: &Term, undo: &mut Vec<Ended>)
+        requires { vec_len undo.old < vec_capacity undo.old }
+        ensures ended { self.new ≡ ended reason.now pid self.old }
+        ensures back { all_unended undo.new.items self.new ≡ all_unended undo.old.items self.old }
+        ensures room { (vec_len undo.new ≤ vec_len undo.old + 1) × (vec_capacity undo.new ≡ vec_capacity undo.old) }
+    {
+        let Some(spot) = self.spot_by_pid(pid) else {
+            return;
+        };
+        self.stop_child(spot, reason);
+        undo.push_reserved(Ended { spot, pid });
+    }
+
+    /// Processes have ended for a reason, one after the other: a child whose process has ended is due where its Restart and the reason say
+    /// so and its application is started, and else stopped.
+    ///
+    /// # Errors
+    ///
+    /// `AllocError` where memory is refused. All is then as it was.
+    pub fn ended(&mut self, pids: &[u64], reason: &Term) -> Result<Undo, AllocError>
+        ensures ended { OnOk result (self.new ≡ all_ended reason.now pids.now self.old) }
+        ensures inverse { IfOk result (λ undo. undone undo self.new ≡ self.old) }
+        ensures err { OnErr result (self.new ≡ self.old) }
+    {
+        let mut undo = Vec::with_capacity(self.alloc, pids.len())?;
+        for pid in pids {
+            self.end(*pid, reason, &mut undo);
+        }
+        Ok(Undo::AllEnded(Row::new(undo)))
+    }
+
+    /// Children run again as the processes that have ended, the last first.
+    fn unend(&mut self, ended: &[Ended])
+        ensures { self.new ≡ all_unended ended.now self.old }
+    {
+        for place in (0..ended.len()).rev() {
+            let each = ended[place];
+            self.set_child(each.spot, ChildState::Running(each.pid));
+        }
+    }
+
+    /// Takes the newest step back. Takes no memory.
+    pub fn revert(&mut self, undo: Undo)
+        ensures { self.new ≡ undone undo self.old }
+    {
+        match undo {
+            Undo::Started(app, children) => {
+                self.set_children(app, false, children);
+            }
+            Undo::Revived(spot) => self.set_child(spot, ChildState::Due),
+            Undo::AllEnded(ended) => self.unend(ended.as_slice()),
+        }
+    }
+}
