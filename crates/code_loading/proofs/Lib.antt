@@ -1,0 +1,5 @@
+pub mod Consistency
+pub mod Keeping
+pub mod Users
+pub mod Lookups
+pub mod Stepping

@@ -1,0 +1,254 @@
+-- Arrivals, takes, commits and starts leave no process with code that is gone.
+use Rattle.std.proofs.Common.{◌≡◌, ℕ, zero, suc, eqb, Bool, true, false, All, List, [], ◌∷◌, ◌++◌, map, slice_get, Option, None, Some, option_and_then, option_map, filter_map, IfSome, cond, refl, sym, ap, subst, ◌∙◌}
+use Rattle.std.proofs.lemmas.List.Elements.{All-cons, All-head, All-nil, All-tail}
+use Rattle.std.proofs.lemmas.Option.{none-some, same_Some}
+use Rattle.core.specs.List.{cons_option}
+use Rattle.erl_term.specs.declared.term.Term.{Term}
+use Rattle.erl_eval.specs.State as state
+use Rattle.erl_eval.specs.declared.acts.Act.{Act}
+use Rattle.erl_eval.specs.declared.acts.Act.TheVariants as act
+use Rattle.erl_eval.specs.declared.acts.Place.{Place}
+use Rattle.erl_eval.specs.declared.acts.Place.TheVariants.{Server, Loop}
+use Rattle.erl_forms.specs.Module.{Forms}
+use Rattle.erl_machine.specs.declared.jobs.Job.{Job}
+use Rattle.erl_steps.specs.Views.{instance}
+use Rattle.erl_steps.specs.declared.machine.End.{End}
+use Rattle.erl_steps.specs.declared.machine.End.TheVariants.{Rest, Value, Exit}
+use Rattle.erl_steps.specs.declared.world.Instance.{Instance}
+use Rattle.code_server.specs.Modules.{Entry, IsSound, Table as Loaded, current_of}
+use Rattle.code_server.specs.declared.modules.Instance as code
+use Rattle.job_code.proofs.FoundAgain.{job_code_stands}
+use Rattle.job_code.proofs.Standing.{current-at_place, place-of_entry}
+use Rattle.job_code.specs.JobCode.{IsJobCode, job_code}
+use Rattle.job_code.specs.Named.{StandsIn, as_current}
+use Rattle.process.proofs.Living.{held-all}
+use Rattle.process.specs.Ended.{PlaceStands, CodeStands, held}
+use Rattle.process.specs.Process.{ProcessState, job_by, run_by, started}
+use Rattle.process.specs.declared.activity.Activity.{Activity}
+use Rattle.process.specs.declared.activity.Activity.TheVariants.{Idle, Suspended, Runs}
+use Rattle.process_batch.specs.Begins.{act_begun, acts_begun, name_left}
+use Rattle.process_commit.specs.Acts.{act_done, acts_done, closed_at, receiver_of, sent}
+use Rattle.process_commit.specs.Commits.{IsRunning, job_at, loaded_as, rests_in}
+use Rattle.process_ending.proofs.Ends.{others_stay}
+use Rattle.process_ending.specs.Ends.{Stands}
+use Rattle.process_index.specs.declared.calls.Call.{Call}
+use Rattle.process_store.proofs.Slots.{kept_all}
+use Rattle.process_store.specs.Changes.{closed_living, owner_of, rest_living}
+use Rattle.process_store.specs.Living.{arrived, run, takes_next}
+use Rattle.process_store.specs.Table.{Table, added, changed, changed_slots, living, living_at, next_pid, pid_of}
+use Rattle.process_store.specs.declared.living.Living.{Living}
+use Rattle.process_table.specs.Commit.{committed, concluded}
+use Rattle.process_table.specs.Messages.{message_of}
+use Rattle.process_table.specs.Steps.{IsCode, IsCodeOf, after_arrival, arrived_at, call_of, entered, taken, taken_at}
+use Rattle.code_loading.specs.Current.{current_code, current_in, named}
+use Rattle.code_loading.specs.Laws.{StepsKeepCode}
+use Rattle.code_loading.specs.Consistent.{Enters, EntersAt, IsConsistent, RestsAt}
+
+-- What holds of each process that lives, by the table of modules.
+
+abbrev pub Holds : Loaded Forms → Living → Type 0
+Holds m l = Stands m l.process × Enters l.process
+
+abbrev pub AllHold : Loaded Forms → Table → Type 0
+AllHold m t = (pid : ℕ) → IfSome (living pid t) (Holds m)
+
+-- it holds of everybody but one, and of what that one becomes
+kept_but : (P : Living → Type 0) (f : Living → Living) (slots : List (Option Living)) (pid : ℕ) → IfSome (living_at slots pid) (λ l. P (f l)) → (q : ℕ) → IfSome (living_at slots q) P → IfSome (living_at (changed_slots f pid slots) q) P
+kept_but P f [] pid one q holds = holds
+kept_but P f (None ∷ ss) zero one zero holds = tt
+kept_but P f (Some l ∷ ss) zero one zero holds = one
+kept_but P f (s ∷ ss) zero one (suc q) holds = holds
+kept_but P f (s ∷ ss) (suc pid) one zero holds = holds
+kept_but P f (s ∷ ss) (suc pid) one (suc q) holds = kept_but P f ss pid one q holds
+
+-- and of one more
+kept_with : (P : Living → Type 0) (slots : List (Option Living)) (l : Living) → P l → (q : ℕ) → IfSome (living_at slots q) P → IfSome (living_at (slots ++ Some l ∷ []) q) P
+kept_with P [] l one zero holds = one
+kept_with P [] l one (suc q) holds = tt
+kept_with P (s ∷ ss) l one zero holds = holds
+kept_with P (s ∷ ss) l one (suc q) holds = kept_with P ss l one q holds
+
+module _ (m : Loaded Forms) where
+  -- A message comes, and a call is closed.
+
+  all_sent : (message : Term) (call : Option Call) (pid : ℕ) (t : Table) → AllHold m t → AllHold m (changed (arrived message call) pid t)
+  all_sent message call pid t all q = kept_all (Holds m) (arrived message call) (λ l holds. holds) t.slots pid q (all q)
+
+  sent_to : (message : Term) (o : Option ℕ) (t : Table) → AllHold m t → AllHold m (sent message o t)
+  sent_to message None t all = all
+  sent_to message (Some pid) t all = all_sent message None pid t all
+
+  closed_to : (o : Option (ℕ × Call)) (t : Table) → AllHold m t → AllHold m (closed_at o t)
+  closed_to None t all = all
+  closed_to (Some it) t all = λ q. kept_all (Holds m) (closed_living it.1) (λ l holds. holds) t.slots it.0 q (all q)
+
+  arrived_to : (o : Option ℕ) (message : Option Term) (call : Option Call) (t : Table) → AllHold m t → AllHold m (arrived_at o message call t)
+  arrived_to None message call t all = all
+  arrived_to (Some pid) None call t all = all
+  arrived_to (Some pid) (Some message) call t all = all_sent message call pid t all
+
+  -- The acts of a job are done.
+
+  act_kept : (a : Act) (t : Table) → AllHold m t → AllHold m (act_done a t)
+  act_kept (act.Send to message) t all = sent_to message (receiver_of to t) t all
+  act_kept (act.Reply number reply) t all = closed_to (owner_of number t) t all
+  act_kept (act.Start place) t all = all
+  act_kept (act.Name name by_register) t all = all
+
+  acts_kept : (acts : List Act) (t : Table) → AllHold m t → AllHold m (acts_done acts t)
+  acts_kept [] t all = all
+  acts_kept (a ∷ others) t all = acts_kept others (act_done a t) (act_kept a t all)
+
+  -- A process comes to rest in code that stands.
+
+  first_stands : (i : Instance) (o : Option Instance) (b : Bool) → StandsIn m (instance i) → PlaceStands m o → PlaceStands m (cond b (Some i) o)
+  first_stands i o true one others = one
+  first_stands i o false one others = others
+
+  found_stands : (serial : ℕ) (code : List Instance) → All (StandsIn m) (map instance code) → PlaceStands m (loaded_as serial code)
+  found_stands serial [] all = tt
+  found_stands serial (i ∷ code) all =
+      first_stands i (loaded_as serial code) (eqb i.serial serial) (All-head (StandsIn m) (instance i) (map instance code) all) (found_stands serial code (All-tail (StandsIn m) (instance i) (map instance code) all))
+
+  rests_stand : (at : Place) (code : List Instance) → All (StandsIn m) (map instance code) → PlaceStands m (rests_in at code)
+  rests_stand (Server name state) code all = tt
+  rests_stand (Loop name serial f args) code all = found_stands serial code all
+
+  rests_at : (at : Place) (code : List Instance) → RestsAt at (rests_in at code)
+  rests_at (Server name state) code = refl
+  rests_at (Loop name serial f args) code = tt
+
+  rested_holds : (at : Place) (code : List Instance) (l : Living) → All (StandsIn m) (map instance code) → Holds m (rest_living at (rests_in at code) l)
+  rested_holds at code l all = ((rests_stand at code all, tt), (rests_at at code, tt))
+
+  -- the code of a job that a process runs
+
+  ran_code : (p : ProcessState) (a : Activity) (job : Job) → CodeStands m a → job_by p a ≡ Some job → All (StandsIn m) (map instance job.code)
+  ran_code p Idle job code is = absurd (none-some job is)
+  ran_code p Suspended job code is = absurd (none-some job is)
+  ran_code p (Runs r) job code is = subst (λ c. All (StandsIn m) (map instance c)) (ap (λ j. j.code) (same_Some _ job is)) code
+
+  job_stands : (o : Option Living) (job : Job) → IfSome o (Holds m) → job_at o ≡ Some job → All (StandsIn m) (map instance job.code)
+  job_stands None job holds is = absurd (none-some job is)
+  job_stands (Some l) job holds is = ran_code l.process l.process.activity job holds.0.1 is
+
+  concluded_kept : (job : Job) (acts : List Act) (end : End) (t : Table) → AllHold m t → IsRunning job t → AllHold m (concluded job acts end t)
+  concluded_kept job acts (Rest at) t all is =
+      λ q. kept_all (Holds m) (rest_living at (rests_in at job.code)) (λ l holds. rested_holds at job.code l (job_stands (living job.pid t) job (all job.pid) is)) (acts_done acts t).slots job.pid q (acts_kept acts t all q)
+  concluded_kept job acts (Value v) t all is = λ q. others_stay (Holds m) (acts_done acts t).slots job.pid q (acts_kept acts t all q)
+  concluded_kept job acts (Exit reason) t all is = λ q. others_stay (Holds m) (acts_done acts t).slots job.pid q (acts_kept acts t all q)
+
+  -- What evaluating has done in code that stands.
+
+  added_kept : (name : Option (List ℕ)) (place : Place) (code : List Instance) (t : Table) → All (StandsIn m) (map instance code) → AllHold m t → AllHold m (added name place (rests_in place code) t)
+  added_kept name place code t stands all =
+      λ q. kept_with (Holds m) t.slots (record { process = started (next_pid t) name place (rests_in place code); calls = [] }) ((rests_stand place code stands, tt), (rests_at place code, tt)) q (all q)
+
+  begun_kept : (name : Option (List ℕ)) (code : List Instance) (a : Act) (t : Table) → All (StandsIn m) (map instance code) → AllHold m t → AllHold m (act_begun name code a t)
+  begun_kept name code (act.Send to message) t stands all = sent_to message (receiver_of to t) t all
+  begun_kept name code (act.Reply number reply) t stands all = closed_to (owner_of number t) t all
+  begun_kept name code (act.Start place) t stands all = added_kept name place code t stands all
+  begun_kept name code (act.Name n by_register) t stands all = all
+
+  all_begun_kept : (name : Option (List ℕ)) (code : List Instance) (acts : List Act) (t : Table) → All (StandsIn m) (map instance code) → AllHold m t → AllHold m (acts_begun name code acts t)
+  all_begun_kept name code [] t stands all = all
+  all_begun_kept name code (a ∷ others) t stands all =
+      all_begun_kept (name_left name a) code others (act_begun name code a t) stands (begun_kept name code a t stands all)
+
+  -- A process takes a message, and enters an instance.
+
+  code_of : (i : Instance) (code : List Instance) (seen : List state.Instance) → map instance code ≡ seen → IsJobCode m (instance i) seen → (reached : List Instance) × (code ≡ i ∷ reached)
+  code_of i code _ is (job_code {reached = reached} all) =
+      (map held reached, sym (held-all code) ∙ ap (map held) is)
+
+  current_stands : (name : List ℕ) (o : Option (code.Instance Forms)) (i : Instance) → current_of name m ≡ o → option_map (λ (c : code.Instance Forms). record { name = name; serial = c.serial; «module» = c.code }) o ≡ Some i → StandsIn m (instance i)
+  current_stands name None i is so = absurd (none-some i so)
+  current_stands name (Some c) i is so = subst (λ x. StandsIn m (instance x)) (same_Some _ i so) (as_current is)
+
+  place_stands : (o : Option Instance) (i : Instance) → PlaceStands m o → o ≡ Some i → StandsIn m (instance i)
+  place_stands o i stands is = subst (PlaceStands m) is stands
+
+  entered_stands : (at : Place) (rests : Option Instance) (i : Instance) → PlaceStands m rests → entered m at rests ≡ Some i → StandsIn m (instance i)
+  entered_stands (Server name state) rests i stands is = current_stands name (current_of name m) i refl is
+  entered_stands (Loop name serial f args) rests i stands is = place_stands rests i stands is
+
+  enters_at : (at : Place) (rests : Option Instance) (i : Instance) (code : List Instance) → RestsAt at rests → entered m at rests ≡ Some i → (reached : List Instance) × (code ≡ i ∷ reached) → EntersAt rests code
+  enters_at (Server name state) rests i code none is front = subst (λ o. EntersAt o code) (sym none) tt
+  enters_at (Loop name serial f args) rests i code none is front = subst (λ o. EntersAt o code) (sym is) front
+
+  enters_none : (at : Place) (rests : Option Instance) (code : List Instance) → RestsAt at rests → entered m at rests ≡ None → EntersAt rests code
+  enters_none (Server name state) rests code none is = subst (λ o. EntersAt o code) (sym none) tt
+  enters_none (Loop name serial f args) rests code none is = subst (λ o. EntersAt o code) (sym is) tt
+
+  taken_code : (at : Place) (rests o : Option Instance) (entry_serial : ℕ) (code : List Instance) → IsSound m → PlaceStands m rests → RestsAt at rests → entered m at rests ≡ o → IsCode m o entry_serial code → All (StandsIn m) (map instance code) × EntersAt rests code
+  taken_code at rests None entry_serial code sound stands rest is it =
+      (subst (λ c. All (StandsIn m) (map instance c)) (sym it.1) (All-nil (StandsIn m)), enters_none at rests code rest is)
+  taken_code at rests (Some i) entry_serial code sound stands rest is it = (
+    job_code_stands m (instance i) (map instance code) sound (entered_stands at rests i stands is) it.1,
+    enters_at at rests i code rest is (code_of i code (map instance code) refl it.1),
+  )
+
+  run_holds : (position entry_serial : ℕ) (code : List Instance) (l : Living) (message : Option Term) → Holds m l → All (StandsIn m) (map instance code) → EntersAt l.process.rests_in code → Holds m (record { process = run_by message position entry_serial code l.process; calls = l.calls })
+  run_holds position entry_serial code l None holds stands enters = holds
+  run_holds position entry_serial code l (Some message) holds stands enters = ((holds.0.0, stands), (holds.1.0, enters))
+
+  one_takes : (o : Option Living) (job : Job) (position : ℕ) → IsSound m → IfSome o (Holds m) → IsCodeOf m o job → IfSome o (λ l. Holds m (run position job.entry_serial job.code l))
+  one_takes None job position sound holds it = tt
+  one_takes (Some l) job position sound holds it =
+      let code = taken_code l.process.place l.process.rests_in (entered m l.process.place l.process.rests_in) job.entry_serial job.code sound holds.0.0 holds.1.0 refl it in
+      run_holds position job.entry_serial job.code l (slice_get l.process.mailbox position) holds code.0 code.1
+
+  taken_kept : (o : Option ℕ) (pid : ℕ) (job : Job) (t : Table) → IsSound m → AllHold m t → IsCodeOf m (living pid t) job → AllHold m (taken_at o pid job.entry_serial job.code t)
+  taken_kept None pid job t sound all it = all
+  taken_kept (Some position) pid job t sound all it =
+      λ q. kept_but (Holds m) (run position job.entry_serial job.code) t.slots pid (one_takes (living pid t) job position sound (all pid) it) q (all q)
+
+-- What holds of each process, and of all.
+
+both : (m : Loaded Forms) (o : Option Living) → IfSome o (λ l. Stands m l.process) → IfSome o (λ l. Enters l.process) → IfSome o (Holds m)
+both m None p q = tt
+both m (Some l) p q = (p, q)
+
+stand_of : (m : Loaded Forms) (o : Option Living) → IfSome o (Holds m) → IfSome o (λ l. Stands m l.process)
+stand_of m None holds = tt
+stand_of m (Some l) holds = holds.0
+
+enter_of : (m : Loaded Forms) (o : Option Living) → IfSome o (Holds m) → IfSome o (λ l. Enters l.process)
+enter_of m None holds = tt
+enter_of m (Some l) holds = holds.1
+
+all_hold : (m : Loaded Forms) (t : Table) → IsConsistent m t → AllHold m t
+all_hold m t kept pid = both m (living pid t) (kept.stand pid) (kept.enter pid)
+
+consistent : (m : Loaded Forms) (t : Table) → IsSound m → AllHold m t → IsConsistent m t
+consistent m t sound all = record {
+  sound = sound;
+  stand = λ pid. stand_of m (living pid t) (all pid);
+  enter = λ pid. enter_of m (living pid t) (all pid);
+}
+
+-- Each module's current code stands.
+
+one_stands : (m : Loaded Forms) (name : List ℕ) (o : Option (code.Instance Forms)) (rest : List Instance) → current_of name m ≡ o → All (StandsIn m) (map instance rest) → All (StandsIn m) (map instance (cons_option (option_map (named name) o) rest))
+one_stands m name None rest is all = all
+one_stands m name (Some c) rest is all = All-cons (StandsIn m) (instance (named name c)) (map instance rest) (as_current is) all
+
+all_stand : (m : Loaded Forms) (es : List (Entry Forms)) → ((j : ℕ) (entry : Entry Forms) → slice_get es j ≡ Some entry → current_of entry.0 m ≡ entry.1.current) → All (StandsIn m) (map instance (filter_map current_in es))
+all_stand m [] current = All-nil (StandsIn m)
+all_stand m (e ∷ es) current = one_stands m e.0 e.1.current (filter_map current_in es) (current 0 e refl) (all_stand m es (λ j. current (suc j)))
+
+currents_stand : (m : Loaded Forms) → IsSound m → All (StandsIn m) (map instance (current_code m))
+currents_stand m sound = all_stand m m.entries current
+  where
+    current : (j : ℕ) (entry : Entry Forms) → slice_get m.entries j ≡ Some entry → current_of entry.0 m ≡ entry.1.current
+    current j entry at =
+        current-at_place entry.0 m j (place-of_entry m.entries j entry sound.distinct at) ∙ ap (option_and_then (λ e. e.1.current)) at
+
+pub steps_keep_code : StepsKeepCode
+steps_keep_code = record {
+  arrivals = λ client name body m t kept. consistent m (after_arrival client name body t) kept.sound (arrived_to m (pid_of name t) (message_of body) (call_of client body) t (all_hold m t kept));
+  takes = λ pid job m t kept it. consistent m (taken pid job.entry_serial job.code t) kept.sound (taken_kept m (takes_next (living pid t)) pid job t kept.sound (all_hold m t kept) it);
+  commits = λ done m t kept is. consistent m (committed done t) kept.sound (concluded_kept m done.job done.outcome.acts done.outcome.end t (all_hold m t kept) is);
+  starts = λ name code acts m t kept stands. consistent m (acts_begun name code acts t) kept.sound (all_begun_kept m name code acts t stands (all_hold m t kept));
+  currents = currents_stand;
+}

@@ -1,0 +1,30 @@
+-- What takes a purge back, and with it the kill of those who lingered.
+use Rattle.std.specs.Prelude.{◌≡◌, Option, None, Some}
+use Rattle.erl_forms.specs.Module.{Forms}
+use Rattle.code_server.specs.Modules.{Table as Loaded}
+use Rattle.code_server.specs.Undo as code
+use Rattle.code_server.specs.Undo.{HasPurged}
+use Rattle.code_server.specs.declared.undo.Undo as code_undo
+use Rattle.code_server.specs.declared.modules.Instance as loaded
+use Rattle.process_store.specs.Table.{Table}
+use Rattle.process_table.specs.Undo.{TakesBackEnds}
+use Rattle.process_table.specs.declared.undo.Undo as processes
+use Rattle.code_loading.specs.declared.undo.Undo.{Undo}
+
+-- of the processes: nobody was killed, or those live again that were
+abbrev pub LivesAgain : code_undo.Undo Forms → Option processes.Undo → Table → Table → Type 0
+LivesAgain purge None before after = after ≡ before
+LivesAgain purge (Some kill) before after = HasPurged purge × TakesBackEnds kill before after
+
+-- where there is old code its users were killed, and else nobody was
+abbrev pub KillsBack : Option (loaded.Instance Forms) → Option processes.Undo → Table → Table → Type 0
+KillsBack None None before after = after ≡ before
+KillsBack None (Some kill) before after = ⊥
+KillsBack (Some i) None before after = ⊥
+KillsBack (Some i) (Some kill) before after = TakesBackEnds kill before after
+
+-- It gives the modules before, and the processes.
+pub record TakesBack (undo : Undo) (modules : Loaded Forms) (t : Table) (modules_after : Loaded Forms) (after : Table) : Type 0 where
+  pub fits : code.Fits undo.modules modules_after
+  pub code : code.undone undo.modules modules_after ≡ modules
+  pub processes : LivesAgain undo.modules undo.killed t after

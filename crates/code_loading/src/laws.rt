@@ -1,0 +1,12 @@
+// What stays so.
+ghost use Rattle.code_loading.specs.Laws.{LoadingKeepsCode, StepsKeepCode};
+
+/// Modules and processes stay consistent where a module is purged, loaded or deleted: no process uses code that is gone.
+pub fn loading_keeps_code()
+    ensures { LoadingKeepsCode }
+{}
+
+/// The same where a message arrives, a process takes one, a job is committed, and what evaluating in current code has done is done.
+pub fn steps_keep_code()
+    ensures { StepsKeepCode }
+{}
