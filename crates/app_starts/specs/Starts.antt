@@ -1,8 +1,8 @@
 -- An application starts: its supervision is asked for, and its children start (application(3); supervisor(3)).
-use Rattle.std.specs.Prelude.{◌≡◌, ℕ, List, [], ◌∷◌, ◌++◌, codes, map, Option, None, Some}
+use Rattle.std.specs.Prelude.{◌≡◌, ℕ, List, ◌++◌, codes, map, Option, None, Some}
 use Rattle.erl_eval.specs.Jobs.{Evaluates}
 use Rattle.erl_eval.specs.State.{plain}
-use Rattle.erl_term.specs.Tree.{atom, tuple, none, more}
+use Rattle.erl_term.specs.Tree.{atom, none, more}
 use Rattle.erl_term.specs.Term.{tree}
 use Rattle.erl_term.specs.declared.term.Term.{Term}
 use Rattle.erl_term.specs.declared.term.Term.TheVariants as term
@@ -19,6 +19,8 @@ use Rattle.otp_files.specs.declared.app.StartModule.{StartModule}
 use Rattle.process_batch.specs.Begins.{acts_begun, begun_told}
 use Rattle.process_ending.specs.declared.told.Reply.{Reply}
 use Rattle.process_store.specs.Table.{Table}
+use Rattle.app_starts.specs.Children.{all_running}
+use Rattle.app_table.specs.declared.child.Child.{Child}
 use Rattle.app_starts.specs.declared.error.AppError.{AppError}
 use Rattle.app_starts.specs.declared.error.AppError.TheVariants.{BadInit, StartFailed, Memory}
 
@@ -50,10 +52,19 @@ init_fault (Exit reason) = bad_init (exit_value reason)
 abbrev pub initialized : List Instance → Outcome → Table → Table
 initialized code o t = acts_begun None code o.acts t
 
--- The application starts: its children, their pids, the processes after it, and what clients are told.
-abbrev pub AppStarts : List Instance → StartModule → Table → List ChildSpec → List ℕ → Table → List Reply → Type 0
-AppStarts code m t cs pids after told = (o : Outcome) × (others : List Reply) × InitGives code m o × (children_in o.end ≡ Some cs) ×
-    AllStart code cs (initialized code o t) pids after others × (told ≡ begun_told None code o.acts t ++ others)
+-- Its children start, in order, and run.
+abbrev pub AllRun : List Instance → List ChildSpec → Table → List Child → Table → List Reply → Type 0
+AllRun code specs t children after told = (pids : List ℕ) × AllStart code specs t pids after told × (children ≡ all_running specs pids)
+
+-- The application starts: its children, which run, the processes after it, and what clients are told.
+pub record AppStarts (code : List Instance) (m : StartModule) (t : Table) (children : List Child) (after : Table) (told : List Reply) : Type 0 where
+  pub outcome : Outcome
+  pub specs : List ChildSpec
+  pub others : List Reply
+  pub gives : InitGives code m outcome
+  pub supervision : children_in outcome.end ≡ Some specs
+  pub all_run : AllRun code specs (initialized code outcome t) children after others
+  pub tells : told ≡ begun_told None code outcome.acts t ++ others
 
 -- Or it fails to: it has no supervision, or a child fails to start. Want of memory tells nothing.
 
@@ -62,6 +73,12 @@ FailsFor code o t (BadInit reason) = (children_in o.end ≡ None) × (reason ≡
 FailsFor code o t (StartFailed id reason) = (cs : List ChildSpec) × (children_in o.end ≡ Some cs) ×
     ((c : ChildSpec) × (id ≡ c.id) × FirstFails code cs (initialized code o t) c reason)
 FailsFor code o t Memory = Unit {0}
+
+-- one of these children is the first that fails
+abbrev pub OneFails : AppError → List Instance → List ChildSpec → Table → Type 0
+OneFails (BadInit reason) code specs t = ⊥
+OneFails (StartFailed id reason) code specs t = (c : ChildSpec) × (id ≡ c.id) × FirstFails code specs t c reason
+OneFails Memory code specs t = Unit {0}
 
 abbrev pub AppFails : List Instance → StartModule → Table → AppError → Type 0
 AppFails code m t (BadInit reason) = (o : Outcome) × InitGives code m o × FailsFor code o t (BadInit reason)

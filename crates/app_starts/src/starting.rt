@@ -1,5 +1,5 @@
 // An application starts its children.
-ghost use Rattle.std.specs.Prelude.{◌≡◌, ◌++◌, ◌∷◌, [], IfErr, IfOk, List, OnErr, None, codes, map};
+ghost use Rattle.std.specs.Prelude.{◌≡◌, ◌++◌, ◌∷◌, [], IfErr, IfOk, List, OnErr, None, codes, map, replicate};
 ghost use Rattle.erl_eval.specs.Jobs.{Evaluates};
 ghost use Rattle.erl_term.specs.Term.{tree};
 ghost use Rattle.erl_term.specs.Tree.{atom, more, none};
@@ -8,9 +8,12 @@ ghost use Rattle.process_batch.specs.Begins.{CanGiveUp, IsUnderWay};
 ghost use Rattle.process_ending.specs.declared.told.Reply.{Reply as Told};
 ghost use Rattle.process_store.specs.Table.{Table};
 ghost use Rattle.process_table.specs.Undo.{TakesBack};
-ghost use Rattle.app_starts.specs.Starts.{AppFails, AppStarts, InitGives, bad_init, children_in, exit_value, init_fault};
+ghost use Rattle.app_starts.specs.Children.{all_running};
+ghost use Rattle.app_starts.specs.Starts.{AllRun, AppFails, AppStarts, OneFails, InitGives, bad_init, children_in, exit_value, init_fault};
 
+use crate::child::all_running;
 use crate::error::AppError;
+use app_table::Child;
 use callback_lang::evaluate;
 use child_specs::{ChildSpec, read_children};
 use child_starts::start_children;
@@ -78,42 +81,63 @@ fn children_in(alloc: Global, end: &End) -> Result<Option<Row<ChildSpec>>, Alloc
 /// What the start of an application has come to.
 #[derive(Drop)]
 pub struct Supervised {
-    /// The children of its supervisor, in order.
-    pub children: Row<ChildSpec>,
-    /// Their processes, in the same order.
-    pub pids: Row<u64>,
-    /// What clients are told.
-    pub replies: Vec<Reply>,
+    /// The children of its supervisor, in order, each of which runs.
+    pub children: Row<Child>,
+    /// What clients are told, in as many equal values as were asked for.
+    pub told: Vec<Row<Reply>>,
     /// What takes the starts back.
     pub undo: Undo,
 }
 
+/// These children, which have started as the processes of these pids.
+fn run_all(alloc: Global, specs: Row<ChildSpec>, pids: Vec<u64>) -> Result<Row<Child>, AppError>
+    ensures run { IfOk result (λ it. it ≡ all_running specs pids.items) }
+    ensures refused { IfErr result (λ e. e ≡ AppError.Memory) }
+{
+    Ok(all_running(alloc, specs, pids.as_slice())?)
+}
+
+/// Starts these children, in order, as a part of a batch.
+fn begin_children(
+    processes: &mut Processes,
+    alloc: Global,
+    batch: &mut Batch,
+    code: &[Instance],
+    specs: Row<ChildSpec>,
+) -> Result<Row<Child>, AppError>
+    ensures started { IfOk result (λ it. (before t : Table) (told : List Told) → IsUnderWay batch.old.changes.items batch.old.answers.items before processes.old t told → (after : Table) × (others : List Told) × AllRun code.now specs t it after others × IsUnderWay batch.new.changes.items batch.new.answers.items before processes.new after (told ++ others)) }
+    ensures failed { IfErr result (λ e. (before t : Table) (told : List Told) → IsUnderWay batch.old.changes.items batch.old.answers.items before processes.old t told → OneFails e code.now specs t) }
+    ensures back { (before : Table) → CanGiveUp batch.old.changes.items before processes.old → CanGiveUp batch.new.changes.items before processes.new }
+{
+    match start_children(processes, alloc, batch, code, specs.as_slice()) {
+        Ok(pids) => run_all(alloc, specs, pids),
+        Err(error) => Err(AppError::from(error)),
+    }
+}
+
 /// Evaluates `init`, does what it has done, and starts the children of its supervision, all as a part of a batch. The children are
-/// handed out, and their pids.
+/// handed out.
 fn begin_supervision(
     processes: &mut Processes,
     alloc: Global,
     batch: &mut Batch,
     code: &[Instance],
     module: &StartModule,
-) -> Result<(Row<ChildSpec>, Vec<u64>), AppError>
-    ensures started { IfOk result (λ it. (before t : Table) (told : List Told) → IsUnderWay batch.old.changes.items batch.old.answers.items before processes.old t told → (after : Table) × (others : List Told) × AppStarts code.now module.now t it.0 it.1.items after others × IsUnderWay batch.new.changes.items batch.new.answers.items before processes.new after (told ++ others)) }
+) -> Result<Row<Child>, AppError>
+    ensures started { IfOk result (λ it. (before t : Table) (told : List Told) → IsUnderWay batch.old.changes.items batch.old.answers.items before processes.old t told → (after : Table) × (others : List Told) × AppStarts code.now module.now t it after others × IsUnderWay batch.new.changes.items batch.new.answers.items before processes.new after (told ++ others)) }
     ensures failed { IfErr result (λ e. (before t : Table) (told : List Told) → IsUnderWay batch.old.changes.items batch.old.answers.items before processes.old t told → AppFails code.now module.now t e) }
     ensures back { (before : Table) → CanGiveUp batch.old.changes.items before processes.old → CanGiveUp batch.new.changes.items before processes.new }
 {
     let outcome = init(alloc, code, module)?;
-    let Some(children) = children_in(alloc, &outcome.end)? else {
+    let Some(specs) = children_in(alloc, &outcome.end)? else {
         return Err(AppError::BadInit(init_fault(alloc, &outcome.end)?));
     };
     processes.begin(batch, None, code, outcome.acts)?;
-    match start_children(processes, alloc, batch, code, children.as_slice()) {
-        Ok(pids) => Ok((children, pids)),
-        Err(error) => Err(AppError::from(error)),
-    }
+    begin_children(processes, alloc, batch, code, specs)
 }
 
-/// The application of a callback module starts, or one without: `init` is evaluated in this code, which is every module's current code,
-/// what it has done is done, and the children of its supervision start, in order.
+/// The application of a callback module starts: `init` is evaluated in this code, which is every module's current code, what it has done
+/// is done, and the children of its supervision start, in order. What clients are told is handed out in `n` equal values.
 ///
 /// # Errors
 ///
@@ -124,20 +148,20 @@ pub fn supervise(
     alloc: Global,
     code: &[Instance],
     module: &StartModule,
+    n: usize,
 ) -> Result<Supervised, AppError>
-    ensures started { IfOk result (λ it. AppStarts code.now module.now processes.old it.children it.pids processes.new it.replies.items) }
+    ensures started { IfOk result (λ it. (told : List Told) × AppStarts code.now module.now processes.old it.children processes.new told × (it.told.items ≡ replicate n told)) }
     ensures inverse { IfOk result (λ it. TakesBack it.undo processes.old processes.new) }
     ensures failed { IfErr result (λ e. AppFails code.now module.now processes.old e) }
     ensures err { OnErr result (processes.new ≡ processes.old) }
 {
     let mut batch = Batch::new(alloc);
     match begin_supervision(processes, alloc, &mut batch, code, module) {
-        Ok((children, pids)) => {
-            let (replies, undo) = processes.finish(batch)?;
+        Ok(children) => {
+            let (told, undo) = processes.finish_telling(batch, n)?;
             Ok(Supervised {
                 children,
-                pids: Row::new(pids),
-                replies,
+                told,
                 undo,
             })
         }
