@@ -1,0 +1,32 @@
+//! The applications of a node: their specifications, and the children of their supervisors (application(3); supervisor(3)).
+//!
+//! [`Apps`] starts an application ([`Apps::start_app`]) and a child that is due ([`Apps::revive`]), and is told of processes that have
+//! ended ([`Apps::ended`]). [`Apps::revert`] takes a step back.
+//!
+//! # What is proved
+//!
+//! - An application starts exactly where its callback module's `init` gives a supervision and every child of it starts, in order; it has
+//!   these children then, and the processes and what clients are told are what the acts of `init` and of the start functions make, in
+//!   order (`Runs`, `started`). One without a callback module has no children.
+//! - Else it is told why: that the application is not loaded, or is started already, that `init` gave no supervision, or which child has
+//!   failed first, and for what reason (`RefusesStart`). All is then as it was, and no pid is used.
+//! - A child is revived exactly where it is due and its start function starts it (`revived`, `RefusesRevive`). Want of memory is told only
+//!   of a child that is due.
+//! - A child whose process has ended has none, and is due where its Restart and the reason say so and its application is started
+//!   (`all_ended`, `after_end`).
+//! - The record of each step gives the applications before it, whole, whatever the memory (`undone`); that of a start gives the
+//!   processes before, too.
+//!
+//! # What no contract says
+//!
+//! That there is memory, and what a call costs: evaluating aside, a step looks through the names of the applications, and an end through
+//! the children, of which it changes one. Nothing is copied.
+#![tactic(auto)]
+
+mod apps;
+mod error;
+mod running;
+
+pub use app_table::{App, Child, ChildState, Ended, Undo};
+pub use apps::{AppStart, Apps, Revival};
+pub use error::SysError;
