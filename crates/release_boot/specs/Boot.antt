@@ -1,0 +1,115 @@
+-- A release boots: the code of all its applications is loaded first, and then they start, in order (application(3); rel(4)).
+use Rattle.std.specs.Prelude.{◌≡◌, ◌⊎◌, ℕ, Bool, true, false, List, [], ◌∷◌, codes, filter, find, map, None, Option, Some}
+use Rattle.std.specs.List.{flat_map}
+use Rattle.std.specs.Str.{bytes_eq}
+use Rattle.code_loading.specs.Current.{current_code}
+use Rattle.code_server.specs.Modules.{Table as Loaded, empty_table as no_modules, loaded, purged}
+use Rattle.erl_forms.specs.Module.{Forms}
+use Rattle.erl_steps.specs.declared.world.Instance.{Instance}
+use Rattle.erl_term.specs.Term.{tree}
+use Rattle.erl_term.specs.Tree.{atom, none, more}
+use Rattle.erl_term.specs.declared.term.Term.{Term}
+use Rattle.erl_term.specs.declared.term.Term.TheVariants as term
+use Rattle.app_table.specs.declared.child.Child.{Child}
+use Rattle.otp_files.specs.declared.app.AppSpec.{AppSpec}
+use Rattle.otp_files.specs.declared.applications.RelApp.{RelApp}
+use Rattle.process_ending.specs.declared.told.Reply.{Reply}
+use Rattle.process_store.specs.Table.{Table, empty_table as no_processes}
+use Rattle.release_table.specs.declared.table.AppFiles.{AppFiles}
+use Rattle.release_table.specs.declared.table.Release.{Release}
+use Rattle.release_words.specs.declared.start_type.StartType.{StartType}
+use Rattle.release_words.specs.declared.start_type.StartType.TheVariants as start
+use Rattle.app_table.specs.Applications.{Application, loaded as app_loaded, started}
+use Rattle.sys_protocol.specs.Refusals.{HasFailedChild, HasNoSupervision, Runs, module_of, start_fault}
+use Rattle.release_boot.specs.declared.error.BootError.{BootError}
+use Rattle.release_boot.specs.declared.error.BootError.TheVariants.{NotStarted, Memory}
+
+-- The modules of all applications, in order, loaded one after the other.
+
+abbrev pub all_loaded : List Forms → Loaded Forms → Loaded Forms
+all_loaded [] t = t
+all_loaded (m ∷ ms) t = all_loaded ms (loaded m.name m (purged m.name t))
+
+abbrev pub modules_of : List AppFiles → List Forms
+modules_of files = flat_map (λ f. f.modules) files
+
+-- The specification of an application: its file's; one that has no files has the defaults.
+
+abbrev pub is_of : RelApp → AppFiles → Bool
+is_of app f = bytes_eq f.spec.name app.name
+
+abbrev pub default_spec : RelApp → AppSpec
+default_spec app = record { name = app.name; vsn = app.vsn; modules = []; applications = []; start = None }
+
+abbrev pub spec_from : RelApp → Option AppFiles → AppSpec
+spec_from app None = default_spec app
+spec_from app (Some f) = f.spec
+
+abbrev pub spec_of : List AppFiles → RelApp → AppSpec
+spec_of files app = spec_from app (find (is_of app) files)
+
+-- Applications of these types are started, the others only loaded.
+
+abbrev pub is_started_as : StartType → Bool
+is_started_as start.Permanent = true
+is_started_as start.Transient = true
+is_started_as start.Temporary = true
+is_started_as start.Load = false
+is_started_as start.None = false
+
+abbrev pub to_start : List RelApp → List (List ℕ)
+to_start apps = map (λ app. app.name) (filter (λ app. is_started_as app.start_type) apps)
+
+-- One starts: it has children, which run. Nobody is told anything, for no call is open.
+pub record Starts (code : List Instance) (name : List ℕ) (apps : List Application) (t : Table) (apps_after : List Application) (after : Table) : Type 0 where
+  pub faultless : start_fault name apps ≡ None
+  pub children : List Child
+  pub told : List Reply
+  pub runs : Runs code (module_of name apps) t children after told
+  pub starts : apps_after ≡ started name children apps
+
+-- All start, in order.
+abbrev pub AllStart : List Instance → List (List ℕ) → List Application → Table → List Application → Table → Type 0
+AllStart code [] apps t apps_after after = (apps_after ≡ apps) × (after ≡ t)
+AllStart code (name ∷ names) apps t apps_after after =
+    (apps_next : List Application) × (next : Table) × Starts code name apps t apps_next next × AllStart code names apps_next next apps_after after
+
+-- Why one doesn't: it is started already, its `init` gives no supervision, or a child fails to start.
+
+abbrev pub start_failed : Term → Term → Term
+start_failed child reason = term.Tuple (more (atom (codes "start_failed")) (more (tree child) (more (tree reason) none)))
+
+abbrev pub DoesNotStart : List Instance → List ℕ → List Application → Table → Term → Type 0
+DoesNotStart code name apps t reason = (start_fault name apps ≡ Some reason) ⊎ ((start_fault name apps ≡ None) ×
+    (HasNoSupervision code (module_of name apps) t reason ⊎
+    ((child cause : Term) × HasFailedChild code (module_of name apps) t child cause × (reason ≡ start_failed child cause))))
+
+-- The first that doesn't, and why.
+abbrev pub FirstFails : List Instance → List (List ℕ) → List Application → Table → List ℕ → Term → Type 0
+FirstFails code [] apps t name reason = ⊥
+FirstFails code (n ∷ names) apps t name reason = ((name ≡ n) × DoesNotStart code n apps t reason) ⊎
+    ((apps_next : List Application) × (next : Table) × Starts code n apps t apps_next next × FirstFails code names apps_next next name reason)
+
+-- What an error tells: of one, and of several. Want of memory tells nothing.
+
+abbrev pub FailsFor : BootError → List Instance → List ℕ → List Application → Table → Type 0
+FailsFor (NotStarted app reason) code name apps t = (app ≡ name) × DoesNotStart code name apps t reason
+FailsFor Memory code name apps t = Unit {0}
+
+abbrev pub Fails : BootError → List Instance → List (List ℕ) → List Application → Table → Type 0
+Fails (NotStarted app reason) code names apps t = FirstFails code names apps t app reason
+Fails Memory code names apps t = Unit {0}
+
+-- The release whole: its modules, and what is there before its applications start.
+
+abbrev pub boot_modules : Release → Loaded Forms
+boot_modules r = all_loaded (modules_of r.apps) no_modules
+
+abbrev pub boot_apps : Release → List Application
+boot_apps r = map app_loaded (map (spec_of r.apps) r.rel.apps)
+
+abbrev pub Boots : Release → Loaded Forms → Table → List Application → Type 0
+Boots r modules t apps = (modules ≡ boot_modules r) × AllStart (current_code (boot_modules r)) (to_start r.rel.apps) (boot_apps r) no_processes apps t
+
+abbrev pub BootFails : BootError → Release → Type 0
+BootFails e r = Fails e (current_code (boot_modules r)) (to_start r.rel.apps) (boot_apps r) no_processes

@@ -1,0 +1,188 @@
+// A release boots.
+ghost use Rattle.std.specs.Prelude.{◌≡◌, ◌⊎◌, ◌∷◌, [], IfErr, IfOk, OnOk};
+ghost use Rattle.code_server.specs.Modules.{loaded, purged};
+ghost use Rattle.release_boot.specs.Boot.{AllStart, BootFails, Boots, Fails, FailsFor, Starts, all_loaded, is_started_as, modules_of, start_failed, to_start};
+
+use crate::error::BootError;
+use crate::specs_of::specs_of;
+use code_loading::current_code;
+use code_server::Modules;
+use erl_forms::Module;
+use erl_machine::Instance;
+use erl_term::{Atom, Term, Terms};
+use otp_files::{RelApp, StartType};
+use process_table::Processes;
+use release_table::{AppFiles, Release};
+use std::alloc::{AllocError, Global};
+use std::hash::RandomState;
+use sys_protocol::{Apps, SysError};
+use values::Duplicate;
+
+/// What a release has booted.
+#[derive(Drop)]
+pub struct Booted {
+    /// Its modules.
+    pub modules: Modules<Module>,
+    /// The processes of its applications.
+    pub processes: Processes,
+    /// Its applications.
+    pub apps: Apps,
+}
+
+/// Loads a module; where it has old code, that goes.
+fn load(modules: &mut Modules<Module>, alloc: Global, code: &Module) -> Result<(), BootError>
+    ensures loaded { OnOk result (modules.new ≡ loaded code.now.name code.now (purged code.now.name modules.old)) }
+    ensures failed { IfErr result (λ e. e ≡ BootError.Memory) }
+{
+    let code = code.copy(alloc)?;
+    let name = code.name().copy(alloc)?;
+    match modules.purge_and_load(&name, code) {
+        Ok(_) => Ok(()),
+        Err(_) => Err(BootError::Memory),
+    }
+}
+
+/// Loads the modules of an application, in order.
+fn load_app(modules: &mut Modules<Module>, alloc: Global, code: &[Module]) -> Result<(), BootError>
+    ensures loaded { OnOk result (modules.new ≡ all_loaded code.now modules.old) }
+    ensures failed { IfErr result (λ e. e ≡ BootError.Memory) }
+{
+    for each in code {
+        load(modules, alloc, each)?;
+    }
+    Ok(())
+}
+
+/// Loads the modules of all applications, in order.
+fn load_all(
+    modules: &mut Modules<Module>,
+    alloc: Global,
+    apps: &[AppFiles],
+) -> Result<(), BootError>
+    ensures loaded { OnOk result (modules.new ≡ all_loaded (modules_of apps.now) modules.old) }
+    ensures failed { IfErr result (λ e. e ≡ BootError.Memory) }
+{
+    for app in apps {
+        load_app(modules, alloc, app.modules.as_slice())?;
+    }
+    Ok(())
+}
+
+/// Whether applications of a type are started.
+fn is_started_as(start_type: StartType) -> bool
+    ensures { result ≡ is_started_as start_type }
+{
+    match start_type {
+        StartType::Permanent | StartType::Transient | StartType::Temporary => true,
+        StartType::Load | StartType::None => false,
+    }
+}
+
+/// `{start_failed,Id,R}`
+fn start_failed(alloc: Global, child: Term, reason: Term) -> Result<Term, AllocError>
+    ensures { IfOk result (λ it. it ≡ start_failed child reason) }
+{
+    let mut parts = Vec::with_capacity(alloc, 3)?;
+    parts.push(Term::Atom(Atom::word(alloc, "start_failed")?))?;
+    parts.push(child)?;
+    parts.push(reason)?;
+    Ok(Term::Tuple(Terms::new(alloc, parts)?))
+}
+
+/// That an application doesn't start, and why.
+fn not_started(alloc: Global, app: &Atom, reason: Term) -> Result<(), BootError>
+    ensures failed { IfErr result (λ e. (e ≡ BootError.Memory) ⊎ (e ≡ BootError.NotStarted app.now reason)) }
+    ensures none { OnOk result ⊥ }
+{
+    Err(BootError::NotStarted {
+        app: app.copy(alloc)?,
+        reason,
+    })
+}
+
+/// Starts an application.
+fn start_app(
+    apps: &mut Apps,
+    processes: &mut Processes,
+    alloc: Global,
+    code: &[Instance],
+    name: &Atom,
+) -> Result<(), BootError>
+    ensures started { OnOk result (Starts code.now name.now apps.old processes.old apps.new processes.new) }
+    ensures failed { IfErr result (λ e. FailsFor e code.now name.now apps.old processes.old) }
+{
+    match apps.start_app(processes, code, name, 0) {
+        Ok(_) => Ok(()),
+        Err(SysError::AppFailed(reason)) => not_started(alloc, name, reason),
+        Err(SysError::StartFailed { child, reason }) => {
+            let reason = start_failed(alloc, child, reason)?;
+            not_started(alloc, name, reason)
+        }
+        Err(SysError::Memory) => Err(BootError::Memory),
+        Err(SysError::NoChild | SysError::NotDue) => unreachable!(),
+    }
+}
+
+/// Starts an application, where it is started by its type.
+fn start_one(
+    apps: &mut Apps,
+    processes: &mut Processes,
+    alloc: Global,
+    code: &[Instance],
+    app: &RelApp,
+) -> Result<(), BootError>
+    ensures started { OnOk result (AllStart code.now (to_start (app.now ∷ [])) apps.old processes.old apps.new processes.new) }
+    ensures failed { IfErr result (λ e. Fails e code.now (to_start (app.now ∷ [])) apps.old processes.old) }
+{
+    if !is_started_as(app.start_type) {
+        return Ok(());
+    }
+    start_app(apps, processes, alloc, code, &app.name)
+}
+
+/// Starts those of these applications that are started by their types, in order.
+fn start_all(
+    apps: &mut Apps,
+    processes: &mut Processes,
+    alloc: Global,
+    code: &[Instance],
+    release: &[RelApp],
+) -> Result<(), BootError>
+    ensures started { OnOk result (AllStart code.now (to_start release.now) apps.old processes.old apps.new processes.new) }
+    ensures failed { IfErr result (λ e. Fails e code.now (to_start release.now) apps.old processes.old) }
+{
+    for app in release {
+        start_one(apps, processes, alloc, code, app)?;
+    }
+    Ok(())
+}
+
+/// Boots a release: loads the modules of all its applications, and then starts those that are to be started, in order. Names are hashed
+/// by `hashing`.
+///
+/// # Errors
+///
+/// `NotStarted` of the first application that doesn't start, and `Memory`.
+pub fn boot(alloc: Global, hashing: RandomState, release: &Release) -> Result<Booted, BootError>
+    ensures booted { IfOk result (λ it. Boots release.now it.modules it.processes it.apps) }
+    ensures failed { IfErr result (λ e. BootFails e release.now) }
+{
+    let mut modules = Modules::new(alloc, hashing);
+    load_all(&mut modules, alloc, release.apps.as_slice())?;
+    let specs = specs_of(alloc, release.apps.as_slice(), release.rel.apps.as_slice())?;
+    let mut apps = Apps::new(alloc, specs)?;
+    let mut processes = Processes::new(alloc, hashing, hashing)?;
+    let code = current_code(alloc, &modules)?;
+    start_all(
+        &mut apps,
+        &mut processes,
+        alloc,
+        code.as_slice(),
+        release.rel.apps.as_slice(),
+    )?;
+    Ok(Booted {
+        modules,
+        processes,
+        apps,
+    })
+}
