@@ -2,7 +2,7 @@
 use Rattle.std.proofs.Common.{◌≡◌, ℕ, zero, suc, eqb, Bool, true, false, All, List, [], ◌∷◌, ◌++◌, map, slice_get, Option, None, Some, option_and_then, option_map, filter_map, IfSome, cond, refl, sym, ap, subst, ◌∙◌}
 use Rattle.std.proofs.lemmas.List.Elements.{All-cons, All-head, All-nil, All-tail}
 use Rattle.std.proofs.lemmas.Option.{none-some, same_Some}
-use Rattle.core.specs.List.{cons_option}
+use Rattle.std.specs.List.{cons_option}
 use Rattle.erl_term.specs.declared.term.Term.{Term}
 use Rattle.erl_eval.specs.State as state
 use Rattle.erl_eval.specs.declared.acts.Act.{Act}
