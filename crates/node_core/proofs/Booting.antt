@@ -1,0 +1,61 @@
+-- A node that boots is consistent: what starts uses current code alone.
+use Rattle.std.proofs.Common.{ℕ, zero, suc, All, List, [], ◌∷◌, map, Option, None, Some, IfSome, sym, ap, subst}
+use Rattle.erl_forms.specs.Module.{Forms}
+use Rattle.erl_steps.specs.Views.{instance}
+use Rattle.erl_steps.specs.declared.world.Instance.{Instance}
+use Rattle.child_specs.specs.declared.child.ChildSpec.{ChildSpec}
+use Rattle.child_starts.specs.Children as children
+use Rattle.child_starts.specs.Children.{after_start, named_by}
+use Rattle.app_starts.specs.Starts.{initialized}
+use Rattle.app_table.specs.Applications.{Application}
+use Rattle.app_table.specs.declared.child.Child.{Child}
+use Rattle.code_loading.proofs.Stepping.{steps_keep_code}
+use Rattle.code_loading.specs.Consistent.{Enters, IsConsistent}
+use Rattle.code_loading.specs.Current.{current_code}
+use Rattle.code_server.specs.Modules.{IsSound, Table as Loaded}
+use Rattle.job_code.specs.Named.{StandsIn}
+use Rattle.otp_files.specs.declared.app.StartModule.{StartModule}
+use Rattle.process_ending.specs.Ends.{Stands}
+use Rattle.process_ending.specs.declared.told.Reply.{Reply}
+use Rattle.process_store.specs.Table.{Table, empty_table as no_processes, living}
+use Rattle.process_store.specs.declared.living.Living.{Living}
+use Rattle.release_boot.specs.Boot as boot
+use Rattle.release_boot.specs.Boot.{Boots, boot_apps, boot_modules, to_start}
+use Rattle.release_table.specs.declared.table.Release.{Release}
+use Rattle.sys_protocol.specs.Refusals.{Runs, module_of}
+
+module _ (m : Loaded Forms) (code : List Instance) (stand : All (StandsIn m) (map instance code)) where
+  children_keep : (cs : List ChildSpec) (t : Table) (pids : List ℕ) (after : Table) (told : List Reply) → children.AllStart code cs t pids after told → IsConsistent m t → IsConsistent m after
+  children_keep [] t [] after told all kept = subst (λ (u : Table). IsConsistent m u) (sym all.0) kept
+  children_keep [] t (pid ∷ pids) after told all kept = absurd all
+  children_keep (c ∷ cs) t [] after told all kept = absurd all
+  children_keep (c ∷ cs) t (pid ∷ pids) after told (is, (o, others, starts, rest, tells)) kept =
+      children_keep cs (after_start code o t) pids after others rest (steps_keep_code.starts (named_by o) code o.acts m t kept stand)
+
+  runs_keep : (o : Option StartModule) (t : Table) (children : List Child) (after : Table) (told : List Reply) → Runs code o t children after told → IsConsistent m t → IsConsistent m after
+  runs_keep None t children after told runs kept = subst (λ (u : Table). IsConsistent m u) (sym runs.1) kept
+  runs_keep (Some sm) t children after told runs kept =
+      children_keep runs.specs (initialized code runs.outcome t) runs.all_run.0 after runs.others runs.all_run.1 (steps_keep_code.starts None code runs.outcome.acts m t kept stand)
+
+  all_keep : (names : List (List ℕ)) (apps : List Application) (t : Table) (apps_after : List Application) (after : Table) → boot.AllStart code names apps t apps_after after → IsConsistent m t → IsConsistent m after
+  all_keep [] apps t apps_after after all kept = subst (λ (u : Table). IsConsistent m u) (sym all.1) kept
+  all_keep (name ∷ names) apps t apps_after after (apps_next, next, starts, rest) kept =
+      all_keep names apps_next next apps_after after rest (runs_keep (module_of name apps) t starts.children next starts.told starts.runs kept)
+
+-- nobody is there before
+
+of_nobody : (P : Living → Type 0) (pid : ℕ) → IfSome (living pid no_processes) P
+of_nobody P zero = tt
+of_nobody P (suc pid) = tt
+
+empty_is_consistent : (m : Loaded Forms) → IsSound m → IsConsistent m no_processes
+empty_is_consistent m sound = record {
+  sound = sound;
+  stand = of_nobody (λ l. Stands m l.process);
+  enter = of_nobody (λ l. Enters l.process);
+}
+
+pub booted_is_consistent : (r : Release) (m : Loaded Forms) (t : Table) (apps : List Application) → Boots r m t apps → IsSound m → IsConsistent m t
+booted_is_consistent r m t apps boots sound =
+    let starts = subst (λ (code : List Instance). boot.AllStart code (to_start r.rel.apps) (boot_apps r) no_processes apps t) (sym (ap current_code boots.0)) boots.1 in
+    all_keep m (current_code m) (steps_keep_code.currents m sound) (to_start r.rel.apps) (boot_apps r) no_processes apps t starts (empty_is_consistent m sound)

@@ -1,0 +1,4 @@
+pub mod Accepting
+pub mod Backs
+pub mod Booting
+pub mod Spared

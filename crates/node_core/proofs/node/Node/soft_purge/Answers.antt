@@ -1,0 +1,40 @@
+-- The old code is gone, in which nobody lingered.
+use Rattle.std.proofs.Common.{◌≡◌, ◌∙◌, [], None, Some, if◌then◌else◌, sym, subst, ap}
+use Rattle.code_loading.proofs.Consistency.{purge_keeps}
+use Rattle.code_loading.specs.Consistent.{IsConsistent}
+use Rattle.code_server.specs.Modules.{Table as Loaded, purged}
+use Rattle.code_server.specs.declared.error.CodeError.TheVariants.{OldInUse}
+use Rattle.erl_forms.specs.Module.{Forms}
+use Rattle.process_store.specs.Table.{Table}
+use Rattle.undo_journal.specs.Reversible.{Accepted}
+use Rattle.node_core.proofs.Spared.{nobody_lingers}
+use Rattle.node_core.proofs.Accepting.{accepted_of, unless_none}
+use Rattle.node_core.specs.Node.{NodeState, with_modules}
+use Rattle.node_core.specs.Step.{reporting, soft_purge_refusal}
+use Rattle.node_core.specs.declared.event.Answer.{Answer}
+use Rattle.node_core.specs.declared.event.Answer.TheVariants as answer
+use Rattle.node_core.specs.declared.event.Event.TheVariants as event
+use Rattle.node_core.specs.declared.event.Note.{Note}
+use Rattle.node_core.specs.declared.event.Refusal.TheVariants.{OfModules}
+use Rattle.node_core.proofs.node.Node.soft_purge.Goals as goal
+
+pub invariant_of-self : goal.invariant_of-self
+invariant_of-self c =
+    let m = c.self.inside.modules in
+    let t = c.self.inside.processes in
+    let name = c.args.name.now in
+    let spares = nobody_lingers name m t (sym c.is_lingered_in.ensures ∙ c.if-is_lingered_in.false) in
+    subst (λ (x : Loaded Forms). IsConsistent x t) (sym c.in-Ok-soft_purge.ensures.modules) (subst (λ (u : Table). IsConsistent (purged name m) u) spares (purge_keeps name m t c.self.invariant))
+
+pub returns-clause-accepted : goal.returns-clause-accepted
+returns-clause-accepted c =
+    let m = c.self.inside.modules in
+    let t = c.self.inside.processes in
+    let apps = c.self.inside.apps in
+    let n : NodeState = record { modules = m; processes = t; apps = apps } in
+    let k = c.args.n in
+    let name = c.args.name.now in
+    let a : Accepted NodeState Answer Note = record { node = with_modules (purged name m) n; answer = answer.Unit; note = reporting [] } in
+    let new : NodeState = record { modules = c.soft_purge.new.modules; processes = t; apps = apps } in
+    let free : soft_purge_refusal name n ≡ None = ap (λ b. if b then Some OldInUse else None) (sym c.is_lingered_in.ensures ∙ c.if-is_lingered_in.false) in
+    accepted_of n c.args.self.now (event.SoftPurge name) a new k c.in-Ok.told.items c.self.view_is (unless_none (soft_purge_refusal name n) OfModules a free) (ap (λ (x : Loaded Forms). with_modules x n) c.in-Ok-soft_purge.ensures.modules) c.in-Ok.ensures

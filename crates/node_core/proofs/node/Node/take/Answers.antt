@@ -1,0 +1,38 @@
+-- The process runs its job in the code that it enters.
+use Rattle.std.proofs.Common.{◌∙◌, [], None, map, sym, subst, ap, refl}
+use Rattle.code_loading.proofs.Stepping.{steps_keep_code}
+use Rattle.code_loading.specs.Consistent.{IsConsistent}
+use Rattle.erl_machine.specs.declared.jobs.Job.{Job}
+use Rattle.process_commit.specs.Commits.{job_at}
+use Rattle.process_store.specs.Table.{Table, living}
+use Rattle.undo_journal.specs.Reversible.{Accepted}
+use Rattle.undo_journal.specs.declared.reversible.Told.{Told}
+use Rattle.node_core.proofs.Accepting.{accepted_of, each_of}
+use Rattle.node_core.specs.Node.{NodeState, with_processes}
+use Rattle.node_core.specs.Step.{reporting, run_taken}
+use Rattle.node_core.specs.declared.event.Answer.{Answer}
+use Rattle.node_core.specs.declared.event.Answer.TheVariants as answer
+use Rattle.node_core.specs.declared.event.Event.TheVariants as event
+use Rattle.node_core.specs.declared.event.Note.{Note}
+use Rattle.node_core.proofs.node.Node.take.Goals as goal
+
+pub invariant_of-self-2 : goal.invariant_of-self-2
+invariant_of-self-2 c =
+    let takes = c.in-Ok-take.ensures.taken in
+    subst (λ (t : Table). IsConsistent c.self.inside.modules t) (sym takes.table) (steps_keep_code.takes c.args.pid takes.job c.self.inside.modules c.self.inside.processes c.self.invariant takes.code)
+
+pub returns-clause-accepted : goal.returns-clause-accepted
+returns-clause-accepted c =
+    let m = c.self.inside.modules in
+    let t = c.self.inside.processes in
+    let apps = c.self.inside.apps in
+    let n : NodeState = record { modules = m; processes = t; apps = apps } in
+    let k = c.args.n in
+    let pid = c.args.pid in
+    let takes = c.in-Ok-take.ensures.taken in
+    let job = takes.job in
+    let a : Accepted NodeState Answer Note = record { node = run_taken pid job n; answer = answer.Job job; note = reporting [] } in
+    let new : NodeState = record { modules = m; processes = c.take.new.self; apps = apps } in
+    let said : Job → Told Answer Note = λ j. record { answer = answer.Job j; note = record { replies = []; arrival = None } } in
+    let runs = ap (λ (u : Table). job_at (living pid u)) (sym takes.table) ∙ takes.runs in
+    accepted_of n c.args.self.now (event.Take pid) a new k c.tell_jobs.result.items c.self.view_is (job, c.in-Ok-take.ensures.ok, takes.code, runs, refl) (ap (λ (u : Table). with_processes u n) takes.table) (c.tell_jobs.ensures ∙ ap (map said) takes.told ∙ each_of said job k)

@@ -1,0 +1,28 @@
+-- What takes an event back.
+use Rattle.std.specs.Prelude.{◌≡◌, List, Option, None, Some}
+use Rattle.code_loading.specs.Undo as loading
+use Rattle.code_server.specs.Undo as code
+use Rattle.process_table.specs.Undo.{TakesBackEnds}
+use Rattle.app_table.specs.Applications.{Application}
+use Rattle.app_table.specs.Undo as apps
+use Rattle.app_table.specs.declared.undo.Undo as apps_undo
+use Rattle.node_core.specs.Node.{IsKept, NodeState}
+use Rattle.node_core.specs.declared.record.Record.{Record}
+use Rattle.node_core.specs.declared.record.Record.TheVariants.{OfProcesses, OfCode, OfDeletion}
+
+-- of the applications, where any were changed
+abbrev pub AppsBack : Option apps_undo.Undo → List Application → List Application → Type 0
+AppsBack None before after = after ≡ before
+AppsBack (Some undo) before after = apps.undone undo after ≡ before
+
+abbrev pub Restores : Record → NodeState → NodeState → Type 0
+Restores (OfProcesses undo ended) before after =
+    (after.modules ≡ before.modules) × TakesBackEnds undo before.processes after.processes × AppsBack ended before.apps after.apps
+Restores (OfCode undo ended) before after =
+    loading.TakesBack undo before.modules before.processes after.modules after.processes × AppsBack ended before.apps after.apps
+Restores (OfDeletion undo) before after =
+    code.Fits undo after.modules × (code.undone undo after.modules ≡ before.modules) × (after.processes ≡ before.processes) × (after.apps ≡ before.apps)
+
+-- It gives the node before, which kept what every node keeps.
+abbrev pub Undoes : Record → NodeState → NodeState → Type 0
+Undoes r before after = IsKept before × Restores r before after

@@ -1,0 +1,183 @@
+-- What an event does to a node, or why it is refused: one clause an event.
+use Rattle.std.specs.Prelude.{◌≡◌, ◌≢◌, ℕ, true, if◌then◌else◌, List, [], ◌∷◌, Option, None, Some, Result, Ok, Err}
+use Rattle.erl_forms.specs.Module.{Forms}
+use Rattle.erl_machine.specs.declared.jobs.Done.{Done}
+use Rattle.erl_machine.specs.declared.jobs.Job.{Job}
+use Rattle.erl_steps.specs.declared.machine.End.{End}
+use Rattle.erl_steps.specs.declared.machine.End.TheVariants.{Rest, Value, Exit}
+use Rattle.erl_term.specs.declared.term.Term.{Term}
+use Rattle.app_table.specs.Children.{is_due}
+use Rattle.app_table.specs.declared.child.Child.{Child}
+use Rattle.child_starts.specs.Children.{Restarts}
+use Rattle.code_loading.specs.Current.{current_code}
+use Rattle.code_loading.specs.Loading.{is_lingered_in, lingering, purge_told, spared}
+use Rattle.code_server.specs.Modules.{delete_refusal, deleted, load_refusal, loaded, purged}
+use Rattle.code_server.specs.declared.error.CodeError.{CodeError}
+use Rattle.code_server.specs.declared.error.CodeError.TheVariants.{OldInUse}
+use Rattle.process_commit.specs.Commits.{IsRunning, job_at}
+use Rattle.process_ending.specs.Told.{killed}
+use Rattle.process_ending.specs.declared.told.Reply.{Reply}
+use Rattle.process_store.specs.Changes.{CanTurnAt}
+use Rattle.process_store.specs.Table.{Table, living}
+use Rattle.process_table.specs.Commit.{RefusesCommit, commit_told, committed, normal}
+use Rattle.process_table.specs.Messages.{message_of}
+use Rattle.process_table.specs.Steps.{IsCodeOf, after_arrival, arrive_refusal, take_refusal, taken}
+use Rattle.process_table.specs.declared.body.Body.{Body}
+use Rattle.process_table.specs.declared.error.ProcError.{ProcError}
+use Rattle.process_table.specs.declared.error.ProcError.TheVariants as proc
+use Rattle.app_table.specs.Applications.{Application, all_ended, child_of, revived}
+use Rattle.sys_protocol.specs.Refusals.{RefusesRevive}
+use Rattle.sys_protocol.specs.declared.error.SysError.{SysError}
+use Rattle.sys_protocol.specs.declared.error.SysError.TheVariants as sys
+use Rattle.undo_journal.specs.Reversible.{Accepted}
+use Rattle.node_core.specs.Node.{NodeState, with_modules, with_processes}
+use Rattle.node_core.specs.declared.event.Answer.{Answer}
+use Rattle.node_core.specs.declared.event.Answer.TheVariants as answer
+use Rattle.node_core.specs.declared.event.Event.{Event}
+use Rattle.node_core.specs.declared.event.Event.TheVariants.{Arrive, Take, Commit, Revive, Load, Delete, Purge, SoftPurge}
+use Rattle.node_core.specs.declared.event.Note.{Note}
+use Rattle.node_core.specs.declared.event.Refusal.{Refusal}
+use Rattle.node_core.specs.declared.event.Refusal.TheVariants.{OfProcesses, OfModules, OfApps}
+
+abbrev pub Outcome : Type 0
+Outcome = Result (Accepted NodeState Answer Note) Refusal
+
+-- nothing is reported; or these replies are
+abbrev pub reporting : List Reply → Note
+reporting replies = record { replies = replies; arrival = None }
+
+-- an event is accepted where nothing stands against it
+abbrev pub unless : {E : Type 0} → Option E → (E → Refusal) → Accepted NodeState Answer Note → Outcome
+unless None of a = Ok a
+unless (Some e) of a = Err (of e)
+
+-- Arrive: a message of a client comes for the process of a name; it is reported.
+
+abbrev pub arrival_of : List ℕ → Option Term → Option (List ℕ × Term)
+arrival_of name None = None
+arrival_of name (Some message) = Some (name, message)
+
+abbrev pub arrived : ℕ → List ℕ → Body → NodeState → Outcome
+arrived client name body n = unless (arrive_refusal name body n.processes) OfProcesses (record {
+  node = with_processes (after_arrival client name body n.processes) n;
+  answer = answer.Unit;
+  note = record { replies = []; arrival = arrival_of name (message_of body) };
+})
+
+-- Take: a process takes its next message, and runs it in the code that it enters.
+
+abbrev pub run_taken : ℕ → Job → NodeState → NodeState
+run_taken pid job n = with_processes (taken pid job.entry_serial job.code n.processes) n
+
+abbrev pub Takes : ℕ → NodeState → Outcome → Type 0
+Takes pid n (Err e) = (it : ProcError) × (take_refusal pid n.processes ≡ Some it) × (e ≡ OfProcesses it)
+Takes pid n (Ok a) = (job : Job) × (take_refusal pid n.processes ≡ None) × IsCodeOf n.modules (living pid n.processes) job ×
+    (job_at (living pid (run_taken pid job n).processes) ≡ Some job) ×
+    (a ≡ record { node = run_taken pid job n; answer = answer.Job job; note = reporting [] })
+
+-- Commit: what a job has done is done, where its process runs it. A child whose process ends with it is due, or not.
+
+abbrev pub ended_by : ℕ → End → List Application → List Application
+ended_by pid (Rest at) apps = apps
+ended_by pid (Value v) apps = all_ended normal (pid ∷ []) apps
+ended_by pid (Exit reason) apps = all_ended reason (pid ∷ []) apps
+
+abbrev pub Commits : Done → NodeState → Outcome → Type 0
+Commits done n (Err e) = (it : ProcError) × RefusesCommit it done.job n.processes × (it ≢ proc.Memory) × (e ≡ OfProcesses it)
+Commits done n (Ok a) = IsRunning done.job n.processes × CanTurnAt done.job.pid n.processes × (a ≡ record {
+  node = record {
+    modules = n.modules;
+    processes = committed done n.processes;
+    apps = ended_by done.job.pid done.outcome.end n.apps;
+  };
+  answer = answer.Unit;
+  note = reporting (commit_told done n.processes);
+})
+
+-- Revive: a child that is due starts again, in every module's current code.
+
+abbrev pub revived_as : List ℕ → Term → ℕ → Table → List Reply → NodeState → Accepted NodeState Answer Note
+revived_as app id pid after told n = record {
+  node = record { modules = n.modules; processes = after; apps = revived app id pid n.apps };
+  answer = answer.Revived pid;
+  note = reporting told;
+}
+
+pub record IsRevived (app : List ℕ) (id : Term) (n : NodeState) (a : Accepted NodeState Answer Note) : Type 0 where
+  pub child : Child
+  pub found : child_of app id n.apps ≡ Some child
+  pub due : is_due child ≡ true
+  pub pid : ℕ
+  pub after : Table
+  pub told : List Reply
+  pub restarts : Restarts (current_code n.modules) child.spec n.processes pid after told
+  pub is : a ≡ revived_as app id pid after told n
+
+abbrev pub Revives : List ℕ → Term → NodeState → Outcome → Type 0
+Revives app id n (Err e) = (it : SysError) × RefusesRevive it (current_code n.modules) app id n.apps n.processes × (it ≢ sys.Memory) × (e ≡ OfApps it)
+Revives app id n (Ok a) = IsRevived app id n a
+
+-- Load and purge: those who linger in what is purged are killed, and their children are due, or not.
+
+abbrev pub without_lingering : List ℕ → NodeState → NodeState
+without_lingering name n = record {
+  modules = purged name n.modules;
+  processes = spared name n.modules n.processes;
+  apps = all_ended killed (lingering name n.modules n.processes) n.apps;
+}
+
+abbrev pub code_loaded : Forms → NodeState → Outcome
+code_loaded m n = unless (load_refusal m.name (purged m.name n.modules)) OfModules (record {
+  node = with_modules (loaded m.name m (purged m.name n.modules)) (without_lingering m.name n);
+  answer = answer.Unit;
+  note = reporting (purge_told m.name n.modules n.processes);
+})
+
+abbrev pub code_purged : List ℕ → NodeState → Outcome
+code_purged name n = Ok (record {
+  node = without_lingering name n;
+  answer = answer.Killed (is_lingered_in name n.modules n.processes);
+  note = reporting (purge_told name n.modules n.processes);
+})
+
+-- Delete: current code becomes old. Soft purge: a purge that is refused where somebody lingers.
+
+abbrev pub code_deleted : List ℕ → NodeState → Outcome
+code_deleted name n = unless (delete_refusal name n.modules) OfModules (record {
+  node = with_modules (deleted name n.modules) n;
+  answer = answer.Unit;
+  note = reporting [];
+})
+
+abbrev pub soft_purge_refusal : List ℕ → NodeState → Option CodeError
+soft_purge_refusal name n = if is_lingered_in name n.modules n.processes then Some OldInUse else None
+
+abbrev pub code_soft_purged : List ℕ → NodeState → Outcome
+code_soft_purged name n = unless (soft_purge_refusal name n) OfModules (record {
+  node = with_modules (purged name n.modules) n;
+  answer = answer.Unit;
+  note = reporting [];
+})
+
+-- The rule of a node.
+abbrev pub Step : NodeState → Event → Outcome → Type 0
+Step n (Arrive client name body) r = r ≡ arrived client name body n
+Step n (Take pid) r = Takes pid n r
+Step n (Commit done) r = Commits done n r
+Step n (Revive app id) r = Revives app id n r
+Step n (Load m) r = r ≡ code_loaded m n
+Step n (Delete name) r = r ≡ code_deleted name n
+Step n (Purge name) r = r ≡ code_purged name n
+Step n (SoftPurge name) r = r ≡ code_soft_purged name n
+
+-- Memory may be wanting where nothing stands against an event that is told without memory. A child that fails is told only once its
+-- start function was evaluated, which takes memory.
+abbrev pub MayRunOut : NodeState → Event → Type 0
+MayRunOut n (Arrive client name body) = arrive_refusal name body n.processes ≡ None
+MayRunOut n (Take pid) = take_refusal pid n.processes ≡ None
+MayRunOut n (Commit done) = IsRunning done.job n.processes × CanTurnAt done.job.pid n.processes
+MayRunOut n (Revive app id) = RefusesRevive sys.Memory (current_code n.modules) app id n.apps n.processes
+MayRunOut n (Load m) = load_refusal m.name (purged m.name n.modules) ≡ None
+MayRunOut n (Delete name) = delete_refusal name n.modules ≡ None
+MayRunOut n (Purge name) = Unit {0}
+MayRunOut n (SoftPurge name) = soft_purge_refusal name n ≡ None

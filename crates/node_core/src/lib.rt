@@ -1,0 +1,37 @@
+//! The node: what happens to it, and how that is taken back.
+//!
+//! A [`Node`] is its modules, its processes and its applications. It boots from a release ([`Node::boot`]), and makes a step for each
+//! [`Event`]: a message arrives, a process takes one, what a job has done is committed, a child is revived, code is loaded, deleted and
+//! purged. It is [`undo_journal::Reversible`], so a journal over it keeps marks and takes its steps back.
+//!
+//! # What is proved
+//!
+//! - The node that boots is the release's (`Boots`), or it is told which application doesn't start, the first such, and why (`BootFails`).
+//! - A step is the written rule (`Step`): the node after it, and what is told of it, in as many equal values as are asked for; or why the
+//!   event is refused, and then nothing is changed. An event has one outcome at most (`one_outcome_of`).
+//! - Memory is wanting only where nothing stands against an event of what is told without memory (`MayRunOut`). The node is then as it was.
+//! - What takes a step back gives the node before, whole, or hands itself back, and the node is as it was (`Undoes`). So what
+//!   [`undo_journal`] promises holds of the node: after any commands and undos it is the fold of the rule over the steps not undone, and an
+//!   undo reports exactly the replies sent and the messages accepted since.
+//! - Every node keeps that its modules differ in name, that each has one or two instances, whose serials differ, and that each instance that
+//!   a process uses is its module's current or old code (`IsKept`); [`Node::modules`] tells it.
+//!
+//! # What no contract says
+//!
+//! That there is memory, and what a step costs: it looks up what it changes by key. A purge of a module with old code looks at each
+//! process once, and a revival copies the handles of all current code.
+#![tactic(auto)]
+
+mod event;
+mod loading;
+mod node;
+mod processes;
+mod record;
+mod reverting;
+mod reviving;
+mod stepping;
+mod telling;
+
+pub use event::{Answer, Event, Note, Refusal};
+pub use node::Node;
+pub use record::Record;

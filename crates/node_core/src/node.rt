@@ -1,0 +1,95 @@
+// The node.
+ghost use Rattle.std.specs.Prelude.{◌≡◌, IfErr, IfOk};
+ghost use Rattle.code_server.specs.Modules.{IsSound};
+ghost use Rattle.release_boot.specs.Boot.{BootFails, Boots};
+ghost use Rattle.node_core.specs.Node.{IsKept};
+
+use code_server::Modules;
+use erl_forms::Module;
+use process_table::Processes;
+use release_boot::{BootError, Booted, boot};
+use release_table::Release;
+use std::alloc::Global;
+use std::hash::RandomState;
+use std::marker::Model;
+use sys_protocol::Apps;
+
+/// A node: its modules, its processes and its applications.
+#[derive(Drop)]
+pub struct Node {
+    pub(crate) alloc: Global,
+    pub(crate) modules: Modules<Module>,
+    pub(crate) processes: Processes,
+    pub(crate) apps: Apps,
+}
+
+impl Model for Node {
+    ghost use Rattle.std.specs.Coded.{codes};
+    ghost use Rattle.erl_term.specs.contracts.term.Terms as terms;
+    ghost use Rattle.erl_forms.specs.contracts.module.Module as forms;
+    ghost use Rattle.code_loading.specs.Consistent.{IsConsistent};
+    ghost use Rattle.node_core.specs.Node.{NodeState};
+
+    ghost Value = { NodeState };
+
+    ghost coded = { Prim.hlevel (codes, terms.the_row.coded, forms.the_row.coded) };
+
+    ghost view = { λ n. record { modules = n.modules; processes = n.processes; apps = n.apps } };
+
+    ghost invariant = { λ n. IsConsistent n.modules n.processes };
+}
+
+/// That modules differ in name, and have one or two instances each, whose serials differ: their table keeps it.
+fn are_sound(modules: &Modules<Module>)
+    ensures { IsSound modules.now }
+{
+    let _ = modules.len();
+}
+
+impl Node {
+    /// The node that a release boots: the code of all its applications is loaded first, and then they start, in order. Names are hashed by
+    /// `hashing`.
+    ///
+    /// # Errors
+    ///
+    /// `NotStarted` of the first application that doesn't start, and `Memory`.
+    pub fn boot(alloc: Global, hashing: RandomState, release: &Release) -> Result<Node, BootError>
+        ensures booted { IfOk result (λ n. Boots release.now n.modules n.processes n.apps) }
+        ensures failed { IfErr result (λ e. BootFails e release.now) }
+    {
+        let Booted {
+            modules,
+            processes,
+            apps,
+        } = boot(alloc, hashing, release)?;
+        are_sound(&modules);
+        Ok(Node {
+            alloc,
+            modules,
+            processes,
+            apps,
+        })
+    }
+
+    /// Its modules. Takes no memory.
+    pub fn modules(&self) -> &Modules<Module>
+        ensures modules { result.now ≡ self.now.modules }
+        ensures kept { IsKept self.now }
+    {
+        &self.modules
+    }
+
+    /// Its processes. Takes no memory.
+    pub fn processes(&self) -> &Processes
+        ensures { result.now ≡ self.now.processes }
+    {
+        &self.processes
+    }
+
+    /// Its applications. Takes no memory.
+    pub fn apps(&self) -> &Apps
+        ensures { result.now ≡ self.now.apps }
+    {
+        &self.apps
+    }
+}

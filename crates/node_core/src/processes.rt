@@ -1,0 +1,154 @@
+// Events of processes.
+ghost use Rattle.std.specs.Prelude.{◌≡◌, [], IfErr, IfOk, IfSome, None, OnErr, OnOk, replicate};
+ghost use Rattle.process_table.specs.Messages.{message_of};
+ghost use Rattle.app_table.specs.Undo.{undone as apps_before};
+ghost use Rattle.undo_journal.specs.Reversible.{Accepts, Refuses};
+ghost use Rattle.node_core.specs.Record.{AppsBack, Undoes};
+ghost use Rattle.node_core.specs.Step.{MayRunOut, Step as Steps, arrival_of, ended_by};
+ghost use Rattle.node_core.specs.declared.event.Answer.TheVariants as answer;
+ghost use Rattle.node_core.specs.declared.event.Event.TheVariants as event;
+
+use crate::event::{Answer, Note, Refusal};
+use crate::node::Node;
+use crate::record::Record;
+use crate::telling::{room, tell, tell_jobs, tell_replies};
+use erl_machine::{Done, End};
+use erl_term::{Atom, Term};
+use process_table::Body;
+use std::alloc::{AllocError, Global};
+use sys_protocol::Apps;
+use undo_journal::{StepError, Stepped, Told};
+use values::{Duplicate, Row};
+
+/// What one step of a node gives.
+pub(crate) type Step = Result<Stepped<Answer, Note, Record>, StepError<Refusal>>;
+
+/// What is told of an arrival, in `n` equal values.
+fn arrival_told(
+    alloc: Global,
+    name: &Atom,
+    body: &Body,
+    n: usize,
+) -> Result<Vec<Told<Answer, Note>>, AllocError>
+    ensures { IfOk result (λ it. it.items ≡ replicate n (record { answer = answer.Unit; note = record { replies = []; arrival = arrival_of name.now (message_of body.now) } })) }
+{
+    let arrival = match body.message(alloc)? {
+        Some(message) => Some((name.copy(alloc)?, message)),
+        None => None,
+    };
+    let note = Note {
+        replies: Row::new(Vec::new(alloc)),
+        arrival,
+    };
+    tell(alloc, &Answer::Unit, &note, n)
+}
+
+/// The child, if any, whose process ends by a job has none, and is due or not.
+fn end_child(
+    apps: &mut Apps,
+    alloc: Global,
+    pid: u64,
+    end: &End,
+) -> Result<Option<sys_protocol::Undo>, AllocError>
+    ensures ended { OnOk result (apps.new ≡ ended_by pid end.now apps.old) }
+    ensures inverse { IfOk result (λ undo. AppsBack undo apps.old apps.new) }
+    ensures err { OnErr result (apps.new ≡ apps.old) }
+{
+    match end {
+        End::Rest(_) => Ok(None),
+        End::Value(_) => {
+            let normal = Term::Atom(Atom::word(alloc, "normal")?);
+            Ok(Some(apps.ended(&[pid], &normal)?))
+        }
+        End::Exit(reason) => Ok(Some(apps.ended(&[pid], reason)?)),
+    }
+}
+
+/// Takes an end of children back.
+pub(crate) fn unend(apps: &mut Apps, undo: Option<sys_protocol::Undo>)
+    ensures undone { IfSome undo (λ it. apps.new ≡ apps_before it apps.old) }
+    ensures none { undo ≡ None → apps.new ≡ apps.old }
+{
+    if let Some(undo) = undo {
+        apps.revert(undo);
+    }
+}
+
+impl Node {
+    /// A message of a client comes for the process of a name.
+    pub(crate) fn arrive(&mut self, client: u64, name: &Atom, body: &Body, n: usize) -> Step
+        ensures accepted { IfOk result (λ done. Accepts (Steps self.old (event.Arrive client name.now body.now)) self.new n done.told.items) }
+        ensures reversible { IfOk result (λ done. Undoes done.trace self.old self.new) }
+        ensures refused { IfErr result (Refuses (Steps self.old (event.Arrive client name.now body.now)) (MayRunOut self.old (event.Arrive client name.now body.now))) }
+        ensures err { OnErr result (self.new ≡ self.old) }
+    {
+        if let Some(refusal) = self.processes.arrive_refusal(name, body) {
+            return Err(StepError::Rule(Refusal::OfProcesses(refusal)));
+        }
+        let Ok(told) = arrival_told(self.alloc, name, body, n) else {
+            return Err(StepError::Memory);
+        };
+        let Ok(undo) = self.processes.arrive(client, name, body) else {
+            return Err(StepError::Memory);
+        };
+        Ok(Stepped {
+            told,
+            trace: Record::OfProcesses(undo, None),
+        })
+    }
+
+    /// A process takes its next message, and runs it.
+    pub(crate) fn take(&mut self, pid: u64, n: usize) -> Step
+        ensures accepted { IfOk result (λ done. Accepts (Steps self.old (event.Take pid)) self.new n done.told.items) }
+        ensures reversible { IfOk result (λ done. Undoes done.trace self.old self.new) }
+        ensures refused { IfErr result (Refuses (Steps self.old (event.Take pid)) (MayRunOut self.old (event.Take pid))) }
+        ensures err { OnErr result (self.new ≡ self.old) }
+    {
+        if let Some(refusal) = self.processes.take_refusal(pid) {
+            return Err(StepError::Rule(Refusal::OfProcesses(refusal)));
+        }
+        let Ok(told) = room(self.alloc, n) else {
+            return Err(StepError::Memory);
+        };
+        let Ok((jobs, undo)) = self.processes.take(&self.modules, pid, n) else {
+            return Err(StepError::Memory);
+        };
+        Ok(Stepped {
+            told: tell_jobs(told, self.alloc, jobs),
+            trace: Record::OfProcesses(undo, None),
+        })
+    }
+
+    /// What a job has done is done.
+    pub(crate) fn commit(&mut self, done: &Done, n: usize) -> Step
+        ensures accepted { IfOk result (λ it. Accepts (Steps self.old (event.Commit done.now)) self.new n it.told.items) }
+        ensures reversible { IfOk result (λ it. Undoes it.trace self.old self.new) }
+        ensures refused { IfErr result (Refuses (Steps self.old (event.Commit done.now)) (MayRunOut self.old (event.Commit done.now))) }
+        ensures err { OnErr result (self.new ≡ self.old) }
+    {
+        if let Some(refusal) = self.processes.commit_refusal(done) {
+            return Err(StepError::Rule(Refusal::OfProcesses(refusal)));
+        }
+        let Ok(told) = room(self.alloc, n) else {
+            return Err(StepError::Memory);
+        };
+        let Ok(ended) = end_child(
+            &mut self.apps,
+            self.alloc,
+            done.job().pid,
+            &done.outcome().end,
+        ) else {
+            return Err(StepError::Memory);
+        };
+        match self.processes.commit(done, n) {
+            Ok((replies, undo)) => Ok(Stepped {
+                told: tell_replies(told, replies),
+                trace: Record::OfProcesses(undo, ended),
+            }),
+            Err(_) => {
+                unend(&mut self.apps, ended);
+                Err(StepError::Memory)
+            }
+        }
+    }
+}

@@ -1,0 +1,47 @@
+// Children that are due start again.
+ghost use Rattle.std.specs.Prelude.{◌≡◌, IfErr, IfOk, OnErr};
+ghost use Rattle.undo_journal.specs.Reversible.{Accepts, Refuses};
+ghost use Rattle.node_core.specs.Record.{Undoes};
+ghost use Rattle.node_core.specs.Step.{MayRunOut, Step as Steps};
+ghost use Rattle.node_core.specs.declared.event.Event.TheVariants as event;
+
+use crate::event::Refusal;
+use crate::node::Node;
+use crate::processes::Step;
+use crate::record::Record;
+use crate::telling::{room, tell_revived};
+use code_loading::current_code;
+use erl_term::{Atom, Term};
+use sys_protocol::SysError;
+use undo_journal::{StepError, Stepped};
+
+impl Node {
+    /// A child that is due starts again.
+    pub(crate) fn revive(&mut self, app: &Atom, id: &Term, n: usize) -> Step
+        ensures accepted { IfOk result (λ done. Accepts (Steps self.old (event.Revive app.now id.now)) self.new n done.told.items) }
+        ensures reversible { IfOk result (λ done. Undoes done.trace self.old self.new) }
+        ensures refused { IfErr result (Refuses (Steps self.old (event.Revive app.now id.now)) (MayRunOut self.old (event.Revive app.now id.now))) }
+        ensures err { OnErr result (self.new ≡ self.old) }
+    {
+        if let Some(refusal) = self.apps.revive_refusal(app, id) {
+            return Err(StepError::Rule(Refusal::OfApps(refusal)));
+        }
+        let Ok(code) = current_code(self.alloc, &self.modules) else {
+            return Err(StepError::Memory);
+        };
+        let Ok(told) = room(self.alloc, n) else {
+            return Err(StepError::Memory);
+        };
+        match self
+            .apps
+            .revive(&mut self.processes, code.as_slice(), app, id, n)
+        {
+            Ok(revival) => Ok(Stepped {
+                told: tell_revived(told, revival.pid, revival.told),
+                trace: Record::OfProcesses(revival.processes, Some(revival.undo)),
+            }),
+            Err(SysError::Memory) => Err(StepError::Memory),
+            Err(refusal) => Err(StepError::Rule(Refusal::OfApps(refusal))),
+        }
+    }
+}

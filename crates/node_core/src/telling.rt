@@ -1,0 +1,125 @@
+// What is told of an event.
+ghost use Rattle.std.specs.Prelude.{◌≡◌, ◌≤◌, ◌++◌, ◌∷◌, [], IfOk, None, OnOk, map, replicate, vec_capacity, vec_len};
+ghost use Rattle.node_core.specs.declared.event.Answer.TheVariants as answer;
+
+use crate::event::{Answer, Note};
+use erl_machine::Job;
+use process_ending::Reply;
+use std::alloc::{AllocError, Global};
+use undo_journal::Told;
+use values::{Duplicate, Row};
+
+/// One of several equal values.
+fn push_told(
+    told: &mut Vec<Told<Answer, Note>>,
+    alloc: Global,
+    answer: &Answer,
+    note: &Note,
+) -> Result<(), AllocError>
+    ensures { OnOk result (told.new.items ≡ told.old.items ++ (record { answer = answer.now; note = note.now }) ∷ []) }
+{
+    let answer = answer.copy(alloc)?;
+    let note = note.copy(alloc)?;
+    told.push(Told { answer, note })?;
+    Ok(())
+}
+
+/// What is told of an event, in `n` equal values.
+pub(crate) fn tell(
+    alloc: Global,
+    answer: &Answer,
+    note: &Note,
+    n: usize,
+) -> Result<Vec<Told<Answer, Note>>, AllocError>
+    ensures { IfOk result (λ it. it.items ≡ replicate n (record { answer = answer.now; note = note.now })) }
+{
+    let mut told = Vec::with_capacity(alloc, n)?;
+    for _i in 0..n {
+        push_told(&mut told, alloc, answer, note)?;
+    }
+    Ok(told)
+}
+
+/// That these replies were sent, and nothing came.
+pub(crate) fn reporting(replies: Vec<Reply>) -> Note
+    ensures { result ≡ record { replies = replies.items; arrival = None } }
+{
+    Note {
+        replies: Row::new(replies),
+        arrival: None,
+    }
+}
+
+/// Room to tell of an event `n` times.
+pub(crate) fn room(alloc: Global, n: usize) -> Result<Vec<Told<Answer, Note>>, AllocError>
+    ensures none { IfOk result (λ it. it.items ≡ []) }
+    ensures room { IfOk result (λ it. n ≤ vec_capacity it) }
+{
+    Vec::with_capacity(alloc, n)
+}
+
+/// Tells, as often as there is such a list, that these replies were sent. There is room for it.
+pub(crate) fn tell_replies(
+    told: Vec<Told<Answer, Note>>,
+    lists: Vec<Row<Reply>>,
+) -> Vec<Told<Answer, Note>>
+    requires none { told.items ≡ [] }
+    requires room { vec_len lists ≤ vec_capacity told }
+    ensures { result.items ≡ map (λ replies. record { answer = answer.Unit; note = record { replies = replies; arrival = None } }) lists.items }
+{
+    let mut told = told;
+    for replies in lists {
+        told.push_reserved(Told {
+            answer: Answer::Unit,
+            note: Note {
+                replies,
+                arrival: None,
+            },
+        });
+    }
+    told
+}
+
+/// Tells, as often as there is such a job, that it was taken. There is room for it.
+pub(crate) fn tell_jobs(
+    told: Vec<Told<Answer, Note>>,
+    alloc: Global,
+    jobs: Vec<Job>,
+) -> Vec<Told<Answer, Note>>
+    requires none { told.items ≡ [] }
+    requires room { vec_len jobs ≤ vec_capacity told }
+    ensures { result.items ≡ map (λ job. record { answer = answer.Job job; note = record { replies = []; arrival = None } }) jobs.items }
+{
+    let mut told = told;
+    for job in jobs {
+        told.push_reserved(Told {
+            answer: Answer::Job(job),
+            note: reporting(Vec::new(alloc)),
+        });
+    }
+    told
+}
+
+/// Tells, as often as there is such a list, that a child runs as the process of a pid, and that these replies were sent. There is room
+/// for it.
+pub(crate) fn tell_revived(
+    told: Vec<Told<Answer, Note>>,
+    pid: u64,
+    lists: Vec<Row<Reply>>,
+) -> Vec<Told<Answer, Note>>
+    requires none { told.items ≡ [] }
+    requires room { vec_len lists ≤ vec_capacity told }
+    ensures { result.items ≡ map (λ replies. record { answer = answer.Revived pid; note = record { replies = replies; arrival = None } }) lists.items }
+{
+    let mut told = told;
+    for replies in lists {
+        told.push_reserved(Told {
+            answer: Answer::Revived(pid),
+            note: Note {
+                replies,
+                arrival: None,
+            },
+        });
+    }
+    told
+}
