@@ -1,0 +1,3 @@
+mod FixedLines
+mod Pieces
+mod Texts

@@ -1,0 +1,244 @@
+-- The bytes of each line, as its pieces are written.
+use Rattle.std.proofs.Common.{◌≡◌, ℕ, pos, List, [], ◌∷◌, ◌++◌, codes, true, Option, None, Some, append_assoc, refl, sym, ap, ◌∙◌}
+use lib.Utf8.{encode}
+use Rattle.erl_term.specs.Tree.{Tree, Trees, int, atom, pid, tuple, list, none, more}
+use Rattle.std.specs.Str.{chars}
+use Rattle.erl_scan.specs.declared.error.Fault.{Fault}
+use Rattle.erl_scan.specs.declared.error.Fault.TheVariants as kinds
+use Rattle.erl_term.specs.Rows.{integers}
+use Rattle.erl_term.specs.Term.{tree, trees}
+use Rattle.process.specs.Process.{ProcessState}
+use Rattle.process_ending.specs.declared.told.Reply.{Reply}
+use Rattle.process_ending.specs.declared.told.ReplyBody.{ReplyBody}
+use Rattle.process_ending.specs.declared.told.ReplyBody.TheVariants as bodies
+use Rattle.undo_journal.specs.declared.report.Report.{Report}
+use Rattle.node_core.specs.declared.event.Note.{Note}
+use Rattle.code_server.specs.Modules.{Entry}
+use Rattle.erl_forms.specs.Module.{Forms}
+use Rattle.app_table.specs.Applications.{Application}
+use Rattle.shell_answers.specs.declared.faults.SourceFault.{SourceFault}
+use Rattle.erl_term.specs.Text.{elements_text, is_quoted_word, utf8}
+use Rattle.erl_term.specs.declared.term.Term.{Term}
+use Rattle.erl_eval.specs.declared.acts.Place.TheVariants.{Loop}
+use Rattle.shell_answers.specs.Answers.{activity_of, apps_of, arrival_of, arrivals_of, committed, line_of, listed, loaded, modules_of, process_of, replied_by, replies_in, replies_of, rows_of, stopped_undo, undone_steps, mark_at, called, job_of, pair, place_of, revived, told_as, triple}
+use Rattle.shell_answers.specs.Faults.{fault_of, kind_word, placed, source_fault, start_failed, term_fault}
+use Rattle.shell_answers.proofs.Pieces.{AreTuples, AreTuples-append, bytes, list-alone, list-bytes, tuple-alone, tuple-bytes}
+
+-- Tuples of two and of three
+
+pub pair-pieces : (t u : Tree) → 123 ∷ [] ++ (bytes t ++ (44 ∷ [] ++ (bytes u ++ 125 ∷ []))) ≡ bytes (pair t u)
+pair-pieces t u = sym (tuple-alone t (more u none))
+
+pub triple-pieces : (t u v : Tree) → 123 ∷ [] ++ (bytes t ++ (44 ∷ [] ++ (bytes u ++ (44 ∷ [] ++ (bytes v ++ 125 ∷ []))))) ≡ bytes (triple t u v)
+triple-pieces t u v = sym (tuple-alone t (more u (more v none)))
+
+-- Lines of one tuple
+
+pub loaded-line : (name : List ℕ) → codes "{module," ++ (bytes (atom name) ++ codes "}\n") ≡ line_of (loaded name)
+unfolding utf8 is_quoted_word encode
+loaded-line name = sym (tuple-bytes (atom (codes "module")) (more (atom name) none) (10 ∷ []))
+
+pub mark-line : (n : ℕ) → codes "{mark," ++ (bytes (int (pos n)) ++ codes "}\n") ≡ line_of (mark_at n)
+unfolding utf8 is_quoted_word encode
+mark-line n =
+    sym (tuple-bytes (atom (codes "mark")) (more (int (pos n)) none) (10 ∷ []))
+
+pub called-line : (n : ℕ) → codes "{call," ++ (bytes (int (pos n)) ++ codes "}\n") ≡ line_of (called n)
+unfolding utf8 is_quoted_word encode
+called-line n =
+    sym (tuple-bytes (atom (codes "call")) (more (int (pos n)) none) (10 ∷ []))
+
+pub job-line : (place n : ℕ) → codes "{job," ++ (bytes (int (pos place)) ++ (44 ∷ [] ++ (bytes (pid n) ++ codes "}\n"))) ≡ line_of (job_of place n)
+unfolding utf8 is_quoted_word encode
+job-line place n =
+    sym (tuple-bytes (atom (codes "job")) (more (int (pos place)) (more (pid n) none)) (10 ∷ []))
+
+pub revived-line : (n : ℕ) → codes "{revived," ++ (bytes (pid n) ++ codes "}\n") ≡ line_of (revived n)
+unfolding utf8 is_quoted_word encode
+revived-line n = sym (tuple-bytes (atom (codes "revived")) (more (pid n) none) (10 ∷ []))
+
+-- Replies
+
+pub reply-pieces : (client number : ℕ) (t : Term) → codes "{reply," ++ (bytes (int (pos client)) ++ 44 ∷ (bytes (int (pos number)) ++ 44 ∷ (bytes (tree t) ++ 125 ∷ []))) ≡ bytes (told_as (codes "reply") client number t)
+unfolding utf8 is_quoted_word encode
+reply-pieces client number t =
+    sym (tuple-alone (atom (codes "reply")) (more (int (pos client)) (more (int (pos number)) (more (tree t) none))))
+
+pub down-pieces : (client number : ℕ) (t : Term) → codes "{down," ++ (bytes (int (pos client)) ++ 44 ∷ (bytes (int (pos number)) ++ 44 ∷ (bytes (tree t) ++ 125 ∷ []))) ≡ bytes (told_as (codes "down") client number t)
+unfolding utf8 is_quoted_word encode
+down-pieces client number t =
+    sym (tuple-alone (atom (codes "down")) (more (int (pos client)) (more (int (pos number)) (more (tree t) none))))
+
+-- Places
+
+pub server-pieces : (m : List ℕ) (state : Tree) → codes "{server," ++ (bytes (atom m) ++ (44 ∷ [] ++ (bytes state ++ 125 ∷ []))) ≡ bytes (triple (atom (codes "server")) (atom m) state)
+unfolding utf8 is_quoted_word encode
+server-pieces m state = sym (tuple-alone (atom (codes "server")) (more (atom m) (more state none)))
+
+pub loop-pieces : (m name : List ℕ) (args : Trees) (serial : ℕ) → codes "{loop," ++ (bytes (atom m) ++ (44 ∷ [] ++ (bytes (atom name) ++ (44 ∷ [] ++ (bytes (list args) ++ (44 ∷ [] ++ (bytes (int (pos serial)) ++ 125 ∷ []))))))) ≡ bytes (place_of (Loop m serial name args))
+unfolding utf8 is_quoted_word encode
+loop-pieces m name args serial =
+    sym (tuple-alone (atom (codes "loop")) (more (atom m) (more (atom name) (more (list args) (more (int (pos serial)) none)))))
+
+-- Faults
+
+pub start_failed-line : (child reason : Term) → codes "{error,{start_failed," ++ (bytes (tree child) ++ (44 ∷ [] ++ (bytes (tree reason) ++ codes "}}\n"))) ≡ line_of (start_failed child reason)
+unfolding utf8 is_quoted_word encode
+start_failed-line child reason =
+    let inner = triple (atom (codes "start_failed")) (tree child) (tree reason) in
+    sym (tuple-bytes (atom (codes "error")) (more inner none) (10 ∷ []) ∙ ap (λ l. codes "{error," ++ l) (tuple-bytes (atom (codes "start_failed")) (more (tree child) (more (tree reason) none)) (125 ∷ 10 ∷ [])))
+
+pub kind-bytes : (kind : Fault) → bytes (atom (kind_word kind)) ≡ kind_word kind
+unfolding utf8 is_quoted_word encode
+kind-bytes kinds.NotUtf8 = refl
+kind-bytes kinds.BadChar = refl
+kind-bytes kinds.Unclosed = refl
+kind-bytes kinds.BadEscape = refl
+kind-bytes kinds.IntegerRange = refl
+kind-bytes kinds.Unsupported = refl
+kind-bytes kinds.MissingDot = refl
+kind-bytes kinds.TooDeep = refl
+kind-bytes kinds.AtomTooLong = refl
+kind-bytes kinds.Syntax = refl
+kind-bytes kinds.Memory = refl
+
+pub placed-pieces : (word : List ℕ) (at : ℕ) → bytes (atom word) ≡ word → 123 ∷ (word ++ 44 ∷ (bytes (int (pos at)) ++ 125 ∷ [])) ≡ bytes (placed word at)
+placed-pieces word at is =
+    ap (λ w. 123 ∷ (w ++ 44 ∷ (bytes (int (pos at)) ++ 125 ∷ []))) (sym is) ∙ sym (tuple-alone (atom word) (more (int (pos at)) none))
+
+pub term_fault-line : (kind : Fault) (at : ℕ) → codes "{error," ++ ((123 ∷ (kind_word kind ++ 44 ∷ (bytes (int (pos at)) ++ 125 ∷ []))) ++ codes "}\n") ≡ line_of (term_fault kind at)
+unfolding utf8 is_quoted_word encode
+term_fault-line kind at =
+    ap (λ l. codes "{error," ++ (l ++ codes "}\n")) (placed-pieces (kind_word kind) at (kind-bytes kind)) ∙ sym (tuple-bytes (atom (codes "error")) (more (placed (kind_word kind) at) none) (10 ∷ []))
+
+pub source_fault-line : (path : List ℕ) (fault : SourceFault) → codes "{error,{file," ++ (bytes (list (integers (chars path))) ++ (44 ∷ [] ++ (bytes (fault_of fault) ++ codes "}}\n"))) ≡ line_of (source_fault path fault)
+unfolding utf8 is_quoted_word encode
+source_fault-line path fault =
+    let shown = list (integers (chars path)) in
+    sym (tuple-bytes (atom (codes "error")) (more (triple (atom (codes "file")) shown (fault_of fault)) none) (10 ∷ []) ∙ ap (λ l. codes "{error," ++ l) (tuple-bytes (atom (codes "file")) (more shown (more (fault_of fault) none)) (125 ∷ 10 ∷ [])))
+
+-- Processes
+
+pub process-line : (p : ProcessState) → codes "{proc," ++ (bytes (pid p.pid) ++ (44 ∷ [] ++ (bytes (place_of p.place) ++ (44 ∷ [] ++ (bytes (activity_of p.activity) ++ (44 ∷ [] ++ (bytes (int (pos p.turn)) ++ (44 ∷ [] ++ (bytes (list (trees p.mailbox)) ++ codes "}\n"))))))))) ≡ line_of (process_of p)
+unfolding utf8 is_quoted_word encode
+process-line p =
+    sym (tuple-bytes (atom (codes "proc")) (more (pid p.pid) (more (place_of p.place) (more (activity_of p.activity) (more (int (pos p.turn)) (more (list (trees p.mailbox)) none))))) (10 ∷ []))
+
+-- Lists of tuples
+
+pub modules-tuples : (es : List (Entry Forms)) → AreTuples (modules_of es)
+modules-tuples [] = tt
+modules-tuples (e ∷ es) = modules-tuples es
+
+pub apps-tuples : (apps : List Application) → AreTuples (apps_of apps)
+apps-tuples [] = tt
+apps-tuples (a ∷ apps) = apps-tuples apps
+
+reply-tuple : (body : ReplyBody) (client number : ℕ) (others : Trees) → AreTuples others → AreTuples (more (replied_by body client number) others)
+reply-tuple (bodies.Reply t) client number others are = are
+reply-tuple (bodies.Down t) client number others are = are
+
+pub replies-tuples : (rs : List Reply) → AreTuples (replies_in rs)
+replies-tuples [] = tt
+replies-tuples (r ∷ rs) = reply-tuple r.body r.client r.number (replies_in rs) (replies-tuples rs)
+
+pub rows-tuples : (rows : List (List Reply)) → AreTuples (rows_of rows)
+rows-tuples [] = tt
+rows-tuples (row ∷ rows) = AreTuples-append (replies_in row) (rows_of rows) (replies-tuples row) (rows-tuples rows)
+
+pub noted-tuples : (notes : List Note) → AreTuples (replies_of notes)
+noted-tuples [] = tt
+noted-tuples (n ∷ notes) = AreTuples-append (replies_in n.replies) (replies_of notes) (replies-tuples n.replies) (noted-tuples notes)
+
+arrival-tuples : (o : Option (List ℕ × Term)) → AreTuples (arrival_of o)
+arrival-tuples None = tt
+arrival-tuples (Some it) = tt
+
+pub arrivals-tuples : (notes : List Note) → AreTuples (arrivals_of notes)
+arrivals-tuples [] = tt
+arrivals-tuples (n ∷ notes) = AreTuples-append (arrival_of n.arrival) (arrivals_of notes) (arrival-tuples n.arrival) (arrivals-tuples notes)
+
+-- a list on a line of its own
+pub list-line : (ts : Trees) → AreTuples ts → codes "[" ++ (utf8 (elements_text ts) ++ codes "]\n") ≡ line_of (list ts)
+list-line ts are = sym (list-bytes ts (10 ∷ []) are)
+
+pub committed-line : (rs : List Reply) → codes "{committed,[" ++ (utf8 (listed true (replies_in rs)) ++ codes "]}\n") ≡ line_of (committed rs)
+unfolding utf8 is_quoted_word encode
+committed-line rs =
+    sym (tuple-bytes (atom (codes "committed")) (more (list (replies_in rs)) none) (10 ∷ []) ∙ ap (λ l. codes "{committed," ++ l) (list-bytes (replies_in rs) (125 ∷ 10 ∷ []) (replies-tuples rs)))
+
+-- Reports
+
+pub report-pieces : (cut : ℕ) (notes : List Note) → bytes (int (pos cut)) ++ (codes ",[" ++ (utf8 (elements_text (replies_of notes)) ++ (codes "],[" ++ (utf8 (elements_text (arrivals_of notes)) ++ codes "]")))) ≡ bytes (int (pos cut)) ++ 44 ∷ (bytes (list (replies_of notes)) ++ 44 ∷ bytes (list (arrivals_of notes)))
+report-pieces cut notes =
+    let replies = replies_of notes in
+    let arrivals = arrivals_of notes in
+    sym (ap (λ l. bytes (int (pos cut)) ++ 44 ∷ l) (list-bytes replies (44 ∷ bytes (list arrivals)) (noted-tuples notes) ∙ ap (λ l. 91 ∷ (utf8 (elements_text replies) ++ 93 ∷ 44 ∷ l)) (list-alone arrivals (arrivals-tuples notes))))
+
+regrouped : (x y z w : List ℕ) → (x ++ 44 ∷ (y ++ 44 ∷ z)) ++ w ≡ x ++ 44 ∷ (y ++ 44 ∷ (z ++ w))
+regrouped x y z w = append_assoc x (44 ∷ (y ++ 44 ∷ z)) w ∙ ap (λ l. x ++ 44 ∷ l) (append_assoc y (44 ∷ z) w)
+
+pub undone-line : (report : Report Note) → codes "{undone," ++ ((bytes (int (pos report.cut)) ++ 44 ∷ (bytes (list (replies_of report.notes)) ++ 44 ∷ bytes (list (arrivals_of report.notes)))) ++ codes "}\n") ≡ line_of (undone_steps report)
+unfolding utf8 is_quoted_word encode
+undone-line report =
+    let replies = list (replies_of report.notes) in
+    let arrivals = list (arrivals_of report.notes) in
+    ap (λ l. codes "{undone," ++ l) (regrouped (bytes (int (pos report.cut))) (bytes replies) (bytes arrivals) (codes "}\n")) ∙ sym (tuple-bytes (atom (codes "undone")) (more (int (pos report.cut)) (more replies (more arrivals none))) (10 ∷ []))
+
+pub stopped-line : (mark : ℕ) (report : Report Note) → codes "{error,{memory," ++ (bytes (int (pos mark)) ++ (44 ∷ [] ++ ((bytes (int (pos report.cut)) ++ 44 ∷ (bytes (list (replies_of report.notes)) ++ 44 ∷ bytes (list (arrivals_of report.notes)))) ++ codes "}}\n"))) ≡ line_of (stopped_undo mark report)
+unfolding utf8 is_quoted_word encode
+stopped-line mark report =
+    let replies = list (replies_of report.notes) in
+    let arrivals = list (arrivals_of report.notes) in
+    let inner = more (int (pos mark)) (more (int (pos report.cut)) (more replies (more arrivals none))) in
+    ap (λ l. codes "{error,{memory," ++ (bytes (int (pos mark)) ++ 44 ∷ l)) (regrouped (bytes (int (pos report.cut))) (bytes replies) (bytes arrivals) (codes "}}\n")) ∙ sym (tuple-bytes (atom (codes "error")) (more (tuple (more (atom (codes "memory")) inner)) none) (10 ∷ []) ∙ ap (λ l. codes "{error," ++ l) (tuple-bytes (atom (codes "memory")) inner (125 ∷ 10 ∷ [])))
+
+-- Words
+
+pub syntax-word : bytes (atom (codes "syntax")) ≡ codes "syntax"
+unfolding utf8 is_quoted_word encode
+syntax-word = refl
+
+pub unsupported-word : bytes (atom (codes "unsupported")) ≡ codes "unsupported"
+unfolding utf8 is_quoted_word encode
+unsupported-word = refl
+
+pub duplicate_function-word : bytes (atom (codes "duplicate_function")) ≡ codes "duplicate_function"
+unfolding utf8 is_quoted_word encode
+duplicate_function-word = refl
+
+pub unbound_variable-word : bytes (atom (codes "unbound_variable")) ≡ codes "unbound_variable"
+unfolding utf8 is_quoted_word encode
+unbound_variable-word = refl
+
+pub undefined_local-word : bytes (atom (codes "undefined_local")) ≡ codes "undefined_local"
+unfolding utf8 is_quoted_word encode
+undefined_local-word = refl
+
+pub memory-word : bytes (atom (codes "memory")) ≡ codes "memory"
+unfolding utf8 is_quoted_word encode
+memory-word = refl
+
+pub missing-word : bytes (atom (codes "missing")) ≡ codes "missing"
+unfolding utf8 is_quoted_word encode
+missing-word = refl
+
+pub wrong_module-word : bytes (atom (codes "wrong_module")) ≡ codes "wrong_module"
+unfolding utf8 is_quoted_word encode
+wrong_module-word = refl
+
+pub idle-word : bytes (atom (codes "idle")) ≡ codes "idle"
+unfolding utf8 is_quoted_word encode
+idle-word = refl
+
+pub suspended-word : bytes (atom (codes "suspended")) ≡ codes "suspended"
+unfolding utf8 is_quoted_word encode
+suspended-word = refl
+
+pub running-word : bytes (atom (codes "running")) ≡ codes "running"
+unfolding utf8 is_quoted_word encode
+running-word = refl
+
+pub none-word : bytes (atom (codes "none")) ≡ codes "none"
+unfolding utf8 is_quoted_word encode
+none-word = refl

@@ -1,0 +1,13 @@
+-- The pieces are the tuple's.
+use Rattle.std.proofs.Common.{◌++◌, ◌∷◌, [], codes}
+use Rattle.erl_term.specs.Tree.{atom}
+use Rattle.erl_term.specs.Term.{tree}
+use Rattle.shell_answers.proofs.Pieces.{before, on_ok, same, bytes}
+use Rattle.shell_answers.proofs.Texts.{server-pieces}
+use Rattle.shell_answers.proofs.processes.put_server.Goals as goal
+
+pub returns : goal.returns
+returns c =
+    let old = c.args.out.now.items in
+    let new = c.put-3.new.out.items in
+    on_ok c.put-3.result _ _ c.put-3.ensures (λ last. same old new ((codes "{server,") ++ ((bytes (atom c.args.module.now)) ++ ((44 ∷ []) ++ ((bytes (tree c.args.state.now)) ++ (125 ∷ []))))) _ (before (old) (c.put.new.out.items) new (codes "{server,") ((bytes (atom c.args.module.now)) ++ ((44 ∷ []) ++ ((bytes (tree c.args.state.now)) ++ (125 ∷ [])))) c.in_ok-put.ensures (before (c.put.new.out.items) (c.print_atom.new.out.items) new (bytes (atom c.args.module.now)) ((44 ∷ []) ++ ((bytes (tree c.args.state.now)) ++ (125 ∷ []))) c.in_ok-print_atom.ensures.printed (before (c.print_atom.new.out.items) (c.put-2.new.out.items) new (44 ∷ []) ((bytes (tree c.args.state.now)) ++ (125 ∷ [])) c.in_ok-put-2.ensures (before (c.put-2.new.out.items) (c.print.new.out.items) new (bytes (tree c.args.state.now)) (125 ∷ []) c.in_ok-print.ensures.printed last)))) (server-pieces c.args.module.now (tree c.args.state.now)))

@@ -1,0 +1,23 @@
+-- Those of one more in each turn.
+use Rattle.std.proofs.Common.{◌≤◌, ◌++◌, ◌+◌, ◌&&◌, ap, drop, length, ◌∙◌, arith}
+use Rattle.std.proofs.lemmas.List.{drop_all}
+use Rattle.erl_eval.proofs.Tests.{from_here}
+use Rattle.erl_term.specs.Text.{elements_text, utf8}
+use Rattle.shell_answers.specs.Answers.{replies_in, replies_of, is_none, listed}
+use Rattle.shell_answers.proofs.Pieces.{all_written, row_written}
+use Rattle.shell_answers.proofs.replies.put_replies_of.Goals as goal
+
+pub loop-note-preserved : goal.loop-note-preserved
+loop-note-preserved c =
+    let place = c.loop-note.note-index in
+    let all = c.args.notes.now in
+    let out = c.loop-note.out.items in
+    let first = c.loop-note.is_first in
+    row_written first c.in_ok-is_first.is_first (replies_in c.note-item.result.replies) (replies_of (drop (place + 1) all)) c.args.out.now.items out c.put_replies.new.out.items (utf8 (elements_text (replies_of all))) (c.loop-note.invariant ∙ ap (λ es. out ++ utf8 (listed first (replies_of es))) (from_here all place c.note-item.result c.loop-note-test.true c.note-item.is)) (c.in_ok-is_first.ensures.written ∙ ap (λ rs. out ++ utf8 (listed first (replies_in rs))) c.as_slice.ensures) (c.in_ok-is_first.ensures.first ∙ ap (λ rs. first && is_none (replies_in rs)) c.as_slice.ensures)
+
+pub returns : goal.returns
+returns c =
+    let place = c.loop-note.note-index in
+    let all = c.args.notes.now in
+    let past : length all ≤ place = omega (arith, c.loop-note-test.false) in
+    all_written c.loop-note.is_first (replies_of (drop place all)) c.args.out.now.items c.loop-note.out.items (utf8 (elements_text (replies_of all))) c.loop-note.invariant (ap replies_of (drop_all place all past))

@@ -1,0 +1,46 @@
+// Applications, as an answer.
+ghost use Rattle.std.specs.Prelude.{◌≡◌, ◌++◌, OnOk};
+ghost use Rattle.erl_term.specs.Text.{elements_text, text, utf8};
+ghost use Rattle.erl_term.specs.Tree.{list};
+ghost use Rattle.shell_answers.specs.Answers.{app_of, apps_of, line_of};
+
+use crate::bytes::{put, separator};
+use erl_term::{ToTerm, print, print_atom};
+use std::alloc::AllocError;
+use sys_protocol::{App, Apps};
+
+/// Appends `[{App,Vsn}]`.
+pub fn write_apps(apps: &Apps, out: &mut Vec<u8>) -> Result<(), AllocError>
+    ensures { OnOk result (out.new.items ≡ out.old.items ++ line_of (list (apps_of apps.now))) }
+{
+    put(b"[", out)?;
+    put_apps(apps, out)?;
+    put(b"]\n", out)
+}
+
+/// Appends the applications, with commas between them.
+fn put_apps(apps: &Apps, out: &mut Vec<u8>) -> Result<(), AllocError>
+    ensures { OnOk result (out.new.items ≡ out.old.items ++ utf8 (elements_text (apps_of apps.now))) }
+{
+    for place in 0..apps.len() {
+        let Some(app) = apps.app(place) else {
+            unreachable!()
+        };
+        put(separator(place == 0), out)?;
+        put_app(app, out)?;
+    }
+    Ok(())
+}
+
+/// Appends `{App,Vsn}`.
+fn put_app(app: &App, out: &mut Vec<u8>) -> Result<(), AllocError>
+    ensures { OnOk result (out.new.items ≡ out.old.items ++ utf8 (text (app_of app.now))) }
+{
+    let spec = app.spec();
+    let vsn = spec.vsn.to_term(*out.allocator())?;
+    put(b"{", out)?;
+    print_atom(&spec.name, out)?;
+    put(b",", out)?;
+    print(&vsn, out)?;
+    put(b"}", out)
+}

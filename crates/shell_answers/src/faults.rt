@@ -1,0 +1,115 @@
+// Faults, as answers.
+ghost use Rattle.std.specs.Prelude.{◌≡◌, ◌++◌, ◌∷◌, [], pos, OnOk};
+ghost use Rattle.erl_term.specs.Text.{text, utf8};
+ghost use Rattle.erl_term.specs.Tree.{int};
+ghost use Rattle.shell_answers.specs.Answers.{line_of};
+ghost use Rattle.shell_answers.specs.Faults.{fault_of, kind_word, lang_fault, source_fault, start_failed, term_fault};
+
+use crate::bytes::{put, put_number};
+use erl_parse::LangError;
+use erl_scan::Fault;
+use erl_term::{Term, ToTerm, print};
+use std::alloc::AllocError;
+
+/// What stands against the source of a module.
+#[derive(Clone, Copy)]
+pub enum SourceFault {
+    /// There is no such file.
+    Missing,
+    /// It is the source of another module.
+    WrongModule,
+    /// It is no source.
+    Lang(LangError),
+}
+
+/// The word of a text's fault.
+fn kind_word(kind: Fault) -> &'static [u8]
+    ensures { result.now ≡ kind_word kind }
+{
+    match kind {
+        Fault::NotUtf8 => b"not_utf8",
+        Fault::BadChar => b"bad_char",
+        Fault::Unclosed => b"unclosed",
+        Fault::BadEscape => b"bad_escape",
+        Fault::IntegerRange => b"integer_range",
+        Fault::Unsupported => b"unsupported",
+        Fault::MissingDot => b"missing_dot",
+        Fault::TooDeep => b"too_deep",
+        Fault::AtomTooLong => b"atom_too_long",
+        Fault::Syntax => b"syntax",
+        Fault::Memory => b"memory",
+    }
+}
+
+/// Appends `{Word,At}`.
+fn put_placed(word: &[u8], at: usize, out: &mut Vec<u8>) -> Result<(), AllocError>
+    ensures { OnOk result (out.new.items ≡ out.old.items ++ 123 ∷ (word.now ++ 44 ∷ (utf8 (text (int (pos at))) ++ 125 ∷ []))) }
+{
+    put(b"{", out)?;
+    put(word, out)?;
+    put(b",", out)?;
+    put_number(at as u64, out)?;
+    put(b"}", out)
+}
+
+/// Appends the fault of a source's text.
+fn put_lang(error: LangError, out: &mut Vec<u8>) -> Result<(), AllocError>
+    ensures { OnOk result (out.new.items ≡ out.old.items ++ utf8 (text (lang_fault error))) }
+{
+    match error {
+        LangError::Text(error) => put_placed(kind_word(error.kind), error.at, out),
+        LangError::Syntax(at) => put_placed(b"syntax", at, out),
+        LangError::Unsupported(at) => put_placed(b"unsupported", at, out),
+        LangError::DuplicateFunction(at) => put_placed(b"duplicate_function", at, out),
+        LangError::UnboundVariable(at) => put_placed(b"unbound_variable", at, out),
+        LangError::UndefinedLocal(at) => put_placed(b"undefined_local", at, out),
+        LangError::Memory => put(b"memory", out),
+    }
+}
+
+/// Appends the fault of a source.
+fn put_fault(fault: SourceFault, out: &mut Vec<u8>) -> Result<(), AllocError>
+    ensures { OnOk result (out.new.items ≡ out.old.items ++ utf8 (text (fault_of fault))) }
+{
+    match fault {
+        SourceFault::Missing => put(b"missing", out),
+        SourceFault::WrongModule => put(b"wrong_module", out),
+        SourceFault::Lang(error) => put_lang(error, out),
+    }
+}
+
+/// Appends `{error,{file,Path,Fault}}`.
+pub fn write_source_fault(
+    path: &str,
+    fault: SourceFault,
+    out: &mut Vec<u8>,
+) -> Result<(), AllocError>
+    ensures { OnOk result (out.new.items ≡ out.old.items ++ line_of (source_fault path.now fault)) }
+{
+    let shown = path.to_term(*out.allocator())?;
+    put(b"{error,{file,", out)?;
+    print(&shown, out)?;
+    put(b",", out)?;
+    put_fault(fault, out)?;
+    put(b"}}\n", out)
+}
+
+/// Appends `{error,{Kind,At}}`: the fault of a term's text.
+pub fn write_term_fault(kind: Fault, at: usize, out: &mut Vec<u8>) -> Result<(), AllocError>
+    ensures { OnOk result (out.new.items ≡ out.old.items ++ line_of (term_fault kind at)) }
+{
+    put(b"{error,", out)?;
+    put_placed(kind_word(kind), at, out)?;
+    put(b"}\n", out)
+}
+
+/// Appends `{error,{start_failed,Id,Reason}}`.
+pub fn write_start_failed(child: &Term, reason: &Term, out: &mut Vec<u8>) -> Result<(), AllocError>
+    ensures { OnOk result (out.new.items ≡ out.old.items ++ line_of (start_failed child.now reason.now)) }
+{
+    put(b"{error,{start_failed,", out)?;
+    print(child, out)?;
+    put(b",", out)?;
+    print(reason, out)?;
+    put(b"}}\n", out)
+}

@@ -1,0 +1,26 @@
+//! The answers of the shell, as they are written: each is the text of one Erlang term, and a newline behind it.
+//!
+//! A writer appends its line to the output, or answers that there is no memory for it; then a front of the line may be there. Which
+//! term is written of what is `specs/Answers` and `specs/Faults`; how a term is written is `erl_term`'s.
+//!
+//! # What is proved
+//!
+//! Each writer appends the text of the term that its definition gives, and nothing else.
+#![tactic(auto)]
+
+mod apps;
+mod bytes;
+mod faults;
+mod fixed;
+mod lines;
+mod modules;
+mod processes;
+mod replies;
+
+pub use apps::write_apps;
+pub use faults::{SourceFault, write_start_failed, write_source_fault, write_term_fault};
+pub use fixed::Fixed;
+pub use lines::{write_called, write_job, write_loaded, write_mark, write_revived};
+pub use modules::write_modules;
+pub use processes::write_process;
+pub use replies::{write_committed, write_replies, write_stopped, write_undone};

@@ -1,0 +1,31 @@
+-- What the values that a line is read as stand for.
+use Rattle.std.specs.Str.{chars}
+use Rattle.shell_requests.specs.declared.request.Line.{Line}
+use Rattle.shell_requests.specs.declared.request.Line.TheVariants.{Silent, Unknown, Asks}
+use Rattle.shell_requests.specs.declared.request.Proc.{Proc}
+use Rattle.shell_requests.specs.declared.request.Proc.TheVariants.{Pid, Name}
+use Rattle.shell_requests.specs.declared.request.Request.{Request as Read}
+use Rattle.shell_requests.specs.declared.request.Request.TheVariants.{Ask, Alter, Load, Undo, Commit, Arrive, Serve, Revive}
+use Rattle.shell_requests.specs.Request.{Request, ask, change, load, undo, commit, arrive, serve, revive, Spoken, silent, unknown, asks, Who, numbered, named}
+
+-- the process that was read
+abbrev pub who_is : Proc → Who
+who_is (Pid pid) = numbered pid
+who_is (Name name) = named (chars name.text.now)
+
+-- the request that was read
+abbrev pub meant : Read → Request
+meant (Ask question) = ask question
+meant (Alter kind name) = change kind (chars name.text.now)
+meant (Load name path) = load (chars name.text.now) path.now
+meant (Undo mark) = undo mark
+meant (Commit place) = commit place
+meant (Arrive kind name term) = arrive kind (chars name.text.now) term.now
+meant (Serve service process) = serve service (who_is process)
+meant (Revive app id) = revive (chars app.text.now) (chars id.text.now)
+
+-- what the line said
+abbrev pub said : Line → Spoken
+said Silent = silent
+said Unknown = unknown
+said (Asks request) = asks (meant request)

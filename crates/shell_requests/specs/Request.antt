@@ -1,0 +1,118 @@
+-- What lines ask for: the commands, each with its word and the shape of what follows, and how a line is read as one.
+use Rattle.std.specs.Prelude.{ℕ, nat_lt, if◌then◌else◌, List, [], ◌∷◌, length, codes, Option, None, Some, option_and_then}
+use Rattle.std.specs.Map.{lookup}
+use Rattle.std.specs.Option.{option_map}
+use Rattle.std.specs.Str.{all_ascii_digits, bytes_eq, chars, is_utf8}
+use Rattle.shell_requests.specs.declared.request.Arrival.{Arrival}
+use Rattle.shell_requests.specs.declared.request.Arrival.TheVariants.{Call, Cast, Info}
+use Rattle.shell_requests.specs.declared.request.Change.{Change}
+use Rattle.shell_requests.specs.declared.request.Change.TheVariants.{Delete, Purge, SoftPurge}
+use Rattle.shell_requests.specs.declared.request.Question.{Question}
+use Rattle.shell_requests.specs.declared.request.Question.TheVariants.{Modules, Apps, Replies, Mark as MarkNow}
+use Rattle.shell_requests.specs.declared.request.Service.{Service}
+use Rattle.shell_requests.specs.declared.request.Service.TheVariants.{Take, Retake, Show}
+use Rattle.shell_requests.specs.declared.request.Shape.{Shape}
+use Rattle.shell_requests.specs.declared.request.Shape.TheVariants.{Nothing, Module, ModuleAndPath, Mark, Result, NameAndTerm, Process, AppAndChild}
+use Rattle.shell_requests.specs.Words.{behind_word, is_silent, number_of, only_word, two_words, with_rest, words_of}
+
+-- A process, by its pid or by the characters of its name.
+pub data Who : Type 0 where
+  numbered : ℕ → Who
+  named : List ℕ → Who
+
+-- A request. Modules, processes, applications and children are named by their characters, a file by the bytes of its path; a term stands
+-- as its text's bytes.
+pub data Request : Type 0 where
+  ask : Question → Request
+  change : Change → List ℕ → Request
+  load : List ℕ → List ℕ → Request
+  undo : ℕ → Request
+  commit : ℕ → Request
+  arrive : Arrival → List ℕ → List ℕ → Request
+  serve : Service → Who → Request
+  revive : List ℕ → List ℕ → Request
+
+-- the commands
+abbrev pub commands : List (List ℕ × Shape)
+commands =
+    (codes "modules", Nothing Modules) ∷ (codes "apps", Nothing Apps) ∷ (codes "replies", Nothing Replies)
+    ∷ (codes "mark", Nothing MarkNow) ∷ (codes "delete", Module Delete) ∷ (codes "purge", Module Purge)
+    ∷ (codes "soft_purge", Module SoftPurge) ∷ (codes "load", ModuleAndPath) ∷ (codes "undo", Mark)
+    ∷ (codes "commit", Result) ∷ (codes "call", NameAndTerm Call) ∷ (codes "cast", NameAndTerm Cast)
+    ∷ (codes "send", NameAndTerm Info) ∷ (codes "take", Process Take) ∷ (codes "retake", Process Retake)
+    ∷ (codes "proc", Process Show) ∷ (codes "revive", AppAndChild) ∷ []
+
+abbrev pub shape_of : List ℕ → Option Shape
+shape_of verb = lookup (bytes_eq verb) commands
+
+-- the name that a word is: its characters, of which there are at most 255
+abbrev pub name_of : List ℕ → Option (List ℕ)
+name_of word = if nat_lt 255 (length (chars word)) then None else Some (chars word)
+
+-- the process that a word names: where it is digits, the one with this pid
+abbrev pub process_of : List ℕ → Option Who
+process_of word = if all_ascii_digits word then option_map numbered (number_of word) else option_map named (name_of word)
+
+-- What a text asks for, behind a command of such a shape.
+
+abbrev pub alone : Question → List (List ℕ) → Option Request
+alone question [] = Some (ask question)
+alone question (w ∷ ws) = None
+
+abbrev pub of_module : Change → List ℕ → Option Request
+of_module kind word = option_map (change kind) (name_of word)
+
+abbrev pub of_file : List ℕ × List ℕ → Option Request
+of_file words = option_map (λ name. load name words.1) (name_of words.0)
+
+abbrev pub to_mark : List ℕ → Option Request
+to_mark word = option_map undo (number_of word)
+
+abbrev pub of_result : List ℕ → Option Request
+of_result word = option_map commit (number_of word)
+
+abbrev pub of_arrival : Arrival → List ℕ × List ℕ → Option Request
+of_arrival kind it = option_map (λ name. arrive kind name it.1) (name_of it.0)
+
+abbrev pub of_process : Service → List ℕ → Option Request
+of_process service word = option_map (serve service) (process_of word)
+
+abbrev pub of_child : List ℕ × List ℕ → Option Request
+of_child words = option_and_then (λ app. option_map (revive app) (name_of words.1)) (name_of words.0)
+
+abbrev pub request_by : Shape → List ℕ → Option Request
+request_by (Nothing question) rest = alone question (words_of rest)
+request_by (Module kind) rest = option_and_then (of_module kind) (only_word (words_of rest))
+request_by ModuleAndPath rest = option_and_then of_file (two_words (words_of rest))
+request_by Mark rest = option_and_then to_mark (only_word (words_of rest))
+request_by Result rest = option_and_then of_result (only_word (words_of rest))
+request_by (NameAndTerm kind) rest = option_and_then (of_arrival kind) (with_rest (words_of rest) (behind_word rest))
+request_by (Process service) rest = option_and_then (of_process service) (only_word (words_of rest))
+request_by AppAndChild rest = option_and_then of_child (two_words (words_of rest))
+
+-- what a text asks for, if it does: its first word is a command's, and what stands behind that has its shape
+abbrev pub request_behind : List (List ℕ) → List ℕ → Option Request
+request_behind [] rest = None
+request_behind (verb ∷ words) rest = option_and_then (λ shape. request_by shape rest) (shape_of verb)
+
+abbrev pub request_of : List ℕ → Option Request
+request_of text = request_behind (words_of text) (behind_word text)
+
+-- What a line says.
+pub data Spoken : Type 0 where
+  -- it has too many bytes
+  too_long : Spoken
+  -- it is blank, or a comment, and has no answer
+  silent : Spoken
+  -- it is no command
+  unknown : Spoken
+  asks : Request → Spoken
+
+abbrev pub asked : Option Request → Spoken
+asked None = unknown
+asked (Some request) = asks request
+
+-- A line: its length comes first, then whether it is silent, then whether it is UTF-8.
+abbrev pub spoken : Option (List ℕ) → Spoken
+spoken None = too_long
+spoken (Some line) = if is_silent line then silent else (if is_utf8 line then asked (request_of line) else unknown)

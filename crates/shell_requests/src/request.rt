@@ -1,0 +1,111 @@
+// Requests, and the lines that make them.
+use crate::name::Name;
+use undo_journal::Mark;
+
+/// What is asked without changing anything.
+#[derive(Clone, Copy)]
+pub enum Question {
+    /// `modules`
+    Modules,
+    /// `apps`
+    Apps,
+    /// `replies`
+    Replies,
+    /// `mark`
+    Mark,
+}
+
+/// A change of a module that needs nothing but its name.
+#[derive(Clone, Copy)]
+pub enum Change {
+    /// `delete`
+    Delete,
+    /// `purge`
+    Purge,
+    /// `soft_purge`
+    SoftPurge,
+}
+
+/// What arrives.
+#[derive(Clone, Copy)]
+pub enum Arrival {
+    /// `call`
+    Call,
+    /// `cast`
+    Cast,
+    /// `send`
+    Info,
+}
+
+/// What a process is asked for.
+#[derive(Clone, Copy)]
+pub enum Service {
+    /// `take`: to take its next message.
+    Take,
+    /// `retake`: the job that it runs.
+    Retake,
+    /// `proc`: what it is.
+    Show,
+}
+
+/// What follows the word of a command.
+#[derive(Clone, Copy)]
+pub enum Shape {
+    /// No word: the command asks this.
+    Nothing(Question),
+    /// `MOD`: the command makes this change of a module.
+    Module(Change),
+    /// `MOD PATH`: the command loads a module.
+    ModuleAndPath,
+    /// `K`: the command undoes to a mark.
+    Mark,
+    /// `J`: the command commits a result.
+    Result,
+    /// `NAME TERM`: the command has this arrive.
+    NameAndTerm(Arrival),
+    /// `PROC`: the command asks this of a process.
+    Process(Service),
+    /// `APP ID`: the command revives a child.
+    AppAndChild,
+}
+
+/// A process, as it is named.
+#[derive(Clone, Copy)]
+pub enum Proc<'a> {
+    /// The one with this pid.
+    Pid(u64),
+    /// The one that is registered under a name.
+    Name(Name<'a>),
+}
+
+/// What a line asks for.
+#[derive(Clone, Copy)]
+pub enum Request<'a> {
+    /// To tell something.
+    Ask(Question),
+    /// To change a module.
+    Alter(Change, Name<'a>),
+    /// To load a module of the file at a path.
+    Load(Name<'a>, &'a str),
+    /// To undo every step after a mark.
+    Undo(Mark),
+    /// To commit the result of so many a job, counted from 1.
+    Commit(u64),
+    /// To have something arrive for a name. The text is that of its term, without the dot.
+    Arrive(Arrival, Name<'a>, &'a str),
+    /// To ask something of a process.
+    Serve(Service, Proc<'a>),
+    /// To revive a child of an application, by its Id.
+    Revive(Name<'a>, Name<'a>),
+}
+
+/// What a line of at most 65,536 bytes says.
+#[derive(Clone, Copy)]
+pub enum Line<'a> {
+    /// Nothing, and it has no answer: it is blank, or a comment.
+    Silent,
+    /// Nothing that is a command.
+    Unknown,
+    /// A request.
+    Asks(Request<'a>),
+}
