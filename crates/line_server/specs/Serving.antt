@@ -1,55 +1,71 @@
 -- What serving a reader's lines to a session does.
-use Rattle.std.specs.Prelude.{◌≡◌, ℕ, false, List, ◌++◌, All, Option, None, Some}
+use Rattle.std.specs.Prelude.{◌≡◌, ℕ, ⊤, false, List, ◌++◌, All, Option, None, Some}
 use Rattle.std.specs.Io.KnownBytes.{Consumes, Appends, IsAtEnd}
 use Rattle.line_server.specs.declared.ended.Fault.{Fault}
 use Rattle.line_server.specs.declared.ended.Fault.TheVariants.{Read, Endless, Write, WriteZero, Memory}
 use Rattle.line_server.specs.declared.ended.Ended.{Ended}
 use Rattle.line_server.specs.Lines.{whole_lines, lines_of}
-use Rattle.line_server.specs.Session.{Turns, Fates, MayBefallEach, text_of, session_after}
+use Rattle.line_server.specs.Session.{Turns, Answered, AreInTurn, lines_in, text_of, session_after}
 
--- A text was written whole, and the session stands behind its lines.
-pub record IsWholeText {S F : Type 0} (turn : Turns S F) (fates : List (Option F)) (start new : S) (lines : List (List ℕ))
-    (output : List ℕ) : Type 0 where
-  pub text : output ≡ text_of turn fates start lines
-  pub stands : new ≡ session_after turn fates start lines
+-- the one list is a front of the other
+abbrev pub IsFrontOf : {A : Type 0} → List A → List A → Type 0
+IsFrontOf {A} front whole = (rest : List A) × (whole ≡ front ++ rest)
 
--- a front of a text was written
-abbrev pub IsFrontOfText : {S F : Type 0} → Turns S F → List (Option F) → S → List (List ℕ) → List ℕ → Type 0
-IsFrontOfText turn fates start lines output = (untold : List ℕ) × (text_of turn fates start lines ≡ output ++ untold)
+-- The lines that are answered, by how serving ended: all that were read, the rest behind the last newline among them;
+-- after a fault of the reader those that a newline ended; after a fault of the writer, and where no memory was left to
+-- write with, the first of them.
+abbrev pub AreAnswered : Option Fault → List ℕ → List (List ℕ) → Type 0
+AreAnswered None bytes answered = answered ≡ lines_of bytes
+AreAnswered (Some (Read e)) bytes answered = answered ≡ whole_lines bytes
+AreAnswered (Some Endless) bytes answered = answered ≡ whole_lines bytes
+AreAnswered (Some (Write e)) bytes answered = IsFrontOf answered (lines_of bytes)
+AreAnswered (Some WriteZero) bytes answered = IsFrontOf answered (lines_of bytes)
+AreAnswered (Some Memory) bytes answered = IsFrontOf answered (lines_of bytes)
 
--- The lines that are answered, by how serving ended: not the rest behind the last newline after a fault of the reader;
--- after a fault of the writer, and where no memory was left to write with, some of them.
-abbrev pub answered_lines : Option Fault → List ℕ → List (List ℕ)
-answered_lines None bytes = lines_of bytes
-answered_lines (Some (Read e)) bytes = whole_lines bytes
-answered_lines (Some Endless) bytes = whole_lines bytes
-answered_lines (Some (Write e)) bytes = lines_of bytes
-answered_lines (Some WriteZero) bytes = lines_of bytes
-answered_lines (Some Memory) bytes = lines_of bytes
+-- What was written of their text, by how serving ended: all, or a front of it.
+abbrev pub IsWritten : Option Fault → List ℕ → List ℕ → Type 0
+IsWritten None text output = output ≡ text
+IsWritten (Some (Read e)) text output = output ≡ text
+IsWritten (Some Endless) text output = output ≡ text
+IsWritten (Some (Write e)) text output = IsFrontOf output text
+IsWritten (Some WriteZero) text output = IsFrontOf output text
+IsWritten (Some Memory) text output = IsFrontOf output text
 
--- What was written of the bytes read, by how it ended: without a fault all lines' text, the rest behind the last
--- newline among them; after a fault of the reader the text of the lines that a newline ended; after a fault
--- of the writer, and where no memory was left to write with, a front of the text.
-abbrev pub Writes : {S F : Type 0} → Option Fault → Turns S F → List (Option F) → S → S → List ℕ → List ℕ → Type 0
-Writes None turn fates start new bytes output = IsWholeText turn fates start new (lines_of bytes) output
-Writes (Some (Read e)) turn fates start new bytes output = IsWholeText turn fates start new (whole_lines bytes) output
-Writes (Some Endless) turn fates start new bytes output = IsWholeText turn fates start new (whole_lines bytes) output
-Writes (Some (Write e)) turn fates start new bytes output = IsFrontOfText turn fates start (lines_of bytes) output
-Writes (Some WriteZero) turn fates start new bytes output = IsFrontOfText turn fates start (lines_of bytes) output
-Writes (Some Memory) turn fates start new bytes output = IsFrontOfText turn fates start (lines_of bytes) output
+-- Where the session stands, by how serving ended: behind the lines that are answered. Where no memory was left to answer
+-- a line it is not used again.
+abbrev pub Stands : {S : Type 0} → Option Fault → S → S → Type 0
+Stands None new behind = new ≡ behind
+Stands (Some (Read e)) new behind = new ≡ behind
+Stands (Some Endless) new behind = new ≡ behind
+Stands (Some (Write e)) new behind = ⊤
+Stands (Some WriteZero) new behind = ⊤
+Stands (Some Memory) new behind = ⊤
 
--- Serving lines from one session to another: the bytes that the reader gave, what became of each line that was
--- answered, and the bytes that the writer took. `left` and `rest` are what the reader has left before and after,
--- `held` and `holds` what the writer holds, where these are known.
-pub record Serves {S F : Type 0} (turn : Turns S F) (may_befall : Fates S F) (start new : S)
-    (left rest held holds : Option (List ℕ)) (ended : Ended) : Type 0 where
+-- Serving lines from one session to another: the bytes that the reader gave, the lines that were answered, and the bytes
+-- that the writer took. `left` and `rest` are what the reader has left before and after, `held` and `holds` what the
+-- writer holds, where these are known.
+pub record Serves {S F : Type 0} (turn : Turns S F) (start new : S) (left rest held holds : Option (List ℕ)) (ended : Ended)
+    : Type 0 where
   pub bytes : List ℕ
-  pub fates : List (Option F)
+  pub answered : List (Answered S F)
   pub output : List ℕ
   pub consumed : Consumes left rest bytes
   pub written : Appends held holds output
-  pub writes : Writes ended.fault turn fates start new bytes output
+  pub in_turn : AreInTurn turn start answered
+  pub lines : AreAnswered ended.fault bytes (lines_in answered)
+  pub text : IsWritten ended.fault (text_of answered) output
+  pub stands : Stands ended.fault new (session_after start answered)
   pub at_end : ended.fault ≡ None → IsAtEnd rest
-  pub befell : MayBefallEach turn may_befall fates start (answered_lines ended.fault bytes)
-  pub unrefused : ended.is_refused ≡ false → All (λ fate. fate ≡ None) fates
-  pub refused : All (λ fate. fate ≡ None) fates → ended.is_refused ≡ false
+  pub unrefused : ended.is_refused ≡ false → All (λ a. a.fate ≡ None) answered
+  pub refused : All (λ a. a.fate ≡ None) answered → ended.is_refused ≡ false
+
+-- Where reader and writer tell their bytes, no fault came and no memory was refused: all that the reader had was read,
+-- and the text of its lines was written behind what the writer held.
+pub record ServesWhole {S F : Type 0} (turn : Turns S F) (start new : S) (input before : List ℕ) (holds : Option (List ℕ))
+    : Type 0 where
+  pub answered : List (Answered S F)
+  pub in_turn : AreInTurn turn start answered
+  pub unrefused : All (λ a. a.fate ≡ None) answered
+  pub lines : lines_in answered ≡ lines_of input
+  pub stands : new ≡ session_after start answered
+  pub written : holds ≡ Some (before ++ text_of answered)

@@ -1,8 +1,6 @@
 // From a reader's bytes to a writer's.
 ghost use Rattle.std.specs.Prelude.{◌≡◌, ℕ, ◌<◌, List, [], ◌++◌, length, vec_len, None, Some, false, IfOk};
-ghost use Rattle.line_server.specs.Lines.{lines_of};
-ghost use Rattle.line_server.specs.Session.{text_of};
-ghost use Rattle.line_server.specs.Serving.{Serves};
+ghost use Rattle.line_server.specs.Serving.{Serves, ServesWhole};
 ghost use Rattle.line_server.specs.Progress.{fault_of};
 
 use crate::ended::{Ended, Fault};
@@ -27,14 +25,14 @@ pub fn serve<S: Session, R: Read, W: Write>(
     reader: &mut R,
     writer: &mut W,
 ) -> Ended
-    ensures served { Serves S.turn S.may_befall session.old session.new (R.remaining reader.old) (R.remaining reader.new)
+    ensures served { Serves S.turn session.old session.new (R.remaining reader.old) (R.remaining reader.new)
         (W.contents writer.old) (W.contents writer.new) result }
 
     // Where reader and writer tell their bytes, no fault came and no memory was refused: all that the reader had
     // was read, and the text of its lines was written behind what the writer held.
     ensures whole { (input before : List ℕ) → R.remaining reader.old ≡ Some input → W.contents writer.old ≡ Some before
         → result.fault ≡ None → result.is_refused ≡ false
-        → W.contents writer.new ≡ Some (before ++ text_of S.turn [] session.old (lines_of input)) }
+        → ServesWhole S.turn session.old session.new input before (W.contents writer.new) }
 {
     let Ok((mut pending, mut chunk)) = buffers(alloc) else {
         return Ended {
@@ -71,7 +69,7 @@ fn serve_reads<S: Session, R: Read, W: Write>(
     requires text { pending.old.answers.text.items ≡ [] }
     requires unrefused { pending.old.answers.is_refused ≡ false }
     requires room { 0 < length chunk.old }
-    ensures { Serves S.turn S.may_befall session.old session.new (R.remaining reader.old) (R.remaining reader.new)
+    ensures { Serves S.turn session.old session.new (R.remaining reader.old) (R.remaining reader.new)
         (W.contents writer.old) (W.contents writer.new)
         record { fault = fault_of result; is_refused = pending.new.answers.is_refused } }
 {

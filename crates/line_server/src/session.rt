@@ -1,6 +1,6 @@
 // What answers lines.
-ghost use Rattle.std.specs.Prelude.{◌≡◌, ℕ, List, Option, None, Some, IfOk, OnErr};
-ghost use Rattle.line_server.specs.Session.{Turn, IsTurn, MayBe};
+ghost use Rattle.std.specs.Prelude.{◌≡◌, List, ℕ, Option, None, Some, IfOk, OnErr};
+ghost use Rattle.line_server.specs.Session.{Turns, IsTurn};
 
 use std::alloc::AllocError;
 
@@ -11,11 +11,8 @@ pub trait Session: Drop {
     /// What want of memory makes of a line.
     type Fate: Drop;
 
-    /// What the session makes of a line.
-    ghost turn: { Option Self.Fate → Self → Option (List ℕ) → Turn Self };
-
-    /// Which fates may befall a line.
-    ghost may_befall: { Self.Fate → Self → Option (List ℕ) → Type 0 };
+    /// How the session may answer a line, by what want of memory made of it.
+    ghost turn: { Turns Self Self.Fate };
 
     /// Answers a line of at most 65,536 bytes, without its newline: appends the answer.
     ///
@@ -26,7 +23,6 @@ pub trait Session: Drop {
     fn line(&mut self, line: &[u8], out: &mut Vec<u8>) -> Result<Option<Self::Fate>, AllocError>
         ensures answered { IfOk result
             (λ fate. IsTurn (turn fate self.old (Some line.now)) self.new out.old.items out.new.items) }
-        ensures befell { IfOk result (λ fate. MayBe may_befall fate self.old (Some line.now)) }
         ensures err { OnErr result (out.new.items ≡ out.old.items) };
 
     /// Answers a line of more bytes.
@@ -37,6 +33,5 @@ pub trait Session: Drop {
     fn too_long(&mut self, out: &mut Vec<u8>) -> Result<Option<Self::Fate>, AllocError>
         ensures answered { IfOk result
             (λ fate. IsTurn (turn fate self.old None) self.new out.old.items out.new.items) }
-        ensures befell { IfOk result (λ fate. MayBe may_befall fate self.old None) }
         ensures err { OnErr result (out.new.items ≡ out.old.items) };
 }

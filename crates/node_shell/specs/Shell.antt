@@ -6,7 +6,7 @@ use Rattle.code_server.specs.Modules.{empty_table}
 use Rattle.undo_journal.specs.declared.history.Command.{Command}
 use Rattle.undo_journal.specs.declared.history.Command.TheVariants.{Perform, Undo}
 use Rattle.undo_journal.specs.Timeline.{Timeline, here, opened, appended, cut_to, cut_stations, report_of}
-use Rattle.line_server.specs.Session.{Turn}
+use Rattle.line_server.specs.Session.{Turn, Turns}
 use Rattle.node_shell.specs.declared.event.Event.{Event}
 use Rattle.node_shell.specs.declared.event.Event.TheVariants.{Load}
 use Rattle.node_shell.specs.declared.event.Note.{Note}
@@ -108,9 +108,6 @@ deed fate s silent = record { text = []; after = s; command = None }
 deed fate s unknown = answered s (fixed BadCommand)
 deed fate s (asks request) = request_deed fate s request
 
-abbrev pub shell_turn : Option Fate → ShellState → Option (List ℕ) → Turn ShellState
-shell_turn fate s line = record { text = (deed fate s (spoken line)).text; after = (deed fate s (spoken line)).after }
-
 -- Which fates may befall a line.
 
 -- the event that a request makes, unless its file is missing
@@ -149,7 +146,19 @@ SpokenMayMeet fate s silent = ⊥
 SpokenMayMeet fate s unknown = ⊥
 SpokenMayMeet fate s (asks request) = RequestMayMeet fate s request
 
--- Memory is refused only where a request asks for it and no refusal that is told without memory stands against it; and
--- only an undo stops.
-abbrev pub may_befall : Fate → ShellState → Option (List ℕ) → Type 0
-may_befall fate s line = SpokenMayMeet fate s (spoken line)
+-- What became of what is said in a line may befall it. Memory is refused only where a request asks for it and no refusal
+-- that is told without memory stands against it; and only an undo stops.
+abbrev pub MayBefall : Option Fate → ShellState → Spoken → Type 0
+MayBefall None s line = Unit {0}
+MayBefall (Some fate) s line = SpokenMayMeet fate s line
+
+-- What the shell may do where this is said in a line.
+abbrev pub Does : Option Fate → ShellState → Spoken → Deed → Type 0
+Does fate s line d = MayBefall fate s line × (d ≡ deed fate s line)
+
+abbrev pub turn_of : Deed → Turn ShellState
+turn_of d = record { text = d.text; after = d.after }
+
+-- how the shell may answer a line
+abbrev pub shell_turn : Turns ShellState Fate
+shell_turn fate s line t = (d : Deed) × Does fate s (spoken line) d × (t ≡ turn_of d)
