@@ -1,45 +1,28 @@
--- Lemmas on what a session makes of lines: more lines, lines without a fate, and lines that are cut off.
-use Rattle.std.proofs.Common.{◌≡◌, ℕ, zero, suc, ◌+◌, ◌-◌, ◌<◌, ◌≤◌, min, Bool, true, false, cond, ltb, List, [], ◌∷◌, ◌++◌, length, take, Option, None, Some, inl, inr, All, refl, sym, ap, ◌∙◌, append_assoc, arith, length-take}
+-- Lemmas on what a session makes of lines: one line more, and lines that are cut off.
+use Rattle.std.proofs.Common.{◌≡◌, ℕ, zero, suc, ◌+◌, ◌-◌, ◌<◌, ◌≤◌, min, Bool, true, false, cond, ltb, List, [], ◌∷◌, ◌++◌, length, take, None, Some, inl, inr, refl, sym, ap, ◌∙◌, append-nil, arith, length-take}
 use Rattle.std.proofs.lemmas.Bool.{cond-true, cond-false, cases_lt, lt-ltb, le-ltb}
-use Rattle.std.proofs.lemmas.List.{take_all, take_min}
+use Rattle.std.proofs.lemmas.List.{take_all, take_min, map-append}
+use Rattle.std.proofs.lemmas.Grind.{flat_map-append}
 use Rattle.std.proofs.Math.Seq.{take-append-add}
-use Rattle.std.proofs.lemmas.List.Elements.{All-head, All-tail}
 use Rattle.line_server.specs.Lines.{heard, longest_line}
-use Rattle.line_server.specs.Session.{Turns, Fates, MayBefallEach, text_of, session_after}
+use Rattle.line_server.specs.Session.{Turns, Answered, AreInTurn, lines_in, text_of, session_after}
 
--- Where each of some lines has a fate, the others have the fates behind.
-module _ {S F : Type 0} (turn : Turns S F) where
-  pub text_of-more : (fates more : List (Option F)) (s : S) (lines others : List (List ℕ)) → length fates ≡ length lines → text_of turn (fates ++ more) s (lines ++ others) ≡ text_of turn fates s lines ++ text_of turn more (session_after turn fates s lines) others
-  text_of-more [] more s [] others each = refl
-  text_of-more [] more s (l ∷ ls) others each = absurd (omega arith)
-  text_of-more (f ∷ fs) more s [] others each = absurd (omega arith)
-  text_of-more (f ∷ fs) more s (l ∷ ls) others each =
-      let t = turn f s (heard l) in
-      ap (λ text. t.text ++ text) (text_of-more fs more t.after ls others (omega arith)) ∙ sym (append_assoc t.text (text_of turn fs t.after ls) (text_of turn more (session_after turn fs t.after ls) others))
+-- One more line that was answered behind others.
+module _ {S F : Type 0} (may : Turns S F) where
+  pub AreInTurn-push : (start : S) (answered : List (Answered S F)) (a : Answered S F) → AreInTurn may start answered → may a.fate (session_after start answered) (heard a.line) a.turn → AreInTurn may start (answered ++ a ∷ [])
+  AreInTurn-push start [] a before last = (last, tt)
+  AreInTurn-push start (b ∷ bs) a before last = (before.0, AreInTurn-push b.turn.after bs a before.1 last)
 
-  pub session_after-more : (fates more : List (Option F)) (s : S) (lines others : List (List ℕ)) → length fates ≡ length lines → session_after turn (fates ++ more) s (lines ++ others) ≡ session_after turn more (session_after turn fates s lines) others
-  session_after-more [] more s [] others each = refl
-  session_after-more [] more s (l ∷ ls) others each = absurd (omega arith)
-  session_after-more (f ∷ fs) more s [] others each = absurd (omega arith)
-  session_after-more (f ∷ fs) more s (l ∷ ls) others each =
-      session_after-more fs more (turn f s (heard l)).after ls others (omega arith)
+pub session_after-push : {S F : Type 0} (start : S) (answered : List (Answered S F)) (a : Answered S F) → session_after start (answered ++ a ∷ []) ≡ a.turn.after
+session_after-push start [] a = refl
+session_after-push start (b ∷ bs) a = session_after-push b.turn.after bs a
 
-  -- a line without a fate is whole
-  pub text_of-whole : (fates : List (Option F)) (s : S) (lines : List (List ℕ)) → All (λ fate. fate ≡ None) fates → text_of turn fates s lines ≡ text_of turn [] s lines
-  text_of-whole [] s lines whole = refl
-  text_of-whole (f ∷ fs) s [] whole = refl
-  text_of-whole (f ∷ fs) s (l ∷ ls) whole =
-      rw (All-head (λ fate. fate ≡ None) f fs whole) (ap (λ text. (turn None s (heard l)).text ++ text) (text_of-whole fs (turn None s (heard l)).after ls (All-tail (λ fate. fate ≡ None) f fs whole)))
+pub lines_in-push : {S F : Type 0} (answered : List (Answered S F)) (a : Answered S F) → lines_in (answered ++ a ∷ []) ≡ lines_in answered ++ a.line ∷ []
+lines_in-push answered a = map-append (λ b. b.line) answered (a ∷ [])
 
--- Fates of some lines, each of which has one, and of the lines behind them.
-pub MayBefallEach-more : {S F : Type 0} (turn : Turns S F) (may_befall : Fates S F) (fates more : List (Option F)) (s : S) (lines others : List (List ℕ)) → length fates ≡ length lines → MayBefallEach turn may_befall fates s lines → MayBefallEach turn may_befall more (session_after turn fates s lines) others → MayBefallEach turn may_befall (fates ++ more) s (lines ++ others)
-MayBefallEach-more turn may_befall [] more s [] others each first behind = behind
-MayBefallEach-more turn may_befall [] more s (l ∷ ls) others each first behind = absurd (omega arith)
-MayBefallEach-more turn may_befall (f ∷ fs) more s [] others each first behind = absurd first
-MayBefallEach-more turn may_befall (f ∷ fs) more s (l ∷ ls) others each first behind = (
-  first.0,
-  MayBefallEach-more turn may_befall fs more (turn f s (heard l)).after ls others (omega arith) first.1 behind,
-)
+pub text_of-push : {S F : Type 0} (answered : List (Answered S F)) (a : Answered S F) → text_of (answered ++ a ∷ []) ≡ text_of answered ++ a.turn.text
+text_of-push answered a =
+    flat_map-append (λ b. b.turn.text) answered (a ∷ []) ∙ ap (λ l. text_of answered ++ l) (append-nil a.turn.text)
 
 -- what is heard of a line is heard of as much of it as tells whether it is too long
 heard-take_at : (n : ℕ) (line : List ℕ) → cond (ltb n (length (take (n + 1) line))) None (Some (take (n + 1) line)) ≡ cond (ltb n (length line)) None (Some line)

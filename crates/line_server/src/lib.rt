@@ -1,6 +1,6 @@
 //! Serves the lines of a reader to a session, and writes the session's answers.
 //!
-//! A [`Session`] says what it makes of a line: the bytes that are written, and the session after it. [`serve`]
+//! A [`Session`] says how it may answer a line: the bytes that are written, and the session after it. [`serve`]
 //! reads bytes in chunks, cuts them into lines, gives each to the session in turn, and writes the answers before
 //! it reads on. It keeps no more than one chunk, one line and one buffer of answers.
 //!

@@ -35,8 +35,8 @@ impl Pending {
     /// Answers the line that ends with these bytes. It is not copied where it begins with them too.
     fn end_line<S: Session>(&mut self, session: &mut S, end: &[u8]) -> Result<(), AllocError>
         requires { has_newline end.now ≡ false }
-        ensures ok { OnOk result ((start : S) (had output : List ℕ) → SoFar S.turn S.may_befall start had output session.old self.old
-            → SoFar S.turn S.may_befall start (had ++ (end.now ++ 10 ∷ [])) output session.new self.new) }
+        ensures ok { OnOk result ((start : S) (had output : List ℕ) → SoFar S.turn start had output session.old self.old
+            → SoFar S.turn start (had ++ (end.now ++ 10 ∷ [])) output session.new self.new) }
         ensures err { OnErr result (Stays self.old.answers self.new.answers) }
     {
         if self.line.is_empty() {
@@ -57,8 +57,8 @@ impl Pending {
         requires { 0 < length chunk.now }
         ensures shorter { IfOk result (λ rest. length rest.now < length chunk.now) }
         ensures ok { IfOk result (λ rest. (piece : List ℕ) × (chunk.now ≡ piece ++ rest.now)
-            × ((start : S) (had output : List ℕ) → SoFar S.turn S.may_befall start had output session.old self.old
-            → SoFar S.turn S.may_befall start (had ++ piece) output session.new self.new)) }
+            × ((start : S) (had output : List ℕ) → SoFar S.turn start had output session.old self.old
+            → SoFar S.turn start (had ++ piece) output session.new self.new)) }
         ensures err { OnErr result (Stays self.old.answers self.new.answers) }
     {
         match memchr(b'\n', chunk) {
@@ -80,10 +80,10 @@ impl Pending {
         chunk: &[u8],
         writer: &mut W,
     ) -> Result<(), Fault>
-        ensures ok { OnOk result (GoesOn S.turn S.may_befall chunk.now session.old session.new
+        ensures ok { OnOk result (GoesOn S.turn chunk.now session.old session.new
             (W.contents writer.old) (W.contents writer.new) self.old self.new) }
         ensures none_left { OnOk result (self.new.answers.text.items ≡ []) }
-        ensures err { IfErr result (StopsIn S.turn S.may_befall chunk.now session.old
+        ensures err { IfErr result (StopsIn S.turn chunk.now session.old
             (W.contents writer.old) (W.contents writer.new) self.old self.new) }
     {
         let mut rest = chunk;
@@ -99,8 +99,8 @@ impl Pending {
 
     /// Answers the rest behind the last newline, where there is one.
     fn end_input<S: Session>(&mut self, session: &mut S) -> Result<(), AllocError>
-        ensures ok { OnOk result ((start : S) (had output : List ℕ) → SoFar S.turn S.may_befall start had output session.old self.old
-            → IsAnswered S.turn S.may_befall start (lines_of had) output session.new self.new.answers) }
+        ensures ok { OnOk result ((start : S) (had output : List ℕ) → SoFar S.turn start had output session.old self.old
+            → IsAnswered S.turn start (lines_of had) output session.new self.new.answers) }
         ensures err { OnErr result (Stays self.old.answers self.new.answers) }
     {
         if self.line.is_empty() {
@@ -115,10 +115,10 @@ impl Pending {
         session: &mut S,
         writer: &mut W,
     ) -> Result<(), Fault>
-        ensures ok { OnOk result (Finishes S.turn S.may_befall session.old session.new
+        ensures ok { OnOk result (Finishes S.turn session.old session.new
             (W.contents writer.old) (W.contents writer.new) self.old self.new) }
         ensures none_left { OnOk result (self.new.answers.text.items ≡ []) }
-        ensures err { IfErr result (StopsIn S.turn S.may_befall [] session.old
+        ensures err { IfErr result (StopsIn S.turn [] session.old
             (W.contents writer.old) (W.contents writer.new) self.old self.new) }
     {
         match self.end_input(session) {

@@ -3,7 +3,7 @@ ghost use Rattle.std.specs.Prelude.{◌≡◌, ◌↔◌, [], false, IfErr, IfOk
 ghost use Rattle.std.specs.Io.KnownBytes.{Appends};
 ghost use Rattle.line_server.specs.declared.ended.Fault.TheVariants.{Memory};
 ghost use Rattle.line_server.specs.Lines.{heard};
-ghost use Rattle.line_server.specs.Session.{IsTurn, MayBe};
+ghost use Rattle.line_server.specs.Session.{IsTurn};
 ghost use Rattle.line_server.specs.Progress.{Hears, Stays, Moves, TakesFront, IsOfWriting};
 
 use crate::ended::Fault;
@@ -42,7 +42,7 @@ impl Waiting {
         session: &mut S,
         line: &[u8],
     ) -> Result<(), AllocError>
-        ensures heard { OnOk result (Hears S.turn S.may_befall line.now session.old session.new self.old self.new) }
+        ensures heard { OnOk result (Hears S.turn line.now session.old session.new self.old self.new) }
         ensures err { OnErr result (Stays self.old self.new) }
     {
         let fate = answer(session, line, &mut self.text)?;
@@ -98,7 +98,6 @@ fn answer<S: Session>(
 ) -> Result<Option<S::Fate>, AllocError>
     ensures answered { IfOk result
         (λ fate. IsTurn (S.turn fate session.old (heard line.now)) session.new text.old.items text.new.items) }
-    ensures befell { IfOk result (λ fate. MayBe S.may_befall fate session.old (heard line.now)) }
     ensures err { OnErr result (text.new.items ≡ text.old.items) }
 {
     if line.len() <= LONGEST_LINE {

@@ -15,16 +15,3 @@ unfolding longest_line
 returns-clause-answered g c =
     let long = heard-long c.args.line.now c.if-line-le-LONGEST_LINE.false in
     rw long c.too_long.ensures.answered
-
-pub returns-then-line-le-LONGEST_LINE-clause-befell :
-    goal.returns-then-line-le-LONGEST_LINE-clause-befell
-unfolding longest_line
-returns-then-line-le-LONGEST_LINE-clause-befell g c =
-    let short = heard-short c.args.line.now c.if-line-le-LONGEST_LINE.true in
-    rw short c.line.ensures.befell
-
-pub returns-clause-befell : goal.returns-clause-befell
-unfolding longest_line
-returns-clause-befell g c =
-    let long = heard-long c.args.line.now c.if-line-le-LONGEST_LINE.false in
-    rw long c.too_long.ensures.befell
