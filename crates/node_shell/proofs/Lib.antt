@@ -3,3 +3,4 @@ mod Outcomes
 mod Replays
 mod Spaces
 mod Texts
+mod Turns

@@ -1,5 +1,5 @@
 -- Lemmas on outcomes and on lines for which there was no memory.
-use Rattle.std.proofs.Common.{◌≡◌, ◌≢◌, ℕ, ◌-◌, ◌^◌, Bool, true, false, List, replicate, Option, None, Some, Result, Ok, Err, IfOk, IfSome, eqb, refl, sym, ap, subst, ◌∙◌}
+use Rattle.std.proofs.Common.{◌≡◌, ◌≢◌, ℕ, ◌-◌, ◌^◌, Bool, true, false, List, replicate, Option, None, Some, Result, Ok, Err, IfOk, eqb, refl, sym, ap, subst, ◌∙◌}
 use Rattle.std.proofs.lemmas.Bool.{cond-false, ne_eqb}
 use Rattle.code_server.specs.declared.error.CodeError.{CodeError}
 use Rattle.code_server.specs.Modules.{load_refusal, loaded, delete_refusal, deleted, purged, soft_purge_refusal}

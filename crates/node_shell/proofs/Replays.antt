@@ -1,12 +1,14 @@
--- Whatever lines the shell is given, the commands that they carried out lead to its journal's timeline.
-use Rattle.std.proofs.Common.{◌≡◌, ℕ, Bool, true, false, ◌==◌, ◌-◌, ◌^◌, cond, List, [], ◌∷◌, ◌++◌, Option, None, Some, IfSome, option_map, option_to_list, unwrap_or, Ok, Err, refl, sym, ap, ◌∙◌}
+-- Whatever lines the shell obeys, the commands that they carried out lead to its journal's timeline.
+use Rattle.std.proofs.Common.{◌≡◌, ℕ, Bool, true, false, ◌==◌, ◌-◌, ◌^◌, cond, List, [], ◌∷◌, ◌++◌, All, Option, None, Some, IfSome, option_map, option_to_list, unwrap_or, Ok, Err, refl, sym, ap, subst, ◌∙◌}
 use Rattle.erl_term.specs.Tree.{Tree}
 use Rattle.code_server.specs.Modules.{empty_table}
 use Rattle.undo_journal.specs.Timeline.{here, opened, appended, cut_to, node_at}
-use Rattle.undo_journal.specs.History.{Live, AreAfter, FoldsTo}
+use Rattle.undo_journal.specs.History.{AreAfter}
 use Rattle.undo_journal.proofs.Histories.{Makes-live, FoldsTo-live, Runs-of, AreAfter-append, IsOrdered-opened, IsOrdered-after, node_at-after}
+use Rattle.line_server.specs.declared.ended.Ended.{Ended}
 use Rattle.line_server.specs.Lines.{heard}
-use Rattle.line_server.specs.Session.{first_fate, later_fates, session_after}
+use Rattle.line_server.specs.Serving.{Serves, ServesWhole}
+use Rattle.line_server.specs.Session.{Answered, lines_in, text_of}
 use Rattle.node_shell.specs.declared.event.Event.{Event}
 use Rattle.node_shell.specs.declared.event.Event.TheVariants.{Load}
 use Rattle.node_shell.specs.declared.fate.Fate.{Fate}
@@ -14,17 +16,19 @@ use Rattle.node_shell.specs.declared.fate.Fate.TheVariants.{Refused, StoppedAt}
 use Rattle.node_shell.specs.declared.answers.Fixed.TheVariants.{BadCommand, LineTooLong, SerialEnd, DeadMark, Memory}
 use Rattle.node_shell.specs.Answers.{fixed, missing_file}
 use Rattle.node_shell.specs.Files.{Contents, file_of}
-use Rattle.node_shell.specs.Node.{Node, Outcome, IsOutcome, node_left, rule, event_of}
-use Rattle.node_shell.specs.Replay.{IsReplayed, IsHeadline, MarksName, Undoes, fold_of, fates_behind, carried_out, first_deed, timeline_behind}
+use Rattle.node_shell.specs.Node.{Node, Outcome, IsOutcome, rule, event_of}
+use Rattle.node_shell.specs.Replay.{Obeyed, AreObeyed, IsReplayed, IsHeadline, MarksName, Undoes, commands_in, shell_behind, timeline_behind}
 use Rattle.node_shell.specs.Request.{Request, ask, load, change, undo, Spoken, too_long, silent, unknown, asks, spoken}
-use Rattle.node_shell.specs.Shell.{NodeTimeline, ShellState, Deed, opened_shell, shell_turn, deed, request_deed, load_deed, undo_deed, stopped_at, undone_to, event_deed, performed, ruled, answered, shown}
+use Rattle.node_shell.specs.Run.{Runs, RunsWhole}
+use Rattle.node_shell.specs.Shell.{NodeTimeline, ShellState, Deed, Does, opened_shell, shell_turn, deed, request_deed, load_deed, undo_deed, stopped_at, undone_to, event_deed, performed, ruled, answered as told, shown}
+use Rattle.node_shell.proofs.Turns.{obeyed-from_answered, unrefused-obeyed}
 
 -- the line's command leads to the journal after it
 IsLed : ShellState → Deed → Type 0
 IsLed s d = AreAfter IsOutcome (option_to_list d.command) s.timeline d.after.timeline
 
 module _ (s : ShellState) where
-  same : (answer : Tree) → IsLed s (answered s answer)
+  same : (answer : Tree) → IsLed s (told s answer)
   unfolding IsLed
   same answer = refl
 
@@ -81,68 +85,97 @@ module _ (s : ShellState) where
   deed_led fate unknown = same (fixed BadCommand)
   deed_led fate (asks request) = request_led fate request
 
-after-lines : (fates : List (Option Fate)) (s : ShellState) (lines : List (List ℕ)) → AreAfter IsOutcome (carried_out fates s lines) s.timeline (session_after shell_turn fates s lines).timeline
+-- what may be done of what is said in a line
+Does_led : (fate : Option Fate) (s : ShellState) (line : Spoken) (d : Deed) → Does fate s line d → IsLed s d
+Does_led fate s line d does = subst (λ done. IsLed s done) (sym does.1) (deed_led s fate line)
+
+after-obeyed : (s : ShellState) (obeyed : List Obeyed) → AreObeyed s obeyed → AreAfter IsOutcome (commands_in obeyed) s.timeline (timeline_behind s obeyed)
 unfolding IsLed
-after-lines fates s [] = refl
-after-lines fates s (line ∷ lines) =
-    let done = first_deed fates s line in
-    let others = carried_out (later_fates fates) done.after lines in
-    AreAfter-append IsOutcome (option_to_list done.command) others s.timeline done.after.timeline (session_after shell_turn (later_fates fates) done.after lines).timeline (deed_led s (first_fate fates) (spoken (heard line))) (after-lines (later_fates fates) done.after lines)
+after-obeyed s [] in_turn = refl
+after-obeyed s (o ∷ others) in_turn =
+    AreAfter-append IsOutcome (option_to_list o.deed.command) (commands_in others) s.timeline o.deed.after.timeline (timeline_behind o.deed.after others) (Does_led o.fate s (spoken (heard o.line)) o.deed in_turn.0) (after-obeyed o.deed.after others in_turn.1)
 
--- the rule is a function, and so is its fold
-folded_by : (steps : List (Live Event)) (node end : Node) → FoldsTo IsOutcome node steps end → end ≡ fold_of node steps
-folded_by [] node end folds = folds
-folded_by (step ∷ steps) node end folds =
-    folded_by steps folds.0.node end folds.2 ∙ ap (λ (o : Outcome). fold_of (node_left node o) steps) folds.1
+-- some lines and more
+AreObeyed-parts : (s : ShellState) (front more : List Obeyed) → AreObeyed s (front ++ more) → AreObeyed s front × AreObeyed (shell_behind s front) more
+AreObeyed-parts s [] more in_turn = (tt, in_turn)
+AreObeyed-parts s (o ∷ others) more in_turn =
+    let parts = AreObeyed-parts o.deed.after others more in_turn.1 in ((in_turn.0, parts.0), parts.1)
 
-lines-replayed : (files : Contents) (fates : List (Option Fate)) (lines : List (List ℕ)) → IsReplayed files fates lines
-lines-replayed files fates lines =
-    let commands = carried_out fates (opened_shell files) lines in
-    let end = timeline_behind files fates lines in
-    let runs = Runs-of IsOutcome commands (opened empty_table) end [] (after-lines fates (opened_shell files) lines) in
-    record {
-      live = runs.0;
-      runs = runs.1;
-      stations = Makes-live IsOutcome empty_table commands end runs.0 runs.1;
-      fold = folded_by runs.0 empty_table (here end).node (FoldsTo-live IsOutcome empty_table commands end runs.0 runs.1);
-    }
-
-session-more : (fates : List (Option Fate)) (s : ShellState) (lines more : List (List ℕ)) → session_after shell_turn fates s (lines ++ more) ≡ session_after shell_turn (fates_behind fates lines) (session_after shell_turn fates s lines) more
-session-more fates s [] more = refl
-session-more fates s (line ∷ lines) more = session-more (later_fates fates) (first_deed fates s line).after lines more
+shell_behind-more : (s : ShellState) (front more : List Obeyed) → shell_behind s (front ++ more) ≡ shell_behind (shell_behind s front) more
+shell_behind-more s [] more = refl
+shell_behind-more s (o ∷ others) more = shell_behind-more o.deed.after others more
 
 if_alive : {S : Type 0} (o p : Option S) → ((n : S) → o ≡ Some n → p ≡ Some n) → IfSome o (λ n. p ≡ Some n)
 if_alive None p named = tt
 if_alive (Some n) p named = named n refl
 
-marks-named : (files : Contents) (fates : List (Option Fate)) (lines more : List (List ℕ)) → MarksName files fates lines more
-marks-named files fates lines more mark given =
-    let start = opened_shell files in
-    let t = timeline_behind files fates lines in
-    let ordered = IsOrdered-after IsOutcome (carried_out fates start lines) (opened empty_table) t (after-lines fates start lines) (IsOrdered-opened empty_table) in
-    let s = session_after shell_turn fates start lines in
-    let rest = fates_behind fates lines in
-    let commands = carried_out rest s more in
-    let end = (session_after shell_turn rest s more).timeline in
-    let behind : timeline_behind files fates (lines ++ more) ≡ end = ap (λ (u : ShellState). u.timeline) (session-more fates start lines more) in
-    if_alive (node_at mark (timeline_behind files fates (lines ++ more))) (node_at mark t) (λ n alive. node_at-after IsOutcome mark commands t end n (after-lines rest s more) ordered given (ap (λ u. node_at mark u) (sym behind) ∙ alive))
+module _ (node : Node) (start : ShellState) (begun : start.timeline ≡ opened node) where
+  led : (obeyed : List Obeyed) → AreObeyed start obeyed → AreAfter IsOutcome (commands_in obeyed) (opened node) (timeline_behind start obeyed)
+  led obeyed in_turn =
+      subst (λ (t : NodeTimeline). AreAfter IsOutcome (commands_in obeyed) t (timeline_behind start obeyed)) begun (after-obeyed start obeyed in_turn)
 
-undo-undoes : (files : Contents) (fates : List (Option Fate)) (front : List (List ℕ)) (line : List ℕ) (mark : ℕ) (end : NodeTimeline) → first_fate (fates_behind fates front) ≡ None → spoken (heard line) ≡ asks (undo mark) → cut_to mark (timeline_behind files fates front) ≡ Some end → Undoes files fates front line mark end
-undo-undoes files fates front line mark end whole says is =
-    let start = opened_shell files in
-    let s = session_after shell_turn fates start front in
-    let done : deed None s (spoken (heard line)) ≡ undone_to s mark end = ap (λ l. deed None s l) says ∙ ap (λ o. undo_deed None s mark o) is in
-    let first : (first_deed (fates_behind fates front) s line).after.timeline ≡ end = ap (λ f. (deed f s (spoken (heard line))).after.timeline) whole ∙ ap (λ (d : Deed). d.after.timeline) done in
+  replayed : (obeyed : List Obeyed) → AreObeyed start obeyed → IsReplayed node (commands_in obeyed) (timeline_behind start obeyed)
+  replayed obeyed in_turn =
+      let commands = commands_in obeyed in
+      let end = timeline_behind start obeyed in
+      let runs = Runs-of IsOutcome commands (opened node) end [] (led obeyed in_turn) in
+      record {
+        live = runs.0;
+        runs = runs.1;
+        stations = Makes-live IsOutcome node commands end runs.0 runs.1;
+        fold = FoldsTo-live IsOutcome node commands end runs.0 runs.1;
+      }
+
+  marks-named : (front more : List Obeyed) → AreObeyed start (front ++ more) → MarksName (timeline_behind start front) (timeline_behind start (front ++ more))
+  marks-named front more in_turn mark given =
+      let parts = AreObeyed-parts start front more in_turn in
+      let s = shell_behind start front in
+      let t = timeline_behind start front in
+      let end = timeline_behind s more in
+      let ordered = IsOrdered-after IsOutcome (commands_in front) (opened node) t (led front parts.0) (IsOrdered-opened node) in
+      let behind : timeline_behind start (front ++ more) ≡ end = ap (λ (u : ShellState). u.timeline) (shell_behind-more start front more) in
+      if_alive (node_at mark (timeline_behind start (front ++ more))) (node_at mark t) (λ n alive. node_at-after IsOutcome mark (commands_in more) t end n (after-obeyed s more parts.1) ordered given (ap (λ u. node_at mark u) (sym behind) ∙ alive))
+
+  undo-undoes : (front others : List Obeyed) (o : Obeyed) (mark : ℕ) (end : NodeTimeline) → AreObeyed start (front ++ o ∷ others) → o.fate ≡ None → spoken (heard o.line) ≡ asks (undo mark) → cut_to mark (timeline_behind start front) ≡ Some end → Undoes (timeline_behind start front) o.deed mark end
+  undo-undoes front others o mark end in_turn whole says is =
+      let s = shell_behind start front in
+      let here_done = (AreObeyed-parts start front (o ∷ others) in_turn).1.0 in
+      let done : o.deed ≡ undone_to s mark end = here_done.1 ∙ ap (λ f. deed f s (spoken (heard o.line))) whole ∙ ap (λ l. deed None s l) says ∙ ap (λ t. undo_deed None s mark t) is in
+      record {
+        leads = ap (λ (d : Deed). d.after.timeline) done;
+        node = ap (λ t. option_map (λ (u : NodeTimeline). (here u).node) t) is;
+        answer = ap (λ (d : Deed). d.text) done;
+      }
+
+  -- the headline of any lines that a shell over the node obeyed
+  pub obeyed-headline : (obeyed : List Obeyed) → AreObeyed start obeyed → IsHeadline node start obeyed
+  obeyed-headline obeyed in_turn = record {
+    replayed = λ front others is. replayed front (AreObeyed-parts start front others (subst (λ all. AreObeyed start all) is in_turn)).0;
+    marks = λ front more others is. marks-named front more (AreObeyed-parts start (front ++ more) others (subst (λ all. AreObeyed start all) is in_turn)).0;
+    undos = λ front others o mark end is. undo-undoes front others o mark end (subst (λ all. AreObeyed start all) is in_turn);
+  }
+
+-- A run over files, of what the shell answered.
+
+pub Runs-served : (files : Contents) (end : ShellState) (left rest held holds : Option (List ℕ)) (ended : Ended) → Serves shell_turn (opened_shell files) end left rest held holds ended → Runs files left rest held holds ended
+Runs-served files end left rest held holds ended serves =
+    let were = obeyed-from_answered (opened_shell files) serves.answered serves.in_turn in
     record {
-      leads = ap (λ (u : ShellState). u.timeline) (session-more fates start front (line ∷ [])) ∙ first;
-      node = ap (λ o. option_map (λ (u : NodeTimeline). (here u).node) o) is;
-      answer = ap (λ (d : Deed). d.text) done;
+      end = end;
+      serves = serves;
+      obeyed = were.obeyed;
+      answered = were.same;
+      in_turn = were.in_turn;
+      headline = obeyed-headline empty_table (opened_shell files) refl were.obeyed were.in_turn;
     }
 
--- the headline of the shell
-pub lines-headline : (files : Contents) (fates : List (Option Fate)) (lines : List (List ℕ)) → IsHeadline files fates lines
-lines-headline files fates lines = record {
-  replayed = λ front others is. lines-replayed files fates front;
-  marks = λ front more others is. marks-named files fates front more;
-  undos = λ front others line mark end is. undo-undoes files fates front line mark end;
-}
+pub RunsWhole-served : (files : Contents) (end : ShellState) (input before : List ℕ) (holds : Option (List ℕ)) → ServesWhole shell_turn (opened_shell files) end input before holds → RunsWhole files input before holds
+RunsWhole-served files end input before holds serves =
+    let were = obeyed-from_answered (opened_shell files) serves.answered serves.in_turn in
+    record {
+      obeyed = were.obeyed;
+      in_turn = were.in_turn;
+      unrefused = unrefused-obeyed were.obeyed (subst (λ all. All (λ (a : Answered ShellState Fate). a.fate ≡ None) all) were.same serves.unrefused);
+      lines = ap lines_in (sym were.same) ∙ serves.lines;
+      written = serves.written ∙ ap (λ all. Some (before ++ text_of all)) were.same;
+    }

@@ -10,19 +10,15 @@ use Rattle.node_shell.specs.declared.event.Note.{Note}
 use Rattle.node_shell.specs.declared.fate.Fate.{Fate}
 use Rattle.node_shell.specs.declared.fate.Fate.TheVariants.{Refused, StoppedAt}
 use Rattle.node_shell.specs.Answers.{line_of, fixed, fixed_of, answer_of}
-use Rattle.node_shell.specs.Request.{Request, Spoken}
-use Rattle.node_shell.specs.Shell.{ShellState, Deed, IsAcceptable, RequestMayMeet, SpokenMayMeet}
+use Rattle.node_shell.specs.Request.{Request}
+use Rattle.node_shell.specs.Shell.{ShellState, Deed, IsAcceptable, RequestMayMeet}
 
 -- a deed was done: the shell is the one after it, and its text is appended to the answer
 pub record IsDone (deed : Deed) (new : ShellState) (text appended : List ℕ) : Type 0 where
   pub after : new ≡ deed.after
   pub answer : appended ≡ text ++ deed.text
 
--- what became of a line, of a request or of an event may befall it
-
-abbrev pub MeetsLine : Option Fate → ShellState → Spoken → Type 0
-MeetsLine None s line = Unit {0}
-MeetsLine (Some fate) s line = SpokenMayMeet fate s line
+-- what became of a request or of an event may befall it
 
 abbrev pub Meets : Option Fate → ShellState → Request → Type 0
 Meets None s request = Unit {0}

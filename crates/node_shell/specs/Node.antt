@@ -38,11 +38,6 @@ rule n (SoftPurge name) = outcome (soft_purge_refusal name false n) (purged name
 abbrev pub IsOutcome : Node → Event → Outcome → Type 0
 IsOutcome n e o = o ≡ rule n e
 
--- the node that an outcome leaves; a refusal changes nothing
-abbrev pub node_left : Node → Outcome → Node
-node_left n (Ok accepted) = accepted.node
-node_left n (Err refusal) = n
-
 -- the refusal in an outcome
 abbrev pub refusal_in : Outcome → Option CodeError
 refusal_in (Ok accepted) = None

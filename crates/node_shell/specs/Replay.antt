@@ -41,8 +41,8 @@ shell_behind s (o ∷ others) = shell_behind o.deed.after others
 abbrev pub timeline_behind : ShellState → List Obeyed → NodeTimeline
 timeline_behind s obeyed = (shell_behind s obeyed).timeline
 
--- A journal that began at a node, and came to a timeline by commands: they lead there, the stations behind the first are
--- those that the live steps make, and its node is the fold of the rule over them. Commands lead to one timeline at
+-- A journal that began at a node, and came to a timeline by commands: they lead there, the stations behind the first
+-- are those that the live steps make, and its node is the fold of the rule over them. Commands lead to one timeline at
 -- most, with one list of live steps.
 pub record IsReplayed (node : Node) (commands : List (Command Event)) (end : NodeTimeline) : Type 0 where
   pub live : List (Live Event)
@@ -50,8 +50,8 @@ pub record IsReplayed (node : Node) (commands : List (Command Event)) (end : Nod
   pub stations : Makes IsOutcome node live end.later
   pub fold : FoldsTo IsOutcome node live (here end).node
 
--- A mark that was given before the one timeline, and is alive in the other, which is behind it, names there the node that it named; so a
--- dead mark stays dead.
+-- A mark that was given before the one timeline, and is alive in the other, which is behind it, names there the node
+-- that it named; so a dead mark stays dead.
 abbrev pub MarksName : NodeTimeline → NodeTimeline → Type 0
 MarksName here_before behind =
     (mark : ℕ) → mark ≤ here_before.last → IfSome (node_at mark behind) (λ node. node_at mark here_before ≡ Some node)
@@ -63,9 +63,9 @@ pub record Undoes (before : NodeTimeline) (done : Deed) (mark : ℕ) (end : Node
   pub node : node_at mark before ≡ Some (here end).node
   pub answer : done.text ≡ line_of (undone_steps (report_of (cut_stations before end)))
 
--- The headline, of lines that a shell over a node obeyed: behind each front of them the journal is where the commands lead that the
--- front carried out, with its node the fold of the steps that are not undone; marks name the nodes that they named; and an
--- undo at which no memory was refused gives its mark's node, and reports what was cut.
+-- The headline, of lines that a shell over a node obeyed: behind each front of them the journal is where the commands
+-- lead that the front carried out, with its node the fold of the steps that are not undone; marks name the nodes that
+-- they named; and an undo at which no memory was refused gives its mark's node, and reports what was cut.
 pub record IsHeadline (node : Node) (start : ShellState) (obeyed : List Obeyed) : Type 0 where
   pub replayed : (front others : List Obeyed) → obeyed ≡ front ++ others
       → IsReplayed node (commands_in front) (timeline_behind start front)

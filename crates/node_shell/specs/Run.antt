@@ -20,8 +20,8 @@ pub record Runs (files : Contents) (left rest held holds : Option (List ℕ)) (e
   pub in_turn : AreObeyed (opened_shell files) obeyed
   pub headline : IsHeadline empty_table (opened_shell files) obeyed
 
--- A run without a fault that met no want of memory: all lines of the input were obeyed, and their text was written behind what the
--- writer held.
+-- A run without a fault that met no want of memory: all lines of the input were obeyed, and their text was written behind
+-- what the writer held.
 pub record RunsWhole (files : Contents) (input before : List ℕ) (holds : Option (List ℕ)) : Type 0 where
   pub obeyed : List Obeyed
   pub in_turn : AreObeyed (opened_shell files) obeyed

@@ -3,11 +3,11 @@ ghost use Rattle.std.specs.Prelude.{◌≡◌, ℕ, ◌++◌, List, None, Some, 
 ghost use Rattle.std.specs.Str.{chars};
 ghost use Rattle.node_shell.specs.declared.event.Event.TheVariants.{Load as LoadOf};
 ghost use Rattle.node_shell.specs.Answers.{line_of, fixed};
-ghost use Rattle.node_shell.specs.Deeds.{IsDone, Meets, MeetsEvent, MeetsLine, Misses, TellsFirst, IsReportOf};
+ghost use Rattle.node_shell.specs.Deeds.{IsDone, Meets, MeetsEvent, Misses, TellsFirst, IsReportOf};
 ghost use Rattle.node_shell.specs.Node.{event_of};
 ghost use Rattle.node_shell.specs.Reading.{meant, said};
 ghost use Rattle.node_shell.specs.Request.{load, undo};
-ghost use Rattle.node_shell.specs.Shell.{deed, event_deed, request_deed, shown};
+ghost use Rattle.node_shell.specs.Shell.{MayBefall, deed, event_deed, request_deed, shown};
 
 use crate::answers::{
     Fixed, fixed_of, write_answer, write_mark, write_missing, write_modules, write_stopped,
@@ -32,7 +32,7 @@ impl Holdings {
     pub(crate) fn answer(&mut self, line: Line<'_>, out: &mut Vec<u8>) -> Said
         ensures done { IfOk result
             (λ fate. IsDone (deed fate self.old (said line.entry)) self.new out.old.items out.new.items) }
-        ensures met { IfOk result (λ fate. MeetsLine fate self.old (said line.entry)) }
+        ensures met { IfOk result (λ fate. MayBefall fate self.old (said line.entry)) }
     {
         match line {
             Line::Silent => Ok(None),

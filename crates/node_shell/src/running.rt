@@ -1,9 +1,6 @@
 // From the bytes of commands to the bytes of answers.
-ghost use Rattle.std.specs.Prelude.{◌≡◌, ℕ, ◌++◌, List, [], None, Some, false};
-ghost use Rattle.line_server.specs.Lines.{lines_of};
-ghost use Rattle.line_server.specs.Session.{text_of};
-ghost use Rattle.node_shell.specs.Shell.{shell_turn, opened_shell};
-ghost use Rattle.node_shell.specs.Run.{Runs};
+ghost use Rattle.std.specs.Prelude.{◌≡◌, ℕ, List, None, Some, false};
+ghost use Rattle.node_shell.specs.Run.{Runs, RunsWhole};
 
 use crate::files::Files;
 use crate::shell::Shell;
@@ -34,7 +31,7 @@ pub fn run<R: Read, W: Write>(
     // was read, and the text of its lines was written behind what the writer held.
     ensures whole { (input before : List ℕ) → R.remaining reader.old ≡ Some input → W.contents writer.old ≡ Some before
         → result.fault ≡ None → result.is_refused ≡ false
-        → W.contents writer.new ≡ Some (before ++ text_of shell_turn [] (opened_shell files) (lines_of input)) }
+        → RunsWhole files input before (W.contents writer.new) }
 {
     let Ok(mut shell) = Shell::new(alloc, hashing, files) else {
         return Ended {

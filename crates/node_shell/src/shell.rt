@@ -1,6 +1,6 @@
 // The shell: a session over what it holds.
 ghost use Rattle.std.specs.Prelude.{◌≡◌, IfOk};
-ghost use Rattle.node_shell.specs.Shell.{shell_turn, may_befall, opened_shell};
+ghost use Rattle.node_shell.specs.Shell.{shell_turn, opened_shell};
 
 use crate::answers::Fixed;
 use crate::fate::Fate;
@@ -48,8 +48,6 @@ impl Session for Shell {
     type Fate = Fate;
 
     ghost turn = { shell_turn };
-
-    ghost may_befall = { may_befall };
 
     fn line(&mut self, line: &[u8], out: &mut Vec<u8>) -> Result<Option<Fate>, AllocError> {
         self.answer.clear();
