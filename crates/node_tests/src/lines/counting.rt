@@ -22,15 +22,14 @@ pub(super) struct Unanswered;
 impl Session for Counting {
     type Fate = Unanswered;
 
-    ghost turn = { λ fate s line. elim fate [
-      | None ↦ record {
-        text = decimal s.lines ++ 58 ∷ (elim line [ None ↦ 108 ∷ 111 ∷ 110 ∷ 103 ∷ [] | Some bytes ↦ decimal (length bytes) ]) ++ 10 ∷ [];
-        after = record s { lines = (s.lines + 1) % 2 ^ 64 };
-      }
-      | Some unanswered ↦ record { text = []; after = record s { refused = None } }
+    ghost turn = { λ fate s line t. elim fate [
+      | None ↦ (t.text ≡ decimal s.lines ++ 58 ∷ (elim line [
+        | None ↦ 108 ∷ 111 ∷ 110 ∷ 103 ∷ []
+        | Some bytes ↦ decimal (length bytes)
+      ]) ++ 10 ∷ []) × (t.after ≡ record s { lines = (s.lines + 1) % 2 ^ 64 })
+      | Some unanswered ↦ (s.refused ≡ Some s.lines) × IsSome line × (t.text ≡ [])
+          × (t.after ≡ record s { refused = None })
     ] };
-
-    ghost may_befall = { λ unanswered s line. (s.refused ≡ Some s.lines) × IsSome line };
 
     fn line(&mut self, line: &[u8], out: &mut Vec<u8>) -> Result<Option<Unanswered>, AllocError> {
         if self.failed == Some(self.lines) {
