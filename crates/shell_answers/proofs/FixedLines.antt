@@ -80,4 +80,3 @@ no_child-line = refl
 pub not_due-line : line_of (fixed it.NotDue) ≡ codes "{error,not_due}\n"
 unfolding utf8 is_quoted_word encode
 not_due-line = refl
-

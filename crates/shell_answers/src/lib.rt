@@ -18,7 +18,7 @@ mod processes;
 mod replies;
 
 pub use apps::write_apps;
-pub use faults::{SourceFault, write_start_failed, write_source_fault, write_term_fault};
+pub use faults::{SourceFault, write_source_fault, write_start_failed, write_term_fault};
 pub use fixed::Fixed;
 pub use lines::{write_called, write_job, write_loaded, write_mark, write_revived};
 pub use modules::write_modules;

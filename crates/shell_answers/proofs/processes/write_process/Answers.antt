@@ -11,7 +11,7 @@ use Rattle.shell_answers.proofs.processes.write_process.Goals as goal
 
 parts : (p : ProcessState) (n turn : ℕ) (at : Place) (word : List ℕ) → n ≡ p.pid → turn ≡ p.turn → at ≡ p.place → word ≡ bytes (activity_of p.activity) → codes "{proc," ++ (bytes (pid n) ++ (44 ∷ [] ++ (bytes (place_of at) ++ (44 ∷ [] ++ (word ++ (44 ∷ [] ++ (bytes (int (pos turn)) ++ (44 ∷ [] ++ (bytes (list (trees p.mailbox)) ++ codes "}\n"))))))))) ≡ line_of (process_of p)
 parts p n turn at word same_pid same_turn same_place same_word =
-    (λ i. codes "{proc," ++ (bytes (pid (same_pid i)) ++ (44 ∷ [] ++ (bytes (place_of (same_place i)) ++ (44 ∷ [] ++ (same_word i ++ (44 ∷ [] ++ (bytes (int (pos (same_turn i))) ++ (44 ∷ [] ++ (bytes (list (trees p.mailbox)) ++ codes "}\n"))))))))) ) ∙ process-line p
+    (λ i. codes "{proc," ++ (bytes (pid (same_pid i)) ++ (44 ∷ [] ++ (bytes (place_of (same_place i)) ++ (44 ∷ [] ++ (same_word i ++ (44 ∷ [] ++ (bytes (int (pos (same_turn i))) ++ (44 ∷ [] ++ (bytes (list (trees p.mailbox)) ++ codes "}\n")))))))))) ∙ process-line p
 
 pub returns : goal.returns
 returns c =
