@@ -80,3 +80,7 @@ no_child-line = refl
 pub not_due-line : line_of (fixed it.NotDue) ≡ codes "{error,not_due}\n"
 unfolding utf8 is_quoted_word encode
 not_due-line = refl
+
+pub name_taken-line : line_of (fixed it.NameTaken) ≡ codes "{error,name_taken}\n"
+unfolding utf8 is_quoted_word encode
+name_taken-line = refl

@@ -23,7 +23,7 @@ use Rattle.node_core.specs.declared.event.Note.{Note}
 use Rattle.shell_answers.specs.declared.fixed.Fixed.{Fixed}
 use Rattle.shell_answers.specs.declared.fixed.Fixed.TheVariants.{Done, True, False, BadCommand, LineTooLong, SerialEnd, CounterAtEnd}
 use Rattle.shell_answers.specs.declared.fixed.Fixed.TheVariants.{DeadMark, Memory, NoJob, NoProc, Suspended, Running, Idle as IsIdle, NotRunning}
-use Rattle.shell_answers.specs.declared.fixed.Fixed.TheVariants.{Stale, DuplicateCall, NoChild, NotDue}
+use Rattle.shell_answers.specs.declared.fixed.Fixed.TheVariants.{Stale, DuplicateCall, NameTaken, NoChild, NotDue}
 
 -- the line of a term
 abbrev pub line_of : Tree → List ℕ
@@ -59,6 +59,7 @@ fixed IsIdle = error (codes "idle")
 fixed NotRunning = error (codes "not_running")
 fixed Stale = error (codes "stale")
 fixed DuplicateCall = error (codes "duplicate_call")
+fixed NameTaken = error (codes "name_taken")
 fixed NoChild = error (codes "no_child")
 fixed NotDue = error (codes "not_due")
 

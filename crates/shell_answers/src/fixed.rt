@@ -42,6 +42,8 @@ pub enum Fixed {
     Stale,
     /// `{error,duplicate_call}`
     DuplicateCall,
+    /// `{error,name_taken}`
+    NameTaken,
     /// `{error,no_child}`
     NoChild,
     /// `{error,not_due}`
@@ -71,6 +73,7 @@ impl Fixed {
             Fixed::NotRunning => b"{error,not_running}\n",
             Fixed::Stale => b"{error,stale}\n",
             Fixed::DuplicateCall => b"{error,duplicate_call}\n",
+            Fixed::NameTaken => b"{error,name_taken}\n",
             Fixed::NoChild => b"{error,no_child}\n",
             Fixed::NotDue => b"{error,not_due}\n",
         }

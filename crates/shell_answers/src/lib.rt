@@ -15,6 +15,7 @@ mod fixed;
 mod lines;
 mod modules;
 mod processes;
+mod refusals;
 mod replies;
 
 pub use apps::write_apps;
@@ -23,4 +24,5 @@ pub use fixed::Fixed;
 pub use lines::{write_called, write_job, write_loaded, write_mark, write_revived};
 pub use modules::write_modules;
 pub use processes::write_process;
+pub use refusals::{code_refusal, proc_refusal, write_refusal};
 pub use replies::{write_committed, write_replies, write_stopped, write_undone};
