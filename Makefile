@@ -21,8 +21,6 @@ relnode:
 	@cd crates/relnode && $(RT) run -- data/tree Z < /dev/null > /dev/null
 	@echo crates/relnode/out/relnode
 
-# Loads a module twice, with a mark in between, and goes back to the mark.
+# A call is answered, a mark is set, the state of a process changes, and an undo reports what it took back.
 demo: relnode
-	@echo '$$ relnode data/tree Z'
-	@sed 's/^/< /' crates/relnode/stdin
-	@cd crates/relnode && out/relnode data/tree Z < stdin | sed 's/^/> /'
+	@tools/demo

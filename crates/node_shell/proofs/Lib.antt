@@ -1,6 +1,3 @@
-mod Lines
-mod Outcomes
+mod Led
 mod Replays
-mod Spaces
-mod Texts
 mod Turns

@@ -2,20 +2,20 @@
 use Rattle.std.proofs.Common.{◌≡◌, ℕ, List, [], ◌∷◌, ◌++◌, map, All, Option, None, refl, ap, subst, ◌∙◌}
 use Rattle.std.proofs.lemmas.List.Elements.{All-nil, All-cons, All-head, All-tail}
 use Rattle.line_server.specs.Session.{Turn, Answered, IsTurn, AreInTurn}
-use Rattle.node_shell.specs.declared.fate.Fate.{Fate}
-use Rattle.node_shell.specs.Deeds.{IsDone}
+use Rattle.shell_deeds.specs.Deeds.{Does}
+use Rattle.shell_deeds.specs.Done.{IsDone}
+use Rattle.shell_deeds.specs.State.{ShellState}
+use Rattle.shell_deeds.specs.declared.fate.Fate.{Fate}
+use Rattle.shell_requests.specs.Request.{spoken}
 use Rattle.node_shell.specs.Replay.{Obeyed, AreObeyed, answered_as}
-use Rattle.node_shell.specs.Request.{Spoken, spoken}
-use Rattle.node_shell.specs.Shell.{ShellState, Deed, MayBefall, deed, shell_turn, turn_of}
+use Rattle.node_shell.specs.Shell.{shell_turn, turn_of}
 
 -- what is said in a line was done, and the answer written behind others
-pub turn-done : (fate : Option Fate) (held s new : ShellState) (said : Spoken) (line : Option (List ℕ)) (none answer old appended : List ℕ) → held ≡ s → said ≡ spoken line → none ≡ [] → MayBefall fate held said → IsDone (deed fate held said) new none answer → appended ≡ old ++ answer → IsTurn (shell_turn fate s line) new old appended
-turn-done fate held s new said line none answer old appended views says empty met done more =
-    let d = deed fate s (spoken line) in
-    let same : deed fate held said ≡ d = ap (λ u. deed fate u said) views ∙ ap (deed fate s) says in
-    let may = subst (λ l. MayBefall fate s l) says (subst (λ u. MayBefall fate u said) views met) in
-    let text : answer ≡ d.text = done.answer ∙ ap (λ l. l ++ (deed fate held said).text) empty ∙ ap (λ (e : Deed). e.text) same in
-    (turn_of d, (d, (may, refl), refl), done.after ∙ ap (λ (e : Deed). e.after) same, more ∙ ap (λ l. old ++ l) text)
+pub turn-done : (fate : Option Fate) (held s new : ShellState) (line : Option (List ℕ)) (none answer old appended : List ℕ) → held ≡ s → none ≡ [] → IsDone (Does fate held (spoken line)) new none answer → appended ≡ old ++ answer → IsTurn (shell_turn fate s line) new old appended
+turn-done fate held s new line none answer old appended views empty done more =
+    let d = done.0 in
+    let text : answer ≡ d.text = done.3 ∙ ap (λ l. l ++ d.text) empty in
+    (turn_of d, (d, subst (λ u. Does fate u (spoken line) d) views done.1, refl), done.2, more ∙ ap (λ l. old ++ l) text)
 
 -- What the shell answered in turn it did.
 pub record WereObeyed (start : ShellState) (answered : List (Answered ShellState Fate)) : Type 0 where

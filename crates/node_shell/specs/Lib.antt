@@ -1,11 +1,3 @@
-pub mod Answers
-pub mod Deeds
-pub mod Files
-pub mod Node
-pub mod Reading
 pub mod Replay
-pub mod Request
 pub mod Run
 pub mod Shell
-pub mod Steps
-pub mod Words

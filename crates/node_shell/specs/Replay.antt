@@ -7,12 +7,16 @@ use Rattle.undo_journal.specs.Timeline.{here, opened, cut_to, cut_stations, repo
 use Rattle.undo_journal.specs.History.{Live, Runs, Makes, FoldsTo}
 use Rattle.line_server.specs.Lines.{heard}
 use Rattle.line_server.specs.Session.{Answered}
-use Rattle.node_shell.specs.declared.event.Event.{Event}
-use Rattle.node_shell.specs.declared.fate.Fate.{Fate}
-use Rattle.node_shell.specs.Answers.{line_of, undone_steps}
-use Rattle.node_shell.specs.Node.{Node, IsOutcome}
-use Rattle.node_shell.specs.Request.{asks, spoken, undo}
-use Rattle.node_shell.specs.Shell.{NodeTimeline, ShellState, Deed, Does, turn_of}
+use Rattle.node_core.specs.Node.{NodeState}
+use Rattle.node_core.specs.Step.{Step}
+use Rattle.node_core.specs.declared.event.Event.{Event}
+use Rattle.shell_answers.specs.Answers.{line_of, stopped_undo, undone_steps}
+use Rattle.shell_requests.specs.Request.{asks, spoken, undo}
+use Rattle.shell_deeds.specs.Deeds.{Does}
+use Rattle.shell_deeds.specs.State.{Deed, NodeTimeline, ShellState}
+use Rattle.shell_deeds.specs.declared.fate.Fate.{Fate}
+use Rattle.shell_deeds.specs.declared.fate.Fate.TheVariants.{StoppedAt}
+use Rattle.node_shell.specs.Shell.{turn_of}
 
 -- A line that was obeyed, what became of it for want of memory, and what it did.
 pub record Obeyed : Type 0 where
@@ -44,11 +48,11 @@ timeline_behind s obeyed = (shell_behind s obeyed).timeline
 -- A journal that began at a node, and came to a timeline by commands: they lead there, the stations behind the first
 -- are those that the live steps make, and its node is the fold of the rule over them. Commands lead to one timeline at
 -- most, with one list of live steps.
-pub record IsReplayed (node : Node) (commands : List (Command Event)) (end : NodeTimeline) : Type 0 where
+pub record IsReplayed (node : NodeState) (commands : List (Command Event)) (end : NodeTimeline) : Type 0 where
   pub live : List (Live Event)
-  pub runs : Runs IsOutcome commands (opened node) [] end live
-  pub stations : Makes IsOutcome node live end.later
-  pub fold : FoldsTo IsOutcome node live (here end).node
+  pub runs : Runs Step commands (opened node) [] end live
+  pub stations : Makes Step node live end.later
+  pub fold : FoldsTo Step node live (here end).node
 
 -- A mark that was given before the one timeline, and is alive in the other, which is behind it, names there the node
 -- that it named; so a dead mark stays dead.
@@ -63,14 +67,31 @@ pub record Undoes (before : NodeTimeline) (done : Deed) (mark : ℕ) (end : Node
   pub node : node_at mark before ≡ Some (here end).node
   pub answer : done.text ≡ line_of (undone_steps (report_of (cut_stations before end)))
 
--- The headline, of lines that a shell over a node obeyed: behind each front of them the journal is where the commands
--- lead that the front carried out, with its node the fold of the steps that are not undone; marks name the nodes that
--- they named; and an undo at which no memory was refused gives its mark's node, and reports what was cut.
-pub record IsHeadline (node : Node) (start : ShellState) (obeyed : List Obeyed) : Type 0 where
+-- An undo that was stopped for want of memory: it leads to the cut of a living mark from its own on, whose node it gives, and answers the
+-- report of the stations that it cut.
+pub record Stops (before : NodeTimeline) (done : Deed) (mark reached : ℕ) : Type 0 where
+  pub behind : mark ≤ reached
+  pub leads : cut_to reached before ≡ Some done.after.timeline
+  pub node : node_at reached before ≡ Some (here done.after.timeline).node
+  pub answer : done.text ≡ line_of (stopped_undo reached (report_of (cut_stations before done.after.timeline)))
+
+-- The mark that is given at a timeline names the node there.
+abbrev pub IsNamed : NodeTimeline → Type 0
+IsNamed t = node_at (here t).serial t ≡ Some (here t).node
+
+-- The headline, of lines that a shell over a node obeyed: behind each front of them the journal is where the commands lead that the front
+-- carried out, with its node the fold of the steps that are not undone; a mark names the node at which it is given, and whatever it named
+-- while it is alive; an undo at which no memory was refused gives its mark's node, and reports what was cut; and one that was stopped
+-- gives the node of the mark that it tells, and reports what it cut.
+pub record IsHeadline (node : NodeState) (start : ShellState) (obeyed : List Obeyed) : Type 0 where
   pub replayed : (front others : List Obeyed) → obeyed ≡ front ++ others
       → IsReplayed node (commands_in front) (timeline_behind start front)
+  pub given : (front others : List Obeyed) → obeyed ≡ front ++ others → IsNamed (timeline_behind start front)
   pub marks : (front more others : List Obeyed) → obeyed ≡ (front ++ more) ++ others
       → MarksName (timeline_behind start front) (timeline_behind start (front ++ more))
   pub undos : (front others : List Obeyed) (o : Obeyed) (mark : ℕ) (end : NodeTimeline) → obeyed ≡ front ++ o ∷ others
       → o.fate ≡ None → spoken (heard o.line) ≡ asks (undo mark) → cut_to mark (timeline_behind start front) ≡ Some end
       → Undoes (timeline_behind start front) o.deed mark end
+  pub stops : (front others : List Obeyed) (o : Obeyed) (mark reached : ℕ) → obeyed ≡ front ++ o ∷ others
+      → o.fate ≡ Some (StoppedAt reached) → spoken (heard o.line) ≡ asks (undo mark)
+      → Stops (timeline_behind start front) o.deed mark reached

@@ -1,27 +1,27 @@
-//! The shell over the node: commands, one a line, and their answers.
+//! The shell over the node: a release boots, and commands, one a line, are answered.
 //!
-//! [`run`] serves the lines of a reader to a node over [`Files`], and writes the answers. Its contract carries the
-//! headline: behind each front of the lines that were answered, the journal is where the commands lead that they
-//! carried out, and its node the fold of the node's rule over the steps that are not undone; an undo gives its mark's
-//! node, and reports what it cut.
+//! [`run`] boots a release of [`Files`], serves the lines of a reader to its node, and writes the answers. Its contract carries the
+//! headline: behind each front of the lines that were answered, the journal is where the commands lead that they carried out, and its
+//! node the fold of the node's rule over the steps that are not undone; an undo gives its mark's node, and reports what it cut.
 //!
-//! A line is read as a `Request` (`request`, `words`), a request becomes a deed of what the shell holds (`deeds`, `holdings`),
-//! and the node's own rule is `node`'s. The words of the commands and of their answers are `specs/Request` and `specs/Answers`.
+//! What a line does is `shell_deeds`'; how it is read is `shell_requests`', and how answers are written `shell_answers`'. Here its deeds
+//! are the turns of a session ([`line_server`]), and what is said of the journal is said of the lines of a run.
+//!
+//! # What is proved
+//!
+//! - [`run`], `ran`: a run that has started is the one of the rules (`Runs`), and its headline holds (`IsHeadline`).
+//! - [`run`], `whole`: one without fault or want of memory obeyed all lines of the input, and wrote their text (`RunsWhole`).
+//! - [`run`], `failed`: why nothing has started (`StartFails`). Nothing was read and nothing written then.
+//!
+//! # What no contract says
+//!
+//! That there is memory, and when answers are written: see [`line_server`].
 #![tactic(auto)]
 
-mod answers;
-mod deeds;
-mod event;
-mod fate;
-mod files;
-mod holdings;
-mod name;
-mod node;
-mod request;
+mod fault;
 mod running;
 mod shell;
-mod words;
 
-pub use event::Code;
-pub use files::Files;
+pub use fault::StartFault;
+pub use release_files::Files;
 pub use running::run;

@@ -1,43 +1,66 @@
 // From the bytes of commands to the bytes of answers.
-ghost use Rattle.std.specs.Prelude.{◌≡◌, ℕ, List, None, Some, false};
-ghost use Rattle.node_shell.specs.Run.{Runs, RunsWhole};
+ghost use Rattle.std.specs.Prelude.{◌≡◌, ℕ, List, IfErr, IfOk, None, Some, false};
+ghost use Rattle.node_shell.specs.Run.{Runs, RunsWhole, StartFails, Starts};
+ghost use Rattle.shell_deeds.specs.State.{opened_shell};
 
-use crate::files::Files;
+use crate::fault::StartFault;
 use crate::shell::Shell;
-use line_server::{Ended, Fault, serve};
+use line_server::{Ended, serve};
+use node_core::Node;
+use release_files::{Files, read_release};
 use std::alloc::Global;
 use std::hash::RandomState;
 use std::io::{Read, Write};
 
-/// Reads commands, one a line, and writes their answers.
+/// The node of the release of a version that files say.
+fn boot(alloc: Global, hashing: RandomState, files: &Files, vsn: &str) -> Result<Node, StartFault>
+    ensures started { IfOk result (λ node. Starts files.now vsn.now node) }
+    ensures failed { IfErr result (λ fault. StartFails fault files.now vsn.now) }
+{
+    let release = match read_release(alloc, files, vsn) {
+        Ok(release) => release,
+        Err(fault) => return Err(StartFault::OfFiles(fault)),
+    };
+    match Node::boot(alloc, hashing, &release) {
+        Ok(node) => Ok(node),
+        Err(error) => Err(StartFault::OfBoot(error)),
+    }
+}
+
+/// Boots the release of a version that files say, reads commands, one a line, and writes their answers.
 ///
-/// The node begins without modules, whatever version is asked for. Names of modules are hashed by `hashing`.
+/// Names are hashed by `hashing`.
 ///
-/// The fault of the end, if there is one, says what was written: after a fault of the reader the answers of
-/// the lines that a newline ended; after a fault of the writer, and where no memory was left to answer with, a
-/// front of the answers.
+/// The fault of the end, if there is one, says what was written: after a fault of the reader the answers of the lines that a newline
+/// ended; after a fault of the writer, and where no memory was left to answer with, a front of the answers.
+///
+/// # Errors
+///
+/// Why no node has started: `OfFiles` with the first fault of the release's files, `OfBoot` with why it doesn't boot, and want of memory,
+/// which may hide another fault. Nothing was read then, and nothing written.
 pub fn run<R: Read, W: Write>(
     alloc: Global,
     hashing: RandomState,
     files: Files,
-    _vsn: &str,
+    vsn: &str,
     reader: &mut R,
     writer: &mut W,
-) -> Ended
-    ensures ran { Runs files (R.remaining reader.old) (R.remaining reader.new)
-        (W.contents writer.old) (W.contents writer.new) result }
+) -> Result<Ended, StartFault>
+    ensures ran { IfOk result (Runs files vsn.now (R.remaining reader.old) (R.remaining reader.new)
+        (W.contents writer.old) (W.contents writer.new)) }
 
-    // Where reader and writer tell their bytes, no fault came and no memory was refused: all that the reader had
-    // was read, and the text of its lines was written behind what the writer held.
-    ensures whole { (input before : List ℕ) → R.remaining reader.old ≡ Some input → W.contents writer.old ≡ Some before
-        → result.fault ≡ None → result.is_refused ≡ false
-        → RunsWhole files input before (W.contents writer.new) }
+    // Where reader and writer tell their bytes, no fault came and no memory was refused: all that the reader had was read, and the text
+    // of its lines was written behind what the writer held.
+    ensures whole { IfOk result (λ ended. (input before : List ℕ) → R.remaining reader.old ≡ Some input → W.contents writer.old ≡ Some before
+        → ended.fault ≡ None → ended.is_refused ≡ false
+        → RunsWhole files vsn.now input before (W.contents writer.new)) }
+
+    ensures failed { IfErr result (λ fault. StartFails fault files vsn.now) }
+    ensures unread { IfErr result (λ fault. (R.remaining reader.new ≡ R.remaining reader.old) × (W.contents writer.new ≡ W.contents writer.old)) }
 {
-    let Ok(mut shell) = Shell::new(alloc, hashing, files) else {
-        return Ended {
-            fault: Some(Fault::Memory),
-            is_refused: false,
-        };
+    let node = boot(alloc, hashing, &files, vsn)?;
+    let Ok(mut shell) = Shell::new(alloc, hashing, files, node) else {
+        return Err(StartFault::NoMemory);
     };
-    serve(alloc, &mut shell, reader, writer)
+    Ok(serve(alloc, &mut shell, reader, writer))
 }

@@ -1,13 +1,12 @@
 // The shell: a session over what it holds.
 ghost use Rattle.std.specs.Prelude.{◌≡◌, IfOk};
-ghost use Rattle.node_shell.specs.Shell.{shell_turn, opened_shell};
+ghost use Rattle.node_shell.specs.Shell.{shell_turn};
+ghost use Rattle.shell_deeds.specs.State.{opened_shell};
 
-use crate::answers::Fixed;
-use crate::fate::Fate;
-use crate::files::Files;
-use crate::holdings::Holdings;
-use crate::request::read_line;
 use line_server::Session;
+use node_core::Node;
+use release_files::Files;
+use shell_deeds::{Fate, Holdings};
 use std::alloc::{AllocError, Global};
 use std::hash::RandomState;
 use std::marker::Model;
@@ -20,23 +19,33 @@ pub struct Shell {
 }
 
 impl Model for Shell {
-    ghost use Rattle.node_shell.specs.Shell.{ShellState};
+    ghost use Rattle.std.specs.Coded.{codes};
+    ghost use Rattle.erl_term.specs.contracts.term.Terms as terms;
+    ghost use Rattle.erl_forms.specs.contracts.module.Module as forms;
+    ghost use Rattle.shell_deeds.specs.State.{ShellState};
 
     ghost Value = { ShellState };
+
+    ghost coded = { Prim.hlevel (codes, terms.the_row.coded, forms.the_row.coded) };
 
     ghost view = { λ s. s.held };
 }
 
 impl Shell {
-    /// A shell over a node without modules, whose names will be hashed by `hashing`.
+    /// A shell over a node that has booted from files. The names of modules that are loaded are hashed by `hashing`.
     ///
     /// # Errors
     ///
     /// `AllocError` where memory is refused.
-    pub fn new(alloc: Global, hashing: RandomState, files: Files) -> Result<Shell, AllocError>
-        ensures { IfOk result (λ shell. shell ≡ opened_shell files) }
+    pub fn new(
+        alloc: Global,
+        hashing: RandomState,
+        files: Files,
+        node: Node,
+    ) -> Result<Shell, AllocError>
+        ensures { IfOk result (λ shell. shell ≡ opened_shell files node) }
     {
-        let held = Holdings::new(alloc, hashing, files)?;
+        let held = Holdings::new(alloc, hashing, files, node)?;
         Ok(Shell {
             held,
             answer: Vec::new(alloc),
@@ -51,15 +60,15 @@ impl Session for Shell {
 
     fn line(&mut self, line: &[u8], out: &mut Vec<u8>) -> Result<Option<Fate>, AllocError> {
         self.answer.clear();
-        let fate = self.held.answer(read_line(line), &mut self.answer)?;
+        let fate = self.held.obey(Some(line), &mut self.answer)?;
         out.extend_from_slice(self.answer.as_slice())?;
         Ok(fate)
     }
 
     fn too_long(&mut self, out: &mut Vec<u8>) -> Result<Option<Fate>, AllocError> {
         self.answer.clear();
-        Fixed::LineTooLong.write(&mut self.answer)?;
+        let fate = self.held.obey(None, &mut self.answer)?;
         out.extend_from_slice(self.answer.as_slice())?;
-        Ok(None)
+        Ok(fate)
     }
 }

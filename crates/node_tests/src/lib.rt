@@ -2,12 +2,17 @@
 //!
 //! They see that calls succeed, what loads, deletes and purges do to a table of modules, by Erlang's rules, and that each is
 //! taken back (`code`), what is written for lines that are read and written in pieces, and which fault is told
-//! (`lines`), and what the shell's commands are answered, by their manual page (`commands`).
+//! (`lines`), and what the shell's commands are answered, by their manual page and the rules of the node (`commands`; its tables stand in
+//! the other files, and its releases in `tree`).
 //!
 //! Most cases are lines of tables: what is done, an arrow, and what is wanted. The values that are wanted come from the rules,
 //! and never from what the program answers.
 #![tactic(auto)]
 
+#[cfg(test)]
+mod boots;
+#[cfg(test)]
+mod calls;
 #[cfg(test)]
 mod cases;
 #[cfg(test)]
@@ -15,8 +20,28 @@ mod code;
 #[cfg(test)]
 mod commands;
 #[cfg(test)]
+mod kills;
+#[cfg(test)]
 mod lines;
+#[cfg(test)]
+mod loads;
+#[cfg(test)]
+mod manual;
+#[cfg(test)]
+mod memory;
+#[cfg(test)]
+mod revivals;
+#[cfg(test)]
+mod sessions;
 #[cfg(test)]
 mod streams;
 #[cfg(test)]
+mod terms;
+#[cfg(test)]
+mod tree;
+#[cfg(test)]
+mod undos;
+#[cfg(test)]
 mod ways;
+#[cfg(test)]
+mod words;

@@ -3,22 +3,23 @@ use Rattle.std.specs.Prelude.{◌≡◌, ℕ, List, Option, None, Some, Result, 
 use Rattle.line_server.specs.declared.ended.Ended.{Ended}
 use Rattle.line_server.specs.declared.ended.Fault.{Fault as CommandsFault}
 use Rattle.relnode.specs.declared.ending.Fault.{Fault}
-use Rattle.relnode.specs.declared.ending.Fault.TheVariants.{CommandLine, NoRandomBytes, Files, Commands, Output}
+use Rattle.relnode.specs.declared.ending.Fault.TheVariants.{CommandLine, NoRandomBytes, Files, Start, Commands, Output}
 use Rattle.relnode.specs.declared.options.OptionsError.{OptionsError}
 use Rattle.relnode.specs.declared.options.OptionsError.TheVariants.{Words, NotUtf8, Unread, Memory}
-use Rattle.node_shell.specs.Files.{Contents}
-use Rattle.node_shell.specs.Run.{Runs}
+use Rattle.release_files.specs.Files.{Contents}
+use Rattle.node_shell.specs.Run.{Runs, StartFails}
+use Rattle.node_shell.specs.declared.fault.StartFault.{StartFault}
 
 -- the end of the program that the end of its run is
 abbrev pub end_by : Option CommandsFault → Result (Unit {0}) Fault
 end_by None = Ok tt
 end_by (Some fault) = Err (Commands fault)
 
--- A run over files ended the program so.
-pub record EndsSo (files : Contents) (left rest held holds : Option (List ℕ)) (end : Result (Unit {0}) Fault) : Type 0 where
-  pub ended : Ended
-  pub ran : Runs files left rest held holds ended
-  pub ends : end ≡ end_by ended.fault
+-- A run over files ended the program so; or it ends before anything is read or written, for no node has started.
+pub data EndsSo (files : Contents) (vsn : List ℕ) (left rest held holds : Option (List ℕ)) (end : Result (Unit {0}) Fault) : Type 0 where
+  ran : (ended : Ended) → Runs files vsn left rest held holds ended → end ≡ end_by ended.fault → EndsSo files vsn left rest held holds end
+  not_started : (fault : StartFault) → StartFails fault files vsn → rest ≡ left → holds ≡ held → end ≡ Err (Start fault) →
+      EndsSo files vsn left rest held holds end
 
 -- the status of a command line that is bad, or that could not be read
 abbrev pub status_of_words : OptionsError → ℕ
@@ -33,5 +34,6 @@ status_of (Ok u) = 0
 status_of (Err (CommandLine error)) = status_of_words error
 status_of (Err (NoRandomBytes error)) = 1
 status_of (Err (Files error)) = 1
+status_of (Err (Start fault)) = 1
 status_of (Err (Commands fault)) = 1
 status_of (Err (Output error)) = 1

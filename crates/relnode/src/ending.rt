@@ -1,16 +1,18 @@
 // How the program ends.
 ghost use Rattle.std.specs.Prelude.{◌≡◌};
 ghost use Rattle.std.specs.Process.{exit_status};
-ghost use Rattle.relnode.specs.Ending.{EndsSo, status_of, status_of_words};
+ghost use Rattle.relnode.specs.Ending.{EndsSo, end_by, status_of, status_of_words};
 
 use crate::options::OptionsError;
 use crate::tree::TreeError;
-use node_shell::{Files, run};
-use std::alloc::Global;
+use erl_term::{Atom, Term, print};
+use node_shell::{Files, StartFault, run};
+use release_boot::BootError;
+use std::alloc::{AllocError, Global};
 use std::hash::RandomState;
-use std::io;
 use std::io::{Read, Write};
 use std::process::ExitCode;
+use std::{io, str};
 use thiserror::Error;
 
 /// Why the program ends with a status other than 0.
@@ -25,6 +27,9 @@ pub enum Fault {
     /// The files cannot be read.
     #[error(transparent)]
     Files(#[from] TreeError),
+    /// No node has started.
+    #[error("{0}")]
+    Start(StartFault),
     /// The commands could not all be read, or their answers not all be written.
     #[error(transparent)]
     Commands(#[from] line_server::Fault),
@@ -33,11 +38,11 @@ pub enum Fault {
     Output(#[from] io::Error),
 }
 
-/// Runs the commands of a reader over files, and ends as the run ended.
+/// Runs the commands of a reader over a release of files, and ends as the run ended.
 ///
 /// # Errors
 ///
-/// `Commands` with the fault of the run, where it had one.
+/// `Start` with why no node has started; `Commands` with the fault of the run, where it had one.
 pub fn run_to_end<R: Read, W: Write>(
     alloc: Global,
     hashing: RandomState,
@@ -46,14 +51,45 @@ pub fn run_to_end<R: Read, W: Write>(
     reader: &mut R,
     writer: &mut W,
 ) -> Result<(), Fault>
-    ensures { EndsSo files (R.remaining reader.old) (R.remaining reader.new)
+    ensures { EndsSo files vsn.now (R.remaining reader.old) (R.remaining reader.new)
         (W.contents writer.old) (W.contents writer.new) result }
 {
-    let ended = run(alloc, hashing, files, vsn, reader, writer);
-    match ended.fault {
+    match run(alloc, hashing, files, vsn, reader, writer) {
+        Ok(ended) => end_by(ended.fault),
+        Err(fault) => Err(Fault::Start(fault)),
+    }
+}
+
+/// The end of the program that a fault of its run makes, if there is one.
+fn end_by(fault: Option<line_server::Fault>) -> Result<(), Fault>
+    ensures { result ≡ end_by fault }
+{
+    match fault {
         None => Ok(()),
         Some(fault) => Err(Fault::Commands(fault)),
     }
+}
+
+/// What stands behind the program's name in the line of a fault: of an application that doesn't start its name, and why.
+///
+/// # Errors
+///
+/// `AllocError` where memory is refused.
+pub fn line_of(alloc: Global, fault: &Fault) -> Result<String, AllocError> {
+    match fault {
+        Fault::Start(StartFault::OfBoot(BootError::NotStarted { app, reason })) => {
+            not_started(alloc, app, reason)
+        }
+        _ => format!(in alloc; "{fault}"),
+    }
+}
+
+/// That an application doesn't start, and why.
+fn not_started(alloc: Global, app: &Atom, reason: &Term) -> Result<String, AllocError> {
+    let mut shown = Vec::new(alloc);
+    print(reason, &mut shown)?;
+    let shown = str::from_utf8(shown.as_slice()).unwrap_or("");
+    format!(in alloc; "{} doesn't start: {shown}", app.as_str())
 }
 
 /// The exit code of the program: 0 at the end of the input, 2 after a bad command line, and else 1.
@@ -70,7 +106,13 @@ fn status(end: &Result<(), Fault>) -> u8
     match end {
         Ok(()) => 0,
         Err(Fault::CommandLine(fault)) => status_of_words(fault),
-        Err(Fault::NoRandomBytes(_) | Fault::Files(_) | Fault::Commands(_) | Fault::Output(_)) => 1,
+        Err(
+            Fault::NoRandomBytes(_)
+            | Fault::Files(_)
+            | Fault::Start(_)
+            | Fault::Commands(_)
+            | Fault::Output(_),
+        ) => 1,
     }
 }
 

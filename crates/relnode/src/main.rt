@@ -1,7 +1,7 @@
 //! An Erlang/OTP node whose release commands can be undone, as a program.
 //!
-//! `relnode ROOT VSN` reads the files below ROOT, and then commands from its standard input, one a line; the
-//! answers go to its standard output. docs/COMMANDS.md is the manual page of the commands.
+//! `relnode ROOT VSN` reads the files below ROOT, boots the release of version VSN, and then reads commands from its standard
+//! input, one a line; the answers go to its standard output. docs/COMMANDS.md is the manual page of the commands.
 //!
 //! What is proved of it is the contract of [`node_shell::run`], that the program ends as the run ended ([`ending::run_to_end`]), and
 //! the status of each end ([`ending::exit_code`]). The rest of this file, the command line and the reading of the files
@@ -12,7 +12,7 @@ mod ending;
 mod options;
 mod tree;
 
-use ending::{Fault, exit_code, run_to_end};
+use ending::{Fault, exit_code, line_of, run_to_end};
 use options::{Invocation, Options};
 use std::hash::RandomState;
 use std::io;
@@ -21,7 +21,7 @@ use std::random::RandomSource;
 use std::rt::Runtime;
 
 /// Does what the command line asks for, and finds faults in this order: the command line, the files, the
-/// commands.
+/// boot, the commands.
 fn start<R: Runtime + RandomSource + AllocGlobal>(rt: &R) -> Result<(), Fault> {
     match options::read_invocation(rt)? {
         Invocation::Show(text) => Ok(rt.print(text)?),
@@ -29,7 +29,7 @@ fn start<R: Runtime + RandomSource + AllocGlobal>(rt: &R) -> Result<(), Fault> {
     }
 }
 
-/// Runs the commands of the standard input over the files below the root.
+/// Boots the release, and runs the commands of the standard input.
 fn obey<R: Runtime + RandomSource + AllocGlobal>(rt: &R, options: &Options) -> Result<(), Fault> {
     let hashing = RandomState::new(rt).map_err(Fault::NoRandomBytes)?;
     let files = tree::read_tree(rt, hashing, options.root.as_str())?;
@@ -50,7 +50,10 @@ fn main(rt: HostRuntime) -> ExitCode {
     let end = start(&rt);
     if let Err(fault) = &end {
         // Where standard error cannot be written, the status alone tells of the fault.
-        let _ = eprintln!(rt; "relnode: {fault}");
+        let _ = match line_of(rt.alloc(), fault) {
+            Ok(line) => eprintln!(rt; "relnode: {line}"),
+            Err(_) => eprintln!(rt; "relnode: {fault}"),
+        };
     }
     exit_code(&end)
 }

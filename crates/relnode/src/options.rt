@@ -12,20 +12,31 @@ const NAME: &str = "relnode";
 const VERSION: &str = "0.1.0";
 
 const ABOUT: &str =
-    "An Erlang/OTP node whose release commands can be undone: loads, deletes and purges modules, sets marks, and goes back to any mark";
+    "An Erlang/OTP node whose steps can be undone: boots a release, serves its processes by commands, sets marks, and goes back to any mark";
 
 const ROOT_HELP: &str = "The folder of the node's files; all files below it are read at the start";
 
 const VSN_HELP: &str = "The version of the release that the node boots";
 
-const AFTER_HELP: &str = "Examples:
-  relnode /srv/node 1.0
-  relnode ./tree Z < commands.txt > answers.txt
-  printf 'load m a/m.erl\\nmodules\\nundo 0\\n' | relnode ./tree Z
+const AFTER_HELP: &str =
+    "A session (< is a command, > its answer), on the tree data/tree of the sources:
+  $ relnode data/tree A
+  < call ctr bump
+  > {call,1}
+  < take ctr
+  > {job,1,<0.1.0>}
+  < commit 1
+  > {committed,[{reply,0,1,5}]}
+  < mark
+  > {mark,3}
+  < undo 0
+  > {undone,3,[{reply,0,1,5}],[{ctr,{'$gen_call',{<0.0.0>,1},bump}}]}
+  < proc ctr
+  > {proc,<0.1.0>,{server,ctr,4},idle,0,[]}
 
 The program reads a command a line from its standard input, and docs/COMMANDS.md describes
 the commands. Its status is 0 at the end of the input, 1 after a fault of the files, of the
-input or of the output, and 2 after a bad command line.";
+boot, of the input or of the output, and 2 after a bad command line.";
 
 /// The longest word that is looked at when a word that is not UTF-8 is sought; the system passes none
 /// that is longer.

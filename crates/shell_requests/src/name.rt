@@ -28,6 +28,13 @@ impl<'a> Name<'a> {
         Some(Name { text: word })
     }
 
+    /// The word.
+    pub fn as_str(self) -> &'a str
+        ensures { result.now ≡ self.entry.text.now }
+    {
+        self.text
+    }
+
     /// The atom of the name.
     ///
     /// # Errors

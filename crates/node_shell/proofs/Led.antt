@@ -1,0 +1,153 @@
+-- Whatever the shell does of a line, the line's command leads to the journal after it.
+use Rattle.std.proofs.Common.{◌≡◌, ℕ, List, Option, None, Some, Ok, option_map, option_to_list, unwrap_or, refl, sym, ap, subst}
+use Rattle.erl_term.specs.Tree.{Tree}
+use Rattle.erl_term.specs.declared.term.Term.TheVariants as term
+use Rattle.erl_machine.specs.declared.jobs.Job.{Job}
+use Rattle.process_store.specs.Table.{living}
+use Rattle.undo_journal.specs.History.{AreAfter}
+use Rattle.undo_journal.specs.Reversible.{Accepted}
+use Rattle.undo_journal.specs.Timeline.{appended, cut_stations, cut_to, here, report_of}
+use Rattle.undo_journal.specs.declared.history.Command.TheVariants as command
+use Rattle.node_core.specs.Node.{NodeState}
+use Rattle.node_core.specs.Step.{Step}
+use Rattle.node_core.specs.declared.event.Answer.{Answer}
+use Rattle.node_core.specs.declared.event.Answer.TheVariants as tells
+use Rattle.node_core.specs.declared.event.Event.{Event}
+use Rattle.node_core.specs.declared.event.Event.TheVariants as event
+use Rattle.node_core.specs.declared.event.Note.{Note}
+use Rattle.shell_requests.specs.Request.{Request, Spoken, ask, change, load, undo, commit, arrive, serve, revive, too_long, silent, unknown, asks}
+use Rattle.shell_requests.specs.declared.request.Arrival.{Arrival}
+use Rattle.shell_requests.specs.declared.request.Arrival.TheVariants as arrivals
+use Rattle.shell_requests.specs.declared.request.Service.{Service}
+use Rattle.shell_requests.specs.declared.request.Service.TheVariants as services
+use Rattle.shell_deeds.specs.Deeds as deeds
+use Rattle.shell_answers.specs.Answers.{fixed, stopped_undo, undone_steps}
+use Rattle.shell_answers.specs.declared.fixed.Fixed.TheVariants as words
+use Rattle.shell_deeds.specs.State as state
+use Rattle.shell_deeds.specs.State.{Deed, NodeTimeline, ShellState, answered, next_number, node_of, stepped}
+use Rattle.shell_deeds.specs.declared.fate.Fate.{Fate}
+use Rattle.shell_deeds.specs.declared.fate.Fate.TheVariants.{StoppedAt}
+use Rattle.node_shell.specs.Replay.{Stops}
+
+-- the command of a deed leads to the journal after it
+abbrev pub IsLed : ShellState → Deed → Type 0
+IsLed s d = AreAfter Step (option_to_list d.command) s.timeline d.after.timeline
+
+module _ (s : ShellState) where
+  performs : (tried : ShellState) (e : Event) (done : Accepted NodeState Answer Note → Deed) (fate : Option Fate) (d : Deed) → tried.timeline ≡ s.timeline → ((a : Accepted NodeState Answer Note) → Step (node_of s) e (Ok a) → IsLed s (done a)) → deeds.Performs s tried e done fate d → IsLed s d
+  performs tried e done _ _ same each (deeds.full is) = same
+  performs tried e done _ _ same each (deeds.accepted room a rule) = each a rule
+  performs tried e done _ _ same each (deeds.refused room why rule) = same
+  performs tried e done _ _ same each (deeds.no_memory room may) = refl
+
+  misses : {X : Type 0} (e : X → Event) (fate : Option Fate) (d : Deed) → deeds.Misses s e fate d → IsLed s d
+  misses e _ _ (deeds.unread_full is) = refl
+  misses e _ _ (deeds.unread_refused room why rule) = refl
+  misses e _ _ (deeds.no_memory_to_read room may) = refl
+
+  carried : (e : Event) (a : Accepted NodeState Answer Note) → Step (node_of s) e (Ok a) → AreAfter Step (option_to_list (Some (command.Perform e))) s.timeline (appended s.timeline a.node a.note)
+  carried e a rule = (appended s.timeline a.node a.note, (Ok a, rule, refl), refl)
+
+  took : (pid : ℕ) (a : Accepted NodeState Answer Note) (told : Answer) → Step (node_of s) (event.Take pid) (Ok a) → IsLed s (deeds.took (stepped a s) pid told)
+  took pid a (tells.Job job) rule = carried (event.Take pid) a rule
+  took pid a (tells.Revived n) rule = carried (event.Take pid) a rule
+  took pid a (tells.Killed b) rule = carried (event.Take pid) a rule
+  took pid a tells.Unit rule = carried (event.Take pid) a rule
+
+  loads : (name path : List ℕ) (fate : Option Fate) (d : Deed) → deeds.Loads s name path fate d → IsLed s d
+  loads name path _ _ (deeds.missing is) = refl
+  loads name path _ _ (deeds.no_source bytes why found kind says none) = refl
+  loads name path _ _ (deeds.another bytes m found source other) = refl
+  loads name path _ _ (deeds.read bytes m fate d found source same does) =
+      performs s (event.Load m) _ fate d refl (carried (event.Load m)) does
+  loads name path _ _ (deeds.unread bytes fate d found does) = misses event.Load fate d does
+
+  tried_same : (kind : Arrival) → (deeds.tried kind s).timeline ≡ s.timeline
+  tried_same arrivals.Call = refl
+  tried_same arrivals.Cast = refl
+  tried_same arrivals.Info = refl
+
+  arrived : (kind : Arrival) (e : Event) (answer : Tree) (a : Accepted NodeState Answer Note) → Step (node_of s) e (Ok a) → IsLed s (state.carried (stepped a (deeds.tried kind s)) e answer)
+  arrived arrivals.Call e answer a rule = carried e a rule
+  arrived arrivals.Cast e answer a rule = carried e a rule
+  arrived arrivals.Info e answer a rule = carried e a rule
+
+  arrives : (kind : Arrival) (name text : List ℕ) (fate : Option Fate) (d : Deed) → deeds.Arrives s kind name text fate d → IsLed s d
+  arrives kind name text _ _ (deeds.no_text fault at is) = refl
+  arrives kind name text _ _ (deeds.several is) = refl
+  arrives kind name text _ _ (deeds.read t fate d is does) =
+      let e = deeds.arrival_event s kind name t in
+      let answer = deeds.arrival_answer kind (next_number s) in
+      performs (deeds.tried kind s) e (λ a. state.carried (stepped a (deeds.tried kind s)) e answer) fate d (tried_same kind) (arrived kind e answer) does
+  arrives kind name text _ _ (deeds.unread fate d does) = misses _ fate d does
+
+  retakes : (pid : ℕ) (fate : Option Fate) (d : Deed) → deeds.Retakes s pid fate d → IsLed s d
+  retakes pid _ _ (deeds.kept_again job is) = refl
+  retakes pid _ _ (deeds.not_running why is) = refl
+  retakes pid _ _ (deeds.no_memory_to_keep is) = refl
+
+  told : (answer : Tree) (fate : Option Fate) (d : Deed) → (fate ≡ None) × (d ≡ answered s answer) → IsLed s d
+  told answer fate d is = subst (λ e. IsLed s e) (sym is.1) refl
+
+  serves : (service : Service) (pid : Option ℕ) (fate : Option Fate) (d : Deed) → deeds.ServesAs s service pid fate d → IsLed s d
+  serves services.Take None fate d does = told (fixed words.NoProc) fate d does
+  serves services.Retake None fate d does = told (fixed words.NoProc) fate d does
+  serves services.Show None fate d does = told (fixed words.NoProc) fate d does
+  serves services.Take (Some pid) fate d does = performs s (event.Take pid) _ fate d refl (λ a rule. took pid a a.answer rule) does
+  serves services.Retake (Some pid) fate d does = retakes pid fate d does
+  serves services.Show (Some pid) fate d does = told (deeds.shown (living pid (node_of s).processes)) fate d does
+
+  commits : (job : Option Job) (fate : Option Fate) (d : Deed) → deeds.CommitsKept s job fate d → IsLed s d
+  commits None fate d does = told (fixed words.NoJob) fate d does
+  commits (Some job) _ _ (deeds.ran done fate d is does) = performs s (event.Commit done) _ fate d refl (carried (event.Commit done)) does
+  commits (Some job) _ _ (deeds.not_run_full is) = refl
+  commits (Some job) _ _ (deeds.not_run room why refuses) = refl
+  commits (Some job) _ _ (deeds.no_memory_to_run room may) = refl
+
+  undoes : (mark : ℕ) (fate : Option Fate) (d : Deed) → deeds.Undoes s mark fate d → IsLed s d
+  undoes mark _ _ (deeds.dead is) = refl
+  undoes mark _ _ (deeds.cut end is) = (end, ap (λ o. unwrap_or o s.timeline) (sym is), refl)
+  undoes mark _ _ (deeds.stopped reached end alive behind is uncut) = (end, ap (λ o. unwrap_or o s.timeline) (sym is), refl)
+
+  obeys : (fate : Option Fate) (request : Request) (d : Deed) → deeds.Obeys fate s request d → IsLed s d
+  obeys fate (ask question) d does = told (deeds.told s question) fate d does
+  obeys fate (change kind name) d does = performs s (deeds.change_event kind name) _ fate d refl (carried (deeds.change_event kind name)) does
+  obeys fate (load name path) d does = loads name path fate d does
+  obeys fate (undo mark) d does = undoes mark fate d does
+  obeys fate (commit place) d does = commits (deeds.kept_job place s.jobs) fate d does
+  obeys fate (arrive kind name text) d does = arrives kind name text fate d does
+  obeys fate (serve service who) d does = serves service (deeds.pid_meant who (node_of s)) fate d does
+  obeys fate (revive app id) d does = performs s (event.Revive app (term.Atom id)) _ fate d refl (carried (event.Revive app (term.Atom id))) does
+
+-- what may be done of what is said in a line
+pub Does-led : (fate : Option Fate) (s : ShellState) (line : Spoken) (d : Deed) → deeds.Does fate s line d → IsLed s d
+Does-led fate s too_long d does = told s (fixed words.LineTooLong) fate d does
+Does-led fate s silent d does = subst (λ e. IsLed s e) (sym does.1) refl
+Does-led fate s unknown d does = told s (fixed words.BadCommand) fate d does
+Does-led fate s (asks request) d does = obeys s fate request d does
+
+-- An undo at which no memory was refused cuts what it should.
+
+undo-cuts : (s : ShellState) (mark : ℕ) (end : NodeTimeline) (fate : Option Fate) (d : Deed) → fate ≡ None → cut_to mark s.timeline ≡ Some end → deeds.Undoes s mark fate d → d ≡ deeds.undone_to s mark end (undone_steps (report_of (cut_stations s.timeline end)))
+undo-cuts s mark end _ _ whole is (deeds.dead gone) = absurd (let never : ⊥ = cc in never)
+undo-cuts s mark end _ _ whole is (deeds.cut at stands) =
+    let same : at ≡ end = cc in ap (λ t. deeds.undone_to s mark t (undone_steps (report_of (cut_stations s.timeline t)))) same
+undo-cuts s mark end _ _ whole is (deeds.stopped reached at alive behind stands uncut) = absurd (let never : ⊥ = cc in never)
+
+pub Does-cuts : (s : ShellState) (mark : ℕ) (end : NodeTimeline) (fate : Option Fate) (line : Spoken) (d : Deed) → fate ≡ None → line ≡ asks (undo mark) → cut_to mark s.timeline ≡ Some end → deeds.Does fate s line d → d ≡ deeds.undone_to s mark end (undone_steps (report_of (cut_stations s.timeline end)))
+Does-cuts s mark end fate line d whole says is does = undo-cuts s mark end fate d whole is (subst (λ l. deeds.Does fate s l d) says does)
+
+undo-stops : (s : ShellState) (mark reached : ℕ) (fate : Option Fate) (d : Deed) → fate ≡ Some (StoppedAt reached) → deeds.Undoes s mark fate d → Stops s.timeline d mark reached
+undo-stops s mark reached _ _ is (deeds.dead gone) = absurd (let never : ⊥ = cc in never)
+undo-stops s mark reached _ _ is (deeds.cut end stands) = absurd (let never : ⊥ = cc in never)
+undo-stops s mark reached _ _ is (deeds.stopped at end alive behind stands uncut) =
+    let same : at ≡ reached = cc in
+    subst (λ k. Stops s.timeline (deeds.undone_to s at end (stopped_undo at (report_of (cut_stations s.timeline end)))) mark k) same record {
+      behind = behind;
+      leads = stands;
+      node = ap (λ t. option_map (λ (u : NodeTimeline). (here u).node) t) stands;
+      answer = refl;
+    }
+
+pub Does-stops : (s : ShellState) (mark reached : ℕ) (fate : Option Fate) (line : Spoken) (d : Deed) → fate ≡ Some (StoppedAt reached) → line ≡ asks (undo mark) → deeds.Does fate s line d → Stops s.timeline d mark reached
+Does-stops s mark reached fate line d is says does = undo-stops s mark reached fate d is (subst (λ l. deeds.Does fate s l d) says does)

@@ -1,0 +1,46 @@
+-- Lemmas on deeds that were done.
+use Rattle.std.proofs.Common.{◌≡◌, ℕ, List, [], ◌∷◌, ◌++◌, replicate, Option, None, Some, Result, Ok, Err, IfErr, IfOk, OnOk, Vec, Global, refl, sym, ap, subst, ◌∙◌}
+use Rattle.undo_journal.specs.declared.error.JournalError.{JournalError}
+use Rattle.undo_journal.specs.declared.error.JournalError.TheVariants as error
+use Rattle.undo_journal.specs.declared.report.Report.{Report}
+use Rattle.undo_journal.specs.Journal.{UndoFails, stopped_reports}
+use Rattle.undo_journal.specs.Timeline.{Station, cut_stations, cut_to, report_of}
+use Rattle.shell_answers.specs.Answers.{line_of, stopped_undo, undone_steps}
+use Rattle.node_core.specs.Node.{NodeState}
+use Rattle.node_core.specs.declared.event.Note.{Note}
+use Rattle.node_core.specs.declared.event.Refusal.{Refusal}
+use Rattle.shell_deeds.specs.Deeds.{Undoes, cut, dead, stopped}
+use Rattle.shell_deeds.specs.Done.{IsDone, first_of, undo_answer, undo_fate, unfinished_answer, unfinished_fate}
+use Rattle.shell_deeds.specs.State.{NodeTimeline, ShellState, with_timeline}
+use Rattle.shell_deeds.specs.declared.fate.Fate.{Fate}
+
+pub IfOk-then : {T E : Type 0} (r : Result T E) (P Q : T → Type 0) → IfOk r P → ((x : T) → P x → Q x) → IfOk r Q
+IfOk-then (Ok x) P Q p step = step x p
+IfOk-then (Err e) P Q p step = tt
+
+-- an undo that reached its mark
+pub undone : (s : ShellState) (mark : ℕ) (end : NodeTimeline) (reports : List (Report Note)) (fate : Option Fate) (text appended : List ℕ) → cut_to mark s.timeline ≡ Some end → reports ≡ replicate 1 (report_of (cut_stations s.timeline end)) → (fate ≡ None) × (appended ≡ text ++ line_of (undone_steps (first_of reports))) → IsDone (Undoes s mark fate) (with_timeline end s) text appended
+undone s mark end reports fate text appended is reported told =
+    subst (λ f. IsDone (Undoes s mark f) (with_timeline end s) text appended) (sym told.0) (_, cut end is, refl, told.1 ∙ ap (λ rs. text ++ line_of (undone_steps (first_of rs))) reported)
+
+first_stopped : (cut : List (Station NodeState Note)) → first_of (stopped_reports 1 cut) ≡ report_of cut
+first_stopped [] = refl
+first_stopped (s ∷ ss) = refl
+
+-- an undo that did not
+pub unfinished : (s : ShellState) (mark : ℕ) (new : NodeTimeline) (e : JournalError Refusal Note) (fate : Option Fate) (text appended : List ℕ) → UndoFails mark 1 s.timeline new e → (fate ≡ unfinished_fate e) × (appended ≡ text ++ line_of (unfinished_answer e)) → IsDone (Undoes s mark fate) (with_timeline new s) text appended
+unfinished s mark new (error.Step why) fate text appended fails told = absurd fails
+unfinished s mark new error.SerialEnd fate text appended fails told = absurd fails
+unfinished s mark new error.DeadMark fate text appended fails told =
+    subst (λ f. IsDone (Undoes s mark f) (with_timeline new s) text appended) (sym told.0) (_, dead fails.0, ap (λ t. with_timeline t s) fails.1, told.1)
+unfinished s mark new (error.Memory reached reports) fate text appended fails told =
+    subst (λ f. IsDone (Undoes s mark f) (with_timeline new s) text appended) (sym told.0) (_, stopped reached new fails.alive fails.after_mark fails.at_reached fails.at_mark, refl, told.1 ∙ ap (λ r. text ++ line_of (stopped_undo reached r)) (ap first_of fails.reported ∙ first_stopped (cut_stations s.timeline new)))
+
+pub undo-done : (s : ShellState) (mark : ℕ) (new : NodeTimeline) (r : Result (Vec (Report Note) Global) (JournalError Refusal Note)) (fate : Option Fate) (text appended : List ℕ) → OnOk r (cut_to mark s.timeline ≡ Some new) → IfOk r (λ reports. reports.items ≡ replicate 1 (report_of (cut_stations s.timeline new))) → IfErr r (UndoFails mark 1 s.timeline new) → (fate ≡ undo_fate r) × (appended ≡ text ++ line_of (undo_answer r)) → IsDone (Undoes s mark fate) (with_timeline new s) text appended
+undo-done s mark new (Ok reports) fate text appended is reported fails told = undone s mark new reports.items fate text appended is reported told
+undo-done s mark new (Err e) fate text appended is reported fails told = unfinished s mark new e fate text appended fails told
+
+-- nothing is appended
+pub nothing : (text : List ℕ) → text ≡ text ++ []
+nothing [] = refl
+nothing (b ∷ bs) = ap (λ rest. b ∷ rest) (nothing bs)

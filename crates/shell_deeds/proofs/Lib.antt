@@ -1,0 +1,4 @@
+mod Deeds
+mod Finding
+mod Performing
+mod Sources

@@ -1,0 +1,169 @@
+-- Lemmas on events that were performed, and on those that were not.
+use Rattle.std.proofs.Common.{◌≡◌, ◌-◌, ◌+◌, ◌^◌, ◌↔◌, ℕ, Bool, true, false, IsTrue, ltb, pos, Err, arith, cond, is_some, length, slice_get, [], ◌∷◌, List, ◌++◌, Option, None, Some, refl, sym, ap, subst, ◌∙◌}
+use Rattle.code_server.specs.declared.error.CodeError.{CodeError}
+use Rattle.erl_term.specs.Term.{trees}
+use Rattle.erl_term.specs.declared.term.Term.{Term}
+use Rattle.undo_journal.specs.Reversible.{Accepted}
+use Rattle.erl_machine.specs.declared.jobs.Job.{Job}
+use Rattle.process_commit.specs.Commits.{job_at}
+use Rattle.process_ending.specs.declared.told.Reply.{Reply}
+use Rattle.process_store.specs.Table.{Table, is_open, living}
+use Rattle.process_table.specs.Messages.{call_message}
+use Rattle.process_table.specs.declared.body.Body.TheVariants as body
+use Rattle.process_store.specs.declared.living.Living.{Living}
+use Rattle.process_table.specs.Steps.{Tells, call_refusal, retake_refusal, retake_refusal_of}
+use Rattle.process_table.specs.declared.error.ProcError.{ProcError}
+use Rattle.process_table.specs.declared.error.ProcError.TheVariants as proc
+use Rattle.shell_answers.specs.Answers.{committed, fixed, line_of}
+use Rattle.shell_answers.specs.Refusals.{proc_refusal}
+use Rattle.node_core.specs.Node.{NodeState}
+use Rattle.node_core.specs.declared.event.Answer.{Answer}
+use Rattle.node_core.specs.declared.event.Answer.TheVariants as tells
+use Rattle.node_core.specs.declared.event.Event.{Event}
+use Rattle.node_core.specs.declared.event.Event.TheVariants as event
+use Rattle.node_core.specs.declared.event.Note.{Note}
+use Rattle.node_core.specs.Step.{unless}
+use Rattle.node_core.specs.declared.event.Refusal.TheVariants.{OfModules}
+use Rattle.shell_requests.specs.declared.request.Arrival.{Arrival}
+use Rattle.shell_deeds.specs.Deeds.{Commits, Misses, Performs, Retakes, no_memory_to_read, no_memory_to_run, not_run, not_run_full, unread_full, unread_refused, accepted, full, kept_again, no_memory, no_memory_to_keep, not_running, refused, took, tried}
+use Rattle.shell_deeds.specs.Done.{IsDone, IsKept, after_missed, last_row, proc_fate, row_in}
+use Rattle.shell_deeds.specs.Halts.{Halts, HaltsBy, MayAllRunOut, MayCommit, RefusesAll, RefusesResult, halt_answer, halt_fate, missed_fate, refusal_of_call}
+use Rattle.undo_journal.specs.declared.history.Command.TheVariants.{Perform}
+use Rattle.shell_deeds.specs.State.{Deed, ShellState, carried, node_of, stepped}
+use Rattle.shell_deeds.specs.Stepping.{IsStepped}
+use Rattle.shell_deeds.specs.Terms.{IsNotOne}
+use Rattle.shell_deeds.specs.declared.fate.Fate.{Fate}
+use Rattle.shell_deeds.specs.declared.fate.Fate.TheVariants as fates
+use Rattle.shell_deeds.specs.declared.stepping.Halt.{Halt}
+use Rattle.shell_deeds.specs.declared.stepping.Halt.TheVariants as halts
+
+-- an event that was not performed is told, and leaves the shell as it is
+pub halted : (s : ShellState) (e : Event) (done : Accepted NodeState Answer Note → Deed) (h : Halt) (fate : Option Fate) (text appended : List ℕ) → Halts h s e → (fate ≡ halt_fate h) × (appended ≡ text ++ line_of (halt_answer h)) → IsDone (Performs s s e done fate) s text appended
+halted s e done halts.Full fate text appended is told =
+    subst (λ f. IsDone (Performs s s e done f) s text appended) (sym told.0) (_, full is, refl, told.1)
+halted s e done (halts.Refused why) fate text appended is told =
+    subst (λ f. IsDone (Performs s s e done f) s text appended) (sym told.0) (_, refused is.0 why is.1, refl, told.1)
+halted s e done halts.Memory fate text appended is told =
+    subst (λ f. IsDone (Performs s s e done f) s text appended) (sym told.0) (_, no_memory is.0 is.1, refl, told.1)
+
+-- and one that was performed does what is done of it
+pub performed : (s new : ShellState) (e : Event) (done : Accepted NodeState Answer Note → Deed) (answer : Answer) (fate : Option Fate) (after : ShellState) (text appended : List ℕ) (after_by : ShellState → Answer → ShellState) (text_by : ShellState → Answer → List ℕ) → IsStepped answer s e new → ((a : Accepted NodeState Answer Note) → (done a ≡ record { text = text_by (stepped a s) a.answer; after = after_by (stepped a s) a.answer; command = Some (Perform e) })) → (fate ≡ None) × (after ≡ after_by new answer) × (appended ≡ text ++ text_by new answer) → IsDone (Performs s s e done fate) after text appended
+performed s new e done answer fate after text appended after_by text_by is does told =
+    let a = is.accepted in
+    let at : after ≡ (done a).after = told.1 ∙ (λ i. after_by (is.after i) (is.answer i)) ∙ ap (λ (d : Deed). d.after) (sym (does a)) in
+    let text_at : appended ≡ text ++ (done a).text = told.2 ∙ (λ i. text ++ text_by (is.after i) (is.answer i)) ∙ ap (λ (d : Deed). text ++ d.text) (sym (does a)) in
+    subst (λ f. IsDone (Performs s s e done f) after text appended) (sym told.0) (done a, accepted is.room a is.rule, at, text_at)
+
+-- a take that was accepted is a command
+pub took-is : (s : ShellState) (pid : ℕ) (a : Answer) → took s pid a ≡ record { text = (took s pid a).text; after = (took s pid a).after; command = Some (Perform (event.Take pid)) }
+took-is s pid (tells.Job job) = refl
+took-is s pid (tells.Revived n) = refl
+took-is s pid (tells.Killed b) = refl
+took-is s pid tells.Unit = refl
+
+-- a process that runs a job refuses no retake
+unrefused_at : (o : Option Living) (job : Job) → job_at o ≡ Some job → retake_refusal_of o ≡ None
+unrefused_at None job runs = absurd (let never : ⊥ = cc in never)
+unrefused_at (Some l) job runs = ap (λ (j : Option Job). cond (is_some j) None (Some proc.NotRunning)) runs
+
+-- a job that is taken again is kept, or there is no memory
+pub again_kept : (s new : ShellState) (pid : ℕ) (job : Job) (fate : Option Fate) (text appended : List ℕ) → job_at (living pid (node_of s).processes) ≡ Some job → IsKept pid job fate s new text appended → IsDone (Retakes s pid fate) new text appended
+again_kept s new pid job None text appended runs told = (_, kept_again job runs, told.0, told.1)
+again_kept s new pid job (Some fates.Refused) text appended runs told =
+    (_, no_memory_to_keep (unrefused_at (living pid (node_of s).processes) job runs), told.0, told.1)
+again_kept s new pid job (Some fates.Unread) text appended runs told = absurd told
+again_kept s new pid job (Some (fates.StoppedAt mark)) text appended runs told = absurd told
+
+-- and it is told why there is none
+retold : (s : ShellState) (pid : ℕ) (why : ProcError) (text appended : List ℕ) → retake_refusal pid (node_of s).processes ≡ Some why → appended ≡ text ++ line_of (fixed (proc_refusal why)) → IsDone (Retakes s pid None) s text appended
+retold s pid why text appended refuses told = (_, not_running why refuses, refl, told)
+
+pub untaken_again : (s : ShellState) (pid : ℕ) (why : ProcError) (fate : Option Fate) (text appended : List ℕ) → Tells why (retake_refusal pid (node_of s).processes) → (fate ≡ proc_fate why) × (appended ≡ text ++ line_of (fixed (proc_refusal why))) → IsDone (Retakes s pid fate) s text appended
+untaken_again s pid proc.NoProc fate text appended tells told = subst (λ f. IsDone (Retakes s pid f) s text appended) (sym told.0) (retold s pid proc.NoProc text appended tells told.1)
+untaken_again s pid proc.Suspended fate text appended tells told = subst (λ f. IsDone (Retakes s pid f) s text appended) (sym told.0) (retold s pid proc.Suspended text appended tells told.1)
+untaken_again s pid proc.Idle fate text appended tells told = subst (λ f. IsDone (Retakes s pid f) s text appended) (sym told.0) (retold s pid proc.Idle text appended tells told.1)
+untaken_again s pid proc.Running fate text appended tells told = subst (λ f. IsDone (Retakes s pid f) s text appended) (sym told.0) (retold s pid proc.Running text appended tells told.1)
+untaken_again s pid proc.NotRunning fate text appended tells told = subst (λ f. IsDone (Retakes s pid f) s text appended) (sym told.0) (retold s pid proc.NotRunning text appended tells told.1)
+untaken_again s pid proc.Stale fate text appended tells told = subst (λ f. IsDone (Retakes s pid f) s text appended) (sym told.0) (retold s pid proc.Stale text appended tells told.1)
+untaken_again s pid proc.NameTaken fate text appended tells told = subst (λ f. IsDone (Retakes s pid f) s text appended) (sym told.0) (retold s pid proc.NameTaken text appended tells told.1)
+untaken_again s pid proc.DuplicateCall fate text appended tells told = subst (λ f. IsDone (Retakes s pid f) s text appended) (sym told.0) (retold s pid proc.DuplicateCall text appended tells told.1)
+untaken_again s pid proc.CounterEnd fate text appended tells told = subst (λ f. IsDone (Retakes s pid f) s text appended) (sym told.0) (retold s pid proc.CounterEnd text appended tells told.1)
+untaken_again s pid proc.Memory fate text appended tells told = subst (λ f. IsDone (Retakes s pid f) s text appended) (sym told.0) (_, no_memory_to_keep tells, refl, told.1)
+
+-- the replies of the newest step
+
+one_more : {A : Type 0} (xs : List A) (x : A) → length (xs ++ x ∷ []) ≡ length xs + 1
+one_more [] x = refl
+one_more (y ∷ ys) x = omega (arith, one_more ys x)
+
+behind : {A : Type 0} (xs : List A) (x : A) → slice_get (xs ++ x ∷ []) (length xs) ≡ Some x
+behind [] x = refl
+behind (y ∷ ys) x = behind ys x
+
+slice_last : {A : Type 0} (xs : List A) (x : A) → slice_get (xs ++ x ∷ []) (length (xs ++ x ∷ []) - 1) ≡ Some x
+slice_last xs x =
+    let last : length (xs ++ x ∷ []) - 1 ≡ length xs = omega (arith, one_more xs x) in ap (slice_get (xs ++ x ∷ [])) last ∙ behind xs x
+
+pub last-row : (rows : List (List Reply)) (row : List Reply) → last_row (rows ++ row ∷ []) ≡ row
+last-row rows row = ap row_in (slice_last rows row)
+
+pub committed-is : (s : ShellState) (e : Event) (a : Accepted NodeState Answer Note) → carried (stepped a s) e (committed a.note.replies) ≡ record { text = line_of (committed (last_row (stepped a s).sent)); after = stepped a s; command = Some (Perform e) }
+committed-is s e a = ap (λ row. carried (stepped a s) e (committed row)) (sym (last-row s.sent a.note.replies))
+
+-- Where a part was not read, and where a job was not run.
+
+pub missed : {X : Type 0} (s : ShellState) (e : X → Event) (h : Halt) (fate : Option Fate) (text appended : List ℕ) → HaltsBy (RefusesAll s e) (MayAllRunOut s e) h s → (fate ≡ missed_fate h) × (appended ≡ text ++ line_of (halt_answer h)) → IsDone (Misses s e fate) s text appended
+missed s e halts.Full fate text appended is told =
+    subst (λ f. IsDone (Misses s e f) s text appended) (sym told.0) (_, unread_full is, refl, told.1)
+missed s e (halts.Refused why) fate text appended is told =
+    subst (λ f. IsDone (Misses s e f) s text appended) (sym told.0) (_, unread_refused is.0 why is.1, refl, told.1)
+missed s e halts.Memory fate text appended is told =
+    subst (λ f. IsDone (Misses s e f) s text appended) (sym told.0) (_, no_memory_to_read is.0 is.1, refl, told.1)
+
+pub unrun : (s : ShellState) (job : Job) (h : Halt) (fate : Option Fate) (text appended : List ℕ) → HaltsBy (RefusesResult s job) (MayCommit s job) h s → (fate ≡ halt_fate h) × (appended ≡ text ++ line_of (halt_answer h)) → IsDone (Commits s job fate) s text appended
+unrun s job halts.Full fate text appended is told =
+    subst (λ f. IsDone (Commits s job f) s text appended) (sym told.0) (_, not_run_full is, refl, told.1)
+unrun s job (halts.Refused why) fate text appended is told =
+    subst (λ f. IsDone (Commits s job f) s text appended) (sym told.0) (_, not_run is.0 why is.1, refl, told.1)
+unrun s job halts.Memory fate text appended is told =
+    subst (λ f. IsDone (Commits s job f) s text appended) (sym told.0) (_, no_memory_to_run is.0 is.1, refl, told.1)
+
+-- Arrivals: a call that was tried is counted.
+
+pub kept_out : (s new : ShellState) (kind : Arrival) (e : Event) (done : Accepted NodeState Answer Note → Deed) (h : Halt) (fate : Option Fate) (text appended : List ℕ) → Halts h s e → (fate ≡ halt_fate h) × (new ≡ after_missed h kind s) × (appended ≡ text ++ line_of (halt_answer h)) → IsDone (Performs s (tried kind s) e done fate) new text appended
+kept_out s new kind e done halts.Full fate text appended is told =
+    subst (λ f. IsDone (Performs s (tried kind s) e done f) new text appended) (sym told.0) (_, full is, told.1, told.2)
+kept_out s new kind e done (halts.Refused why) fate text appended is told =
+    subst (λ f. IsDone (Performs s (tried kind s) e done f) new text appended) (sym told.0) (_, refused is.0 why is.1, told.1, told.2)
+kept_out s new kind e done halts.Memory fate text appended is told =
+    subst (λ f. IsDone (Performs s (tried kind s) e done f) new text appended) (sym told.0) (_, no_memory is.0 is.1, told.1, told.2)
+
+-- what is done as one deed is done as another that it is
+pub done-as : {P Q : Deed → Type 0} (new : ShellState) (text appended : List ℕ) → ((d : Deed) → P d → Q d) → IsDone P new text appended → IsDone Q new text appended
+done-as new text appended step done = (done.0, step done.0 done.1, done.2, done.3)
+
+-- Loads.
+
+pub refuses-load : (o : Option CodeError) (why : CodeError) (a : Accepted NodeState Answer Note) → Some why ≡ o → Err (OfModules why) ≡ unless o OfModules a
+refuses-load o why a is = ap (λ x. unless x OfModules a) is
+
+-- Terms of a text.
+
+pub not_one_of : (ts : List Term) → (length ts ≡ 1 → ⊥) → IsNotOne (trees ts)
+not_one_of [] many = tt
+not_one_of (t ∷ []) many = absurd (many refl)
+not_one_of (t ∷ u ∷ ts) many = tt
+
+-- a call is refused by its number, whatever it asks
+
+has_message : (b : Bool) (m : Term) → cond b None (Some proc.CounterEnd) ≡ cond (is_some (cond b (Some m) None)) None (Some proc.CounterEnd)
+has_message true m = refl
+has_message false m = refl
+
+pub by_number : (number : ℕ) (t : Term) (table : Table) → refusal_of_call number table ≡ call_refusal (body.Call number t) table
+by_number number t table =
+    ap (λ r. cond (is_open number table) (Some proc.DuplicateCall) r) (has_message (ltb number (2 ^ 63)) (call_message (pos number) t))
+
+-- where a test says that serials are left, they are
+pub unfull : (b : Bool) (P : Type 0) → (IsTrue b ↔ P) → b ≡ false → P → ⊥
+unfull b P same is so = let yes = same.1 so in let never : ⊥ = cc in never

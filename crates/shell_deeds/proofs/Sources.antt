@@ -1,0 +1,80 @@
+-- Lemmas on what was read for a line, or not.
+use Rattle.std.proofs.Common.{◌≡◌, ◌≢◌, ◌⊎◌, ℕ, List, ◌++◌, Option, None, Some, refl, sym, ap, subst, ◌∙◌, inl, inr}
+use Rattle.erl_forms.specs.Module.{Forms}
+use Rattle.erl_parse.specs.Sources.{IsNoSource}
+use Rattle.erl_parse.specs.Telling.{Says}
+use Rattle.erl_parse.specs.declared.error.LangError.{LangError}
+use Rattle.erl_parse.specs.declared.error.LangError.TheVariants as lang
+use Rattle.node_core.specs.declared.event.Answer.{Answer}
+use Rattle.node_core.specs.declared.event.Event.{Event}
+use Rattle.node_core.specs.declared.event.Event.TheVariants as event
+use Rattle.release_files.specs.Files.{file_of}
+use Rattle.shell_answers.specs.Answers.{line_of, loaded}
+use Rattle.shell_answers.specs.Faults.{source_fault}
+use Rattle.shell_answers.specs.declared.faults.SourceFault.{SourceFault}
+use Rattle.shell_answers.specs.declared.faults.SourceFault.TheVariants as source
+use Rattle.shell_requests.specs.declared.request.Arrival.{Arrival}
+use Rattle.shell_requests.specs.declared.request.Arrival.TheVariants as arrivals
+use Rattle.shell_deeds.specs.Deeds.{Loads, Misses, Performs, accepted, another, arrival_answer, missing, no_source, read, tried, unread}
+use Rattle.shell_deeds.specs.Done.{IsDone, IsSourced, Unsourced, not_loaded}
+use Rattle.shell_deeds.specs.Halts.{Halts, HaltsBy, MayAllRunOut, RefusesAll}
+use Rattle.shell_deeds.specs.State.{ShellState, carried, next_number, stepped}
+use Rattle.shell_deeds.specs.Stepping.{IsStepped}
+use Rattle.shell_deeds.specs.declared.fate.Fate.{Fate}
+use Rattle.shell_deeds.specs.declared.loading.Unloaded.TheVariants.{Faulted}
+use Rattle.shell_deeds.specs.declared.stepping.Halt.{Halt}
+use Rattle.shell_deeds.specs.declared.stepping.Halt.TheVariants as halts
+use Rattle.shell_deeds.proofs.Performing.{done-as}
+
+-- Sources.
+
+no_source_by : (bytes : List ℕ) (e : LangError) → e ≢ lang.Memory → (e ≡ lang.Memory) ⊎ IsNoSource bytes → IsNoSource bytes
+no_source_by bytes e other (inl same) = absurd (other same)
+no_source_by bytes e other (inr none) = none
+
+module _ (s : ShellState) (name path bytes : List ℕ) (found : file_of path s.files ≡ Some bytes) where
+  told : (e : LangError) → e ≢ lang.Memory → Says bytes e → (e ≡ lang.Memory) ⊎ IsNoSource bytes → Unsourced s name path (Faulted (source.Lang e))
+  told e other says none = (bytes, found, other, says, no_source_by bytes e other none)
+
+  pub unsourced : (e : LangError) → Says bytes e → (e ≡ lang.Memory) ⊎ IsNoSource bytes → Unsourced s name path (not_loaded e)
+  unsourced lang.Memory says none = (bytes, found)
+  unsourced (lang.Text error) says none = told (lang.Text error) (λ same. let never : ⊥ = cc in never) says none
+  unsourced (lang.Syntax at) says none = told (lang.Syntax at) (λ same. let never : ⊥ = cc in never) says none
+  unsourced (lang.Unsupported at) says none = told (lang.Unsupported at) (λ same. let never : ⊥ = cc in never) says none
+  unsourced (lang.DuplicateFunction at) says none = told (lang.DuplicateFunction at) (λ same. let never : ⊥ = cc in never) says none
+  unsourced (lang.UnboundVariable at) says none = told (lang.UnboundVariable at) (λ same. let never : ⊥ = cc in never) says none
+  unsourced (lang.UndefinedLocal at) says none = told (lang.UndefinedLocal at) (λ same. let never : ⊥ = cc in never) says none
+
+module _ (s : ShellState) (name path : List ℕ) (new : ShellState) (fate : Option Fate) (text appended : List ℕ) where
+  pub source-read : (m : Forms) → IsSourced s name path m → IsDone (Performs s s (event.Load m) (λ a. carried (stepped a s) (event.Load m) (loaded m.name)) fate) new text appended → IsDone (Loads s name path fate) new text appended
+  source-read m it done =
+      done-as new text appended (λ d does. read it.bytes m fate d it.stands it.source it.named (subst (λ (n : List ℕ). Performs s s (event.Load m) (λ a. carried (stepped a s) (event.Load m) (loaded n)) fate d) it.named does)) done
+
+  pub source-unread : (bytes : List ℕ) → file_of path s.files ≡ Some bytes → IsDone (Misses s event.Load fate) new text appended → IsDone (Loads s name path fate) new text appended
+  source-unread bytes found done = done-as new text appended (λ d does. unread bytes fate d found does) done
+
+pub source-faulted : (s : ShellState) (name path : List ℕ) (fault : SourceFault) (fate : Option Fate) (text appended : List ℕ) → Unsourced s name path (Faulted fault) → (fate ≡ None) × (appended ≡ text ++ line_of (source_fault path fault)) → IsDone (Loads s name path fate) s text appended
+source-faulted s name path source.Missing fate text appended is said =
+    subst (λ f. IsDone (Loads s name path f) s text appended) (sym said.0) (_, missing is, refl, said.1)
+source-faulted s name path source.WrongModule fate text appended is said =
+    subst (λ f. IsDone (Loads s name path f) s text appended) (sym said.0) (_, another is.0 is.1 is.2 is.3 is.4, refl, said.1)
+source-faulted s name path (source.Lang why) fate text appended is said =
+    subst (λ f. IsDone (Loads s name path f) s text appended) (sym said.0) (_, no_source is.0 why is.1 is.2 is.3 is.4, refl, said.1)
+
+-- What stands against an event whatever a part of it is stands against each.
+pub halts-at : {X : Type 0} (s : ShellState) (e : X → Event) (h : Halt) → HaltsBy (RefusesAll s e) (MayAllRunOut s e) h s → (x : X) → Halts h s (e x)
+halts-at s e halts.Full is x = is
+halts-at s e (halts.Refused why) is x = (is.0, is.1 x)
+halts-at s e halts.Memory is x = (is.0, is.1 x)
+
+-- A step of an arrival, and the count of calls, in either order.
+
+counted : (kind : Arrival) (s : ShellState) (a : _) → tried kind (stepped a s) ≡ stepped a (tried kind s)
+counted arrivals.Call s a = refl
+counted arrivals.Cast s a = refl
+counted arrivals.Info s a = refl
+
+pub arrived-done : (s new after : ShellState) (kind : Arrival) (e : Event) (number : ℕ) (answer : Answer) (fate : Option Fate) (text appended : List ℕ) → IsStepped answer s e new → number ≡ next_number s → (fate ≡ None) × (after ≡ tried kind new) × (appended ≡ text ++ line_of (arrival_answer kind number)) → IsDone (Performs s (tried kind s) e (λ a. carried (stepped a (tried kind s)) e (arrival_answer kind (next_number s))) fate) after text appended
+arrived-done s new after kind e number answer fate text appended is same said =
+    let a = is.accepted in
+    subst (λ f. IsDone (Performs s (tried kind s) e (λ b. carried (stepped b (tried kind s)) e (arrival_answer kind (next_number s))) f) after text appended) (sym said.0) (_, accepted is.room a is.rule, said.1 ∙ ap (tried kind) is.after ∙ counted kind s a, said.2 ∙ ap (λ n. text ++ line_of (arrival_answer kind n)) same)

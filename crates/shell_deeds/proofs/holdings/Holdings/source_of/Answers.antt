@@ -1,0 +1,17 @@
+-- What the error of a source tells.
+use Rattle.std.proofs.Common.{◌≡◌, Some, subst, sym}
+use Rattle.std.specs.Str.{chars}
+use Rattle.release_files.specs.Files.{file_of}
+use Rattle.shell_deeds.proofs.Sources.{unsourced}
+use Rattle.shell_deeds.specs.Done.{Unsourced}
+use Rattle.shell_deeds.specs.State.{ShellState}
+use Rattle.shell_deeds.specs.declared.loading.Unloaded.{Unloaded}
+use Rattle.shell_deeds.proofs.holdings.Holdings.source_of.Goals as goal
+
+pub returns-in-Err : goal.returns-in-Err
+returns-in-Err c =
+    let s = c.args.self.now in
+    let name = chars c.args.name.text.now in
+    let path = c.args.path.now in
+    let found = subst (λ (t : ShellState). file_of path t.files ≡ Some c.in-Some.bytes.now) c.self.view_is c.in-Some.ensures in
+    subst (λ (u : Unloaded). Unsourced s name path u) (sym c.not_loaded.ensures) (unsourced s name path c.in-Some.bytes.now found c.in-Err.error c.in-Err.ensures.refused c.in-Err.ensures.meaningless)

@@ -1,0 +1,82 @@
+-- Why something isn't done that the node is asked for, and what is told of it.
+use Rattle.std.specs.Prelude.{◌≡◌, ◌≢◌, ◌^◌, nat_lt, if◌then◌else◌, ℕ, List, Option, None, Some, Err}
+use Rattle.erl_machine.specs.declared.jobs.Job.{Job}
+use Rattle.erl_term.specs.Tree.{Tree}
+use Rattle.process_commit.specs.Commits.{IsRunning}
+use Rattle.process_store.specs.Changes.{CanTurnAt}
+use Rattle.process_store.specs.Table.{Table, is_open}
+use Rattle.process_table.specs.Commit.{RefusesCommit}
+use Rattle.process_table.specs.declared.error.ProcError.{ProcError}
+use Rattle.process_table.specs.declared.error.ProcError.TheVariants as proc
+use Rattle.code_server.specs.Modules.{delete_refusal}
+use Rattle.code_server.specs.declared.error.CodeError.{CodeError}
+use Rattle.node_core.specs.Node.{NodeState}
+use Rattle.node_core.specs.Step.{MayRunOut, Step, soft_purge_refusal}
+use Rattle.node_core.specs.declared.event.Event.{Event}
+use Rattle.node_core.specs.declared.event.Refusal.{Refusal}
+use Rattle.node_core.specs.declared.event.Refusal.TheVariants.{OfProcesses}
+use Rattle.shell_answers.specs.Answers.{fixed}
+use Rattle.shell_answers.specs.Refusals.{refusal_of}
+use Rattle.shell_answers.specs.declared.fixed.Fixed.TheVariants as words
+use Rattle.shell_requests.specs.declared.request.Change.{Change}
+use Rattle.shell_requests.specs.declared.request.Change.TheVariants as changes
+use Rattle.shell_deeds.specs.State.{IsFull, ShellState, node_of}
+use Rattle.shell_deeds.specs.declared.fate.Fate.{Fate}
+use Rattle.shell_deeds.specs.declared.fate.Fate.TheVariants as fates
+use Rattle.shell_deeds.specs.declared.stepping.Halt.{Halt}
+use Rattle.shell_deeds.specs.declared.stepping.Halt.TheVariants.{Full, Refused, Memory}
+
+-- Why: no serial is left; or a refusal; or memory is wanting, where nothing else stands against it.
+abbrev pub HaltsBy : (Refusal → Type 0) → Type 0 → Halt → ShellState → Type 0
+HaltsBy Refuses MayRun Full s = IsFull s
+HaltsBy Refuses MayRun (Refused why) s = (IsFull s → ⊥) × Refuses why
+HaltsBy Refuses MayRun Memory s = (IsFull s → ⊥) × MayRun
+
+-- of an event
+abbrev pub Halts : Halt → ShellState → Event → Type 0
+Halts halt s e = HaltsBy (λ why. Step (node_of s) e (Err why)) (MayRunOut (node_of s) e) halt s
+
+-- of events that differ in a part which could not be read, whatever it is
+abbrev pub RefusesAll : {X : Type 0} → ShellState → (X → Event) → Refusal → Type 0
+RefusesAll {X} s e why = (x : X) → Step (node_of s) (e x) (Err why)
+
+abbrev pub MayAllRunOut : {X : Type 0} → ShellState → (X → Event) → Type 0
+MayAllRunOut {X} s e = (x : X) → MayRunOut (node_of s) (e x)
+
+-- of the result of a job, whatever it gives
+abbrev pub RefusesResult : ShellState → Job → Refusal → Type 0
+RefusesResult s job why =
+    (it : ProcError) × RefusesCommit it job (node_of s).processes × (it ≢ proc.Memory) × (why ≡ OfProcesses it)
+
+abbrev pub MayCommit : ShellState → Job → Type 0
+MayCommit s job = IsRunning job (node_of s).processes × CanTurnAt job.pid (node_of s).processes
+
+-- why a change of a module is refused
+abbrev pub refusal_of_change : Change → List ℕ → NodeState → Option CodeError
+refusal_of_change changes.Delete name n = delete_refusal name n.modules
+refusal_of_change changes.Purge name n = None
+refusal_of_change changes.SoftPurge name n = soft_purge_refusal name n
+
+-- why a call of a number is refused, whatever it asks
+abbrev pub refusal_of_call : ℕ → Table → Option ProcError
+refusal_of_call number t =
+    if is_open number t then Some proc.DuplicateCall else (if nat_lt number (2 ^ 63) then None else Some proc.CounterEnd)
+
+-- What is told.
+
+abbrev pub halt_answer : Halt → Tree
+halt_answer Full = fixed words.SerialEnd
+halt_answer (Refused why) = refusal_of why
+halt_answer Memory = fixed words.Memory
+
+-- what became of an event that was not performed
+abbrev pub halt_fate : Halt → Option Fate
+halt_fate Full = None
+halt_fate (Refused why) = None
+halt_fate Memory = Some fates.Refused
+
+-- and of what could not be read
+abbrev pub missed_fate : Halt → Option Fate
+missed_fate Full = Some fates.Unread
+missed_fate (Refused why) = Some fates.Unread
+missed_fate Memory = Some fates.Refused

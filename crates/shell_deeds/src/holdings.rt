@@ -1,0 +1,118 @@
+// What the shell holds from one line to the next.
+ghost use Rattle.std.specs.Prelude.{◌≡◌, ◌+◌, ◌↔◌, IfOk, IsTrue, OnErr, OnOk, length};
+
+use erl_machine::Job;
+use node_core::Node;
+use process_ending::Reply;
+use process_table::Processes;
+use release_files::Files;
+use std::alloc::{AllocError, Global};
+use std::hash::RandomState;
+use std::marker::Model;
+use undo_journal::Journal;
+use values::Row;
+
+/// What the shell holds from one line to the next: the files, the journal of the node, the jobs whose results can be committed, how many
+/// calls were tried, and all replies that were ever sent, a row a step.
+#[derive(Drop)]
+pub struct Holdings {
+    pub(crate) alloc: Global,
+    pub(crate) hashing: RandomState,
+    pub(crate) files: Files,
+    pub(crate) journal: Journal<Node>,
+    pub(crate) jobs: Vec<Job>,
+    pub(crate) calls: u64,
+    pub(crate) sent: Vec<Row<Reply>>,
+}
+
+impl Model for Holdings {
+    ghost use Rattle.std.specs.Coded.{codes};
+    ghost use Rattle.erl_term.specs.contracts.term.Terms as terms;
+    ghost use Rattle.erl_forms.specs.contracts.module.Module as forms;
+    ghost use Rattle.shell_deeds.specs.State.{ShellState};
+
+    ghost Value = { ShellState };
+
+    ghost coded = { Prim.hlevel (codes, terms.the_row.coded, forms.the_row.coded) };
+
+    ghost view = { λ h. record {
+      files = h.files;
+      timeline = h.journal;
+      jobs = h.jobs.items;
+      calls = h.calls;
+      sent = h.sent.items;
+    } };
+}
+
+impl Holdings {
+    ghost use Rattle.shell_deeds.specs.State.{IsFull, node_of, opened_shell, with_job};
+
+    /// The files, and a journal that begins with a node that has booted. The names of modules that are loaded are hashed by `hashing`.
+    ///
+    /// # Errors
+    ///
+    /// `AllocError` where memory is refused.
+    pub fn new(
+        alloc: Global,
+        hashing: RandomState,
+        files: Files,
+        node: Node,
+    ) -> Result<Holdings, AllocError>
+        ensures { IfOk result (λ held. held ≡ opened_shell files node) }
+    {
+        let journal = Journal::new(alloc, node)?;
+        Ok(Holdings {
+            alloc,
+            hashing,
+            files,
+            journal,
+            jobs: Vec::new(alloc),
+            calls: 0,
+            sent: Vec::new(alloc),
+        })
+    }
+
+    /// Whether no serial is left for a step.
+    pub(crate) fn is_full(&self) -> bool
+        ensures { IsTrue result ↔ IsFull self.now }
+    {
+        self.journal.is_full()
+    }
+
+    /// The node where it stands.
+    pub(crate) fn node(&self) -> &Node
+        ensures { result.now ≡ node_of self.now }
+    {
+        self.journal.state()
+    }
+
+    /// The processes of the node.
+    pub(crate) fn processes(&self) -> &Processes
+        ensures { result.now ≡ (node_of self.now).processes }
+    {
+        self.node().processes()
+    }
+
+    /// Makes room for one job more. Nothing is changed.
+    pub(crate) fn make_room(&mut self) -> Result<(), AllocError>
+        ensures { self.new ≡ self.old }
+    {
+        self.jobs.reserve(1)
+    }
+
+    /// The number of the job that is kept next, counted from 1.
+    pub(crate) fn next_place(&self) -> u64
+        ensures { result ≡ length self.now.jobs + 1 }
+    {
+        self.jobs.len() as u64 + 1
+    }
+
+    /// Keeps a job.
+    pub(crate) fn keep(&mut self, job: Job) -> Result<(), AllocError>
+        ensures kept { OnOk result (self.new ≡ with_job job self.old) }
+        ensures err { OnErr result (self.new ≡ self.old) }
+    {
+        self.jobs.push(job)?;
+        Ok(())
+    }
+}

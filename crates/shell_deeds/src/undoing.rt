@@ -1,0 +1,101 @@
+// Undos, and questions.
+ghost use Rattle.std.specs.Prelude.{◌≡◌, ◌++◌, [], IfOk, None, Some};
+ghost use Rattle.shell_answers.specs.Answers.{line_of, stopped_undo, undone_steps};
+ghost use Rattle.shell_deeds.specs.Deeds.{Undoes, told};
+ghost use Rattle.shell_deeds.specs.Done.{IsDone, first_of, undo_answer, undo_fate, unfinished_answer, unfinished_fate};
+ghost use Rattle.shell_deeds.specs.declared.fate.Fate.TheVariants.{StoppedAt};
+
+use crate::fate::Fate;
+use crate::holdings::Holdings;
+use crate::telling::{Said, say};
+use node_core::{Note, Refusal};
+use shell_answers::{
+    Fixed, write_apps, write_mark, write_modules, write_replies, write_stopped, write_undone,
+};
+use shell_requests::Question;
+use std::alloc::Global;
+use undo_journal::{JournalError, Mark, Report};
+use values::Row;
+
+/// How an undo ends.
+type Undone = Result<Vec<Report<Note>>, JournalError<Refusal, Note>>;
+
+impl Holdings {
+    /// Tells what is asked.
+    pub(crate) fn tell(&self, question: Question, out: &mut Vec<u8>) -> Said
+        ensures { IfOk result (λ fate. (fate ≡ None) × (out.new.items ≡ out.old.items ++ line_of (told self.now question))) }
+    {
+        match question {
+            Question::Modules => write_modules(self.journal.state().modules(), out)?,
+            Question::Apps => write_apps(self.journal.state().apps(), out)?,
+            Question::Replies => write_replies(self.sent.as_slice(), out)?,
+            Question::Mark => write_mark(self.journal.mark(), out)?,
+        }
+        Ok(None)
+    }
+
+    /// Undoes every step after a mark, and tells what was undone.
+    pub(crate) fn undo(&mut self, mark: Mark, out: &mut Vec<u8>) -> Said
+        ensures { IfOk result (λ fate. IsDone (Undoes self.old mark fate) self.new out.old.items out.new.items) }
+    {
+        let done = self.journal.undo(mark, 1);
+        tell_undo(self.alloc, &done, out)
+    }
+}
+
+/// The report of an undo that cut nothing.
+fn nothing_cut(alloc: Global) -> Report<Note>
+    ensures { result ≡ first_of [] }
+{
+    Report {
+        cut: 0,
+        notes: Row::new(Vec::new(alloc)),
+    }
+}
+
+/// Tells what was undone.
+fn tell_undone(alloc: Global, reports: &[Report<Note>], out: &mut Vec<u8>) -> Said
+    ensures { IfOk result (λ fate. (fate ≡ None) × (out.new.items ≡ out.old.items ++ line_of (undone_steps (first_of reports.now)))) }
+{
+    match reports {
+        [report, ..] => write_undone(report, out)?,
+        [] => write_undone(&nothing_cut(alloc), out)?,
+    }
+    Ok(None)
+}
+
+/// Tells what was undone by an undo that stopped at a mark.
+fn tell_stopped(alloc: Global, mark: Mark, reports: &[Report<Note>], out: &mut Vec<u8>) -> Said
+    ensures { IfOk result (λ fate. (fate ≡ Some (StoppedAt mark)) × (out.new.items ≡ out.old.items ++ line_of (stopped_undo mark (first_of reports.now)))) }
+{
+    match reports {
+        [report, ..] => write_stopped(mark, report, out)?,
+        [] => write_stopped(mark, &nothing_cut(alloc), out)?,
+    }
+    Ok(Some(Fate::StoppedAt(mark)))
+}
+
+/// Tells why an undo did not reach its mark. No other error is one of an undo.
+fn tell_unfinished(alloc: Global, error: &JournalError<Refusal, Note>, out: &mut Vec<u8>) -> Said
+    ensures { IfOk result (λ fate. (fate ≡ unfinished_fate error.now) × (out.new.items ≡ out.old.items ++ line_of (unfinished_answer error.now))) }
+{
+    match error {
+        JournalError::Memory { mark, reports } => {
+            let mark = *mark;
+            tell_stopped(alloc, mark, reports.as_slice(), out)
+        }
+        JournalError::DeadMark | JournalError::Step(_) | JournalError::SerialEnd => {
+            say(Fixed::DeadMark, out)
+        }
+    }
+}
+
+/// Tells how an undo ended.
+fn tell_undo(alloc: Global, done: &Undone, out: &mut Vec<u8>) -> Said
+    ensures { IfOk result (λ fate. (fate ≡ undo_fate done.now) × (out.new.items ≡ out.old.items ++ line_of (undo_answer done.now))) }
+{
+    match done {
+        Ok(reports) => tell_undone(alloc, reports.as_slice(), out),
+        Err(error) => tell_unfinished(alloc, error, out),
+    }
+}
