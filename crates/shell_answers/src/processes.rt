@@ -19,7 +19,7 @@ pub fn write_process(process: &Process, out: &mut Vec<u8>) -> Result<(), AllocEr
     put(b"{proc,", out)?;
     put_pid(process.pid(), out)?;
     put(b",", out)?;
-    put_place(process.place(), out)?;
+    put_standing(process, out)?;
     put(b",", out)?;
     put(activity_word(process.activity()), out)?;
     put(b",", out)?;
@@ -27,6 +27,13 @@ pub fn write_process(process: &Process, out: &mut Vec<u8>) -> Result<(), AllocEr
     put(b",", out)?;
     put_mailbox(process, out)?;
     put(b"}\n", out)
+}
+
+/// Appends where a process stands: of one that runs, where it took its message.
+fn put_standing(process: &Process, out: &mut Vec<u8>) -> Result<(), AllocError>
+    ensures { OnOk result (out.new.items ≡ out.old.items ++ utf8 (text (place_of process.now.place))) }
+{
+    put_place(process.place(), out)
 }
 
 /// The word of what a process does.
