@@ -20,7 +20,6 @@ ghost use Rattle.erl_eval.specs.Jobs.{Evaluates};
 ghost use Rattle.erl_steps.specs.Views.{instance, mode_of};
 ghost use Rattle.erl_machine.specs.Views.{outcome_of};
 
-use erl_eval::Booleans;
 pub use erl_eval::{Act, Place, Receiver};
 pub use erl_forms::Module;
 pub use erl_machine::{Done, End, Instance, Job, Mode, Outcome, matches};
@@ -46,7 +45,6 @@ pub fn evaluate(
 ) -> Result<Outcome, AllocError>
     ensures { IfOk result (λ it. Evaluates (record { code = map instance code.now; pid = pid; mode = mode_of mode }) called.now function.now (trees arguments.items) (outcome_of it)) }
 {
-    let booleans = Booleans::new(alloc)?;
-    let world = erl_machine::World::new(alloc, &booleans, pid, mode, code);
+    let world = erl_machine::World::new(alloc, pid, mode, code);
     erl_machine::evaluate(&world, called, function, arguments)
 }

@@ -1,5 +1,5 @@
 // Where characters are met as UTF-8.
-ghost use Rattle.std.specs.Prelude.{◌≡◌, ◌≤◌, ◌++◌, ℕ, List, length};
+ghost use Rattle.std.specs.Prelude.{◌≡◌, ◌≤◌, ◌++◌, ◌∷◌, [], ℕ, List, length, MatchOption};
 ghost use Rattle.std.specs.Str.{chars};
 ghost use Rattle.erl_chars.specs.Cursor.{byte_count, after_first};
 
@@ -9,6 +9,17 @@ pub(crate) fn byte_len(text: &str) -> usize
     ensures len { result ≡ length text.now }
 {
     text.len()
+}
+
+/// The first character of a text and the text behind it, or none where there is none.
+#[inline]
+pub(crate) fn split_first(text: &str) -> Option<(char, &str)>
+    ensures characters { MatchOption result (chars text.now ≡ []) (λ it. chars text.now ≡ it.0 ∷ chars it.1.now) }
+    ensures within { MatchOption result (chars text.now ≡ []) (λ it. length it.1.now ≤ length text.now) }
+{
+    let mut characters = text.chars();
+    let first = characters.next()?;
+    Some((first, characters.as_str()))
 }
 
 /// The text behind the first character, or the empty text where there is none.

@@ -120,8 +120,9 @@ impl<'a> Cursor<'a> {
         ensures digit { TakesDigit base (left self.old) result (left self.new) }
         ensures total { total self.new ≡ total self.old }
     {
-        let digit = self.peek()?.to_digit(base)?;
-        self.advance();
+        let mut ahead = *self;
+        let digit = ahead.take()?.to_digit(base)?;
+        *self = ahead;
         Some(digit)
     }
 }

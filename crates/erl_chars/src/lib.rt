@@ -7,8 +7,8 @@
 //!
 //! # What is proved
 //!
-//! - [`Cursor::peek`] gives the next character and [`Cursor::advance`] steps over it; [`Cursor::place`] is how many
-//!   bytes stand before the cursor.
+//! - [`Cursor::peek`] gives the next character, [`Cursor::advance`] steps over it and [`Cursor::take`] does both;
+//!   [`Cursor::place`] is how many bytes stand before the cursor.
 //! - [`Cursor::skip_gap`] steps over exactly the blanks and comments in front.
 //! - [`Cursor::escape`] gives the character that an escape stands for, and else `Cut` exactly where the text ends
 //!   first and `Wrong` exactly where no escape is written so.
@@ -21,9 +21,10 @@
 //!
 //! # What no contract says
 //!
-//! That there is memory, which [`Cursor::quoted`] and [`SharedText::new`] ask for; that `Memory` is told only where it was
-//! refused; and what a call costs: each is linear in what it steps over, a text in its characters, and
-//! [`Name::from_text`] too, which counts them. A copy of a shared text costs the same whatever its length.
+//! That there is memory, which [`Cursor::quoted`], [`Text::from_string`] and [`SharedText::new`] ask for; that `Memory`
+//! is told only where it was refused; and what a call costs: each is linear in what it steps over, a text in its
+//! characters, and [`Name::from_text`] too where it counts them. A copy of a shared text costs the same whatever its
+//! length.
 #![tactic(auto)]
 
 mod bytes;

@@ -41,7 +41,7 @@ impl<'a> Cursor<'a> {
         while let Some(c) = self.quoted_char(quote)? {
             append(&mut text, c)?;
         }
-        Ok(Text { text })
+        kept(alloc, text)
     }
 
     /// Reads a character between quotes, or none at the closing quote.
@@ -69,6 +69,16 @@ fn append(text: &mut String, c: char) -> Result<(), QuoteError>
 {
     match text.push(c) {
         Ok(()) => Ok(()),
+        Err(AllocError) => Err(QuoteError::Memory),
+    }
+}
+
+/// A string as a text.
+fn kept(alloc: Global, text: String) -> Result<Text, QuoteError>
+    ensures { MatchResult result (λ it. it ≡ chars (string_bytes text)) (λ e. e ≡ QuoteError.Memory) }
+{
+    match Text::from_string(alloc, text) {
+        Ok(text) => Ok(text),
         Err(AllocError) => Err(QuoteError::Memory),
     }
 }

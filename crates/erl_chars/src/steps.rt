@@ -5,7 +5,7 @@ ghost use Rattle.erl_chars.specs.Chars as kinds;
 ghost use Rattle.erl_chars.specs.Cursor.{left, total, place, first_of, after_first};
 ghost use Rattle.erl_chars.specs.Gaps.{after_gap};
 
-use crate::bytes::{byte_len, in_front, past_first};
+use crate::bytes::{byte_len, in_front, past_first, split_first};
 use crate::cursor::Cursor;
 
 impl<'a> Cursor<'a> {
@@ -56,7 +56,8 @@ impl<'a> Cursor<'a> {
         ensures total { total self.new ≡ total self.old }
     {
         let mut is_comment = false;
-        while let Some(c) = self.peek() {
+        let mut ahead = *self;
+        while let Some(c) = ahead.take() {
             if is_comment {
                 is_comment = c != '\n';
             } else if c == '%' {
@@ -64,17 +65,17 @@ impl<'a> Cursor<'a> {
             } else if !is_blank(c) {
                 break;
             }
-            self.advance();
+            *self = ahead;
         }
     }
 
     /// The next character, stepped over, or none at the end.
-    pub(crate) fn take(&mut self) -> Option<char>
+    pub fn take(&mut self) -> Option<char>
         ensures left { MatchOption result (left self.old ≡ []) (λ c. left self.old ≡ c ∷ left self.new) }
         ensures total { total self.new ≡ total self.old }
     {
-        let c = self.peek()?;
-        self.advance();
+        let (c, rest) = split_first(self.rest)?;
+        self.rest = rest;
         Some(c)
     }
 }

@@ -1,5 +1,5 @@
 // Texts, and names.
-ghost use Rattle.std.specs.Prelude.{◌≡◌, ◌<◌, ◌≤◌, ◌↔◌, ℕ, List, length, IfOk, IsErr, string_bytes};
+ghost use Rattle.std.specs.Prelude.{◌≡◌, ◌<◌, ◌≤◌, ◌↔◌, ℕ, List, length, IfOk, IsErr, IsTrue, string_bytes};
 ghost use Rattle.std.specs.Arc.{arc_str_bytes};
 ghost use Rattle.std.specs.Str.{chars};
 
@@ -8,16 +8,18 @@ use std::marker::Model;
 use std::sync::ArcStr;
 use thiserror::Error;
 
-/// A text, seen by contracts as its code points.
+/// A text, seen by contracts as its code points. It takes a pointer's room where it is held.
 #[derive(Drop)]
 pub struct Text {
-    pub(crate) text: String,
+    text: Box<String>,
 }
+
+const _: () = prove!(size_of::<Text>() == 8);
 
 impl Model for Text {
     ghost Value = { List ℕ };
 
-    ghost view = { λ a. chars (string_bytes a.text) };
+    ghost view = { λ a. chars (string_bytes a.text.value) };
 }
 
 /// A text whose copies share the characters, seen by contracts as its code points.
@@ -52,11 +54,16 @@ impl Model for Name {
 pub struct NameError;
 
 impl Text {
-    /// The text of a string's characters. Takes no memory.
-    pub fn from_string(text: String) -> Text
-        ensures { result ≡ chars (string_bytes text) }
+    /// The text of a string's characters. It takes a few bytes of memory from `alloc`, whatever the length.
+    ///
+    /// # Errors
+    ///
+    /// `AllocError` where memory is refused.
+    pub fn from_string(alloc: Global, text: String) -> Result<Text, AllocError>
+        ensures { IfOk result (λ it. it ≡ chars (string_bytes text)) }
     {
-        Text { text }
+        let text = Box::new(alloc, text)?;
+        Ok(Text { text })
     }
 
     /// The characters. Takes no memory.
@@ -71,7 +78,7 @@ impl Text {
         ensures { chars (string_bytes result) ≡ self }
     {
         let Text { text } = self;
-        text
+        Box::into_inner(text)
     }
 }
 
@@ -109,7 +116,7 @@ impl SharedText {
 }
 
 impl Name {
-    /// The name that a text is. Takes no memory.
+    /// The name that a text is. Takes no memory. Only a text of over 255 bytes is counted.
     ///
     /// # Errors
     ///
@@ -118,7 +125,7 @@ impl Name {
         ensures ok { IfOk result (λ name. name ≡ text) }
         ensures too_long { IsErr result ↔ (255 < length text) }
     {
-        if count(text.as_str()) > 255 {
+        if is_too_long(text.as_str()) {
             return Err(NameError);
         }
         let SharedText { text } = text;
@@ -154,6 +161,14 @@ impl Name {
         let Name { text } = self;
         text
     }
+}
+
+/// Whether a text has over 255 characters, as no name has.
+fn is_too_long(text: &str) -> bool
+    ensures { IsTrue result ↔ (255 < length (chars text.now)) }
+{
+    // A character has a byte or more.
+    text.len() > 255 && count(text) > 255
 }
 
 /// How many characters a text has.

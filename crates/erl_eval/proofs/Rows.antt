@@ -3,17 +3,17 @@ use Rattle.std.specs.Prelude.{◌≡◌, ℕ, List, [], ◌∷◌, ◌++◌, ref
 use Rattle.std.proofs.Common.{ap, sym, ◌∙◌}
 use Rattle.erl_term.specs.declared.term.Term.{Term}
 use Rattle.erl_term.specs.declared.term.Term.TheVariants as variants
-use Rattle.erl_term.specs.Accessors.{one_of, two_of, three_of}
+use Rattle.erl_term.specs.Accessors.{one_of, two_of, three_of, list_of}
 use Rattle.erl_term.specs.Rows.{append_trees}
 use Rattle.erl_term.specs.Term.{tree, trees}
-use Rattle.erl_term.specs.Tree.{Tree, Trees, list, none, more}
+use Rattle.erl_term.specs.Tree.{Tree, Trees, int, atom, pid, tuple, list, none, more}
 use Rattle.erl_forms.specs.declared.operation.Operator.{Operator}
 use Rattle.erl_eval.specs.State.{value, exit_by, made}
 use Rattle.erl_forms.specs.declared.operation.BuiltIn.{BuiltIn}
 use Rattle.erl_eval.specs.BuiltIns as built_ins
 use Rattle.erl_eval.specs.BuiltIns.{given}
 use Rattle.erl_eval.proofs.Options.{some_none, some_injective}
-use Rattle.erl_eval.specs.Operators.{operated, of_one, of_two, before_tail, consed_row, made_of, consed}
+use Rattle.erl_eval.specs.Operators.{operated, of_one, of_two, appended, before_tail, consed_row, made_of, consed}
 
 pub trees_append : (ts us : List Term) → trees (ts ++ us) ≡ append_trees (trees ts) (trees us)
 trees_append [] us = refl
@@ -89,15 +89,28 @@ consed_row_else [] (variants.List row) no_list = absurd (no_list row refl)
 consed_row_else (t ∷ []) last no_list = ap (before_tail (tree t)) (consed_row_else [] last no_list)
 consed_row_else (t ∷ u ∷ us) last no_list = ap (before_tail (tree t)) (consed_row_else (u ∷ us) last no_list)
 
-pub consed_list : (all ts back us : List Term) (last : Term) (row made_row : Trees) → all ≡ ts ++ last ∷ [] →
-    last ≡ variants.List row → trees back ≡ row → us ≡ ts ++ back → made_row ≡ trees us →
-    consed (trees all) ≡ made (list made_row)
-consed_list all ts back us last row made_row split is same joined gives =
+pub consed_list : (all ts : List Term) (last : Term) (row made_row : Trees) → all ≡ ts ++ last ∷ [] →
+    last ≡ variants.List row → made_row ≡ append_trees (trees ts) row → consed (trees all) ≡ made (list made_row)
+consed_list all ts last row made_row split is gives =
     ap (λ us. consed (trees us)) (split ∙ ap (λ u. ts ++ u ∷ []) is) ∙ ap made_of (consed_row_list ts row) ∙
-    ap (λ us. made (list us)) (ap (λ r. append_trees (trees ts) r) (sym same) ∙ sym (trees_append ts back) ∙
-    ap trees (sym joined) ∙ sym gives)
+    ap (λ us. made (list us)) (sym gives)
 
 pub consed_else : (all ts : List Term) (last : Term) → all ≡ ts ++ last ∷ [] →
     ((row : Trees) → last ≡ variants.List row → ⊥) → consed (trees all) ≡ exit_by (codes "not_in_profile")
 consed_else all ts last split no_list =
     ap (λ us. consed (trees us)) split ∙ ap made_of (consed_row_else ts last no_list)
+
+-- `E1 ++ E2`, where the left row has terms and what is behind it is no list
+
+pub appended_else : (x y : Tree) (row : Trees) → list_of x ≡ Some row → (row ≡ none → ⊥) → list_of y ≡ None →
+    exit_by (codes "not_in_profile") ≡ appended x y
+appended_else (int n) y row is some no_list = absurd (some_none (sym is))
+appended_else (atom cs) y row is some no_list = absurd (some_none (sym is))
+appended_else (pid n) y row is some no_list = absurd (some_none (sym is))
+appended_else (tuple ts) y row is some no_list = absurd (some_none (sym is))
+appended_else (list none) y row is some no_list = absurd (some (sym (some_injective is)))
+appended_else (list (more t ts)) (int n) row is some no_list = refl
+appended_else (list (more t ts)) (atom cs) row is some no_list = refl
+appended_else (list (more t ts)) (pid n) row is some no_list = refl
+appended_else (list (more t ts)) (tuple us) row is some no_list = refl
+appended_else (list (more t ts)) (list us) row is some no_list = absurd (some_none no_list)

@@ -6,7 +6,7 @@ ghost use Rattle.erl_eval.specs.BuiltIns.{cast_of, cast_to, number_of, reply_to,
 ghost use Rattle.erl_eval.specs.Operators.{receiver_of, sent, sends};
 
 use erl_forms::{BuiltIn, Operator};
-use erl_term::{Atom, Term, Terms, two};
+use erl_term::{Atom, Predefined, Term, Terms, two};
 use std::alloc::{AllocError, Global};
 use values::{Duplicate, Same};
 
@@ -243,7 +243,7 @@ fn cast_of(alloc: Global, term: &Term) -> Result<Term, AllocError>
     ensures { IfOk result (λ it. tree it ≡ cast_of (tree term.now)) }
 {
     let mut pair = Vec::with_capacity(alloc, 2)?;
-    pair.push(Term::Atom(Atom::word(alloc, "$gen_cast")?))?;
+    pair.push(Term::Atom(Atom::predefined(Predefined::GenCast)))?;
     pair.push(term.copy(alloc)?)?;
     Ok(Term::Tuple(Terms::new(alloc, pair)?))
 }

@@ -8,10 +8,10 @@ ghost use Rattle.erl_eval.specs.Given.{result_of};
 ghost use Rattle.erl_eval.specs.State as state;
 ghost use Rattle.erl_eval.specs.BuiltIns.{given, of_none, of_one, of_two, of_three, has_member, is_of_kind, ok, element_of, with_element};
 
-use crate::given::{Booleans, Given, exit_by, made};
+use crate::given::{Given, exit_by, made};
 use crate::operators::{boolean, integer, truth_of};
 use erl_forms::BuiltIn;
-use erl_term::{Atom, Term, Terms, one, three, two};
+use erl_term::{Atom, Predefined, Term, Terms, one, three, two};
 use std::alloc::{AllocError, Global};
 use std::cmp::Ordering;
 use values::{Duplicate, copied_slice};
@@ -191,20 +191,20 @@ fn is_among(x: &Term, terms: &[Term]) -> bool
 }
 
 /// `lists:member(E,L)`
-fn member(alloc: Global, booleans: &Booleans, x: &Term, y: &Term) -> Result<Given, AllocError>
+fn member(alloc: Global, x: &Term, y: &Term) -> Result<Given, AllocError>
     ensures { IfOk result (λ it. result_of it ≡ of_two built_in.Member (tree x.now) (tree y.now)) }
 {
     match y {
-        Term::List(row) => boolean(alloc, booleans, is_among(x, row.as_slice())),
+        Term::List(row) => Ok(boolean(is_among(x, row.as_slice()))),
         Term::Int(_) | Term::Atom(_) | Term::Pid(_) | Term::Tuple(_) => exit_by(alloc, "badarg"),
     }
 }
 
 /// The atom `ok`.
-fn ok(alloc: Global) -> Result<Given, AllocError>
-    ensures { IfOk result (λ it. result_of it ≡ ok) }
+fn ok() -> Given
+    ensures { result_of result ≡ ok }
 {
-    Ok(Given::Value(Term::Atom(Atom::word(alloc, "ok")?)))
+    Given::Value(Term::Atom(Atom::predefined(Predefined::OkWord)))
 }
 
 /// `gen_server:cast(Dest,T)`: `ok`, where there may be a receiver.
@@ -212,7 +212,7 @@ fn cast(alloc: Global, x: &Term, _y: &Term) -> Result<Given, AllocError>
     ensures { IfOk result (λ it. result_of it ≡ of_two built_in.Cast (tree x.now) (tree _y.now)) }
 {
     match x {
-        Term::Atom(_) | Term::Pid(_) => ok(alloc),
+        Term::Atom(_) | Term::Pid(_) => Ok(ok()),
         Term::Int(_) | Term::Tuple(_) | Term::List(_) => exit_by(alloc, "badarg"),
     }
 }
@@ -228,12 +228,7 @@ fn of_none(alloc: Global, own: u64, function: BuiltIn) -> Result<Given, AllocErr
 }
 
 /// What a call with one argument gives.
-fn of_one(
-    alloc: Global,
-    booleans: &Booleans,
-    function: BuiltIn,
-    x: &Term,
-) -> Result<Given, AllocError>
+fn of_one(alloc: Global, function: BuiltIn, x: &Term) -> Result<Given, AllocError>
     ensures { IfOk result (λ it. result_of it ≡ of_one function (tree x.now)) }
 {
     match function {
@@ -247,7 +242,7 @@ fn of_one(
         | BuiltIn::IsList
         | BuiltIn::IsPid
         | BuiltIn::IsTuple
-        | BuiltIn::IsBoolean => boolean(alloc, booleans, is_of_kind(function, x)),
+        | BuiltIn::IsBoolean => Ok(boolean(is_of_kind(function, x))),
         BuiltIn::Exit | BuiltIn::Error => Ok(Given::Exit(x.copy(alloc)?)),
         BuiltIn::Reverse => reverse(alloc, x),
         _ => exit_by(alloc, "undef"),
@@ -255,20 +250,14 @@ fn of_one(
 }
 
 /// What a call with two arguments gives.
-fn of_two(
-    alloc: Global,
-    booleans: &Booleans,
-    function: BuiltIn,
-    x: &Term,
-    y: &Term,
-) -> Result<Given, AllocError>
+fn of_two(alloc: Global, function: BuiltIn, x: &Term, y: &Term) -> Result<Given, AllocError>
     ensures { IfOk result (λ it. result_of it ≡ of_two function (tree x.now) (tree y.now)) }
 {
     match function {
         BuiltIn::Element => element(alloc, x, y),
-        BuiltIn::Member => member(alloc, booleans, x, y),
+        BuiltIn::Member => member(alloc, x, y),
         BuiltIn::Cast => cast(alloc, x, y),
-        BuiltIn::Reply => ok(alloc),
+        BuiltIn::Reply => Ok(ok()),
         BuiltIn::Call => exit_by(alloc, "not_in_profile"),
         _ => exit_by(alloc, "undef"),
     }
@@ -319,7 +308,6 @@ fn of_more(
 #[tactic(auto, using(crate::proofs::Rows::given_none, crate::proofs::Rows::given_one, crate::proofs::Rows::given_two))]
 pub fn call_built_in(
     alloc: Global,
-    booleans: &Booleans,
     own: u64,
     function: BuiltIn,
     arguments: &[Term],
@@ -330,10 +318,10 @@ pub fn call_built_in(
         return of_none(alloc, own, function);
     }
     if let Some(x) = one(arguments) {
-        return of_one(alloc, booleans, function, x);
+        return of_one(alloc, function, x);
     }
     if let Some((x, y)) = two(arguments) {
-        return of_two(alloc, booleans, function, x, y);
+        return of_two(alloc, function, x, y);
     }
     of_more(alloc, own, function, arguments)
 }

@@ -6,10 +6,8 @@ ghost use Rattle.erl_eval.specs.Given.{result_of};
 ghost use Rattle.erl_eval.specs.Operators.{truth};
 ghost use Rattle.erl_eval.specs.State.{exit_by, exit_by_pair, made};
 
-use erl_term::{Atom, Term, Terms};
+use erl_term::{Atom, Predefined, Term, Terms};
 use std::alloc::{AllocError, Global};
-use std::marker::Model;
-use values::Duplicate;
 
 /// How deep a term may be that an expression makes.
 const DEEPEST: u32 = 256;
@@ -71,47 +69,14 @@ pub fn made(alloc: Global, term: Term) -> Result<Given, AllocError>
     }
 }
 
-/// The atoms `true` and `false`, which are made once and shared.
-#[derive(Drop)]
-pub struct Booleans {
-    yes: Atom,
-    no: Atom,
-}
-
-impl Model for Booleans {
-    ghost use Rattle.std.specs.Prelude.{⊤, ◌≡◌, codes};
-    ghost use base.Stored.{coded_unit};
-
-    ghost Value = { ⊤ };
-
-    ghost coded = { coded_unit };
-
-    ghost view = { λ a. tt };
-
-    ghost invariant = { λ a. (a.yes ≡ codes "true") × (a.no ≡ codes "false") };
-}
-
-impl Booleans {
-    /// The two atoms.
-    ///
-    /// # Errors
-    ///
-    /// `AllocError` where memory is refused.
-    pub fn new(alloc: Global) -> Result<Booleans, AllocError> {
-        let yes = Atom::word(alloc, "true")?;
-        let no = Atom::word(alloc, "false")?;
-        Ok(Booleans { yes, no })
-    }
-
-    /// The atom of a truth value. It is shared.
-    ///
-    /// # Errors
-    ///
-    /// `AllocError` where the owners can no longer be counted.
-    pub fn term(&self, alloc: Global, holds: bool) -> Result<Term, AllocError>
-        ensures { IfOk result (λ it. tree it ≡ truth holds) }
-    {
-        let atom = if holds { &self.yes } else { &self.no };
-        Ok(Term::Atom(atom.copy(alloc)?))
-    }
+/// The atom of a truth value. Takes no memory.
+pub fn truth_term(holds: bool) -> Term
+    ensures { tree result ≡ truth holds }
+{
+    let atom = if holds {
+        Predefined::True
+    } else {
+        Predefined::False
+    };
+    Term::Atom(Atom::predefined(atom))
 }

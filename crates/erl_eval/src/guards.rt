@@ -11,7 +11,7 @@ ghost use Rattle.erl_eval.specs.Operators as operators;
 ghost use Rattle.erl_eval.specs.State.{bound_to, exit_by_pair};
 
 use crate::built_ins::call_built_in;
-use crate::given::{Booleans, Given, exit_by, exit_by_pair, made};
+use crate::given::{Given, exit_by, exit_by_pair, made};
 use crate::matching::{bound, match_each};
 use crate::operators::{cons, operate, truth_of};
 use erl_forms::{
@@ -26,11 +26,9 @@ pub const MOST_CALLS: u32 = 10_000;
 
 /// What all that a process evaluates is given.
 #[derive(Drop)]
-pub struct Setting<'a> {
+pub struct Setting {
     /// The allocator.
     pub alloc: Global,
-    /// The atoms `true` and `false`.
-    pub booleans: &'a Booleans,
     /// The process that evaluates, or is started.
     pub own: u64,
 }
@@ -62,7 +60,7 @@ pub struct Selected<'a> {
 
 /// What an operator gives in a guard, which has neither `++` nor `!`.
 fn operate_in_guard(
-    setting: &Setting<'_>,
+    setting: &Setting,
     operator: Operator,
     operands: &[Term],
 ) -> Result<Given, AllocError>
@@ -70,7 +68,7 @@ fn operate_in_guard(
 {
     match operator {
         Operator::Append | Operator::Send => exit_by(setting.alloc, "undef"),
-        _ => operate(setting.alloc, setting.booleans, operator, operands),
+        _ => operate(setting.alloc, operator, operands),
     }
 }
 
@@ -98,7 +96,7 @@ fn is_guard_bif(function: BuiltIn) -> bool
 
 /// What a call gives in a guard. It counts among the calls.
 fn call_in_guard(
-    setting: &Setting<'_>,
+    setting: &Setting,
     function: BuiltIn,
     arguments: &[Term],
     calls: &mut u32,
@@ -112,18 +110,12 @@ fn call_in_guard(
         return exit_by(setting.alloc, "system_limit");
     }
     *calls += 1;
-    call_built_in(
-        setting.alloc,
-        setting.booleans,
-        setting.own,
-        function,
-        arguments,
-    )
+    call_built_in(setting.alloc, setting.own, function, arguments)
 }
 
 /// What an operation gives in a guard, of the values of its operands.
 fn apply_in_guard(
-    setting: &Setting<'_>,
+    setting: &Setting,
     operation: &Operation,
     operands: Vec<Term>,
     calls: &mut u32,
@@ -161,7 +153,7 @@ fn value_of(alloc: Global, bound_terms: &Bound<'_>, place: usize) -> Result<Give
 /// What an expression of a guard gives.
 #[cycle(guards)]
 fn test(
-    setting: &Setting<'_>,
+    setting: &Setting,
     bound: &Bound<'_>,
     expression: &Expression,
     calls: &mut u32,
@@ -191,7 +183,7 @@ fn test(
 /// What an operation gives in a guard: its operands are tested first.
 #[cycle(guards)]
 fn test_operation(
-    setting: &Setting<'_>,
+    setting: &Setting,
     bound: &Bound<'_>,
     operation: &Operation,
     operands: &[Expression],
@@ -208,7 +200,7 @@ fn test_operation(
 /// What operands give, from left to right.
 #[cycle(guards)]
 fn test_row(
-    setting: &Setting<'_>,
+    setting: &Setting,
     bound: &Bound<'_>,
     row: &[Expression],
     calls: &mut u32,
@@ -228,7 +220,7 @@ fn test_row(
 /// What a side of a connective gives, which is one expression.
 #[cycle(guards)]
 fn test_alone(
-    setting: &Setting<'_>,
+    setting: &Setting,
     bound: &Bound<'_>,
     side: &[Expression],
     calls: &mut u32,
@@ -244,7 +236,7 @@ fn test_alone(
 /// What a connective gives in a guard: its right side is tested only where it is needed.
 #[cycle(guards)]
 fn test_connective(
-    setting: &Setting<'_>,
+    setting: &Setting,
     bound: &Bound<'_>,
     connective: Connective,
     left: &[Expression],
@@ -274,7 +266,7 @@ pub fn decisive(connective: Connective) -> bool
 /// What a connective gives in a guard, by the value of its left side.
 #[cycle(guards)]
 fn test_right(
-    setting: &Setting<'_>,
+    setting: &Setting,
     bound: &Bound<'_>,
     connective: Connective,
     value: Term,
@@ -302,7 +294,7 @@ fn holds(given: &Given) -> bool
 
 /// Whether each test of a guard holds. The first that doesn't ends it.
 fn all_hold(
-    setting: &Setting<'_>,
+    setting: &Setting,
     bound: &Bound<'_>,
     tests: &[Expression],
     calls: &mut u32,
@@ -320,7 +312,7 @@ fn all_hold(
 
 /// Whether one guard of some is true. The first that is ends it.
 fn one_holds(
-    setting: &Setting<'_>,
+    setting: &Setting,
     bound: &Bound<'_>,
     alternatives: &[Expressions],
     calls: &mut u32,
@@ -337,7 +329,7 @@ fn one_holds(
 
 /// Whether a guard sequence is true; without guards it is.
 fn is_guarded(
-    setting: &Setting<'_>,
+    setting: &Setting,
     bound: &Bound<'_>,
     alternatives: &[Expressions],
     calls: &mut u32,
@@ -357,7 +349,7 @@ fn is_guarded(
 ///
 /// `AllocError` where memory is refused; some calls may have been counted.
 pub fn try_clause(
-    setting: &Setting<'_>,
+    setting: &Setting,
     base: &[Term],
     patterns: &[Pattern],
     alternatives: &[Expressions],
@@ -390,7 +382,7 @@ pub fn try_clause(
 ///
 /// `AllocError` where memory is refused; some calls may have been counted.
 pub fn select<'a>(
-    setting: &Setting<'_>,
+    setting: &Setting,
     base: &[Term],
     items: &'a [Clause],
     terms: &[Term],

@@ -88,7 +88,7 @@ ghost use Rattle.erl_eval.specs.Examples.{SendsBeforeItsReply, RestsWithItsArgum
 
 pub use acts::{Act, Place, Receiver, does, reply_to, sends};
 pub use built_ins::call_built_in;
-pub use given::{Booleans, Given, exit_by, exit_by_pair, made};
+pub use given::{Given, exit_by, exit_by_pair, made, truth_term};
 pub use guards::{MOST_CALLS, Selected, Setting, decisive, select, try_clause};
 pub use matching::{bound, match_each, match_pattern};
 pub use operators::{cons, of_two, operate, truth_of};

@@ -9,7 +9,7 @@ ghost use Rattle.erl_eval.specs.State as state;
 ghost use Rattle.erl_forms.specs.declared.operation.Operator.TheVariants as operator;
 ghost use Rattle.erl_eval.specs.Operators.{truth, truth_of, of_one, of_two, operated, integer, holds_by, consed};
 
-use crate::given::{Booleans, Given, exit_by, made};
+use crate::given::{Given, exit_by, made, truth_term};
 use erl_forms::Operator;
 use erl_term::{Term, Terms, one, two};
 use std::alloc::{AllocError, Global};
@@ -31,10 +31,10 @@ pub fn truth_of(term: &Term) -> Option<bool>
 }
 
 /// The value of a truth value.
-pub(crate) fn boolean(alloc: Global, booleans: &Booleans, holds: bool) -> Result<Given, AllocError>
-    ensures { IfOk result (λ it. result_of it ≡ state.value (truth holds)) }
+pub(crate) fn boolean(holds: bool) -> Given
+    ensures { result_of result ≡ state.value (truth holds) }
 {
-    Ok(Given::Value(booleans.term(alloc, holds)?))
+    Given::Value(truth_term(holds))
 }
 
 /// An integer that was worked out, or a breach of the limits where it doesn't fit.
@@ -99,21 +99,21 @@ fn remainder(alloc: Global, x: &Term, y: &Term) -> Result<Given, AllocError>
 }
 
 /// `E1 and E2`
-fn and(alloc: Global, booleans: &Booleans, x: &Term, y: &Term) -> Result<Given, AllocError>
+fn and(alloc: Global, x: &Term, y: &Term) -> Result<Given, AllocError>
     ensures { IfOk result (λ it. result_of it ≡ of_two operator.And (tree x.now) (tree y.now)) }
 {
     match (truth_of(x), truth_of(y)) {
-        (Some(a), Some(b)) => boolean(alloc, booleans, a && b),
+        (Some(a), Some(b)) => Ok(boolean(a && b)),
         (_, _) => exit_by(alloc, "badarg"),
     }
 }
 
 /// `E1 or E2`
-fn or(alloc: Global, booleans: &Booleans, x: &Term, y: &Term) -> Result<Given, AllocError>
+fn or(alloc: Global, x: &Term, y: &Term) -> Result<Given, AllocError>
     ensures { IfOk result (λ it. result_of it ≡ of_two operator.Or (tree x.now) (tree y.now)) }
 {
     match (truth_of(x), truth_of(y)) {
-        (Some(a), Some(b)) => boolean(alloc, booleans, a || b),
+        (Some(a), Some(b)) => Ok(boolean(a || b)),
         (_, _) => exit_by(alloc, "badarg"),
     }
 }
@@ -150,15 +150,10 @@ fn append(alloc: Global, x: &Term, y: &Term) -> Result<Given, AllocError>
 }
 
 /// The terms of two rows, one row behind the other.
-#[tactic(auto, using(crate::proofs::Rows::trees_append))]
 fn joined(alloc: Global, front: &Terms, back: &Terms) -> Result<Terms, AllocError>
     ensures { IfOk result (λ it. it ≡ append_trees front.now back.now) }
 {
-    let (front, back) = (front.as_slice(), back.as_slice());
-    let mut items = Vec::with_capacity(alloc, front.len() + back.len())?;
-    extend_copies(alloc, &mut items, front)?;
-    extend_copies(alloc, &mut items, back)?;
-    Terms::new(alloc, items)
+    Terms::joined(alloc, front.as_slice(), back)
 }
 
 /// `[E1,..,En|E]`: the list of the values of `E1` to `En`, and behind them the elements of the list that `E` gives.
@@ -176,23 +171,10 @@ pub fn cons(alloc: Global, operands: Vec<Term>) -> Result<Given, AllocError>
     let Term::List(row) = last else {
         return exit_by(alloc, "not_in_profile");
     };
-    items.reserve_exact(row.len())?;
-    extend_copies(alloc, &mut items, row.as_slice())?;
-    made(alloc, Term::List(Terms::new(alloc, items)?))
-}
-
-/// Copies of terms, behind the terms that are there.
-pub(crate) fn extend_copies(
-    alloc: Global,
-    items: &mut Vec<Term>,
-    terms: &[Term],
-) -> Result<(), AllocError>
-    ensures { IfOk result (λ _. items.new.items ≡ items.old.items ++ terms.now) }
-{
-    for term in terms {
-        items.push(term.copy(alloc)?)?;
-    }
-    Ok(())
+    made(
+        alloc,
+        Term::List(Terms::joined(alloc, items.as_slice(), &row)?),
+    )
 }
 
 /// `E1 ! E2`: the message, where there may be a receiver.
@@ -216,27 +198,22 @@ fn negate(alloc: Global, x: &Term) -> Result<Given, AllocError>
 }
 
 /// `not E`
-fn not(alloc: Global, booleans: &Booleans, x: &Term) -> Result<Given, AllocError>
+fn not(alloc: Global, x: &Term) -> Result<Given, AllocError>
     ensures { IfOk result (λ it. result_of it ≡ of_one operator.Not (tree x.now)) }
 {
     match truth_of(x) {
-        Some(a) => boolean(alloc, booleans, !a),
+        Some(a) => Ok(boolean(!a)),
         None => exit_by(alloc, "badarg"),
     }
 }
 
 /// What an operator of one operand gives.
-fn of_one(
-    alloc: Global,
-    booleans: &Booleans,
-    operator: Operator,
-    x: &Term,
-) -> Result<Given, AllocError>
+fn of_one(alloc: Global, operator: Operator, x: &Term) -> Result<Given, AllocError>
     ensures { IfOk result (λ it. result_of it ≡ of_one operator (tree x.now)) }
 {
     match operator {
         Operator::Negate => negate(alloc, x),
-        Operator::Not => not(alloc, booleans, x),
+        Operator::Not => not(alloc, x),
         _ => exit_by(alloc, "undef"),
     }
 }
@@ -246,27 +223,21 @@ fn of_one(
 /// # Errors
 ///
 /// `AllocError` where memory is refused.
-pub fn of_two(
-    alloc: Global,
-    booleans: &Booleans,
-    operator: Operator,
-    x: &Term,
-    y: &Term,
-) -> Result<Given, AllocError>
+pub fn of_two(alloc: Global, operator: Operator, x: &Term, y: &Term) -> Result<Given, AllocError>
     ensures { IfOk result (λ it. result_of it ≡ of_two operator (tree x.now) (tree y.now)) }
 {
     match operator {
         Operator::Multiply => multiply(alloc, x, y),
         Operator::Divide => divide(alloc, x, y),
         Operator::Remainder => remainder(alloc, x, y),
-        Operator::And => and(alloc, booleans, x, y),
+        Operator::And => and(alloc, x, y),
         Operator::Add => add(alloc, x, y),
         Operator::Subtract => subtract(alloc, x, y),
-        Operator::Or => or(alloc, booleans, x, y),
+        Operator::Or => or(alloc, x, y),
         Operator::Append => append(alloc, x, y),
         Operator::Send => send(alloc, x, y),
         Operator::Negate | Operator::Not => exit_by(alloc, "undef"),
-        _ => boolean(alloc, booleans, holds_by(operator, x.cmp(y))),
+        _ => Ok(boolean(holds_by(operator, x.cmp(y)))),
     }
 }
 
@@ -276,19 +247,14 @@ pub fn of_two(
 ///
 /// `AllocError` where memory is refused.
 #[tactic(auto, using(crate::proofs::Rows::operated_one, crate::proofs::Rows::operated_two, crate::proofs::Rows::operated_else))]
-pub fn operate(
-    alloc: Global,
-    booleans: &Booleans,
-    operator: Operator,
-    operands: &[Term],
-) -> Result<Given, AllocError>
+pub fn operate(alloc: Global, operator: Operator, operands: &[Term]) -> Result<Given, AllocError>
     ensures { IfOk result (λ it. result_of it ≡ operated operator (trees operands.now)) }
 {
     if let Some(x) = one(operands) {
-        return of_one(alloc, booleans, operator, x);
+        return of_one(alloc, operator, x);
     }
     match two(operands) {
-        Some((x, y)) => of_two(alloc, booleans, operator, x, y),
+        Some((x, y)) => of_two(alloc, operator, x, y),
         None => exit_by(alloc, "undef"),
     }
 }

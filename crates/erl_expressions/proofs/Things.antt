@@ -117,6 +117,25 @@ pub row_begins : (read : List Terminal → Found Tree) (ss : List Spot) →
 unfolding row
 row_begins read ss = ap (λ o. and_then o (rest_of_row none)) (begins Comma read ss)
 
+-- a row by its first tree
+
+pub row_empty : (read : List Terminal → Found Tree) (ss : List Spot) → length ss ≤ 0 → row read (terminals ss) ≡ None
+row_empty read ss is = row_begins read ss ∙ row_out (length ss) 0 read (terminals ss) none is
+
+pub row_first_not : (read : List Terminal → Found Tree) (ss : List Spot) → 0 < length ss → read (terminals ss) ≡ None →
+    row read (terminals ss) ≡ None
+row_first_not read ss some found = row_begins read ss ∙ row_not (length ss) 0 read (terminals ss) none some found
+
+pub row_of_one : (read : List Terminal → Found Tree) (ss : List Spot) (t : Tree) (rest : List Terminal) → 0 < length ss →
+    read (terminals ss) ≡ Some (t, rest) → after Comma rest ≡ None → row read (terminals ss) ≡ Some (with_last none t, rest)
+row_of_one read ss t rest some found last = row_begins read ss ∙ row_last (length ss) 0 read (terminals ss) none t rest some found last
+
+pub row_first : (read : List Terminal → Found Tree) (ss : List Spot) (t : Tree) (rest behind : List Terminal) → 0 < length ss →
+    read (terminals ss) ≡ Some (t, rest) → after Comma rest ≡ Some behind →
+    row read (terminals ss) ≡ and_then (separated Comma (length ss - 1) read behind) (rest_of_row (with_last none t))
+row_first read ss t rest behind some found next =
+    row_begins read ss ∙ row_more (length ss) 0 read (terminals ss) none t rest behind some found next
+
 pub guards_begin : (p : Reader) (ss : List Spot) →
     alternatives p (terminals ss) ≡
     and_then (separated Semicolon (length ss - 0) (row (p Test operations)) (terminals ss)) (rest_of_guards no_guards)

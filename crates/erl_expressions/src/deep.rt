@@ -5,6 +5,7 @@ ghost use Rattle.erl_syntax.specs.TreeForms.{tree as tree_of};
 ghost use Rattle.erl_expressions.specs.Reading.{with_last, with_last_guard, with_last_clause};
 ghost use Rattle.erl_syntax.specs.Grammar.{begins as begins_in};
 
+use crate::fitted::fitted;
 use crate::patterns::may_begin;
 use erl_syntax::{ClauseTree, ClauseTrees, GuardTrees, Leaf, Shape, SyntaxTree, SyntaxTrees};
 use std::alloc::{AllocError, Global};
@@ -193,13 +194,49 @@ impl DeepRow {
         }
     }
 
+    /// A row of no trees, with room for so many.
+    pub(crate) fn with_room(alloc: Global, room: usize) -> Result<DeepRow, AllocError>
+        ensures { IfOk result (λ row. row ≡ none) }
+    {
+        Ok(DeepRow {
+            items: Vec::with_capacity(alloc, room)?,
+            depth: 0,
+        })
+    }
+
     /// A row of one tree.
     pub(crate) fn of(alloc: Global, only: Deep) -> Result<DeepRow, AllocError>
         ensures { IfOk result (λ row. row ≡ more only none) }
     {
-        let mut row = DeepRow::new(alloc);
-        row.push(only)?;
-        Ok(row)
+        let Deep { tree, depth } = only;
+        let mut items = Vec::with_capacity(alloc, 1)?;
+        items.push(tree)?;
+        Ok(DeepRow { items, depth })
+    }
+
+    /// A row of two trees.
+    pub(crate) fn pair(alloc: Global, first: Deep, second: Deep) -> Result<DeepRow, AllocError>
+        ensures { IfOk result (λ row. row ≡ more first (more second none)) }
+    {
+        let Deep { tree: left, depth } = first;
+        let Deep {
+            tree: right,
+            depth: other,
+        } = second;
+        let mut items = Vec::with_capacity(alloc, 2)?;
+        items.push(left)?;
+        items.push(right)?;
+        let depth = depth.max(other);
+        Ok(DeepRow { items, depth })
+    }
+
+    /// The same row, in no more room than it takes.
+    pub(crate) fn fitted(self, alloc: Global) -> Result<DeepRow, AllocError>
+        ensures { IfOk result (λ row. row ≡ self) }
+    {
+        let DeepRow { items, depth } = self;
+        let items = fitted(alloc, items)?;
+        Ok(DeepRow { items, depth })
     }
 
     /// Puts a tree behind the row.
@@ -211,6 +248,14 @@ impl DeepRow {
         self.items.push(tree)?;
         self.depth = self.depth.max(depth);
         Ok(())
+    }
+
+    /// Puts a tree behind the row, and makes room for no more than that.
+    pub(crate) fn push_tail(&mut self, tail: Deep) -> Result<(), AllocError>
+        ensures { IfOk result (λ _. self.new ≡ with_last self.old tail) }
+    {
+        self.items.reserve_exact(1)?;
+        self.push(tail)
     }
 
     /// The trees.
@@ -248,6 +293,21 @@ impl DeepGuards {
         }
     }
 
+    /// The same guards, in no more room than they take.
+    pub(crate) fn fitted(self, alloc: Global) -> Result<DeepGuards, AllocError>
+        ensures { IfOk result (λ guards. guards ≡ self) }
+    {
+        let DeepGuards {
+            alternatives,
+            depth,
+        } = self;
+        let alternatives = fitted(alloc, alternatives)?;
+        Ok(DeepGuards {
+            alternatives,
+            depth,
+        })
+    }
+
     /// The guards.
     pub(crate) fn into_trees(self) -> GuardTrees
         ensures { result ≡ self }
@@ -280,6 +340,15 @@ impl DeepClauses {
             clauses: Vec::new(alloc),
             depth: 0,
         }
+    }
+
+    /// The same clauses, in no more room than they take.
+    pub(crate) fn fitted(self, alloc: Global) -> Result<DeepClauses, AllocError>
+        ensures { IfOk result (λ clauses. clauses ≡ self) }
+    {
+        let DeepClauses { clauses, depth } = self;
+        let clauses = fitted(alloc, clauses)?;
+        Ok(DeepClauses { clauses, depth })
     }
 
     /// The clauses.

@@ -169,5 +169,5 @@ pub(crate) fn named(name: &Name, at: usize) -> Result<Named, AllocError>
 fn copied(alloc: Global, text: &Text) -> Result<Text, AllocError>
     ensures { IfOk result (λ it. it ≡ text.now) }
 {
-    Ok(Text::from_string(String::from_str(alloc, text.as_str())?))
+    Text::from_string(alloc, String::from_str(alloc, text.as_str())?)
 }

@@ -29,12 +29,14 @@
 //! `Unsupported` at the token that shows it, an operator at itself.
 //!
 //! That there is memory, and what a call costs. Reading takes time and memory for each token that it steps over; left of `=`
-//! the whole tree is looked at again, which is right for short patterns, and at most as often as matches are nested. Reading
-//! recurses as deep as trees may be nested, which the caller bounds with `levels`, and a row of any length takes no recursion.
+//! the whole tree is looked at again, which is right for short patterns, and at most as often as matches are nested. What is
+//! read stands in no more room than it takes. Reading recurses as deep as trees may be nested, which the caller bounds with
+//! `levels`, and a row of any length takes no recursion.
 #![tactic(auto)]
 
 mod deep;
 mod delimiter;
+mod fitted;
 mod leaves;
 mod operators;
 mod parts;

@@ -24,8 +24,9 @@
 //!
 //! That there is memory, and what a call costs. [`Module::new`] takes time and memory for each function and for each remote
 //! call in it, and one look at each part besides. What is asked of a module takes no memory, and time that does not grow with
-//! the module: functions are looked up by hashes with keys that nobody outside knows. A copy of a module costs a count, and a
-//! copy of anything else its size; comparing is linear, also where a module is compared with its own copy.
+//! the module: up to eight functions are compared in turn, and more are looked up by hashes with keys that nobody outside
+//! knows. A copy of a module costs a count, and a copy of anything else its size; comparing is linear, also where a module is
+//! compared with its own copy.
 //!
 //! [`Module::new`], comparing, copying a function and dropping recurse as deep as the patterns and expressions are nested,
 //! which [`Module::depth`] tells, and then as deep as a literal's term, which it does not count. Who makes modules of

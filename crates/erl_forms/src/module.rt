@@ -1,7 +1,7 @@
 // Modules.
 ghost use Rattle.std.specs.Prelude.{◌≡◌, ◌↔◌, ◌-◌, ◌^◌, min, is_some, slice_get, IsTrue, IfOk, MatchOption};
 ghost use Rattle.std.specs.List.{IsDistinct};
-ghost use Rattle.std.specs.Map.{keys_of};
+ghost use Rattle.std.specs.Map.{keys_of, lookup};
 ghost use Rattle.std.specs.Option.{option_copied};
 ghost use Rattle.erl_forms.specs.Module.{key_eq, function_of, exported_of, functions_depth, called_in_functions, AreNamesOf};
 
@@ -10,7 +10,7 @@ use crate::depths::depth_of;
 use crate::function::Function;
 use crate::name_and_arity::NameAndArity;
 use erl_term::{Atom, Term};
-use indexmap::{IndexMap, IndexSet};
+use indexmap::{Equivalent, IndexMap, IndexSet};
 use std::alloc::{AllocError, Global};
 use std::hash::RandomState;
 use std::marker::Model;
@@ -19,6 +19,9 @@ use values::{Duplicate, Same};
 
 /// Functions by their names and numbers of arguments, in the order of the source.
 type Functions = IndexMap<(Atom, u32), Function, RandomState>;
+
+/// So many functions are compared in turn, which takes less time than to hash a name.
+const FEW: usize = 8;
 
 /// A module of Erlang as its source says (Erlang Reference Manual, Modules). Its copies share it.
 #[derive(Drop)]
@@ -122,6 +125,9 @@ impl Module {
     pub fn function(&self, name: &Atom, arity: u32) -> Option<&Function>
         ensures { option_copied result ≡ function_of name.now arity self.now }
     {
+        if self.parts.functions.len() <= FEW {
+            return among_few(&self.parts.functions, name, arity);
+        }
         self.parts.functions.get(NameAndArity { name, arity })
     }
 
@@ -217,6 +223,20 @@ fn by_name(
         }
     }
     Ok(Some(table))
+}
+
+/// The function of a name and a number of arguments, sought from the first to the last.
+fn among_few<'a>(functions: &'a Functions, name: &Atom, arity: u32) -> Option<&'a Function>
+    ensures { option_copied result ≡ lookup (key_eq (name.now, arity)) functions.now.entries }
+{
+    let asked = NameAndArity { name, arity };
+    for place in 0..functions.len() {
+        let (key, function) = functions.get_index(place)?;
+        if asked.equivalent(key) {
+            return Some(function);
+        }
+    }
+    None
 }
 
 /// Whether two tables have equal functions under equal keys, as many of them and in one order.

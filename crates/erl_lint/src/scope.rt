@@ -1,6 +1,7 @@
 // The variables that are bound at a place.
-ghost use Rattle.std.specs.Prelude.{◌≡◌, ℕ, List, [], length, take, IfOk, OnOk};
-ghost use Rattle.std.specs.Str.{bytes_eq};
+ghost use Rattle.std.specs.Prelude.{◌≡◌, ℕ, List, [], ◌++◌, ◌≤◌, ◌^◌, length, position, take, IfOk, OnOk};
+ghost use Rattle.std.specs.List.{list_any, position_or_len};
+ghost use Rattle.std.specs.Str.{bytes_eq, chars};
 ghost use Rattle.std.specs.Hash as fed;
 ghost use Rattle.std.specs.Cmp.{partial_equiv_from_equiv};
 ghost use Rattle.std.specs.Cmp.Lexicographic.{nat_list_eq_equiv};
@@ -15,16 +16,35 @@ use std::alloc::{AllocError, Global};
 use std::hash::{Hash, Hasher, RandomState};
 use std::marker::Model;
 
+/// How many names are few: to compare a name with each of them costs less than to hash it.
+const FEW: usize = 8;
+
 /// The name of a variable, borrowed from its tree, seen by contracts as its code points.
 #[derive(Drop)]
 struct VariableName<'a> {
-    text: &'a SharedText,
+    text: &'a str,
 }
 
 impl<'a> Model for VariableName<'a> {
+    ghost use Rattle.std.specs.Prelude.{ℕ, List, IsUtf8};
+    ghost use Rattle.std.specs.Str.{chars};
+
     ghost Value = { List ℕ };
 
-    ghost view = { λ a. a.text.now };
+    ghost view = { λ a. chars a.text.now };
+
+    ghost invariant = { λ a. IsUtf8 a.text.now };
+}
+
+impl<'a> VariableName<'a> {
+    /// The name that a text is.
+    fn of(name: &'a SharedText) -> VariableName<'a>
+        ensures { result ≡ name.now }
+    {
+        VariableName {
+            text: name.as_str(),
+        }
+    }
 }
 
 impl PartialEq for VariableName<'_> {
@@ -33,7 +53,7 @@ impl PartialEq for VariableName<'_> {
     ghost laws = { partial_equiv_from_equiv nat_list_eq_equiv };
 
     fn eq(&self, other: &Self) -> bool {
-        self.text.as_str() == other.text.as_str()
+        self.text == other.text
     }
 }
 
@@ -47,7 +67,7 @@ impl Hash for VariableName<'_> {
     ghost respects_eq = { Prim.search (hashing, rules) };
 
     fn hash<H: Hasher>(&self, state: &mut H) {
-        self.text.as_str().hash(state);
+        self.text.hash(state);
     }
 }
 
@@ -55,38 +75,52 @@ impl Hash for VariableName<'_> {
 /// see their names.
 #[derive(Drop)]
 pub struct Scope<'a> {
-    names: IndexSet<VariableName<'a>, RandomState>,
+    /// The first names, few of them: they are looked up by comparing.
+    few: Vec<VariableName<'a>>,
+    /// The names behind those, which are looked up by their hashes.
+    others: IndexSet<VariableName<'a>, RandomState>,
 }
 
 impl<'a> Model for Scope<'a> {
+    ghost use Rattle.std.specs.Prelude.{ℕ, List, ◌++◌, ◌≤◌, length};
+
     ghost Value = { List (List ℕ) };
 
-    ghost view = { λ s. s.names.keys };
+    ghost view = { λ s. s.few.items ++ s.others.keys };
+
+    ghost invariant = { λ s. length s.few.items ≤ 8 };
 }
 
 impl<'a> Scope<'a> {
-    /// Nothing is bound. Names are hashed by `hashing`. Takes no memory.
+    /// Nothing is bound. Names behind the first eight are hashed by `hashing`. Takes no memory.
     pub fn new(alloc: Global, hashing: RandomState) -> Scope<'a>
         ensures { result ≡ [] }
     {
-        let names = IndexSet::with_hasher(alloc, hashing);
-        Scope { names }
+        Scope {
+            few: Vec::new(alloc),
+            others: IndexSet::with_hasher(alloc, hashing),
+        }
     }
 
     /// Whether a variable is bound. Takes no memory.
     pub fn has(&self, name: &'a SharedText) -> bool
         ensures { result ≡ is_bound self.now name.now }
     {
-        self.names.contains(&VariableName { text: name })
+        let name = VariableName::of(name);
+        match place_among(self.few.as_slice(), &name) {
+            Some(_) => true,
+            None => is_in(&self.others, &name),
+        }
     }
 
     /// The place of a variable: how many were bound before it; of one that is not bound, how many are bound. Takes no memory.
     pub fn place(&self, name: &'a SharedText) -> usize
         ensures { result ≡ place_of self.now name.now }
     {
-        match self.names.get_index_of(&VariableName { text: name }) {
+        let name = VariableName::of(name);
+        match place_among(self.few.as_slice(), &name) {
             Some(place) => place,
-            None => self.names.len(),
+            None => self.few.as_slice().len() + place_in(&self.others, &name),
         }
     }
 
@@ -99,21 +133,63 @@ impl<'a> Scope<'a> {
         ensures bound { OnOk result (self.new ≡ with_name self.old name.now) }
         ensures place { IfOk result (λ place. place ≡ place_of self.old name.now) }
     {
-        let (place, _) = self.names.insert_full(VariableName { text: name })?;
-        Ok(place)
+        let name = VariableName::of(name);
+        match place_among(self.few.as_slice(), &name) {
+            Some(place) => return Ok(place),
+            None => {}
+        }
+        let before = self.few.as_slice().len();
+        let behind = self.others.len();
+        if before < FEW && behind == 0 {
+            self.few.push(name)?;
+            return Ok(before);
+        }
+        let (place, _) = self.others.insert_full(name)?;
+        Ok(before + place)
     }
 
     /// How many variables are bound. Takes no memory.
     pub fn len(&self) -> usize
         ensures { result ≡ length self.now }
     {
-        self.names.len()
+        self.few.len() + self.others.len()
     }
 
     /// Keeps the variables that were bound first, so many of them. Takes no memory.
     pub fn keep_first(&mut self, len: usize)
         ensures { self.new ≡ take len self.old }
     {
-        self.names.truncate(len);
+        let before = self.few.as_slice().len();
+        self.few.truncate(len);
+        self.others.truncate(len.saturating_sub(before));
     }
+}
+
+/// The place of a name among others, if it is there.
+fn place_among(names: &[VariableName], name: &VariableName) -> Option<usize>
+    ensures { result ≡ position (bytes_eq name.now) names.now }
+{
+    names.iter().position(|other| name == other)
+}
+
+/// The place of a name among others, by its hash; behind all where it is not there.
+fn place_in(names: &IndexSet<VariableName, RandomState>, name: &VariableName) -> usize
+    ensures place { result ≡ position_or_len (bytes_eq name.now) names.now.keys }
+    ensures small { result ≤ 2 ^ 63 }
+{
+    let len = names.len();
+    if len == 0 {
+        return 0;
+    }
+    match names.get_index_of(name) {
+        Some(place) => place,
+        None => len,
+    }
+}
+
+/// Whether a name is among others, by its hash.
+fn is_in(names: &IndexSet<VariableName, RandomState>, name: &VariableName) -> bool
+    ensures { result ≡ list_any (bytes_eq name.now) names.now.keys }
+{
+    !names.is_empty() && names.contains(name)
 }

@@ -20,8 +20,9 @@
 //!
 //! # What no contract says
 //!
-//! That there is memory, and what a call costs. Names are looked up by hashes with keys that nobody outside knows. Each part of a
-//! module is looked at once. Recursion goes as deep as the trees are nested: who reads a module from outside bounds that.
+//! That there is memory, and what a call costs. Variables are looked up as [`Scope`](erl_lint::Scope) does it, and functions by
+//! hashes with keys that nobody outside knows. Each part of a module is looked at once. Recursion goes as deep as the trees are
+//! nested: who reads a module from outside bounds that.
 #![tactic(auto)]
 
 mod built_ins;

@@ -239,7 +239,7 @@ fn lower_functions<'a>(
     requires { scope.old ≡ [] }
     ensures { IfOk result (λ entries. entries.items ≡ functions_in own.now exports.now.keys forms.now) }
 {
-    let mut entries = Vec::new(alloc);
+    let mut entries = Vec::with_capacity(alloc, forms.len())?;
     for form in forms {
         let entry = lower_form(alloc, own, exports, form, scope)?;
         push_entry(&mut entries, entry)?;

@@ -11,7 +11,7 @@ ghost use Rattle.erl_eval.specs.State.{rest, server};
 use crate::evaluation::{Outcome, undefined};
 use erl_eval::{Act, Place, reply_to};
 use erl_steps::{End, tag};
-use erl_term::{Atom, Term, Terms, one, three, two};
+use erl_term::{Atom, Predefined, Term, Terms, one, three, two};
 use std::alloc::{AllocError, Global};
 use values::{Duplicate, Row};
 
@@ -66,14 +66,14 @@ pub fn callback_of(message: &Term) -> Callback<'_>
 }
 
 impl Callback<'_> {
-    /// The callback's name.
-    pub fn name(&self, alloc: Global) -> Result<Atom, AllocError>
-        ensures { IfOk result (λ it. it ≡ name_of (callback self.now)) }
+    /// The callback's name. Takes no memory.
+    pub fn name(&self) -> Atom
+        ensures { result ≡ name_of (callback self.now) }
     {
         match self {
-            Callback::Call { .. } => Atom::word(alloc, "handle_call"),
-            Callback::Cast(_) => Atom::word(alloc, "handle_cast"),
-            Callback::Info(_) => Atom::word(alloc, "handle_info"),
+            Callback::Call { .. } => Atom::predefined(Predefined::HandleCall),
+            Callback::Cast(_) => Atom::predefined(Predefined::HandleCast),
+            Callback::Info(_) => Atom::predefined(Predefined::HandleInfo),
         }
     }
 
@@ -162,6 +162,7 @@ fn with_act(acts: Row<Act>, act: Option<Act>) -> Result<Row<Act>, AllocError>
     match act {
         Some(act) => {
             let mut all = acts.into_vec();
+            all.reserve_exact(1)?;
             all.push(act)?;
             Ok(Row::new(all))
         }

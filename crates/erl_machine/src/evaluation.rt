@@ -15,7 +15,7 @@ use erl_forms::Expressions;
 use erl_steps::{
     Callee, Control, End, Instance, Machine, Startup, World, arity_of, remote_function,
 };
-use erl_term::{Atom, Term};
+use erl_term::{Atom, Predefined, Term};
 use std::alloc::{AllocError, Global};
 use values::{Duplicate, Row, Same};
 
@@ -208,7 +208,7 @@ pub fn evaluate(
 pub fn undefined(alloc: Global) -> Result<Outcome, AllocError>
     ensures { IfOk result (λ it. outcome_of it ≡ nowhere) }
 {
-    let reason = Term::Atom(Atom::word(alloc, "undef")?);
+    let reason = Term::Atom(Atom::predefined(Predefined::Undef));
     Ok(Outcome {
         acts: Row::new(Vec::new(alloc)),
         end: End::Exit(reason),

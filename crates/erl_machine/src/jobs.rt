@@ -15,10 +15,10 @@ ghost use Rattle.erl_steps.specs.Views.{instance, world_of};
 
 use crate::callbacks::callback_of;
 use crate::evaluation::{Outcome, call_outermost, run_outermost, undefined};
-use erl_eval::{Booleans, Place, Setting, match_each, select};
+use erl_eval::{Place, Setting, match_each, select};
 use erl_forms::{Clause, Definition, Expressions, Function};
 use erl_steps::{Callee, End, Instance, Mode, World, arity_of};
-use erl_term::{Atom, Term, Terms};
+use erl_term::{Atom, Predefined, Term, Terms};
 use std::alloc::{AllocError, Global};
 use values::{Duplicate, Row, Same};
 
@@ -53,7 +53,7 @@ pub struct Heard<'a> {
 
 /// The first clause of a `receive` that takes a message, where this is bound.
 fn hear_by<'a>(
-    setting: &Setting<'_>,
+    setting: &Setting,
     message: &Term,
     receive: &'a [Clause],
     bound: Vec<Term>,
@@ -79,7 +79,7 @@ fn hear_by<'a>(
 
 /// What a message selects of a loop function that was called with these arguments: its head binds them again.
 fn hear<'a>(
-    setting: &Setting<'_>,
+    setting: &Setting,
     message: &Term,
     args: &Terms,
     function: &'a Function,
@@ -112,7 +112,7 @@ fn ended_loop(alloc: Global, outcome: Outcome) -> Result<Outcome, AllocError>
     match end {
         End::Value(_) => Ok(Outcome {
             acts,
-            end: End::Exit(Term::Atom(Atom::word(alloc, "normal")?)),
+            end: End::Exit(Term::Atom(Atom::predefined(Predefined::Normal))),
         }),
         end => Ok(Outcome { acts, end }),
     }
@@ -180,7 +180,7 @@ impl Job {
     {
         let alloc = world.setting.alloc;
         let callback = callback_of(&self.message);
-        let name = callback.name(alloc)?;
+        let name = callback.name();
         let arguments = callback.arguments(alloc, state)?;
         let arity = arity_of(arguments.as_slice())?;
         let Some(function) = item.module.exported(&name, arity) else {
@@ -219,8 +219,7 @@ impl Job {
         let Some((item, code)) = self.code.as_slice().split_first() else {
             return undefined(alloc);
         };
-        let booleans = Booleans::new(alloc)?;
-        let world = World::new(alloc, &booleans, self.pid, Mode::Plain, code);
+        let world = World::new(alloc, self.pid, Mode::Plain, code);
         self.give_in(&world, item)
     }
 
@@ -326,12 +325,7 @@ pub fn matches(
     let Some(item) = code.first() else {
         return Ok(false);
     };
-    let booleans = Booleans::new(alloc)?;
-    let setting = Setting {
-        alloc,
-        booleans: &booleans,
-        own: pid,
-    };
+    let setting = Setting { alloc, own: pid };
     let Some(found) = item.module.function(function, arity_of(args.as_slice())?) else {
         return Ok(false);
     };

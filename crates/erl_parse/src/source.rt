@@ -41,13 +41,15 @@ pub fn read_module(alloc: Global, hashing: RandomState, bytes: &[u8]) -> Result<
     }
 }
 
-/// Reads a source as the module that it means.
+/// Reads a source as the module that it means. The tokens are let go once the tree is read.
 fn read_text(alloc: Global, hashing: RandomState, text: &str) -> Result<Module, LangError>
     ensures found { IfOk result (λ m. IsSource text.now m) }
     ensures refused { IfErr result (λ e. Says text.now e) }
 {
     let Scanned { tokens, fault } = scan(alloc, text)?;
-    match read_forms(alloc, tokens.as_slice())? {
+    let tree = read_forms(alloc, tokens.as_slice())?;
+    drop(tokens);
+    match tree {
         Ok(tree) => match fault {
             None => module_of(alloc, hashing, &tree),
             Some(fault) => Err(of_token(fault)),

@@ -1,3 +1,4 @@
+pub mod Alone
 pub mod Reserved
 pub mod Lookahead
 pub mod Digits

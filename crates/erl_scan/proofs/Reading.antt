@@ -17,10 +17,11 @@ use Rattle.erl_scan.specs.declared.token.Token.TheVariants.{Atom, String, Mark a
 use Rattle.erl_scan.specs.declared.mark.Mark.{Mark}
 use Rattle.erl_scan.specs.Marks.{mark_text, mark_in}
 use Rattle.erl_scan.specs.Words.{word_of}
-use Rattle.erl_scan.specs.Lookahead.{mark_by, with_rest}
+use Rattle.erl_scan.specs.Lookahead.{mark_by, with_rest, alone}
 use Rattle.erl_scan.specs.Scanner.{IsFault, faulty as is_faulty, memory as is_memory}
 use Rattle.erl_scan.specs.Tokens.{token, fault, Comes, mark_next, begins_two_quotes}
 use Rattle.erl_scan.specs.Answers.{memory, faulty, Answers, Takes, plain_in, name_in, character_in, atom_at, IsNotBetween, no_memory, open_end, escape as bad_escape_at}
+use Rattle.erl_scan.proofs.Alone.{alone-first}
 use Rattle.erl_scan.proofs.Lookahead.{mark_in-ahead}
 
 -- Steps
@@ -69,6 +70,11 @@ mark_some m here rest first second third f s t is behind =
 pub mark_none : (here : List ℕ) (first second third : ℕ) → first_of here ≡ Some first → second ≡ get_or here 1 0 → third ≡ get_or here 2 0 → None ≡ mark_by first second third → mark_next here (mark_in here) ≡ fault BadChar here
 mark_none here first second third f s t is =
     rw (mark_in-by here first second third f s t, ← is) refl
+
+pub mark_alone : (m : Mark) (here rest : List ℕ) (first : ℕ) → first_of here ≡ Some first → Some m ≡ alone first → rest ≡ after_first here → mark_next here (mark_in here) ≡ token (MarkOf m) rest
+mark_alone m here rest first f is behind =
+    let known = alone-first first (get_or here 1 0) (get_or here 2 0) m is in
+    mark_some m here rest first (get_or here 1 0) (get_or here 2 0) f refl refl known.0 (rw known.1 (behind ∙ drop_one here))
 
 -- Characters behind `$`
 

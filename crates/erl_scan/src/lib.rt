@@ -27,8 +27,8 @@
 //!
 //! That there is memory, which the atoms, variables and strings ask for, and the list of [`scan`]; that `Memory` and
 //! `AllocError` are told only where it was refused; and what a call costs: it is linear in what it steps over, and `scan`
-//! in the text, with one list that it pushes to. A scanner keeps at most 512 names that it read: an atom or a variable
-//! that has one of these shares its characters.
+//! in the text, with one list, which has room for a token in three bytes from the start. A scanner keeps at most 512 names that it read, at most 64 in a text of
+//! under 4096 bytes and none in one of under 64: an atom or a variable that has one of these shares its characters.
 #![tactic(auto)]
 
 mod error;

@@ -14,8 +14,24 @@ use crate::scanner::Scanner;
 use crate::token::Token;
 
 impl<'a> Scanner<'a> {
-    /// Reads the longest mark.
+    /// Reads the longest mark. Most have one character.
+    #[inline(always)]
     pub(crate) fn mark_token(&mut self, first: char) -> Result<Token, ReadError>
+        requires first { first_of (left self.old) ≡ Some first }
+        ensures answers { Answers (total self.old) (mark_next (left self.old) (mark_in (left self.old))) result (left self.new) }
+        ensures total { total self.new ≡ total self.old }
+    {
+        match alone(first) {
+            Some(mark) => {
+                self.cursor.advance();
+                Ok(Token::Mark(mark))
+            }
+            None => self.longest_mark_token(first),
+        }
+    }
+
+    /// Reads the longest mark, by up to three characters.
+    fn longest_mark_token(&mut self, first: char) -> Result<Token, ReadError>
         requires first { first_of (left self.old) ≡ Some first }
         ensures answers { Answers (total self.old) (mark_next (left self.old) (mark_in (left self.old))) result (left self.new) }
         ensures total { total self.new ≡ total self.old }
@@ -190,6 +206,7 @@ fn longer_if(wanted: char, second: char, longer: Mark, shorter: Mark) -> Mark
 }
 
 /// The mark of a character that begins no longer one.
+#[inline(always)]
 fn alone(first: char) -> Option<Mark>
     ensures { result ≡ tests.alone first }
 {

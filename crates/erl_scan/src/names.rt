@@ -3,6 +3,7 @@ ghost use Rattle.std.specs.Prelude.{◌≡◌};
 ghost use Rattle.std.specs.Str.{chars};
 ghost use Rattle.erl_chars.specs.Chars as kinds;
 ghost use Rattle.erl_chars.specs.Chars.{front, after_front};
+ghost use Rattle.erl_chars.specs.Cursor.{left as left_of, total as total_of};
 ghost use Rattle.erl_scan.specs.Scanner.{left, total};
 ghost use Rattle.erl_scan.specs.Answers.{Answers, NameGoesOn, name_in, variable_in, atom_at};
 
@@ -10,7 +11,7 @@ use crate::error::{Fault, ReadError};
 use crate::scanner::{OUT_OF_MEMORY, Scanner};
 use crate::token::Token;
 use crate::word::Word;
-use erl_chars::{Name, SharedText};
+use erl_chars::{Cursor, Name, SharedText};
 use std::alloc::AllocError;
 
 impl<'a> Scanner<'a> {
@@ -58,21 +59,25 @@ impl<'a> Scanner<'a> {
         ensures left { left self.new ≡ after_front kinds.is_name_char (left self.old) }
         ensures total { total self.new ≡ total self.old }
     {
-        while self.next_name_char().is_some() {}
+        let mut cursor = self.cursor;
+        while next_name_char(&mut cursor).is_some() {}
+        self.cursor = cursor;
     }
+}
 
-    /// The next character, stepped over, where a name may have it.
-    fn next_name_char(&mut self) -> Option<char>
-        ensures char { NameGoesOn (left self.old) result (left self.new) }
-        ensures total { total self.new ≡ total self.old }
-    {
-        let c = self.cursor.peek()?;
-        if !is_name_char(c) {
-            return None;
-        }
-        self.cursor.advance();
-        Some(c)
+/// The next character, stepped over, where a name may have it.
+#[inline]
+fn next_name_char(cursor: &mut Cursor) -> Option<char>
+    ensures char { NameGoesOn (left_of cursor.old) result (left_of cursor.new) }
+    ensures total { total_of cursor.new ≡ total_of cursor.old }
+{
+    let mut ahead = *cursor;
+    let c = ahead.take()?;
+    if !is_name_char(c) {
+        return None;
     }
+    *cursor = ahead;
+    Some(c)
 }
 
 /// The atom of a text that stands at a place.
@@ -92,7 +97,7 @@ pub(crate) fn atom(text: SharedText, at: usize) -> Result<Token, ReadError>
 pub(crate) fn is_small(c: char) -> bool
     ensures { result ≡ kinds.is_small c }
 {
-    matches!(c, 'a'..='z' | '\u{df}'..='\u{ff}') && c != '\u{f7}'
+    matches!(c, 'a'..='z' | '\u{df}'..='\u{f6}' | '\u{f8}'..='\u{ff}')
 }
 
 /// Whether a variable may begin with the character.
@@ -106,12 +111,12 @@ pub(crate) fn begins_variable(c: char) -> bool
 fn is_capital(c: char) -> bool
     ensures { result ≡ kinds.is_capital c }
 {
-    matches!(c, 'A'..='Z' | '\u{c0}'..='\u{de}') && c != '\u{d7}'
+    matches!(c, 'A'..='Z' | '\u{c0}'..='\u{d6}' | '\u{d8}'..='\u{de}')
 }
 
 /// Whether a name may have the character.
 fn is_name_char(c: char) -> bool
     ensures { result ≡ kinds.is_name_char c }
 {
-    is_small(c) || is_capital(c) || matches!(c, '0'..='9' | '_' | '@')
+    matches!(c, 'a'..='z' | 'A'..='Z' | '0'..='9' | '_' | '@') || is_small(c) || is_capital(c)
 }

@@ -1,5 +1,6 @@
 // Numbers.
 ghost use Rattle.std.specs.Prelude.{◌≡◌, ◌*◌, ◌+◌, ◌≤◌, Some};
+ghost use Rattle.erl_chars.specs.Chars as kinds;
 ghost use Rattle.erl_chars.specs.Cursor.{left as left_of, first_of};
 ghost use Rattle.erl_scan.specs.Scanner.{left, total};
 ghost use Rattle.erl_scan.specs.Answers.{Answers};
@@ -128,10 +129,19 @@ impl<'a> Scanner<'a> {
         if self.cursor.peek() == Some('_') && begins_with_digit(self.behind(), base) {
             self.cursor.advance();
         }
-        let digit = self.cursor.peek()?.to_digit(base)?;
-        self.cursor.advance();
+        let mut ahead = self.cursor;
+        let digit = ahead.take()?.to_digit(base)?;
+        self.cursor = ahead;
         Some(digit)
     }
+}
+
+/// Whether the character is a decimal digit.
+#[inline]
+pub(crate) fn is_decimal(c: char) -> bool
+    ensures { result ≡ kinds.is_digit 10 c }
+{
+    c.is_ascii_digit()
 }
 
 /// Whether a digit of the base is next.

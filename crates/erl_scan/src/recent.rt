@@ -5,21 +5,33 @@ ghost use Rattle.std.specs.Str.{chars};
 use erl_chars::SharedText;
 use std::alloc::{AllocError, Global};
 
-/// How many texts are kept at once.
-const PLACES: usize = 512;
+/// How many texts are kept at once of a text that is not long. A power of two.
+const FEW_PLACES: usize = 64;
+
+/// How many texts are kept at once of a long text. A power of two.
+const MANY_PLACES: usize = 512;
+
+/// From so many bytes on, a text's names are kept. Those of fewer bytes are sooner made than kept.
+const SHORT: usize = 64;
+
+/// From so many bytes on, a text is long.
+const LONG: usize = 4096;
 
 /// Texts that were read. Each is kept at the place of its characters until another comes there. So a text that is read
 /// often is made once, and all its copies share the characters.
 #[derive(Drop)]
 pub(crate) struct RecentTexts {
+    /// How many places there are: none, or a power of two.
+    places: usize,
     /// None, or one for each place.
     kept: Vec<Option<SharedText>>,
 }
 
 impl RecentTexts {
-    /// No texts. They take memory from `alloc`.
-    pub(crate) fn new(alloc: Global) -> RecentTexts {
+    /// No texts, with places for those in a text of so many bytes. They take memory from `alloc`.
+    pub(crate) fn new(alloc: Global, bytes: usize) -> RecentTexts {
         RecentTexts {
+            places: places_for(bytes),
             kept: Vec::new(alloc),
         }
     }
@@ -32,7 +44,10 @@ impl RecentTexts {
     pub(crate) fn text(&mut self, alloc: Global, characters: &str) -> Result<SharedText, AllocError>
         ensures { IfOk result (λ it. it ≡ chars characters.now) }
     {
-        let place = place_of(characters);
+        let Some(last) = self.places.checked_sub(1) else {
+            return SharedText::new(alloc, characters);
+        };
+        let place = sum_of(characters) & last;
         if let Some(text) = self.copy_at(place, characters)? {
             return Ok(text);
         }
@@ -56,7 +71,7 @@ impl RecentTexts {
 
     /// Keeps a text at a place.
     fn keep(&mut self, place: usize, text: SharedText) -> Result<(), AllocError> {
-        for _ in self.kept.len()..PLACES {
+        for _ in self.kept.len()..self.places {
             self.kept.push(None)?;
         }
         if let Some(kept) = self.kept.get_mut(place) {
@@ -66,11 +81,20 @@ impl RecentTexts {
     }
 }
 
-/// The place that characters choose.
-fn place_of(characters: &str) -> usize {
+/// How many places there are for the names in a text of so many bytes.
+fn places_for(bytes: usize) -> usize {
+    match bytes {
+        0..SHORT => 0,
+        SHORT..LONG => FEW_PLACES,
+        _ => MANY_PLACES,
+    }
+}
+
+/// A number that characters choose. Its last bits name their place.
+fn sum_of(characters: &str) -> usize {
     let mut sum: usize = 0;
     for byte in characters.as_bytes() {
         sum = sum.wrapping_mul(31).wrapping_add(usize::from(*byte));
     }
-    sum % PLACES
+    sum
 }

@@ -10,7 +10,7 @@ ghost use Rattle.erl_scan.specs.Tokens.{ends_form};
 
 use crate::error::ReadError;
 use crate::names::{begins_variable, is_small};
-use crate::numbers::begins_with_digit;
+use crate::numbers::is_decimal;
 use crate::recent::RecentTexts;
 use crate::scanner::Scanner;
 use crate::token::{Spot, Token};
@@ -26,7 +26,7 @@ impl<'a> Scanner<'a> {
         Scanner {
             alloc,
             cursor: Cursor::new(text),
-            recent: RecentTexts::new(alloc),
+            recent: RecentTexts::new(alloc, text.len()),
         }
     }
 
@@ -72,7 +72,7 @@ impl<'a> Scanner<'a> {
         ensures answers { Answers (total self.old) (plain_in (left self.old)) result (left self.new) }
         ensures total { total self.new ≡ total self.old }
     {
-        if begins_with_digit(self.cursor, 10) {
+        if is_decimal(first) {
             self.number_token()
         } else if first == '$' {
             self.character_token()
@@ -80,11 +80,24 @@ impl<'a> Scanner<'a> {
             self.name_token()
         } else if begins_variable(first) {
             self.variable_token()
-        } else if first == '.' && self.ends_form() {
+        } else if first == '.' {
+            self.dot_token()
+        } else {
+            self.mark_token(first)
+        }
+    }
+
+    /// Reads the dot that ends a form, or a mark that begins with a dot.
+    fn dot_token(&mut self) -> Result<Token, ReadError>
+        requires first { first_of (left self.old) ≡ Some 46 }
+        ensures answers { Answers (total self.old) (plain_in (left self.old)) result (left self.new) }
+        ensures total { total self.new ≡ total self.old }
+    {
+        if self.ends_form() {
             self.cursor.advance();
             Ok(Token::Dot)
         } else {
-            self.mark_token(first)
+            self.mark_token('.')
         }
     }
 

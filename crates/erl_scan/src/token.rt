@@ -25,6 +25,8 @@ pub enum Token {
     Dot,
 }
 
+const _: () = prove!(size_of::<Token>() == 16);
+
 /// A token where it stands.
 #[derive(Drop)]
 pub struct Spot {
@@ -33,3 +35,5 @@ pub struct Spot {
     /// Its first byte in the text, from 0.
     pub at: usize,
 }
+
+const _: () = prove!(size_of::<Spot>() == 24);

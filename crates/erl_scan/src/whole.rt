@@ -18,6 +18,9 @@ pub struct Scanned {
     pub fault: Option<ReadError>,
 }
 
+/// How many bytes of a dense text stand for a token. The list of tokens has room for so many from the start.
+const BYTES_A_TOKEN: usize = 3;
+
 /// Reads a whole text as tokens, up to its end or to the first token that is faulty by itself.
 ///
 /// # Errors
@@ -27,7 +30,7 @@ pub fn scan(alloc: Global, text: &str) -> Result<Scanned, AllocError>
     ensures { IfOk result (λ scanned. IsScanOf (chars text.now) scanned.tokens.items scanned.fault) }
 {
     let mut scanner = Scanner::new(alloc, text);
-    let mut tokens = Vec::new(alloc);
+    let mut tokens = Vec::with_capacity(alloc, text.len() / BYTES_A_TOKEN)?;
     loop {
         match scanner.next_token() {
             Ok(Some(spot)) => tokens.push(spot)?,

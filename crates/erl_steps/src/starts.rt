@@ -17,8 +17,8 @@ use crate::stack::{Activation, Frame, Starter};
 use crate::steps::arity_of;
 use crate::tags::tag;
 use crate::world::{Callee, Instance, Mode, World, remote_function};
-use erl_eval::{Given, Place, exit_by, made};
-use erl_term::{Atom, Term, Terms, four, one, three, two};
+use erl_eval::{Given, Place, exit_by, made, truth_term};
+use erl_term::{Atom, Predefined, Term, Terms, four, one, three, two};
 use std::alloc::{AllocError, Global};
 use values::{Duplicate, copied_slice};
 
@@ -145,7 +145,7 @@ fn init_asked<'a>(
         startup,
         registered,
         m,
-        Atom::word(alloc, "init")?,
+        Atom::predefined(Predefined::Init),
         arguments,
     )
 }
@@ -446,7 +446,7 @@ impl<'a> Machine<'a> {
             registered: Some((name.copy(alloc)?, true)),
             place: startup.place,
         });
-        Ok(Control::Give(world.setting.booleans.term(alloc, true)?))
+        Ok(Control::Give(truth_term(true)))
     }
 
     /// `register(Name,Pid)`

@@ -1,5 +1,5 @@
 // The steps of the machine.
-ghost use Rattle.std.specs.Prelude.{◌≡◌, IfOk, MatchOption, None, OnOk, Some, codes, is_some, option_map, slice_get};
+ghost use Rattle.std.specs.Prelude.{◌≡◌, ◌++◌, IfOk, MatchOption, None, OnOk, Some, codes, is_some, option_map, slice_get};
 ghost use Rattle.erl_term.specs.Rows.{append_trees};
 ghost use Rattle.erl_term.specs.Term.{tree, trees};
 ghost use Rattle.erl_term.specs.Tree.{count, more, none};
@@ -54,10 +54,23 @@ fn push_value(values: &mut Vec<Term>, value: Term) -> Result<(), AllocError>
     Ok(())
 }
 
+/// Values are bound behind those that are. Where there are none, the values are taken as they stand.
+fn bind_behind(bindings: &mut Vec<Term>, fresh: Vec<Term>) -> Result<(), AllocError>
+    ensures { OnOk result (bindings.new.items ≡ bindings.old.items ++ fresh.items) }
+{
+    if bindings.is_empty() {
+        *bindings = fresh;
+        return Ok(());
+    }
+    let mut behind = fresh;
+    bindings.append(&mut behind)?;
+    Ok(())
+}
+
 /// What an operator gives at once of two values, where it gives one and does nothing else.
 #[tactic(auto, using(crate::proofs::Known::send_waits, crate::proofs::Known::works_out_value, crate::proofs::Known::works_out_none))]
 fn work_out(
-    setting: &Setting<'_>,
+    setting: &Setting,
     operator: Operator,
     x: &Term,
     y: &Term,
@@ -66,7 +79,7 @@ fn work_out(
 {
     match operator {
         Operator::Send => Ok(None),
-        _ => match of_two(setting.alloc, setting.booleans, operator, x, y)? {
+        _ => match of_two(setting.alloc, operator, x, y)? {
             Given::Value(term) => Ok(Some(term)),
             Given::Exit(_) => Ok(None),
         },
@@ -119,8 +132,7 @@ impl<'a> Machine<'a> {
             return Ok(None);
         };
         self.open_scope()?;
-        let mut fresh = selected.fresh;
-        self.bindings.append(&mut fresh)?;
+        bind_behind(&mut self.bindings, selected.fresh)?;
         Ok(Some(Control::Run(selected.body.as_slice())))
     }
 
@@ -319,13 +331,7 @@ impl<'a> Machine<'a> {
         ensures { IfOk result (λ it. (control_of it, machine_of self.new) ≡ working (world_of world.now) at_once function (trees arguments.now) (machine_of self.old)) }
     {
         let setting = &world.setting;
-        let given = call_built_in(
-            setting.alloc,
-            setting.booleans,
-            setting.own,
-            function,
-            arguments,
-        )?;
+        let given = call_built_in(setting.alloc, setting.own, function, arguments)?;
         self.act(does(setting.alloc, function, arguments)?)?;
         Ok(next_of(given))
     }
@@ -340,7 +346,7 @@ impl<'a> Machine<'a> {
         ensures { IfOk result (λ it. (control_of it, machine_of self.new) ≡ applying (world_of world.now) (operation.Operator operator) (trees operands.now) (machine_of self.old)) }
     {
         let setting = &world.setting;
-        let given = operate(setting.alloc, setting.booleans, operator, operands)?;
+        let given = operate(setting.alloc, operator, operands)?;
         self.act(sends(setting.alloc, operator, operands)?)?;
         Ok(next_of(given))
     }

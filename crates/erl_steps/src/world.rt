@@ -4,7 +4,7 @@ ghost use Rattle.erl_eval.specs.Starting.{exported_by, remote_function};
 ghost use Rattle.erl_eval.specs.State.{current};
 ghost use Rattle.erl_steps.specs.Views.{callee_of, instance, mode_of, world_of};
 
-use erl_eval::{Booleans, Setting};
+use erl_eval::Setting;
 use erl_forms::{Function, Module};
 use erl_term::Atom;
 use std::alloc::{AllocError, Global};
@@ -54,7 +54,7 @@ pub enum Mode {
 #[derive(Drop)]
 pub struct World<'a> {
     /// The allocator and the process that evaluates.
-    pub setting: Setting<'a>,
+    pub setting: Setting,
     /// The mode.
     pub mode: Mode,
     /// The current code of each module that a remote call can reach.
@@ -63,22 +63,11 @@ pub struct World<'a> {
 
 impl<'a> World<'a> {
     /// What is given to all that a process evaluates, where this is the current code.
-    pub fn new(
-        alloc: Global,
-        booleans: &'a Booleans,
-        own: u64,
-        mode: Mode,
-        code: &'a [Instance],
-    ) -> World<'a>
+    pub fn new(alloc: Global, own: u64, mode: Mode, code: &'a [Instance]) -> World<'a>
         ensures { world_of result ≡ record { code = map instance code.now; pid = own; mode = mode_of mode } }
     {
-        let setting = Setting {
-            alloc,
-            booleans,
-            own,
-        };
         World {
-            setting,
+            setting: Setting { alloc, own },
             mode,
             code,
         }

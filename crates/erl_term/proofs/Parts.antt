@@ -1,10 +1,11 @@
 -- Lemmas on rows that are seen from a place in them on.
-use Rattle.std.proofs.Common.{◌≡◌, ℕ, zero, suc, ◌+◌, ◌-◌, ◌^◌, ◌<◌, ◌≤◌, min, List, [], ◌∷◌, ◌++◌, length, get_or, take, drop, sym, ap, ◌∙◌, subst, arith}
-use Rattle.std.proofs.lemmas.List.{drop-append-le, length-append, length-take-le}
-use Rattle.std.proofs.Math.Seq.{drop-append_seam}
+use Rattle.std.proofs.Common.{◌≡◌, ℕ, zero, suc, ◌+◌, ◌-◌, ◌^◌, ◌<◌, ◌≤◌, max, min, List, [], ◌∷◌, ◌++◌, length, get_or, take, drop, refl, sym, ap, ◌∙◌, subst, arith}
+use Rattle.std.proofs.lemmas.List.{drop-append-le, drop-drop, length-append, length-drop, length-take-le}
+use Rattle.std.proofs.Math.Seq.{drop-append_seam, drop-append-add}
 use Rattle.erl_term.specs.declared.term.Term.{Term}
 use Rattle.erl_term.specs.Parts.{IsPart, IsTold, behind, drop_depth-later}
-use Rattle.erl_term.specs.Tree.{Trees, depth, greatest_depth, size, total_size}
+use Rattle.erl_term.specs.Rows.{append_trees}
+use Rattle.erl_term.specs.Tree.{Trees, more, depth, greatest_depth, size, total_size}
 use Rattle.erl_term.specs.Term.{tree, trees}
 use Rattle.erl_term.proofs.Rows.{take_here, greatest_depth-push, total_size-push}
 
@@ -89,3 +90,53 @@ seen_depth items d last s from hidden part =
     let later = drop_depth-later items from last part.from_before in
     let all = drop_depth-later items 0 from (omega arith) in
     omega (arith, part.depth_is, part.last_has_it, part.depth_below, later, all)
+
+-- Two rows, one behind the other
+
+greatest_depth-append : (ts us : List Term) → greatest_depth (trees (ts ++ us)) ≡ max (greatest_depth (trees ts)) (greatest_depth (trees us))
+greatest_depth-append [] us = omega arith
+greatest_depth-append (t ∷ ts) us = omega (arith, greatest_depth-append ts us)
+
+total_size-append : (ts us : List Term) → total_size (trees (ts ++ us)) ≡ total_size (trees ts) + total_size (trees us)
+total_size-append [] us = omega arith
+total_size-append (t ∷ ts) us = omega (arith, total_size-append ts us)
+
+-- the deepest stand behind
+pub told_behind : (ts us : List Term) (n d last s k m z sum : ℕ) → length ts ≡ n → IsTold ts d last s → IsTold us k m z → d ≤ k → sum ≡ min (s + z) (2 ^ 64 - 1) → IsTold (ts ++ us) k (n + m) sum
+told_behind ts us n d last s k m z sum len one other least sum_is =
+    let here : drop (n + m) (ts ++ us) ≡ drop m us = subst (λ i. drop (i + m) (ts ++ us) ≡ drop m us) len (drop-append-add ts us m) in
+    record {
+      depth_is = omega (arith, greatest_depth-append ts us, one.depth_is, other.depth_is, least);
+      last_has_it = other.last_has_it ∙ sym (ap (λ vs. min (greatest_depth (trees vs)) (2 ^ 64 - 1)) here);
+      last_within = omega (arith, length-append ts us, len, other.last_within);
+      size_is = omega (arith, total_size-append ts us, one.size_is, other.size_is, sum_is);
+    }
+
+-- they stand in front alone
+pub told_in_front : (ts us : List Term) (d last s k m z sum : ℕ) → IsTold ts d last s → IsTold us k m z → k < d → sum ≡ min (s + z) (2 ^ 64 - 1) → IsTold (ts ++ us) d last sum
+told_in_front ts us d last s k m z sum one other less sum_is =
+    let here : drop last (ts ++ us) ≡ drop last ts ++ us = drop-append-le last ts us one.last_within in
+    let deep : min (greatest_depth (trees (drop last (ts ++ us)))) (2 ^ 64 - 1) ≡ min (greatest_depth (trees (drop last ts ++ us))) (2 ^ 64 - 1) = ap (λ vs. min (greatest_depth (trees vs)) (2 ^ 64 - 1)) here in
+    record {
+      depth_is = omega (arith, greatest_depth-append ts us, one.depth_is, other.depth_is, less);
+      last_has_it = omega (arith, deep, greatest_depth-append (drop last ts) us, one.last_has_it, other.depth_is, less);
+      last_within = omega (arith, length-append ts us, one.last_within);
+      size_is = omega (arith, total_size-append ts us, one.size_is, other.size_is, sum_is);
+    }
+
+-- what is told of the terms that are seen
+pub told_part : (items : List Term) (d last s from hidden : ℕ) → IsPart items d last s from hidden → IsTold (drop from items) d (last - from) (s - hidden)
+told_part items d last s from hidden part =
+    let whole : from + (last - from) ≡ last = omega (arith, part.from_before) in
+    let here : drop (last - from) (drop from items) ≡ drop last items = drop-drop (last - from) from items ∙ ap (λ n. drop n items) whole in
+    let deep : greatest_depth (trees (drop (last - from) (drop from items))) ≡ greatest_depth (trees (drop last items)) = ap (λ vs. greatest_depth (trees vs)) here in
+    record {
+      depth_is = seen_depth items d last s from hidden part;
+      last_has_it = omega (arith, deep, part.last_has_it, part.depth_below);
+      last_within = omega (arith, length-drop from items, part.last_within, part.from_before);
+      size_is = part.size_seen;
+    }
+
+pub trees_append : (ts us : List Term) → trees (ts ++ us) ≡ append_trees (trees ts) (trees us)
+trees_append [] us = refl
+trees_append (t ∷ ts) us = ap (λ r. more (tree t) r) (trees_append ts us)

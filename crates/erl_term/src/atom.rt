@@ -8,8 +8,10 @@ ghost use Rattle.std.specs.Cmp.Lexicographic.{nat_list_eq_equiv};
 ghost use Rattle.std.specs.Cmp.Rules.{hashing};
 ghost use Rattle.std.proofs.Common.{rules};
 ghost use Rattle.erl_term.specs.Ascii.{is_ascii_text};
+ghost use Rattle.erl_term.specs.Names.{spelled};
 ghost use Rattle.erl_term.specs.Text.{utf8};
 
+use crate::predefined::{Name, Predefined};
 use std::alloc::{AllocError, Global};
 use std::hash::{Hash, Hasher};
 use std::marker::Model;
@@ -18,17 +20,27 @@ use thiserror::Error;
 use values::{Duplicate, Same};
 
 /// An atom: a name of at most 255 characters, seen by contracts as its code points. Its copies share the name.
-#[derive(Drop)]
 pub struct Atom {
-    text: ArcStr,
+    name: Name,
 }
 
 impl Model for Atom {
+    ghost use Rattle.std.specs.Prelude.{◌≤◌, ℕ, List, length};
+    ghost use Rattle.erl_term.specs.Names.{name_chars};
+
     ghost Value = { List ℕ };
 
-    ghost view = { λ a. chars (arc_str_bytes a.text) };
+    ghost view = { λ a. name_chars a.name };
 
-    ghost invariant = { λ a. length (chars (arc_str_bytes a.text)) ≤ 255 };
+    ghost invariant = { λ a. length (name_chars a.name) ≤ 255 };
+}
+
+/// By a function of its own, so that how an atom is kept is nothing to whoever lets it go.
+impl Drop for Atom {
+    fn drop(self) {
+        let Atom { name } = self;
+        drop(name);
+    }
 }
 
 /// Why there is no atom of a text.
@@ -56,7 +68,7 @@ impl Atom {
             return Err(AtomError::AtomTooLong);
         }
         match ArcStr::from_str(alloc, text) {
-            Ok(text) => Ok(Atom { text }),
+            Ok(text) => Ok(Atom::from_shared(text)),
             Err(AllocError) => Err(AtomError::Memory),
         }
     }
@@ -72,7 +84,7 @@ impl Atom {
         ensures { IfOk result (λ atom. atom ≡ word.now) }
     {
         let text = ArcStr::from_str(alloc, word)?;
-        Ok(Atom { text })
+        Ok(Atom::from_shared(text))
     }
 
     /// The atom of a text's characters, of which there are at most 255. The text is moved, not copied.
@@ -85,7 +97,7 @@ impl Atom {
         ensures { IfOk result (λ atom. atom ≡ chars (string_bytes text)) }
     {
         let text = ArcStr::from_string(text)?;
-        Ok(Atom { text })
+        Ok(Atom::from_shared(text))
     }
 
     /// The atom of a text's characters, of which there are at most 255. It shares them. Takes no memory.
@@ -93,7 +105,18 @@ impl Atom {
         requires short { length (chars (arc_str_bytes text)) ≤ 255 }
         ensures { result ≡ chars (arc_str_bytes text) }
     {
-        Atom { text }
+        Atom {
+            name: Name::Shared(text),
+        }
+    }
+
+    /// A predefined atom. Takes no memory.
+    pub fn predefined(it: Predefined) -> Atom
+        ensures { result ≡ spelled it }
+    {
+        Atom {
+            name: Name::Known(it),
+        }
     }
 
     /// Whether the atom is this ASCII word. Takes no memory.
@@ -101,7 +124,7 @@ impl Atom {
         requires { IsTrue (is_ascii_text word.now) }
         ensures { result ≡ bytes_eq self.now word.now }
     {
-        self.text.as_str() == word
+        self.as_str() == word
     }
 
     /// The atom's characters. Takes no memory.
@@ -109,20 +132,25 @@ impl Atom {
         ensures chars { chars result.now ≡ self.now }
         ensures kept { length self.now ≤ 255 }
     {
-        ArcStr::as_str(&self.text)
+        match &self.name {
+            Name::Known(it) => it.as_str(),
+            Name::Shared(text) => ArcStr::as_str(text),
+        }
     }
 }
 
 impl Duplicate for Atom {
     fn copy(&self, alloc: Global) -> Result<Atom, AllocError> {
-        let text = self.text.clone()?;
-        Ok(Atom { text })
+        match &self.name {
+            Name::Known(it) => Ok(Atom::predefined(*it)),
+            Name::Shared(text) => Ok(Atom::from_shared(text.clone()?)),
+        }
     }
 }
 
 impl Same for Atom {
     fn same(&self, other: &Atom) -> bool {
-        self.text.as_str() == other.text.as_str()
+        self.as_str() == other.as_str()
     }
 }
 
@@ -146,7 +174,7 @@ impl Hash for Atom {
     ghost respects_eq = { Prim.search (hashing, rules) };
 
     fn hash<H: Hasher>(&self, state: &mut H) {
-        self.text.as_str().hash(state);
+        self.as_str().hash(state);
     }
 }
 

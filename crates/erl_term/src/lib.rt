@@ -8,11 +8,11 @@
 //! # What is proved
 //!
 //! - [`Atom::new`] gives the atom of exactly the text's characters, or `AtomTooLong` exactly where there
-//!   are over 255.
+//!   are over 255; [`Atom::predefined`] gives one that the program names itself.
 //! - [`Term::depth`] and [`Term::size`] are those of the tree, up to `2^64 - 1`, and [`Term::is_within`] says of any bounds
 //!   below `2^32` whether they hold.
-//! - [`Terms::rest`] is the row behind the first term, and [`Terms::into_vec`] gives just the terms that are seen, whoever
-//!   else owns the row.
+//! - [`Terms::rest`] is the row behind the first term, [`Terms::joined`] is terms and a row behind them, and
+//!   [`Terms::into_vec`] gives just the terms that are seen, whoever else owns the row.
 //! - `Ord` is the order of the Erlang Reference Manual (Term Comparisons), total, and equal exactly for
 //!   equal terms. `Same` decides equality, and `Duplicate` gives an equal term.
 //! - [`print`] appends exactly the bytes of the term's text, and leaves the output as it was where memory
@@ -30,9 +30,10 @@
 //! That there is memory, and what a call costs. A copy of a term, a row or an atom, [`Terms::rest`], and what is asked of
 //! depth and size take the same time and no memory but a count, whatever the term; but for a `rest` that goes past the
 //! last of a row's deepest terms, or past more than can be counted ([`Terms::rest`]), which copies what is left, each
-//! term by sharing. A row is made in the time of its own terms. Comparing, ordering and printing are linear in the terms; `print` builds the text before it appends it. So a
-//! `rest` that never shares and a row that keeps room that it does not need would be proved too; `bench/terms/measure`
-//! sees them.
+//! term by sharing. A row is made in the time of its own terms: [`Terms::joined`] asks those in front for depth and size, and
+//! shares those behind them one by one. A predefined atom takes neither time nor memory. Comparing, ordering and printing
+//! are linear in the terms; `print` builds the text before it appends it. So a `rest` that never shares and a row that keeps
+//! room that it does not need would be proved too; `bench/terms/measure` sees them.
 //!
 //! Comparing, ordering, printing and dropping recurse as deep as the term and no deeper: a caller that takes terms from
 //! outside bounds their depth first. On a stack of 8 MB the tests copy, compare, order, measure, print and drop a term of
@@ -42,11 +43,13 @@
 mod accessors;
 mod atom;
 mod conversions;
+mod predefined;
 mod printing;
 mod term;
 
 pub use accessors::{character, first, four, one, string, three, two};
 pub use atom::{Atom, AtomError};
 pub use conversions::{FromTerm, ToTerm};
+pub use predefined::Predefined;
 pub use printing::{print, print_atom};
 pub use term::{Term, Terms};

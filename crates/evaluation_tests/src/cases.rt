@@ -8,7 +8,7 @@
 //   What a loop process doesn't take `waits`.
 use crate::code::{arguments, instance, instances, term};
 use crate::told::told;
-use erl_eval::{Booleans, Place};
+use erl_eval::Place;
 use erl_machine::{Instance, Job, Mode, World, evaluate, matches};
 use erl_term::{Atom, Term, Terms};
 use std::alloc::Global;
@@ -55,8 +55,7 @@ fn evaluated(
 ) -> Result<Vec<u8>, Fail> {
     let (function, rest) = call.split_once('(').ok_or("no function")?;
     let row = arguments(alloc, rest)?.into_vec(alloc)?;
-    let booleans = Booleans::new(alloc)?;
-    let world = World::new(alloc, &booleans, OWN, mode, code);
+    let world = World::new(alloc, OWN, mode, code);
     let (module, function) = (Atom::new(alloc, module)?, Atom::new(alloc, function)?);
     told(alloc, &evaluate(&world, &module, &function, row)?)
 }

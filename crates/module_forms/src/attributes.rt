@@ -48,12 +48,12 @@ fn arity_ahead<'a>(function: Named, tokens: &'a [Spot]) -> Result<(Exported, &'a
 
 /// An entry `F/A` of `-export`.
 #[tactic(auto, unfolding(crate::specs::FormReading::entry))]
-fn entry<'a>(alloc: Global, tokens: &'a [Spot]) -> Reading<'a, Exported>
+fn entry<'a>(tokens: &'a [Spot]) -> Reading<'a, Exported>
     ensures { IfOk result (λ answer. MatchResult answer
         (λ f. entry_in (terminals tokens.now) ≡ Some (f.0, terminals f.1.now))
         (λ _. entry_in (terminals tokens.now) ≡ None)) }
 {
-    let (function, rest) = match named_ahead(alloc, tokens)? {
+    let (function, rest) = match named_ahead(tokens)? {
         Ok(found) => found,
         Err(refusal) => return Ok(Err(refusal)),
     };
@@ -73,7 +73,7 @@ fn some_entries<'a>(alloc: Global, tokens: &'a [Spot]) -> Reading<'a, Row<Export
     let mut entries = Vec::new(alloc);
     let mut left = tokens;
     for _turn in 0..tokens.len() {
-        let rest = match entry(alloc, left)? {
+        let rest = match entry(left)? {
             Ok((it, rest)) => {
                 entries.push(it)?;
                 rest
@@ -163,7 +163,7 @@ pub(crate) fn versioned<'a>(alloc: Global, tokens: &'a [Spot]) -> Reading<'a, Fo
     }
     match closed_form(rest) {
         Ok(behind) => {
-            let mut row = Vec::new(alloc);
+            let mut row = Vec::with_capacity(alloc, 1)?;
             row.push(tree)?;
             Ok(Ok((FormTree::Version(SyntaxTrees::new(row)), behind)))
         }

@@ -116,7 +116,7 @@ fn clause_like<'a>(
         (λ f. like_in name.now arity (terminals tokens.now) ≡ Some (f.0, terminals f.1.now))
         (λ _. like_in name.now arity (terminals tokens.now) ≡ None)) }
 {
-    let (named, rest) = match named_ahead(alloc, tokens)? {
+    let (named, rest) = match named_ahead(tokens)? {
         Ok(found) => found,
         Err(refusal) => return Ok(Err(refusal)),
     };
@@ -157,7 +157,7 @@ fn function_from<'a>(
 {
     let Named { name, at: _ } = name;
     let arity = count(&first.clause.patterns);
-    let mut clauses = Vec::new(alloc);
+    let mut clauses = Vec::with_capacity(alloc, 1)?;
     clauses.push(first)?;
     let mut left = tokens;
     for _turn in 0..=tokens.len() {

@@ -47,7 +47,7 @@ fn whole_module(alloc: Global, tokens: &[Spot]) -> Result<Result<ModuleTree, Ref
         (λ m. whole_in (terminals tokens.now) ≡ Some m)
         (λ _. whole_in (terminals tokens.now) ≡ None)) }
 {
-    let (name, rest) = match module_head(alloc, tokens)? {
+    let (name, rest) = match module_head(tokens)? {
         Ok(found) => found,
         Err(refusal) => return Ok(Err(refusal)),
     };
@@ -59,7 +59,7 @@ fn whole_module(alloc: Global, tokens: &[Spot]) -> Result<Result<ModuleTree, Ref
 
 /// `-module(M).`
 #[tactic(auto, unfolding(crate::specs::FormReading::module_head))]
-fn module_head<'a>(alloc: Global, tokens: &'a [Spot]) -> Reading<'a, Named>
+fn module_head<'a>(tokens: &'a [Spot]) -> Reading<'a, Named>
     ensures { IfOk result (λ answer. MatchResult answer
         (λ f. head_in (terminals tokens.now) ≡ Some (f.0, terminals f.1.now))
         (λ _. head_in (terminals tokens.now) ≡ None)) }
@@ -68,7 +68,7 @@ fn module_head<'a>(alloc: Global, tokens: &'a [Spot]) -> Reading<'a, Named>
         Ok(rest) => rest,
         Err(refusal) => return Ok(Err(refusal)),
     };
-    let (word, rest) = match named_ahead(alloc, rest)? {
+    let (word, rest) = match named_ahead(rest)? {
         Ok(found) => found,
         Err(refusal) => return Ok(Err(refusal)),
     };
@@ -79,7 +79,7 @@ fn module_head<'a>(alloc: Global, tokens: &'a [Spot]) -> Reading<'a, Named>
         Ok(open) => open,
         Err(refusal) => return Ok(Err(refusal)),
     };
-    let (name, behind) = match named_ahead(alloc, open)? {
+    let (name, behind) = match named_ahead(open)? {
         Ok(found) => found,
         Err(refusal) => return Ok(Err(refusal.within(first_byte(rest)))),
     };
@@ -100,6 +100,7 @@ fn forms(alloc: Global, tokens: &[Spot]) -> Result<Result<Row<FormTree>, Refusal
     let mut left = tokens;
     for _turn in 0..=tokens.len() {
         if is_end(left) {
+            forms.shrink_to_fit();
             return Ok(Ok(Row::new(forms)));
         }
         match form(alloc, left)? {
@@ -131,12 +132,12 @@ fn form<'a>(alloc: Global, tokens: &'a [Spot]) -> Reading<'a, FormTree>
         (λ _. form_in (terminals tokens.now) ≡ None)) }
 {
     let Some(rest) = behind(Opening::Minus, tokens) else {
-        return match named_ahead(alloc, tokens)? {
+        return match named_ahead(tokens)? {
             Ok((name, rest)) => function(alloc, name, rest),
             Err(refusal) => Ok(Err(refusal)),
         };
     };
-    match named_ahead(alloc, rest)? {
+    match named_ahead(rest)? {
         Ok((name, behind)) => attribute(alloc, &name, first_byte(tokens), behind),
         Err(refusal) => Ok(Err(no_attribute(tokens, rest, refusal))),
     }

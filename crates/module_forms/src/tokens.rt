@@ -9,10 +9,9 @@ use erl_expressions::{Delimiter, Reading, Refusal, after};
 use erl_scan::{Spot, Token};
 use erl_syntax::Named;
 use erl_term::Atom;
-use std::alloc::{AllocError, Global};
 
-/// The atom that tokens begin with.
-pub(crate) fn named_ahead<'a>(alloc: Global, tokens: &'a [Spot]) -> Reading<'a, Named>
+/// The atom that tokens begin with, whose characters are shared with its token.
+pub(crate) fn named_ahead<'a>(tokens: &'a [Spot]) -> Reading<'a, Named>
     ensures { IfOk result (λ answer. MatchResult answer
         (λ f. named_in (terminals tokens.now) ≡ Some (f.0, terminals f.1.now))
         (λ _. named_in (terminals tokens.now) ≡ None)) }
@@ -21,10 +20,10 @@ pub(crate) fn named_ahead<'a>(alloc: Global, tokens: &'a [Spot]) -> Reading<'a, 
         return Ok(Err(Refusal::End));
     };
     match &first.what {
-        Token::Atom(name) => match Atom::new(alloc, name.as_str()) {
-            Ok(name) => Ok(Ok((Named { name, at: first.at }, rest))),
-            Err(_) => Err(AllocError),
-        },
+        Token::Atom(name) => {
+            let name = Atom::from_shared(name.share()?.into_shared());
+            Ok(Ok((Named { name, at: first.at }, rest)))
+        }
         _ => Ok(Err(Refusal::misplaced(tokens))),
     }
 }

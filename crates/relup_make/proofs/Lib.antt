@@ -1,6 +1,7 @@
 pub mod OneScript
 pub mod Places
 pub mod Lookups
+pub mod Bases
 pub mod Firsts
 pub mod Turns
 pub mod Linked

@@ -17,9 +17,12 @@ use erl_scan::Spot;
 use erl_syntax::{Qualifier, Role, Shape, guard_arity, is_guard_function};
 use std::alloc::Global;
 
+/// How many trees a row of more than one has room for while it is read, at first.
+const ROOM: usize = 3;
+
 /// Trees with commas between them.
 #[cycle(reading)]
-#[tactic(auto, using(crate::proofs::Things::row_begins, crate::proofs::Things::row_more, crate::proofs::Things::row_last, crate::proofs::Things::row_not, crate::proofs::Things::row_out))]
+#[tactic(auto, using(crate::proofs::Things::row_empty, crate::proofs::Things::row_first_not, crate::proofs::Things::row_of_one, crate::proofs::Things::row_first, crate::proofs::Things::row_more, crate::proofs::Things::row_last, crate::proofs::Things::row_not, crate::proofs::Things::row_out))]
 pub(crate) fn row<'a>(
     alloc: Global,
     levels: u32,
@@ -31,9 +34,19 @@ pub(crate) fn row<'a>(
         (λ f. row_in (read_in levels role most) (terminals tokens.now) ≡ Some (f.0, terminals f.1.now))
         (λ _. row_in (read_in levels role most) (terminals tokens.now) ≡ None)) }
 {
-    let mut items = DeepRow::new(alloc);
-    let mut left = tokens;
-    for _turn in 0..tokens.len() {
+    if tokens.is_empty() {
+        return Ok(Err(Refusal::End));
+    }
+    let (first, rest) = match read(alloc, levels, role, most, tokens)? {
+        Ok(found) => found,
+        Err(refusal) => return Ok(Err(refusal)),
+    };
+    let Some(mut left) = after(Delimiter::Comma, rest) else {
+        return Ok(Ok((DeepRow::of(alloc, first)?, rest)));
+    };
+    let mut items = DeepRow::with_room(alloc, ROOM)?;
+    items.push(first)?;
+    for _turn in 1..tokens.len() {
         let rest = match read(alloc, levels, role, most, left)? {
             Ok((tree, rest)) => {
                 items.push(tree)?;
@@ -43,7 +56,7 @@ pub(crate) fn row<'a>(
         };
         match after(Delimiter::Comma, rest) {
             Some(behind) => left = behind,
-            None => return Ok(Ok((items, rest))),
+            None => return Ok(Ok((items.fitted(alloc)?, rest))),
         }
     }
     Ok(Err(Refusal::End))
@@ -183,7 +196,7 @@ fn tailed<'a>(
         Ok((tail, rest)) => match after(Delimiter::CloseBracket, rest) {
             Some(behind) => {
                 let mut parts = items;
-                parts.push(tail)?;
+                parts.push_tail(tail)?;
                 Ok(made(role, Shape::Cons, parts, at, behind))
             }
             None => Ok(Err(Refusal::behind(rest).within(at))),

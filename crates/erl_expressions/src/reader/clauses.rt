@@ -48,7 +48,7 @@ fn alternatives<'a>(alloc: Global, levels: u32, tokens: &'a [Spot]) -> Reading<'
         };
         match after(Delimiter::Semicolon, rest) {
             Some(behind) => left = behind,
-            None => return Ok(Ok((guards, rest))),
+            None => return Ok(Ok((guards.fitted(alloc)?, rest))),
         }
     }
     Ok(Err(Refusal::End))
@@ -118,7 +118,7 @@ pub(crate) fn clauses_to_end<'a>(
         };
         match after(Delimiter::Semicolon, rest) {
             Some(behind) => left = behind,
-            None => return Ok(closed(clauses, choice, rest)),
+            None => return Ok(closed(clauses.fitted(alloc)?, choice, rest)),
         }
     }
     Ok(Err(Refusal::End))

@@ -23,6 +23,7 @@ use erl_syntax::{Infix, Leaf, Named, Prefix, Qualifier, Role, Shape, Sign, Synta
 use std::alloc::{AllocError, Global};
 
 /// The tree of a leaf alone, where tokens begin with one and no operator goes on with it.
+#[inline(never)]
 pub(super) fn leaf_alone<'a>(
     alloc: Global,
     role: Role,
@@ -43,6 +44,7 @@ pub(super) fn leaf_alone<'a>(
 }
 
 /// The tree of a leaf, which tokens begin with, and the tokens behind it.
+#[inline(always)]
 fn leaf_read<'a>(
     leaf: Leaf,
     tokens: &'a [Spot],
@@ -351,8 +353,7 @@ fn joined<'a>(
         behind_first(tokens),
     )? {
         Ok((right, behind)) => {
-            let mut parts = DeepRow::of(alloc, left)?;
-            parts.push(right)?;
+            let parts = DeepRow::pair(alloc, left, right)?;
             Ok(Ok((Deep::node(Shape::Infix(op), parts), behind)))
         }
         Err(refusal) => Ok(Err(refusal)),

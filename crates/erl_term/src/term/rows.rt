@@ -1,6 +1,7 @@
 // Rows of terms.
-ghost use Rattle.std.specs.Prelude.{◌≡◌, ◌+◌, ◌-◌, ◌^◌, ◌<◌, ◌≤◌, ◌↔◌, min, IsTrue, IfOk, IfSome, length, drop};
-ghost use Rattle.erl_term.specs.Parts.{behind};
+ghost use Rattle.std.specs.Prelude.{◌≡◌, ◌+◌, ◌++◌, ◌-◌, ◌^◌, ◌<◌, ◌≤◌, ◌↔◌, min, IsTrue, IfOk, IfSome, length, drop};
+ghost use Rattle.erl_term.specs.Parts.{behind, IsTold};
+ghost use Rattle.erl_term.specs.Rows.{append_trees};
 ghost use Rattle.erl_term.specs.Term.{trees};
 ghost use Rattle.erl_term.specs.Tree.{none, count, greatest_depth, total_size};
 
@@ -23,24 +24,29 @@ impl Terms {
         ensures { IfOk result (λ it. it ≡ trees items.items) }
     {
         let items = fitted(alloc, items)?;
-        let Told { depth, last, size } = told_of(items.as_slice());
-        if depth == u64::MAX {
-            return Err(AllocError);
-        }
-        let row = Arc::new(
-            alloc,
-            Row {
-                items,
-                depth,
-                last,
-                size,
-            },
-        )?;
-        Ok(Terms {
-            row,
-            from: 0,
-            hidden: 0,
-        })
+        let told = told_of(items.as_slice());
+        row_of(alloc, items, told)
+    }
+
+    /// The row of these terms and, behind them, those of another row. Each of them is shared; what the other row tells of its
+    /// own is not looked for again.
+    ///
+    /// # Errors
+    ///
+    /// `AllocError` where memory is refused.
+    pub fn joined(alloc: Global, front: &[Term], back: &Terms) -> Result<Terms, AllocError>
+        ensures { IfOk result (λ it. it ≡ append_trees (trees front.now) back.now) }
+    {
+        let row: &Row = &back.row;
+        let from = back.from as usize;
+        let told = Told {
+            depth: row.depth,
+            last: row.last - from,
+            size: row.size - u64::from(back.hidden),
+        };
+        let told = told_of(front).then(front.len(), told);
+        let back = seen(row.items.as_slice(), from);
+        row_of(alloc, copies(alloc, front, back)?, told)
     }
 
     /// The terms, in order: moved out where the row has this one owner, and copied where it has more.
@@ -131,6 +137,51 @@ impl Duplicate for Terms {
             hidden: self.hidden,
         })
     }
+}
+
+/// The row of these terms, of which this is told.
+fn row_of(alloc: Global, items: Vec<Term>, told: Told) -> Result<Terms, AllocError>
+    requires { IsTold items.items told.depth told.last told.size }
+    ensures { IfOk result (λ it. it ≡ trees items.items) }
+{
+    let Told { depth, last, size } = told;
+    if depth == u64::MAX {
+        return Err(AllocError);
+    }
+    let row = Arc::new(
+        alloc,
+        Row {
+            items,
+            depth,
+            last,
+            size,
+        },
+    )?;
+    Ok(Terms {
+        row,
+        from: 0,
+        hidden: 0,
+    })
+}
+
+/// Copies of terms, and behind them copies of others, in no more room than they take.
+fn copies(alloc: Global, front: &[Term], back: &[Term]) -> Result<Vec<Term>, AllocError>
+    ensures { IfOk result (λ it. it.items ≡ front.now ++ back.now) }
+{
+    let mut items = Vec::with_capacity(alloc, front.len() + back.len())?;
+    push_copies(alloc, &mut items, front)?;
+    push_copies(alloc, &mut items, back)?;
+    Ok(items)
+}
+
+/// Puts copies of terms behind others.
+fn push_copies(alloc: Global, items: &mut Vec<Term>, terms: &[Term]) -> Result<(), AllocError>
+    ensures { IfOk result (λ _. items.new.items ≡ items.old.items ++ terms.now) }
+{
+    for term in terms {
+        items.push(term.copy(alloc)?)?;
+    }
+    Ok(())
 }
 
 /// The same terms, in no more room than they take. Few are moved to room of their own, so that the room that is left is

@@ -1,4 +1,5 @@
 // What is told of a row of terms without a look at each.
+ghost use Rattle.std.specs.Prelude.{◌≡◌, ◌+◌, ◌^◌, ◌<◌, ◌++◌, List, length};
 ghost use Rattle.erl_term.specs.Parts.{IsTold};
 
 use super::Term;
@@ -9,6 +10,29 @@ pub(super) struct Told {
     pub(super) depth: u64,
     pub(super) last: usize,
     pub(super) size: u64,
+}
+
+impl Told {
+    /// What is told of so many terms and of others behind them, of which this is told.
+    pub(super) fn then(self, len: usize, behind: Told) -> Told
+        requires { len + behind.last < 2 ^ 64 }
+        ensures { (xs ys : List Term) → length xs ≡ len → IsTold xs self.depth self.last self.size → IsTold ys behind.depth behind.last behind.size
+            → IsTold (xs ++ ys) result.depth result.last result.size }
+    {
+        let size = self.size.saturating_add(behind.size);
+        if behind.depth < self.depth {
+            return Told {
+                depth: self.depth,
+                last: self.last,
+                size,
+            };
+        }
+        Told {
+            depth: behind.depth,
+            last: len + behind.last,
+            size,
+        }
+    }
 }
 
 /// What is told of these terms. It looks at each, and no further down.

@@ -1,5 +1,7 @@
 -- The last value is a list, or it isn't.
-use Rattle.std.proofs.Common.{◌++◌, ap, ◌∙◌}
+use Rattle.std.proofs.Common.{ap, ◌∙◌}
+use Rattle.erl_term.specs.Rows.{append_trees}
+use Rattle.erl_term.specs.Term.{trees}
 use Rattle.erl_eval.proofs.Rows.{consed_list, consed_else}
 use Rattle.erl_eval.proofs.operators.cons.Goals as goal
 
@@ -9,6 +11,5 @@ returns-in_default-last c =
     c.exit_by-in_default-last.ensures
 
 pub returns : goal.returns
-returns c = rw (consed_list _ c.pop.new.self.items c.as_slice.result.now _ c.in-Some.last c.in-List.row c.in_ok-new.field-0
-    c.in-Some.ensures.items c.in-List.is c.as_slice.ensures
-    (c.in_ok-extend_copies.ensures ∙ ap (λ front. front ++ c.as_slice.result.now) c.reserve_exact.ensures.items) c.in_ok-new.ensures) c.made.ensures
+returns c = rw (consed_list _ c.pop.new.self.items c.in-Some.last c.in-List.row c.in_ok-joined.field-0 c.in-Some.ensures.items c.in-List.is
+    (c.in_ok-joined.ensures ∙ ap (λ ts. append_trees ts c.in-List.row) (ap trees c.as_slice.ensures.value))) c.made.ensures

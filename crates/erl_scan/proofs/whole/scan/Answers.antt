@@ -6,7 +6,7 @@ use Rattle.erl_scan.proofs.whole.scan.Goals as goal
 
 pub loop-spot-init : goal.loop-spot-init
 loop-spot-init c =
-    so_far-none c.args.text.now (left c.new-scanner.result) (total c.new-scanner.result) c.new-tokens.result.items c.utf8.text c.new-scanner.ensures.left c.new-scanner.ensures.total c.new-tokens.ensures.items
+    so_far-none c.args.text.now (left c.new-scanner.result) (total c.new-scanner.result) c.in_ok-tokens.tokens.items c.utf8.text c.new-scanner.ensures.left c.new-scanner.ensures.total c.in_ok-tokens.ensures.items
 
 pub loop-spot-smaller : goal.loop-spot-smaller
 loop-spot-smaller c =

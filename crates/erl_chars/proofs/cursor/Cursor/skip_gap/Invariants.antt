@@ -8,7 +8,9 @@ abbrev pub invariant-loop-c : goal.invariant-loop-c
 invariant-loop-c l = record {
   gap : past_gap l.is_comment (left l.self) ≡ after_gap (left l.fn.self);
   whole : total l.self ≡ total l.fn.self;
+  same : left l.ahead ≡ left l.self;
+  ahead : total l.ahead ≡ total l.self;
 }
 
 abbrev pub decreases-loop-c : goal.decreases-loop-c
-decreases-loop-c l = length (left l.self)
+decreases-loop-c l = length (left l.ahead)

@@ -8,5 +8,5 @@ use Rattle.erl_lint.proofs.scope.VariableNameHash.hash.Goals as goal
 pub returns : goal.returns
 unfolding utf8
 returns g c =
-    let same = sym (encodes-chars _ c.as_str.utf8) ∙ ap utf8 (c.as_str.ensures ∙ c.self.view_is) in
+    let same = sym (encodes-chars _ c.self.invariant) ∙ ap utf8 c.self.view_is in
     c.hash.ensures ∙ ap (λ bs. fold g.H.Hasher.write c.args.state.now (fed.str bs)) same

@@ -5,5 +5,4 @@ use Rattle.erl_lint.proofs.scope.VariableNamePartialEq.eq.Goals as goal
 
 pub returns : goal.returns
 returns c =
-    same_names _ _ _ _ c.eq.result c.as_str.utf8 c.as_str-2.utf8 c.eq.ensures
-    (c.as_str.ensures ∙ c.self.view_is) (c.as_str-2.ensures ∙ c.other.view_is)
+    same_names _ _ _ _ c.eq.result c.self.invariant c.other.invariant c.eq.ensures c.self.view_is c.other.view_is

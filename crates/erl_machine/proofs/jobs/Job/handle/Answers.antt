@@ -19,8 +19,8 @@ returns-in_default c = if_ok
     (exported_of (name_of (callback_of (tree c.args.self.now.message))) (count (arguments_of (callback_of (tree c.args.self.now.message))
     (tree c.args.state.now))) c.args.item.now.«module») (instance c.args.item.now) (outcome_of it)) c.unexported.result
     (λ it is. not_exported_by (job_of c.args.self.now) (instance c.args.item.now) c.args.module_name.now (tree c.args.state.now)
-    (callback_of (tree c.args.self.now.message)) (callback c.callback_of-callback.result) (option_copied c.exported.result) c.in_ok-name.name
-    (trees c.in_ok-arguments.arguments.items) c.in_ok-arity.arity c.callback_of-callback.ensures c.in_ok-name.ensures c.in_ok-arguments.ensures
+    (callback_of (tree c.args.self.now.message)) (callback c.callback_of-callback.result) (option_copied c.exported.result) c.name-name.result
+    (trees c.in_ok-arguments.arguments.items) c.in_ok-arity.arity c.callback_of-callback.ensures c.name-name.ensures c.in_ok-arguments.ensures
     (c.in_ok-arity.ensures ∙ ap (λ ts. count (trees ts)) c.as_slice.ensures.value) c.exported.ensures
     (outcome_of it) (ap option_copied c.in_default.is) is) c.unexported.ensures
 
@@ -32,8 +32,8 @@ returns c = if_ok
     (exported_of (name_of (callback_of (tree c.args.self.now.message))) (count (arguments_of (callback_of (tree c.args.self.now.message))
     (tree c.args.state.now))) c.args.item.now.«module») (instance c.args.item.now) (outcome_of it)) c.serve.result
     (λ it is. handled_by (job_of c.args.self.now) (instance c.args.item.now) c.args.module_name.now (tree c.args.state.now)
-    (callback_of (tree c.args.self.now.message)) (callback c.callback_of-callback.result) (option_copied c.exported.result) c.in_ok-name.name
-    (trees c.in_ok-arguments.arguments.items) c.in_ok-arity.arity c.callback_of-callback.ensures c.in_ok-name.ensures c.in_ok-arguments.ensures
+    (callback_of (tree c.args.self.now.message)) (callback c.callback_of-callback.result) (option_copied c.exported.result) c.name-name.result
+    (trees c.in_ok-arguments.arguments.items) c.in_ok-arity.arity c.callback_of-callback.ensures c.name-name.ensures c.in_ok-arguments.ensures
     (c.in_ok-arity.ensures ∙ ap (λ ts. count (trees ts)) c.as_slice.ensures.value) c.exported.ensures
     (world_of c.args.world.now) c.in-Some.function.now (map act_of c.in_ok-ended.ended.acts.items) (option_map startup_of c.in_ok-ended.ended.startup) (end_of c.in_ok-ended.ended.end) (outcome_of it) c.requires
     (ap option_copied c.in-Some.is) c.in_ok-ended.ensures

@@ -4,10 +4,10 @@ use Rattle.std.specs.Str.{chars}
 use Rattle.erl_term.proofs.Ascii.{chars_of-ascii}
 use Rattle.erl_term.proofs.atom.Atom.word.Goals as goal
 
-pub invariant_of-result : goal.invariant_of-result
-invariant_of-result c =
+pub from_shared-requires : goal.from_shared-requires
+from_shared-requires c =
     let same = ap chars c.in_ok-text.ensures.ok ∙ chars_of-ascii c.args.word.now c.requires.ascii in
-    subst (λ cs. length cs ≤ 255) (sym same) c.requires.short
+    record { short = subst (λ cs. length cs ≤ 255) (sym same) c.requires.short }
 
 pub returns : goal.returns
-returns c = ap chars c.in_ok-text.ensures.ok ∙ chars_of-ascii c.args.word.now c.requires.ascii
+returns c = c.from_shared.ensures ∙ ap chars c.in_ok-text.ensures.ok ∙ chars_of-ascii c.args.word.now c.requires.ascii

@@ -9,5 +9,5 @@ use Rattle.erl_term.proofs.atom.AtomHash.hash.Goals as goal
 pub returns : goal.returns
 unfolding utf8
 returns g c =
-    let same = sym (encodes-chars _ c.as_str.utf8) ∙ ap utf8 (ap chars c.as_str.ensures.value ∙ c.self.view_is) in
+    let same = sym (encodes-chars _ c.as_str.utf8) ∙ ap utf8 c.as_str.ensures.chars in
     c.hash.ensures ∙ ap (λ bs. fold g.H.Hasher.write c.args.state.now (fed.str bs)) same

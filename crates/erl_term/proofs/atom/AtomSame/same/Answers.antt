@@ -11,7 +11,7 @@ bytes_from_chars bs ds one other same = sym (encodes-chars bs one) ∙ ap encode
 
 pub returns : goal.returns
 returns c =
-    let mine = c.as_str.ensures.value in
-    let its = c.as_str-2.ensures.value in
+    let mine = c.as_str.ensures.chars in
+    let its = c.as_str-2.ensures.chars in
     let decides = bytes_eq-Decides c.as_str.result.now c.as_str-2.result.now in
-    (λ yes. sym c.self.view_is ∙ ap chars (sym mine ∙ decides.0 (sym c.eq.ensures ∙ yes) ∙ its) ∙ c.other.view_is, λ e. c.eq.ensures ∙ decides.1 (bytes_from_chars _ _ c.as_str.utf8 c.as_str-2.utf8 (ap chars mine ∙ c.self.view_is ∙ e ∙ sym c.other.view_is ∙ ap chars (sym its))))
+    (λ yes. sym mine ∙ ap chars (decides.0 (sym c.eq.ensures ∙ yes)) ∙ its, λ e. c.eq.ensures ∙ decides.1 (bytes_from_chars _ _ c.as_str.utf8 c.as_str-2.utf8 (mine ∙ e ∙ sym its)))
