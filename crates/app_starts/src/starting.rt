@@ -18,7 +18,7 @@ use callback_lang::evaluate;
 use child_specs::{ChildSpec, read_children};
 use child_starts::start_children;
 use erl_machine::{End, Instance, Mode, Outcome};
-use erl_term::{Atom, Term, Terms};
+use erl_term::{Atom, Predefined, Term, Terms};
 use otp_files::StartModule;
 use process_batch::Batch;
 use process_ending::Reply;
@@ -32,7 +32,7 @@ fn init(alloc: Global, code: &[Instance], module: &StartModule) -> Result<Outcom
 {
     let mut arguments = Vec::with_capacity(alloc, 1)?;
     arguments.push(module.arguments.copy(alloc)?)?;
-    let init = Atom::word(alloc, "init")?;
+    let init = Atom::predefined(Predefined::Init);
     evaluate(alloc, code, Mode::Plain, 0, &module.name, &init, arguments)
 }
 

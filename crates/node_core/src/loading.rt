@@ -17,8 +17,9 @@ use crate::telling::{reporting, tell};
 use code_loading::{is_lingered_in, lingering, load, purge, purge_told, soft_purge};
 use code_server::{CodeError, Modules};
 use erl_forms::Module;
-use erl_term::{Atom, Term};
+use erl_term::{Atom, Predefined, Term};
 use process_table::Processes;
+use reserved_box::Reserved;
 use std::alloc::{AllocError, Global};
 use sys_protocol::Apps;
 use undo_journal::{StepError, Stepped, Told};
@@ -55,7 +56,7 @@ fn end_lingering(
     if pids.is_empty() {
         return Ok(None);
     }
-    let killed = Term::Atom(Atom::word(alloc, "killed")?);
+    let killed = Term::Atom(Atom::predefined(Predefined::Killed));
     Ok(Some(apps.ended(pids.as_slice(), &killed)?))
 }
 
@@ -83,6 +84,9 @@ impl Node {
         let Ok(copy) = code.copy(self.alloc) else {
             return Err(StepError::Memory);
         };
+        let Ok(room) = Reserved::new(self.alloc) else {
+            return Err(StepError::Memory);
+        };
         let Ok(ended) = end_lingering(
             &mut self.apps,
             self.alloc,
@@ -95,7 +99,7 @@ impl Node {
         match load(&mut self.modules, &mut self.processes, self.alloc, copy) {
             Ok(undo) => Ok(Stepped {
                 told,
-                trace: Record::OfCode(undo, ended),
+                trace: Record::OfCode(room.fill(undo), ended),
             }),
             Err(_) => {
                 unend(&mut self.apps, ended);
@@ -116,6 +120,9 @@ impl Node {
         else {
             return Err(StepError::Memory);
         };
+        let Ok(room) = Reserved::new(self.alloc) else {
+            return Err(StepError::Memory);
+        };
         let Ok(ended) = end_lingering(
             &mut self.apps,
             self.alloc,
@@ -128,7 +135,7 @@ impl Node {
         match purge(&mut self.modules, &mut self.processes, name) {
             Ok(undo) => Ok(Stepped {
                 told,
-                trace: Record::OfCode(undo, ended),
+                trace: Record::OfCode(room.fill(undo), ended),
             }),
             Err(_) => {
                 unend(&mut self.apps, ended);
@@ -180,12 +187,15 @@ impl Node {
         let Ok(told) = self.quiet(n) else {
             return Err(StepError::Memory);
         };
+        let Ok(room) = Reserved::new(self.alloc) else {
+            return Err(StepError::Memory);
+        };
         let Ok(undo) = soft_purge(&mut self.modules, &self.processes, name) else {
             unreachable!();
         };
         Ok(Stepped {
             told,
-            trace: Record::OfCode(undo, None),
+            trace: Record::OfCode(room.fill(undo), None),
         })
     }
 }

@@ -140,7 +140,7 @@ impl Node {
         ) else {
             return Err(StepError::Memory);
         };
-        match self.processes.commit(done, n) {
+        match self.processes.commit_unrefused(done, n) {
             Ok((replies, undo)) => Ok(Stepped {
                 told: tell_replies(told, replies),
                 trace: Record::OfProcesses(undo, ended),

@@ -1,13 +1,14 @@
 // What takes an event back.
 use erl_forms::Module;
+use reserved_box::Boxed;
 
-/// What takes an event back.
+/// What takes an event back. What is large and seldom has memory of its own.
 #[derive(Drop)]
 pub enum Record {
     /// The processes were changed, and with them children, if any.
     OfProcesses(process_table::Undo, Option<sys_protocol::Undo>),
     /// A module was loaded or purged, processes that lingered in it were killed, and with them children, if any.
-    OfCode(code_loading::Undo, Option<sys_protocol::Undo>),
+    OfCode(Boxed<code_loading::Undo>, Option<sys_protocol::Undo>),
     /// A module was deleted.
     OfDeletion(code_server::Undo<Module>),
 }

@@ -8,6 +8,7 @@ use crate::node::Node;
 use crate::processes::unend;
 use crate::record::Record;
 use erl_forms::Module;
+use reserved_box::Boxed;
 
 impl Node {
     /// Takes back what was done to processes, and to their children.
@@ -33,7 +34,7 @@ impl Node {
     /// Takes back a load or a purge, and with it the kill of those who lingered, and what it did to their children.
     pub(crate) fn revert_code(
         &mut self,
-        undo: code_loading::Undo,
+        undo: Boxed<code_loading::Undo>,
         ended: Option<sys_protocol::Undo>,
     ) -> Result<(), Record>
         requires { (before : NodeState) × Undoes (record_of.OfCode undo ended) before self.old }
@@ -41,12 +42,13 @@ impl Node {
         ensures err { OnErr result (self.new ≡ self.old) }
         ensures back { IfErr result (λ it. it ≡ record_of.OfCode undo ended) }
     {
+        let (undo, room) = undo.open();
         match code_loading::revert(&mut self.modules, &mut self.processes, undo) {
             Ok(()) => {
                 unend(&mut self.apps, ended);
                 Ok(())
             }
-            Err(undo) => Err(Record::OfCode(undo, ended)),
+            Err(undo) => Err(Record::OfCode(room.fill(undo), ended)),
         }
     }
 

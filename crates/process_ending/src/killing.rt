@@ -16,6 +16,13 @@ use erl_term::{Atom, Term};
 use process_store::ProcessStore;
 use std::alloc::{AllocError, Global};
 
+/// The reason of a process that is killed.
+fn killed(alloc: Global) -> Result<Term, AllocError>
+    ensures { IfOk result (λ it. it ≡ killed) }
+{
+    Ok(Term::Atom(Atom::word(alloc, "killed")?))
+}
+
 /// The process of a pid, where it lives and uses the instance of a serial, and what tells its instances.
 fn told_user(
     store: &ProcessStore,
@@ -79,7 +86,7 @@ fn replies_of(
 ) -> Result<Vec<Reply>, AllocError>
     ensures { IfOk result (λ it. it.items ≡ flat_map (λ p. downs killed (living p.pid store.now)) leaving.now) }
 {
-    let reason = Term::Atom(Atom::word(alloc, "killed")?);
+    let reason = killed(alloc)?;
     let mut replies = Vec::new(alloc);
     for process in leaving {
         tell_of(&mut replies, store, alloc, process.pid, &reason)?;
@@ -100,7 +107,7 @@ pub fn told_by_kill(
 ) -> Result<Vec<Reply>, AllocError>
     ensures { IfOk result (λ it. it.items ≡ told_by_kill serial store.now) }
 {
-    let reason = Term::Atom(Atom::word(alloc, "killed")?);
+    let reason = killed(alloc)?;
     let pids = users(store, alloc, serial)?;
     let mut replies = Vec::new(alloc);
     for pid in pids.as_slice() {

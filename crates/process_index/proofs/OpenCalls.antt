@@ -5,6 +5,7 @@ use Rattle.std.specs.List.{Contains, AllWithin}
 use Rattle.std.specs.List.Sorted.{IsPartitionedBy, IsPartitionPoint}
 use Rattle.std.proofs.lemmas.Bool.{cond-true, cond-false, and_parts, or_cases, or_parts, or_left, or_right, or_from, and_from, and_right, cases_eq, eqb-true, eq-eqb, true≢false, false_from_ne_true}
 use Rattle.std.proofs.lemmas.Bool.Decides.{nat_tests}
+use Rattle.std.proofs.lemmas.List.{get_or_default}
 use Rattle.std.proofs.lemmas.List.Elements.{All-cons, All-head, All-tail, All-get_or, All-nil, All-weaker}
 use Rattle.process_index.specs.declared.calls.Call.{Call}
 use Rattle.process_index.specs.Calls.{is_same, is_before, AreInOrder, has, with_call, without}
@@ -110,10 +111,11 @@ pub put_in : (c : Call) (seen items cs new : List Call) (i : ℕ) → seen ≡ i
 put_in c seen items cs new i value view put within point =
     put ∙ ap (λ xs. insert xs i c) (sym value) ∙ insert-with_call c seen i within point.0 point.1 ∙ ap (with_call c) (value ∙ view)
 
-pub taken_out : (c at : Call) (seen items cs new : List Call) (i : ℕ) → seen ≡ items → items ≡ cs → new ≡ remove items i → i < length seen → at ≡ get_or items i at → at ≡ c → IsPartitionPoint (λ d. is_before d c ≡ true) (λ d. is_before d c ≡ false) seen i → new ≡ without c cs
-taken_out c at seen items cs new i value view cut within is same point =
+pub taken_out : (c d : Call) (seen items cs new : List Call) (i : ℕ) → seen ≡ items → items ≡ cs → new ≡ remove items i → i < length seen → get_or seen i d ≡ c → IsPartitionPoint (λ d. is_before d c ≡ true) (λ d. is_before d c ≡ false) seen i → new ≡ without c cs
+taken_out c d seen items cs new i value view cut within same point =
     let front = subst (λ xs. AllWithin (λ d. is_before d c ≡ true) xs 0 i) value point.0 in
-    cut ∙ remove-without c items i at (subst (λ xs. i < length xs) value within) is (subst (λ x. is_same at x ≡ true) same (same_itself at)) front ∙ ap (without c) view
+    let at = sym same ∙ get_or_default seen i d c within ∙ ap (λ xs. get_or xs i c) value in
+    cut ∙ remove-without c items i c (subst (λ xs. i < length xs) value within) at (same_itself c) front ∙ ap (without c) view
 
 pub left_alone : (c at : Call) (seen items cs : List Call) (i : ℕ) → seen ≡ items → items ≡ cs → AreInOrder items → i ≤ length seen → IsPartitionPoint (λ d. is_before d c ≡ true) (λ d. is_before d c ≡ false) seen i → (i < length seen → (get_or seen i at ≡ c → ⊥)) → cs ≡ without c cs
 left_alone c at seen items cs i value view ordered within point other =

@@ -3,6 +3,7 @@ ghost use Rattle.std.specs.Prelude.{◌≡◌, ◌≤◌, Bool, true, false, Lis
 ghost use Rattle.std.specs.List.Sorted.{IsPartitionPoint};
 ghost use Rattle.process_index.specs.Calls.{AreInOrder, is_before, has, with_call, without};
 
+use crate::call_row::CallRow;
 use std::alloc::{AllocError, Global};
 use std::marker::Model;
 use values::{Duplicate, Same};
@@ -31,7 +32,7 @@ impl Duplicate for Call {
 /// The open calls that were made to one process, in order of client and number.
 #[derive(Drop)]
 pub struct Calls {
-    items: Vec<Call>,
+    items: CallRow,
 }
 
 impl Model for Calls {
@@ -41,9 +42,9 @@ impl Model for Calls {
 
     ghost Value = { List Call };
 
-    ghost view = { λ calls. calls.items.items };
+    ghost view = { λ calls. calls.items };
 
-    ghost invariant = { λ calls. AreInOrder calls.items.items };
+    ghost invariant = { λ calls. AreInOrder calls.items };
 }
 
 impl Calls {
@@ -52,7 +53,7 @@ impl Calls {
         ensures { result ≡ [] }
     {
         Calls {
-            items: Vec::new(alloc),
+            items: CallRow::new(alloc),
         }
     }
 
@@ -83,8 +84,9 @@ impl Calls {
     pub fn remove(&mut self, call: Call)
         ensures { self.new ≡ without call self.old }
     {
-        let place = place(self.items.as_slice(), call);
-        if place < self.items.len() && self.items[place].same(&call) {
+        let calls = self.items.as_slice();
+        let place = place(calls, call);
+        if place < calls.len() && calls[place].same(&call) {
             self.items.remove(place);
         }
     }

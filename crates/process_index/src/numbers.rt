@@ -68,6 +68,14 @@ impl CallIndex {
         Ok(())
     }
 
+    /// Takes the call with a number out, where it is open, and hands out whose it was. Takes no memory.
+    pub fn take(&mut self, number: u64) -> Option<Owner>
+        ensures owner { result ≡ map.get self.old number }
+        ensures taken { self.new ≡ put number None self.old }
+    {
+        self.owners.remove(&number)
+    }
+
     /// Takes the call with a number out, where it is open. Takes no memory.
     pub fn remove(&mut self, number: u64)
         ensures { self.new ≡ put number None self.old }

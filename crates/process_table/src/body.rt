@@ -4,7 +4,7 @@ ghost use Rattle.erl_term.specs.Term.{tree};
 ghost use Rattle.process_table.specs.Messages.{call_message, cast_message, message_of};
 ghost use Rattle.process_table.specs.Steps.{call_of};
 
-use erl_term::{Atom, Term, Terms};
+use erl_term::{Atom, Predefined, Term, Terms};
 use process_index::Call;
 use std::alloc::{AllocError, Global};
 use values::{Duplicate, Same};
@@ -78,7 +78,7 @@ fn call_message(alloc: Global, number: i64, term: &Term) -> Result<Term, AllocEr
     client.push(Term::Int(number))?;
     let client = Term::Tuple(Terms::new(alloc, client)?);
     let mut parts = Vec::with_capacity(alloc, 3)?;
-    parts.push(Term::Atom(Atom::word(alloc, "$gen_call")?))?;
+    parts.push(Term::Atom(Atom::predefined(Predefined::GenCall)))?;
     parts.push(client)?;
     parts.push(term.copy(alloc)?)?;
     Ok(Term::Tuple(Terms::new(alloc, parts)?))
@@ -89,7 +89,7 @@ fn cast_message(alloc: Global, term: &Term) -> Result<Term, AllocError>
     ensures { IfOk result (λ it. it ≡ cast_message term.now) }
 {
     let mut parts = Vec::with_capacity(alloc, 2)?;
-    parts.push(Term::Atom(Atom::word(alloc, "$gen_cast")?))?;
+    parts.push(Term::Atom(Atom::predefined(Predefined::GenCast)))?;
     parts.push(term.copy(alloc)?)?;
     Ok(Term::Tuple(Terms::new(alloc, parts)?))
 }

@@ -14,7 +14,8 @@
 //!   other refusal.
 //! - [`Processes::commit`] does what a job gave, its acts in order and then its end, and tells what clients are told of it, in as many
 //!   equal values as are asked for (`committed`, `commit_told`), just where the process of the job's pid runs an equal job, code included, and can be counted one turn on
-//!   (`RefusesCommit`). It takes a [`erl_machine::Done`], which nobody can make up.
+//!   (`RefusesCommit`). It takes a [`erl_machine::Done`], which nobody can make up. [`Processes::commit_unrefused`] does the same where
+//!   [`Processes::commit_refusal`] has told that nothing stands against it, and doesn't compare the job once more.
 //! - [`Processes::kill_users`] takes each user of an instance out, and nobody else (`without_users` of
 //!   [`process_ending`]).
 //! - [`Processes::arrive_refusal`], [`Processes::take_refusal`] and [`Processes::commit_refusal`] tell without memory why a step would be

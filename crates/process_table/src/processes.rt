@@ -19,6 +19,7 @@ use process_ending::{
     EndedProcess, Reply, downs_of, end, kill_users, return_all, return_ended, told_by_kill, users,
 };
 use process_store::{Living, ProcessStore};
+use reserved_box::{Boxed, Reserved};
 use std::alloc::{AllocError, Global};
 use std::hash::RandomState;
 use std::marker::Model;
@@ -376,8 +377,9 @@ impl Processes {
         if self.store.get(pid).is_none() {
             return Err(ProcError::NoProc);
         }
+        let room = Reserved::new(self.alloc)?;
         let ended = end(&mut self.store, self.alloc, pid)?;
-        Ok(Undo::Ended(ended))
+        Ok(Undo::Ended(room.fill(ended)))
     }
 
     /// What clients would be told by the kill of all users of the instance of a serial: that the processes of their calls were killed,
@@ -410,16 +412,21 @@ impl Processes {
     }
 
     /// A process that has ended lives again.
-    fn revert_end(&mut self, modules: &Modules<Module>, ended: EndedProcess) -> Result<(), Undo>
+    fn revert_end(
+        &mut self,
+        modules: &Modules<Module>,
+        ended: Boxed<EndedProcess>,
+    ) -> Result<(), Undo>
         requires { Fits modules.now (Undo.Ended ended) self.old }
         ensures ok { OnOk result (self.new ≡ undone modules.now (Undo.Ended ended) self.old) }
         ensures kept { OnOk result (IsKept modules.now (Undo.Ended ended)) }
         ensures back { IfErr result (λ it. it ≡ Undo.Ended ended) }
         ensures err { OnErr result (self.new ≡ self.old) }
     {
+        let (ended, room) = ended.open();
         match return_ended(&mut self.store, self.alloc, modules, ended) {
             Ok(_) => Ok(()),
-            Err(ended) => Err(Undo::Ended(ended)),
+            Err(ended) => Err(Undo::Ended(room.fill(ended))),
         }
     }
 

@@ -3,10 +3,11 @@ use process_batch::Batched;
 use process_commit::{Exited, Rested};
 use process_ending::EndedProcess;
 use process_index::Call;
+use reserved_box::Boxed;
 use values::Row;
 
 /// What takes one step of the processes back: what the step has left, by pids, positions and numbers, and of
-/// processes that have ended the whole of them.
+/// processes that have ended the whole of them. What is large has memory of its own, so that most undos are a few words.
 #[derive(Drop)]
 pub enum Undo {
     /// A process was started, the last.
@@ -33,13 +34,13 @@ pub enum Undo {
         was_suspended: bool,
     },
     /// A job was committed, and its process rests again.
-    Rested(Rested),
+    Rested(Boxed<Rested>),
     /// A job was committed, and its process has ended.
-    Exited(Exited),
+    Exited(Boxed<Exited>),
     /// What was evaluated inside a step is done.
     Batched(Batched),
     /// A process has ended.
-    Ended(EndedProcess),
+    Ended(Boxed<EndedProcess>),
     /// Processes were killed.
     Killed(Row<EndedProcess>),
 }

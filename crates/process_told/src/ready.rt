@@ -68,6 +68,9 @@ impl Telling {
     pub fn of_rest(alloc: Global, acts: &[Act], n: usize) -> Result<Telling, AllocError>
         ensures { IfOk result (λ it. (t : Table) → IsReadyFor (acts_told acts.now t) n it) }
     {
+        if n < 2 {
+            return Telling::once(alloc, n);
+        }
         let answers = answers_of(alloc, acts)?;
         Telling::new(alloc, answers.as_slice(), &[], n)
     }

@@ -1,5 +1,5 @@
 // What clients are told, in several equal values.
-ghost use Rattle.std.specs.Prelude.{◌≡◌, ◌+◌, ◌≤◌, ◌++◌, ◌∷◌, [], All, IfOk, List, ℕ, length, map, replicate, vec_capacity, vec_len};
+ghost use Rattle.std.specs.Prelude.{◌≡◌, ◌+◌, ◌≤◌, ◌++◌, ◌∷◌, ◌<◌, [], All, IfOk, List, ℕ, length, map, replicate, vec_capacity, vec_len};
 ghost use Rattle.erl_term.specs.declared.term.Term.{Term};
 ghost use Rattle.process_commit.specs.Parted.{answers_told};
 ghost use Rattle.process_commit.specs.declared.answers.Answer.{Answer};
@@ -195,6 +195,23 @@ impl Telling {
         let echoes = make_echoes(alloc, answers, reasons, n.saturating_sub(1))?;
         Ok(Telling {
             echoes,
+            lists,
+            count: n,
+        })
+    }
+
+    /// Makes ready to tell in one value at most, whatever it is: nothing is told once more.
+    ///
+    /// # Errors
+    ///
+    /// `AllocError` where memory is refused.
+    pub(crate) fn once(alloc: Global, n: usize) -> Result<Telling, AllocError>
+        requires { n < 2 }
+        ensures { IfOk result (λ it. (answers : List Answer) (reasons : List Term) → IsReady answers reasons n it) }
+    {
+        let lists = Vec::with_capacity(alloc, n)?;
+        Ok(Telling {
+            echoes: Vec::new(alloc),
             lists,
             count: n,
         })

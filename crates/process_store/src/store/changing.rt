@@ -130,7 +130,7 @@ impl ProcessStore {
         ensures returns { IfSome result (λ it. CanReopen it.0 it.1 self.new) }
         ensures back { IfSome result (λ it. reopened it.0 it.1 self.new ≡ self.old) }
     {
-        let Some(owner) = self.open_calls.get(number) else {
+        let Some(owner) = self.open_calls.take(number) else {
             return None;
         };
         let call = Call {
@@ -138,7 +138,6 @@ impl ProcessStore {
             number,
         };
         close_at(&mut self.slots, owner.pid, call);
-        self.open_calls.remove(number);
         Some((owner.pid, call))
     }
 

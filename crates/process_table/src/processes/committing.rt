@@ -20,6 +20,7 @@ use erl_term::{Atom, Term};
 use process_commit::{Exited, Rested, commit_exit, commit_rest, revert_exit, revert_rest};
 use process_ending::Reply;
 use process_told::Telling;
+use reserved_box::{Boxed, Reserved};
 use std::alloc::{AllocError, Global};
 use values::Row;
 
@@ -65,8 +66,9 @@ impl Processes {
         ensures pieces { IfOk result (λ it. HoldsLost (held it.1 self.new) self.old self.new) }
         ensures err { OnErr result (self.new ≡ self.old) }
     {
+        let room = Reserved::new(self.alloc)?;
         let (replies, exited) = commit_exit(&mut self.store, self.alloc, pid, acts, reason)?;
-        Ok((replies, Undo::Exited(exited)))
+        Ok((replies, Undo::Exited(room.fill(exited))))
     }
 
     /// What a job that a process runs has done is done, and the process rests or ends.
@@ -86,8 +88,9 @@ impl Processes {
     {
         match end {
             End::Rest(place) => {
+                let room = Reserved::new(self.alloc)?;
                 let (replies, rested) = commit_rest(&mut self.store, self.alloc, job, acts, place)?;
-                Ok((replies, Undo::Rested(rested)))
+                Ok((replies, Undo::Rested(room.fill(rested))))
             }
             End::Value(_) => {
                 let normal = normal(self.alloc)?;
@@ -168,18 +171,40 @@ impl Processes {
         if let Some(refusal) = self.commit_refusal(done) {
             return Err(refusal);
         }
-        let (job, outcome) = (done.job(), done.outcome());
-        match self.conclude_telling(job, outcome.acts.as_slice(), &outcome.end, n) {
+        match self.commit_unrefused(done, n) {
             Ok(told) => Ok(told),
             Err(_) => Err(ProcError::Memory),
         }
+    }
+
+    /// Commits what a job gave where nothing stands against it, as [`Processes::commit_refusal`] has told: so the job isn't compared
+    /// once more with what its process runs.
+    ///
+    /// # Errors
+    ///
+    /// `AllocError` where memory is refused. The table is then as it was.
+    pub fn commit_unrefused(
+        &mut self,
+        done: &Done,
+        n: usize,
+    ) -> Result<(Vec<Row<Reply>>, Undo), AllocError>
+        requires { IsCommitRefusal None done.now.job self.old }
+        ensures committed { OnOk result (self.new ≡ committed done.now self.old) }
+        ensures told { IfOk result (λ it. it.0.items ≡ replicate n (commit_told done.now self.old)) }
+        ensures inverse { IfOk result (λ it. TakesBackEnds it.1 self.old self.new) }
+        ensures ok { OnOk result (IsCommitRefusal None done.now.job self.old) }
+        ensures pieces { IfOk result (λ it. HoldsLost (held it.1 self.new) self.old self.new) }
+        ensures err { OnErr result (self.new ≡ self.old) }
+    {
+        let (job, outcome) = (done.job(), done.outcome());
+        self.conclude_telling(job, outcome.acts.as_slice(), &outcome.end, n)
     }
 
     /// The commit of a job whose process rests again is taken back.
     pub(super) fn revert_rested(
         &mut self,
         modules: &Modules<Module>,
-        rested: Rested,
+        rested: Boxed<Rested>,
     ) -> Result<(), Undo>
         requires { Fits modules.now (Undo.Rested rested) self.old }
         ensures ok { OnOk result (self.new ≡ undone modules.now (Undo.Rested rested) self.old) }
@@ -187,9 +212,10 @@ impl Processes {
         ensures back { IfErr result (λ it. it ≡ Undo.Rested rested) }
         ensures err { OnErr result (self.new ≡ self.old) }
     {
+        let (rested, room) = rested.open();
         match revert_rest(&mut self.store, self.alloc, modules, rested) {
             Ok(()) => Ok(()),
-            Err(rested) => Err(Undo::Rested(rested)),
+            Err(rested) => Err(Undo::Rested(room.fill(rested))),
         }
     }
 
@@ -197,7 +223,7 @@ impl Processes {
     pub(super) fn revert_exited(
         &mut self,
         modules: &Modules<Module>,
-        exited: Exited,
+        exited: Boxed<Exited>,
     ) -> Result<(), Undo>
         requires { Fits modules.now (Undo.Exited exited) self.old }
         ensures ok { OnOk result (self.new ≡ undone modules.now (Undo.Exited exited) self.old) }
@@ -205,9 +231,10 @@ impl Processes {
         ensures back { IfErr result (λ it. it ≡ Undo.Exited exited) }
         ensures err { OnErr result (self.new ≡ self.old) }
     {
+        let (exited, room) = exited.open();
         match revert_exit(&mut self.store, self.alloc, modules, exited) {
             Ok(()) => Ok(()),
-            Err(exited) => Err(Undo::Exited(exited)),
+            Err(exited) => Err(Undo::Exited(room.fill(exited))),
         }
     }
 }

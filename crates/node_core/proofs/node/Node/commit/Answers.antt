@@ -18,12 +18,12 @@ use Rattle.node_core.specs.declared.event.Event.TheVariants as event
 use Rattle.node_core.specs.declared.event.Note.{Note}
 use Rattle.node_core.proofs.node.Node.commit.Goals as goal
 
-pub invariant_of-self-in-Ok-commit : goal.invariant_of-self-in-Ok-commit
-invariant_of-self-in-Ok-commit c =
-    subst (λ (t : Table). IsConsistent c.self.inside.modules t) (sym c.in-Ok-commit.ensures.committed) (steps_keep_code.commits c.args.done.now c.self.inside.modules c.self.inside.processes c.self.invariant c.in-Ok-commit.ensures.ok.0)
+pub invariant_of-self-in-Ok-commit_unrefused : goal.invariant_of-self-in-Ok-commit_unrefused
+invariant_of-self-in-Ok-commit_unrefused c =
+    subst (λ (t : Table). IsConsistent c.self.inside.modules t) (sym c.in-Ok-commit_unrefused.ensures.committed) (steps_keep_code.commits c.args.done.now c.self.inside.modules c.self.inside.processes c.self.invariant c.in-Ok-commit_unrefused.ensures.ok.0)
 
-pub returns-in-Ok-commit-clause-accepted : goal.returns-in-Ok-commit-clause-accepted
-returns-in-Ok-commit-clause-accepted c =
+pub returns-in-Ok-commit_unrefused-clause-accepted : goal.returns-in-Ok-commit_unrefused-clause-accepted
+returns-in-Ok-commit_unrefused-clause-accepted c =
     let m = c.self.inside.modules in
     let t = c.self.inside.processes in
     let apps = c.self.inside.apps in
@@ -31,8 +31,8 @@ returns-in-Ok-commit-clause-accepted c =
     let k = c.args.n in
     let done = c.args.done.now in
     let a : Accepted NodeState Answer Note = record { node = record { modules = m; processes = committed done t; apps = ended_by done.job.pid done.outcome.end apps }; answer = answer.Unit; note = reporting (commit_told done t) } in
-    let new : NodeState = record { modules = m; processes = c.commit.new.self; apps = c.end_child.new.apps } in
+    let new : NodeState = record { modules = m; processes = c.commit_unrefused.new.self; apps = c.end_child.new.apps } in
     let said : List Reply → Told Answer Note = λ rs. record { answer = answer.Unit; note = record { replies = rs; arrival = None } } in
     let ended = c.in-Ok-end_child.ensures.ended ∙ ap (λ (j : Job). ended_by j.pid c.outcome.result.now.end apps) c.job.ensures ∙ ap (λ (o : Evaluated). ended_by done.job.pid o.end apps) c.outcome.ensures.outcome in
-    let is : new ≡ a.node = (λ i. record { modules = m; processes = c.in-Ok-commit.ensures.committed i; apps = ended i }) in
-    accepted_of n c.args.self.now (event.Commit done) a new k c.tell_replies.result.items c.self.view_is (c.in-Ok-commit.ensures.ok.0, c.in-Ok-commit.ensures.ok.1, refl) is (c.tell_replies.ensures ∙ ap (map said) c.in-Ok-commit.ensures.told ∙ each_of said (commit_told done t) k)
+    let is : new ≡ a.node = (λ i. record { modules = m; processes = c.in-Ok-commit_unrefused.ensures.committed i; apps = ended i }) in
+    accepted_of n c.args.self.now (event.Commit done) a new k c.tell_replies.result.items c.self.view_is (c.in-Ok-commit_unrefused.ensures.ok.0, c.in-Ok-commit_unrefused.ensures.ok.1, refl) is (c.tell_replies.ensures ∙ ap (map said) c.in-Ok-commit_unrefused.ensures.told ∙ each_of said (commit_told done t) k)

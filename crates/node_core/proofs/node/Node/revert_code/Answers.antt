@@ -1,6 +1,8 @@
 -- Modules and processes are as before, and with them the children.
 use Rattle.std.proofs.Common.{sym, subst}
 use Rattle.code_loading.specs.Consistent.{IsConsistent}
+use Rattle.code_loading.specs.Undo.{TakesBack}
+use Rattle.code_loading.specs.declared.undo.Undo.{Undo}
 use Rattle.code_server.specs.Modules.{Table as Loaded}
 use Rattle.erl_forms.specs.Module.{Forms}
 use Rattle.process_store.specs.Table.{Table}
@@ -18,7 +20,7 @@ invariant_of-self c =
     let (before, undoes) = c.requires in
     let here = subst (λ (x : NodeState). Undoes (OfCode undo ended) before x) (sym c.self.view_is) undoes in
     let kept = was_kept undo ended before n here in
-    let takes = code_back undo ended before n here in
+    let takes = subst (λ (u : Undo). TakesBack u before.modules before.processes n.modules n.processes) (sym c.open-undo.ensures) (code_back undo ended before n here) in
     let modules = c.in-Ok.ensures.modules before.modules before.processes takes in
     let processes = c.in-Ok.ensures.processes before.modules before.processes takes kept.sound kept.stand in
     subst (λ (u : Table). IsConsistent c.revert.new.modules u) (sym processes) (subst (λ (x : Loaded Forms). IsConsistent x before.processes) (sym modules) kept)
@@ -31,7 +33,7 @@ returns-in-Ok-clause-ok c =
     let n : NodeState = record { modules = c.self.inside.modules; processes = c.self.inside.processes; apps = c.self.inside.apps } in
     let here = subst (λ (x : NodeState). Undoes (OfCode undo ended) before x) (sym c.self.view_is) undoes in
     let kept = was_kept undo ended before n here in
-    let takes = code_back undo ended before n here in
+    let takes = subst (λ (u : Undo). TakesBack u before.modules before.processes n.modules n.processes) (sym c.open-undo.ensures) (code_back undo ended before n here) in
     let modules = c.in-Ok.ensures.modules before.modules before.processes takes in
     let processes = c.in-Ok.ensures.processes before.modules before.processes takes kept.sound kept.stand in
     let apps = apps_back undo ended before n c.unend.new.apps here c.unend.ensures.undone c.unend.ensures.none in

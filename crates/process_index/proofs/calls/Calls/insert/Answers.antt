@@ -6,7 +6,7 @@ use Rattle.process_index.proofs.calls.Calls.insert.Goals as goal
 
 pub returns-clause-ok : goal.returns-clause-ok
 returns-clause-ok c =
-    put_in c.args.call c.as_slice.result.now c.self.inside.items.items c.args.self.now _ c.place-place.result c.as_slice.ensures.value c.self.view_is c.in_ok-insert.ensures.items c.place-place.ensures.within c.place-place.ensures.parted
+    put_in c.args.call c.as_slice.result.now c.self.inside.items c.args.self.now _ c.place-place.result c.as_slice.ensures c.self.view_is c.in_ok-insert.ensures.ok c.place-place.ensures.within c.place-place.ensures.parted
 
 pub invariant_of-self-2 : goal.invariant_of-self-2
 invariant_of-self-2 c =

@@ -1,5 +1,6 @@
--- The record of a commit is that of the step, and holds what that holds.
-use Rattle.std.proofs.Common.{subst}
+-- The record of a commit is that of the step, in its own memory, and holds what that holds.
+use Rattle.std.proofs.Common.{sym, subst}
+use Rattle.process_commit.specs.declared.exiting.Exited.{Exited}
 use Rattle.process_ending.specs.Pieces.{held_by}
 use Rattle.process_store.specs.Pieces.{HoldsLost}
 use Rattle.process_store.specs.Table.{Table}
@@ -7,4 +8,5 @@ use Rattle.process_table.proofs.processes.Processes.exit.Goals as goal
 
 pub returns-clause-pieces : goal.returns-clause-pieces
 returns-clause-pieces c =
-    subst (λ (t : Table). HoldsLost (held_by c.in_ok-replies.exited.ended) t c.commit_exit.new.store) c.self.view_is c.in_ok-replies.ensures.pieces
+    let held = subst (λ (t : Table). HoldsLost (held_by c.in_ok-replies.exited.ended) t c.commit_exit.new.store) c.self.view_is c.in_ok-replies.ensures.pieces in
+    subst (λ (x : Exited). HoldsLost (held_by x.ended) c.args.self.now c.commit_exit.new.store) (sym c.fill.ensures) held

@@ -1,0 +1,82 @@
+//! Values that stand in memory of their own, which was reserved before they were there.
+//!
+//! A step that can't be given up half-way asks for all its memory before its first change: [`Reserved::new`] asks for the memory of one
+//! value, and [`Reserved::fill`] puts the value there without asking for more. [`Boxed::open`] takes it out, and keeps the memory
+//! for it or for the next one. What holds a large value but seldom, such as a variant of an enum, holds so three words in its place.
+//!
+//! Contracts see a [`Boxed`] as its value alone. What no contract says: that there is memory, and that a value is moved once, into its
+//! memory or out of it.
+#![tactic(auto)]
+
+ghost use Rattle.std.specs.Prelude.{◌≡◌, ◌<◌, ◌∷◌, ⊤, [], vec_capacity};
+
+use std::alloc::{AllocError, Global};
+use std::marker::Model;
+use std::snapshot::Snapshot;
+
+/// The memory of one value, which isn't there yet.
+#[derive(Drop)]
+pub struct Reserved<T> {
+    items: Vec<T>,
+}
+
+impl<T> Model for Reserved<T> {
+    ghost Value = { ⊤ };
+
+    ghost view = { λ _. tt };
+
+    ghost invariant = { λ room. (room.items.items ≡ []) × (0 < vec_capacity room.items) };
+}
+
+/// A value in memory of its own.
+#[derive(Drop)]
+pub struct Boxed<T> {
+    items: Vec<T>,
+    value: Snapshot<T>,
+}
+
+impl<T> Model for Boxed<T> {
+    ghost Value = { T };
+
+    ghost view = { λ boxed. boxed.value.value };
+
+    ghost invariant = { λ boxed. (boxed.items.items ≡ boxed.value.value ∷ []) × (0 < vec_capacity boxed.items) };
+}
+
+impl<T> Reserved<T> {
+    /// Asks for the memory of one value.
+    ///
+    /// # Errors
+    ///
+    /// `AllocError` where memory is refused.
+    pub fn new(alloc: Global) -> Result<Reserved<T>, AllocError>
+    where
+        T: Drop,
+    {
+        let items = Vec::with_capacity(alloc, 1)?;
+        Ok(Reserved { items })
+    }
+
+    /// Puts a value there. Takes no memory.
+    pub fn fill(self, value: T) -> Boxed<T>
+        ensures { result ≡ value }
+    {
+        let Reserved { mut items } = self;
+        let seen = Snapshot::of(&value);
+        items.push_reserved(value);
+        Boxed { items, value: seen }
+    }
+}
+
+impl<T> Boxed<T> {
+    /// Takes the value out, and keeps its memory. Takes no memory.
+    pub fn open(self) -> (T, Reserved<T>)
+        ensures { result.0 ≡ self }
+    {
+        let Boxed { mut items, .. } = self;
+        match items.pop() {
+            Some(value) => (value, Reserved { items }),
+            None => unreachable!(),
+        }
+    }
+}
