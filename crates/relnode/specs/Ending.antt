@@ -4,8 +4,8 @@ use Rattle.line_server.specs.declared.ended.Ended.{Ended}
 use Rattle.line_server.specs.declared.ended.Fault.{Fault as CommandsFault}
 use Rattle.relnode.specs.declared.ending.Fault.{Fault}
 use Rattle.relnode.specs.declared.ending.Fault.TheVariants.{CommandLine, NoRandomBytes, Files, Start, Commands, Output}
-use Rattle.relnode.specs.declared.options.OptionsError.{OptionsError}
-use Rattle.relnode.specs.declared.options.OptionsError.TheVariants.{Words, NotUtf8, Unread, Memory}
+use Rattle.relnode_options.specs.declared.OptionsError.{OptionsError}
+use Rattle.relnode_options.specs.declared.OptionsError.TheVariants.{Words, NotUtf8, Unread, Memory}
 use Rattle.release_files.specs.Files.{Contents}
 use Rattle.node_shell.specs.Run.{Runs, StartFails}
 use Rattle.node_shell.specs.declared.fault.StartFault.{StartFault}

@@ -3,11 +3,11 @@ ghost use Rattle.std.specs.Prelude.{◌≡◌};
 ghost use Rattle.std.specs.Process.{exit_status};
 ghost use Rattle.relnode.specs.Ending.{EndsSo, end_by, status_of, status_of_words};
 
-use crate::options::OptionsError;
-use crate::tree::TreeError;
 use erl_term::{Atom, Term, print};
+use file_tree::TreeError;
 use node_shell::{Files, StartFault, run};
 use release_boot::BootError;
+use relnode_options::OptionsError;
 use std::alloc::{AllocError, Global};
 use std::hash::RandomState;
 use std::io::{Read, Write};

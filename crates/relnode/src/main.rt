@@ -9,11 +9,10 @@
 #![tactic(auto)]
 
 mod ending;
-mod options;
-mod tree;
 
 use ending::{Fault, exit_code, line_of, run_to_end};
-use options::{Invocation, Options};
+use file_tree::read_tree;
+use relnode_options::{Invocation, Options, read_invocation};
 use std::hash::RandomState;
 use std::io;
 use std::process::ExitCode;
@@ -23,7 +22,7 @@ use std::rt::Runtime;
 /// Does what the command line asks for, and finds faults in this order: the command line, the files, the
 /// boot, the commands.
 fn start<R: Runtime + RandomSource + AllocGlobal>(rt: &R) -> Result<(), Fault> {
-    match options::read_invocation(rt)? {
+    match read_invocation(rt)? {
         Invocation::Show(text) => Ok(rt.print(text)?),
         Invocation::Run(options) => obey(rt, &options),
     }
@@ -32,7 +31,7 @@ fn start<R: Runtime + RandomSource + AllocGlobal>(rt: &R) -> Result<(), Fault> {
 /// Boots the release, and runs the commands of the standard input.
 fn obey<R: Runtime + RandomSource + AllocGlobal>(rt: &R, options: &Options) -> Result<(), Fault> {
     let hashing = RandomState::new(rt).map_err(Fault::NoRandomBytes)?;
-    let files = tree::read_tree(rt, hashing, options.root.as_str())?;
+    let files = read_tree(rt, hashing, options.root.as_str())?;
     let mut reader = rt.reader();
     let mut writer = io::writer(rt);
     run_to_end(

@@ -1,7 +1,12 @@
-// The files below a folder.
+//! The files below a folder of the file system, links followed within bounds.
+//!
+//! [`read_tree`] reads all of them. What the file system holds no contract tells, so that the files are those that stand there is
+//! tried by hand; that the paths are read in their byte order, and that the walk keeps its bounds and ends, is proved.
+#![tactic(auto)]
+
 ghost use Rattle.std.specs.Prelude.{◌≡◌, ◌+◌, ◌≤◌, length, IfOk, OnOk, IsSorted, string_cmp};
 
-use node_shell::Files;
+use release_files::Files;
 use std::alloc::{AllocError, Global};
 use std::fs::{DirEntry, FileType};
 use std::hash::RandomState;

@@ -1,4 +1,9 @@
-// The words of the command line.
+//! The command line of the program `relnode`: `relnode ROOT VSN`, `--help` and `--version`.
+//!
+//! [`read_invocation`] reads the words that the program was started with. No contract says which words are good: that is
+//! [`clap`]'s, and is tried by hand.
+#![tactic(auto)]
+
 use clap::error::ErrorKind;
 use clap::{Arg, ArgAction, Command};
 use std::alloc::{AllocError, Global};
