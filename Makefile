@@ -2,11 +2,13 @@
 # make check: proves the crates alone, over what earlier checks kept, and tries no edit and no test: for the working day.
 # make edits: sees that the prover refuses each must-fail edit, those of edits/ too, many in one check (tools/edits);
 #   make edits CRATE=name tries one crate's. Its last line is 'N passed, M failed'.
+# make trials: builds and runs the tests in trials/, which are too dear to prove at each gate (tools/trials);
+#   make trials NAME=name runs one crate of them. Its last line is 'N passed, M failed'.
 # make relnode: proves and builds the program, and leaves it at crates/relnode/out/relnode.
 # make demo: the program on the example tree.
 RT ?= rt
 
-.PHONY: test check edits demo relnode
+.PHONY: test check edits trials demo relnode
 
 test:
 	@$(RT) ci
@@ -16,6 +18,9 @@ check:
 
 edits:
 	@tools/edits $(CRATE)
+
+trials:
+	@tools/trials $(NAME)
 
 relnode:
 	@cd crates/relnode && $(RT) run -- data/tree Z < /dev/null > /dev/null

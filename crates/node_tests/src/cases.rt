@@ -16,11 +16,6 @@ pub(crate) fn halves(line: &str) -> Result<(&str, &str), Fail> {
     Ok(line.split_once(" ⟶ ").ok_or("no arrow")?)
 }
 
-/// What stands before the first blank, and what stands behind it.
-pub(crate) fn head(text: &str) -> Result<(&str, &str), Fail> {
-    Ok(text.split_once(' ').ok_or("no blank")?)
-}
-
 /// What a half of a line stands for: `␤` for a newline, and a number and `⨯` before a piece that `⋅` ends for so many pieces.
 pub(crate) fn unfolded(alloc: Global, half: &str) -> Result<String, Fail> {
     let mut text = String::new(alloc);

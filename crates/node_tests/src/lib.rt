@@ -1,7 +1,6 @@
-//! Tests of [`code_server`], [`line_server`] and [`node_shell`]: what no contract of theirs says.
+//! Tests of [`line_server`] and [`node_shell`]: what no contract of theirs says.
 //!
-//! They see that calls succeed, what loads, deletes and purges do to a table of modules, by Erlang's rules, and that each is
-//! taken back (`code`), what is written for lines that are read and written in pieces, and which fault is told
+//! They see that calls succeed, what is written for lines that are read and written in pieces, and which fault is told
 //! (`lines`), and what the shell's commands are answered, by their manual page and the rules of the node (`commands`; its tables stand in
 //! the other files, and its releases in `tree`).
 //!
@@ -15,8 +14,6 @@ mod boots;
 mod calls;
 #[cfg(test)]
 mod cases;
-#[cfg(test)]
-mod code;
 #[cfg(test)]
 mod commands;
 #[cfg(test)]
