@@ -1,5 +1,5 @@
 -- Things in a row: one more of them, the last, and none.
-use Rattle.std.proofs.Common.{◌≡◌, ℕ, zero, suc, ◌+◌, ◌-◌, ◌<◌, ◌≤◌, List, [], ◌∷◌, length, Option, Some, None, ap, ◌∙◌, refl, arith}
+use Rattle.std.proofs.Common.{◌≡◌, ℕ, zero, suc, ◌+◌, ◌-◌, ◌<◌, ◌≤◌, List, [], ◌∷◌, length, Option, Some, None, ap, ◌∙◌, ◌≢◌, refl, arith}
 use Rattle.erl_scan.specs.declared.token.Spot.{Spot}
 use Rattle.erl_syntax.specs.declared.role.Role.TheVariants.{Test}
 use Rattle.erl_syntax.specs.Grammar.{operations}
@@ -10,7 +10,7 @@ use Rattle.erl_syntax.specs.Tree.{Tree, Trees, Guards, Clauses, none, no_guards,
 use Rattle.erl_expressions.specs.declared.delimiter.Delimiter.{Delimiter}
 use Rattle.erl_expressions.specs.declared.delimiter.Delimiter.TheVariants.{Comma, Semicolon}
 use Rattle.erl_expressions.specs.Delimiters.{after}
-use Rattle.erl_expressions.specs.Reading.{Found, Arm, and_then, other_things, separated, closed, rest_of_row, rest_of_guards, rest_of_clauses, with_last, with_last_guard, with_last_clause}
+use Rattle.erl_expressions.specs.Reading.{Found, Arm, and_then, other_things, separated, closed, rest_of_row, rest_of_trees, rest_of_guards, rest_of_clauses, with_last, with_last_guard, with_last_clause}
 
 left : (n i : ℕ) → i < n → n - i ≡ suc (n - (i + 1))
 left n i within = omega (arith, within)
@@ -135,6 +135,29 @@ pub row_first : (read : List Terminal → Found Tree) (ss : List Spot) (t : Tree
     row read (terminals ss) ≡ and_then (separated Comma (length ss - 1) read behind) (rest_of_row (with_last none t))
 row_first read ss t rest behind some found next =
     row_begins read ss ∙ row_more (length ss) 0 read (terminals ss) none t rest behind some found next
+
+-- what goes on with trees of a row
+
+pub rest_begins : (n : ℕ) (read : List Terminal → Found Tree) (us : Trees) (ts : List Terminal) →
+    rest_of_trees n read us ts ≡ and_then (separated Comma (n - 0) read ts) (rest_of_row us)
+rest_begins n read us ts = ap (λ k. and_then (separated Comma k read ts) (rest_of_row us)) {x = n} {y = n - 0} (omega arith)
+
+pub rest_none : (n : ℕ) (read : List Terminal → Found Tree) (us : Trees) (ts : List Terminal) → n ≡ 0 → rest_of_trees n read us ts ≡ None
+rest_none n read us ts is = ap (λ k. and_then (separated Comma k read ts) (rest_of_row us)) is
+
+pub rest_not : (n : ℕ) (read : List Terminal → Found Tree) (us : Trees) (ts : List Terminal) → n ≢ 0 → read ts ≡ None →
+    rest_of_trees n read us ts ≡ None
+rest_not n read us ts some found = rest_begins n read us ts ∙ row_not n 0 read ts us (omega (arith, some)) found
+
+pub rest_last : (n : ℕ) (read : List Terminal → Found Tree) (us : Trees) (ts : List Terminal) (t : Tree) (rest : List Terminal) → n ≢ 0 →
+    read ts ≡ Some (t, rest) → after Comma rest ≡ None → rest_of_trees n read us ts ≡ Some (with_last us t, rest)
+rest_last n read us ts t rest some found last = rest_begins n read us ts ∙ row_last n 0 read ts us t rest (omega (arith, some)) found last
+
+pub rest_more : (n : ℕ) (read : List Terminal → Found Tree) (us : Trees) (ts : List Terminal) (t : Tree) (rest more : List Terminal) →
+    n ≢ 0 → read ts ≡ Some (t, rest) → after Comma rest ≡ Some more →
+    rest_of_trees n read us ts ≡ rest_of_trees (n - 1) read (with_last us t) more
+rest_more n read us ts t rest more some found next =
+    rest_begins n read us ts ∙ row_more n 0 read ts us t rest more (omega (arith, some)) found next
 
 pub guards_begin : (p : Reader) (ss : List Spot) →
     alternatives p (terminals ss) ≡

@@ -64,6 +64,10 @@ with_more ts (u ∷ us) = with_more (with_last ts u) us
 abbrev pub rest_of_row : Trees → List Tree × List Terminal → Found Trees
 rest_of_row us f = Some (with_more us f.0, f.1)
 
+-- what goes on with trees of a row, of at most so many more
+abbrev pub rest_of_trees : ℕ → (List Terminal → Found Tree) → Trees → List Terminal → Found Trees
+rest_of_trees turns read us ts = and_then (separated Comma turns read ts) (rest_of_row us)
+
 unfoldable pub row : (List Terminal → Found Tree) → List Terminal → Found Trees
 row read ts = and_then (separated Comma (length ts) read ts) (rest_of_row none)
 

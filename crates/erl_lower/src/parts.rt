@@ -102,8 +102,8 @@ pub(crate) fn made(
             Ok(applied(operation, row))
         }
         Shape::Remote(qualifier, function) => {
-            let called = module_of(own, qualifier);
-            let operation = remote_call(alloc, called, &function.name, arguments)?;
+            let called = module_of(own, qualifier.get());
+            let operation = remote_call(alloc, called, &function.get().name, arguments)?;
             Ok(applied(operation, row))
         }
         Shape::Prefix(operator) => {

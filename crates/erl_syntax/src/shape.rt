@@ -1,5 +1,6 @@
 // How an expression is put together from others.
 use crate::leaf::Named;
+use values::Shared;
 
 /// An operator before its operand (Erlang Reference Manual, Expressions, Operator Precedence).
 #[derive(Clone, Copy, Debug, PartialEq, Eq)]
@@ -79,8 +80,8 @@ pub enum Shape {
     Block,
     /// `f(E1,..,En)`
     Local(Named),
-    /// `m:f(E1,..,En)`
-    Remote(Qualifier, Named),
+    /// `m:f(E1,..,En)`. Its names stand in memory of their own: few trees have any, and each tree would be half as large again.
+    Remote(Shared<Qualifier>, Shared<Named>),
     /// An operator before one part.
     Prefix(Prefix),
     /// An operator between two parts.

@@ -55,6 +55,14 @@ fn infix_word(op: Infix) -> &'static str {
     }
 }
 
+/// Writes the module of a remote call.
+fn put_module(out: &mut String, called: &Qualifier) -> Result<(), Fail> {
+    match called {
+        Qualifier::Module(module) => Ok(out.push_str(module.name.as_str())?),
+        Qualifier::ModuleName(_) => Ok(out.push('?')?),
+    }
+}
+
 /// Writes how a node begins, and gives what ends it.
 fn put_opening(out: &mut String, shape: &Shape) -> Result<char, Fail> {
     match shape {
@@ -69,11 +77,9 @@ fn put_opening(out: &mut String, shape: &Shape) -> Result<char, Fail> {
         Shape::Parenthesized => out.push_str("paren(")?,
         Shape::Block => out.push_str("begin(")?,
         Shape::Local(function) => write!(out, "{}(", function.name.as_str())?,
-        Shape::Remote(Qualifier::Module(module), function) => {
-            write!(out, "{}:{}(", module.name.as_str(), function.name.as_str())?
-        }
-        Shape::Remote(Qualifier::ModuleName(_), function) => {
-            write!(out, "?:{}(", function.name.as_str())?
+        Shape::Remote(called, function) => {
+            put_module(out, called.get())?;
+            write!(out, ":{}(", function.get().name.as_str())?
         }
         Shape::Prefix(Prefix::Negate) => out.push_str("-(")?,
         Shape::Prefix(Prefix::Not) => out.push_str("not(")?,

@@ -7,6 +7,7 @@ use erl_syntax::{
 use erl_term::Atom;
 use std::alloc::{AllocError, Global};
 use std::test::Fail;
+use values::Shared;
 
 /// The trees that a text is written for. A tree's place is that of its word among the words.
 pub(crate) fn trees(alloc: Global, text: &str) -> Result<SyntaxTrees, Fail> {
@@ -50,8 +51,9 @@ fn step(
         "block" => Ok(SyntaxTree::Node(Shape::Block, last(stack, 2)?)),
         "case" => case(alloc, stack),
         "m:f" => {
-            let called = Qualifier::Module(named(alloc, "m", at)?);
-            let shape = Shape::Remote(called, named(alloc, "f", at)?);
+            let called = Shared::new(alloc, Qualifier::Module(named(alloc, "m", at)?))?;
+            let function = Shared::new(alloc, named(alloc, "f", at)?)?;
+            let shape = Shape::Remote(called, function);
             Ok(SyntaxTree::Node(shape, last(stack, 1)?))
         }
         _ if word.to_ascii_lowercase(alloc)?.as_str() == word && word != "_" => {

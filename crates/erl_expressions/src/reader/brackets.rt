@@ -7,6 +7,8 @@ ghost use Rattle.erl_expressions.specs.Delimiters.{after as after_in};
 ghost use Rattle.erl_expressions.specs.Reading.{read as read_in, row as row_in, parts as parts_in, bracketed as bracketed_in};
 ghost use Rattle.erl_expressions.specs.Reading.{made as made_in, opens as opens_in, closing as closing_in};
 ghost use Rattle.erl_expressions.specs.Reading.{parenthesized as parenthesized_in, listed as listed_in, tailed as tailed_in};
+ghost use Rattle.erl_expressions.specs.Reading.{rest_of_trees, with_last};
+ghost use Rattle.erl_syntax.specs.Tree.{none};
 
 use super::{Reading, read};
 use crate::deep::{Deep, DeepRow};
@@ -17,12 +19,12 @@ use erl_scan::Spot;
 use erl_syntax::{Qualifier, Role, Shape, guard_arity, is_guard_function};
 use std::alloc::Global;
 
-/// How many trees a row of more than one has room for while it is read, at first.
+/// How many trees a row of more than two has room for while it is read, at first.
 const ROOM: usize = 3;
 
-/// Trees with commas between them.
+/// Trees with commas between them. Most rows are of one tree or of two, which take no more room than they need.
 #[cycle(reading)]
-#[tactic(auto, using(crate::proofs::Things::row_empty, crate::proofs::Things::row_first_not, crate::proofs::Things::row_of_one, crate::proofs::Things::row_first, crate::proofs::Things::row_more, crate::proofs::Things::row_last, crate::proofs::Things::row_not, crate::proofs::Things::row_out))]
+#[tactic(auto, using(crate::proofs::Things::row_empty, crate::proofs::Things::row_first_not, crate::proofs::Things::row_of_one, crate::proofs::Things::row_first))]
 pub(crate) fn row<'a>(
     alloc: Global,
     levels: u32,
@@ -37,16 +39,69 @@ pub(crate) fn row<'a>(
     if tokens.is_empty() {
         return Ok(Err(Refusal::End));
     }
-    let (first, rest) = match read(alloc, levels, role, most, tokens)? {
-        Ok(found) => found,
-        Err(refusal) => return Ok(Err(refusal)),
-    };
-    let Some(mut left) = after(Delimiter::Comma, rest) else {
-        return Ok(Ok((DeepRow::of(alloc, first)?, rest)));
-    };
-    let mut items = DeepRow::with_room(alloc, ROOM)?;
-    items.push(first)?;
-    for _turn in 1..tokens.len() {
+    match read(alloc, levels, role, most, tokens)? {
+        Ok((first, rest)) => match after(Delimiter::Comma, rest) {
+            Some(left) => row_of_more(alloc, levels, role, most, tokens.len() - 1, first, left),
+            None => Ok(Ok((DeepRow::of(alloc, first)?, rest))),
+        },
+        Err(refusal) => Ok(Err(refusal)),
+    }
+}
+
+/// A tree and at most so many others, behind the first comma.
+#[cycle(reading)]
+#[inline(never)]
+#[tactic(auto, using(crate::proofs::Things::rest_none, crate::proofs::Things::rest_not, crate::proofs::Things::rest_last, crate::proofs::Things::rest_more))]
+fn row_of_more<'a>(
+    alloc: Global,
+    levels: u32,
+    role: Role,
+    most: u32,
+    others: usize,
+    first: Deep,
+    tokens: &'a [Spot],
+) -> Reading<'a, DeepRow>
+    ensures { IfOk result (λ answer. MatchResult answer
+        (λ f. rest_of_trees others (read_in levels role most) (with_last none first) (terminals tokens.now) ≡ Some (f.0, terminals f.1.now))
+        (λ _. rest_of_trees others (read_in levels role most) (with_last none first) (terminals tokens.now) ≡ None)) }
+{
+    if others == 0 {
+        return Ok(Err(Refusal::End));
+    }
+    match read(alloc, levels, role, most, tokens)? {
+        Ok((second, rest)) => match after(Delimiter::Comma, rest) {
+            Some(left) => {
+                let mut items = DeepRow::with_room(alloc, ROOM)?;
+                items.push(first)?;
+                items.push(second)?;
+                row_of_many(alloc, levels, role, most, others - 1, items, left)
+            }
+            None => Ok(Ok((DeepRow::pair(alloc, first, second)?, rest))),
+        },
+        Err(refusal) => Ok(Err(refusal)),
+    }
+}
+
+/// Trees, and at most so many others, behind a comma.
+#[cycle(reading)]
+#[inline(never)]
+#[tactic(auto, using(crate::proofs::Things::rest_begins, crate::proofs::Things::row_more, crate::proofs::Things::row_last, crate::proofs::Things::row_not, crate::proofs::Things::row_out))]
+fn row_of_many<'a>(
+    alloc: Global,
+    levels: u32,
+    role: Role,
+    most: u32,
+    others: usize,
+    before: DeepRow,
+    tokens: &'a [Spot],
+) -> Reading<'a, DeepRow>
+    ensures { IfOk result (λ answer. MatchResult answer
+        (λ f. rest_of_trees others (read_in levels role most) before (terminals tokens.now) ≡ Some (f.0, terminals f.1.now))
+        (λ _. rest_of_trees others (read_in levels role most) before (terminals tokens.now) ≡ None)) }
+{
+    let mut items = before;
+    let mut left = tokens;
+    for _turn in 0..others {
         let rest = match read(alloc, levels, role, most, left)? {
             Ok((tree, rest)) => {
                 items.push(tree)?;
@@ -227,7 +282,8 @@ pub(super) fn made<'a>(
 /// Where a node is told that a role hasn't: a call in a guard at its function's name, all others at the bracket.
 fn opening_place(role: Role, shape: &Shape, at: usize) -> usize {
     match (role, shape) {
-        (Role::Test, Shape::Local(function) | Shape::Remote(_, function)) => function.at,
+        (Role::Test, Shape::Local(function)) => function.at,
+        (Role::Test, Shape::Remote(_, function)) => function.get().at,
         (_, _) => at,
     }
 }
@@ -236,7 +292,8 @@ fn opening_place(role: Role, shape: &Shape, at: usize) -> usize {
 /// bracket.
 fn node_place(shape: &Shape, at: usize, tokens: &[Spot]) -> usize {
     match (shape, tokens.first()) {
-        (Shape::Local(function) | Shape::Remote(_, function), _) => function.at,
+        (Shape::Local(function), _) => function.at,
+        (Shape::Remote(_, function), _) => function.get().at,
         (Shape::Block, Some(first)) => first.at,
         (_, _) => at,
     }
@@ -251,7 +308,7 @@ fn opens(role: Role, shape: &Shape) -> bool
         (Role::Pattern, Shape::Local(_) | Shape::Remote(_, _) | Shape::Prefix(_)) => false,
         (Role::Test, Shape::Local(function)) => guard_arity(&function.name).is_some(),
         (Role::Test, Shape::Remote(module, function)) => {
-            is_erlang(module) && guard_arity(&function.name).is_some()
+            is_erlang(module.get()) && guard_arity(&function.get().name).is_some()
         }
         (_, _) => true,
     }
@@ -274,7 +331,9 @@ fn has(role: Role, shape: &Shape, parts: usize) -> bool
         Shape::Remote(module, function) => match role {
             Role::Expression => true,
             Role::Pattern => false,
-            Role::Test => is_erlang(module) && is_guard_function(&function.name, parts),
+            Role::Test => {
+                is_erlang(module.get()) && is_guard_function(&function.get().name, parts)
+            },
         },
         Shape::Prefix(_) => !matches!(role, Role::Pattern) && parts == 1,
         Shape::Infix(op) => has_operator(role, *op) && parts == 2,

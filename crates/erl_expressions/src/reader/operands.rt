@@ -21,6 +21,7 @@ use crate::refusal::Refusal;
 use erl_scan::{Mark, Spot, Token, Word};
 use erl_syntax::{Infix, Leaf, Named, Prefix, Qualifier, Role, Shape, Sign, SyntaxTree};
 use std::alloc::{AllocError, Global};
+use values::Shared;
 
 /// The tree of a leaf alone, where tokens begin with one and no operator goes on with it.
 #[inline(never)]
@@ -242,7 +243,7 @@ fn remote<'a>(
     match &name.what {
         Token::Atom(function) if paren_ahead(rest) => {
             let function = named(function, name.at)?;
-            let shape = Shape::Remote(owner, function);
+            let shape = Shape::Remote(Shared::new(alloc, owner)?, Shared::new(alloc, function)?);
             let open = first_byte(rest);
             match bracketed(alloc, levels, role, shape, open, behind_first(rest))? {
                 Ok(found) => Ok(Ok(found)),

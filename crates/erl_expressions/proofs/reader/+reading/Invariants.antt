@@ -3,7 +3,7 @@ use Rattle.std.proofs.Common.{◌≡◌, ◌+◌, ◌-◌, ◌*◌, length}
 use Rattle.erl_syntax.specs.Terminal.{terminals}
 use Rattle.erl_syntax.specs.declared.role.Role.TheVariants.{Test}
 use Rattle.erl_expressions.specs.declared.delimiter.Delimiter.TheVariants.{Comma, Semicolon}
-use Rattle.erl_expressions.specs.Reading.{read, row, one_clause, clauses_to_end, alternatives, separated, and_then, climbed, rest_of_row, rest_of_guards, rest_of_clauses}
+use Rattle.erl_expressions.specs.Reading.{read, row, one_clause, clauses_to_end, alternatives, separated, and_then, climbed, rest_of_row, rest_of_trees, rest_of_guards, rest_of_clauses}
 use Rattle.erl_syntax.specs.Grammar.{operations}
 use Rattle.erl_expressions.proofs.reader.+reading.Given as goal
 
@@ -21,6 +21,12 @@ decreases-brackets::parts l = 16 * l.levels + 5
 
 abbrev pub decreases-brackets::row : goal.decreases-brackets::row
 decreases-brackets::row l = 16 * l.levels + 3
+
+abbrev pub decreases-brackets::row_of_more : goal.decreases-brackets::row_of_more
+decreases-brackets::row_of_more l = 16 * l.levels + 2
+
+abbrev pub decreases-brackets::row_of_many : goal.decreases-brackets::row_of_many
+decreases-brackets::row_of_many l = 16 * l.levels + 1
 
 abbrev pub decreases-brackets::tailed : goal.decreases-brackets::tailed
 decreases-brackets::tailed l = 16 * l.levels + 5
@@ -76,10 +82,10 @@ decreases-operands::joined l = 16 * l.levels - 3
 abbrev pub decreases-read : goal.decreases-read
 decreases-read l = 16 * l.levels
 
-abbrev pub invariant-brackets::row-loop-turn : goal.invariant-brackets::row-loop-turn
-invariant-brackets::row-loop-turn l =
-    row (read l.levels l.role l.most) (terminals l.tokens) ≡
-    and_then (separated Comma (length l.tokens - l._turn) (read l.levels l.role l.most) (terminals l.left)) (rest_of_row l.items)
+abbrev pub invariant-brackets::row_of_many-loop-turn : goal.invariant-brackets::row_of_many-loop-turn
+invariant-brackets::row_of_many-loop-turn l =
+    rest_of_trees l.others (read l.levels l.role l.most) l.fn.before (terminals l.fn.tokens) ≡
+    and_then (separated Comma (l.others - l._turn) (read l.levels l.role l.most) (terminals l.left)) (rest_of_row l.items)
 
 abbrev pub invariant-clauses::clauses_to_end-loop-turn : goal.invariant-clauses::clauses_to_end-loop-turn
 invariant-clauses::clauses_to_end-loop-turn l =
