@@ -1,3 +1,4 @@
+pub mod Few
 pub mod Index
 pub mod OpenCalls
 pub mod Rows
