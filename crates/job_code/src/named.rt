@@ -1,9 +1,11 @@
 // Instances that are told by names and serials.
-ghost use Rattle.std.specs.Prelude.{◌≡◌, IfOk, map};
+ghost use Rattle.std.specs.Prelude.{◌≡◌, IfOk, IfSome, Some, map};
 ghost use Rattle.std.specs.Option.{option_copied, option_map};
 ghost use Rattle.erl_steps.specs.Views.{instance};
+ghost use Rattle.code_server.specs.Modules.{IsSound};
 ghost use Rattle.job_code.specs.Named.{AreFoundAgain, JobCodeStands, all_found, found, loaded_with, named_instance};
 
+use crate::reached::current_at;
 use code_server::Modules;
 use erl_forms::Module;
 use erl_steps::Instance;
@@ -53,8 +55,48 @@ pub fn named_of(alloc: Global, instances: &[Instance]) -> Result<Vec<NamedInstan
     Ok(named)
 }
 
-/// The current or the old code of a module, whichever has the serial.
-fn loaded<'a>(
+/// How many modules are looked at before a name is hashed: to compare a serial with each of theirs costs less.
+const FEW: usize = 8;
+
+/// The current code of the module at a place, where that is the instance that is told.
+fn told_at<'a>(
+    modules: &'a Modules<Module>,
+    place: usize,
+    told: &NamedInstance,
+) -> Option<&'a code_server::Instance<Module>>
+    requires { IsSound modules.now }
+    ensures { IfSome (option_copied result) (λ i. loaded_with told.now.name told.now.serial modules.now ≡ Some i) }
+{
+    match current_at(modules, place) {
+        Some((name, current)) => {
+            if current.serial == told.serial && name.same(&told.name) {
+                return Some(current);
+            }
+            None
+        }
+        None => None,
+    }
+}
+
+/// The current code of one of the first few modules, where that is the instance that is told.
+fn told_first<'a>(
+    modules: &'a Modules<Module>,
+    told: &NamedInstance,
+) -> Option<&'a code_server::Instance<Module>>
+    ensures { IfSome (option_copied result) (λ i. loaded_with told.now.name told.now.serial modules.now ≡ Some i) }
+{
+    let few = modules.len().min(FEW);
+    for place in 0..few {
+        match told_at(modules, place, told) {
+            Some(current) => return Some(current),
+            None => {}
+        }
+    }
+    None
+}
+
+/// The current or the old code of a module, whichever has the serial, by its name.
+fn loaded_by_name<'a>(
     modules: &'a Modules<Module>,
     told: &NamedInstance,
 ) -> Option<&'a code_server::Instance<Module>>
@@ -68,6 +110,19 @@ fn loaded<'a>(
     match modules.old(&told.name) {
         Some(old) if old.serial == told.serial => Some(old),
         _ => None,
+    }
+}
+
+/// The current or the old code of a module, whichever has the serial.
+fn loaded<'a>(
+    modules: &'a Modules<Module>,
+    told: &NamedInstance,
+) -> Option<&'a code_server::Instance<Module>>
+    ensures { option_copied result ≡ loaded_with told.now.name told.now.serial modules.now }
+{
+    match told_first(modules, told) {
+        Some(current) => Some(current),
+        None => loaded_by_name(modules, told),
     }
 }
 

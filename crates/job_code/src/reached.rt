@@ -64,7 +64,7 @@ impl Found {
 }
 
 /// The name of the module at a place, with its current code.
-fn current_at(
+pub(crate) fn current_at(
     modules: &Modules<Module>,
     place: usize,
 ) -> Option<(&Atom, &code_server::Instance<Module>)>
