@@ -11,7 +11,7 @@ pub use ending::{Did, Ended, NamedRunning, Told, ended_processes_live};
 use erl_eval::Place;
 use erl_machine::{Instance, Job, matches};
 use erl_term::{Atom, Term};
-pub use rerunning::{NamedRan, jobs_run_again};
+pub use rerunning::{NamedRan, Used, jobs_run_again};
 use std::alloc::{AllocError, Global};
 use std::collections::VecDeque;
 use std::marker::Model;
@@ -351,16 +351,49 @@ impl Process {
         ensures back { IfOk result (λ ran. unrested ran self.new ≡ self.old) }
         ensures err { OnErr result (self.new ≡ self.old) }
     {
-        let next = first_of(alloc, self.pid, &place, rests_in.as_ref(), &self.mailbox)?;
+        let next = self.next_at(alloc, &place, rests_in.as_ref())?;
+        Ok(self.rest_next(place, rests_in, next))
+    }
+
+    /// The position of the message that it takes next, if it comes to rest at a place.
+    ///
+    /// # Errors
+    ///
+    /// `AllocError` where memory is refused.
+    pub fn next_at(
+        &self,
+        alloc: Global,
+        place: &Place,
+        rests_in: Option<&Instance>,
+    ) -> Result<Option<usize>, AllocError>
+        ensures { IfOk result (λ it. it ≡ first_taken self.now.pid place.now (option_copied rests_in.entry) self.now.mailbox) }
+    {
+        first_of(alloc, self.pid, place, rests_in, &self.mailbox)
+    }
+
+    /// The process rests at a place, one turn on, and takes next the message that [`Process::next_at`] tells. What it ran is handed
+    /// out. Takes no memory.
+    pub fn rest_next(
+        &mut self,
+        place: Place,
+        rests_in: Option<Instance>,
+        next: Option<usize>,
+    ) -> Ran
+        requires running { IsRunning self.old }
+        requires turns { self.old.turn + 1 < 2 ^ 64 }
+        requires next { next ≡ first_taken self.old.pid place rests_in self.old.mailbox }
+        ensures rested { self.new ≡ rested place rests_in self.old }
+        ensures back { unrested result self.new ≡ self.old }
+    {
         match mem::replace(&mut self.activity, Activity::Idle) {
             Activity::Runs(running) => {
                 self.next = next;
                 self.turn += 1;
-                Ok(Ran {
+                Ran {
                     place: mem::replace(&mut self.place, place),
                     rests_in: mem::replace(&mut self.rests_in, rests_in),
                     running,
-                })
+                }
             }
             Activity::Idle | Activity::Suspended => unreachable!(),
         }

@@ -27,11 +27,11 @@ pub struct NamedRan {
 
 /// The instances that a process used.
 #[derive(Drop)]
-struct Used {
+pub struct Used {
     /// The instance of its place.
-    rests_in: Option<Instance>,
+    pub rests_in: Option<Instance>,
     /// The code that it ran in.
-    code: Row<Instance>,
+    pub code: Row<Instance>,
 }
 
 impl Ran {
@@ -60,7 +60,11 @@ impl Ran {
 
 impl NamedRan {
     /// The instances that the process used, in the table; none where one of them is not there.
-    fn used(&self, alloc: Global, modules: &Modules<Module>) -> Result<Option<Used>, AllocError>
+    ///
+    /// # Errors
+    ///
+    /// `AllocError` where memory is refused.
+    pub fn used(&self, alloc: Global, modules: &Modules<Module>) -> Result<Option<Used>, AllocError>
         ensures { IfOk result (λ it. IfSome it (λ used. runs_again modules.now self.now ≡ Some (ran_in used.rests_in used.code self.now))) }
     {
         let Some(rests_in) = place_found(alloc, modules, self.rests_in.as_ref())? else {
@@ -102,6 +106,28 @@ impl NamedRan {
             code: code_told,
         };
         (ran, told)
+    }
+
+    /// What the job has left behind, with these instances. Takes no memory.
+    pub fn run_with(self, used: Used) -> Ran
+        ensures { result ≡ ran_in used.rests_in used.code self }
+    {
+        let NamedRan { place, running, .. } = self;
+        let Used { rests_in, code } = used;
+        let NamedRunning {
+            entry_serial,
+            message,
+            ..
+        } = running;
+        Ran {
+            place,
+            rests_in,
+            running: Running {
+                entry_serial,
+                message,
+                code,
+            },
+        }
     }
 
     /// What the job has left behind, with the instances that the process used, as they stand in the table. What tells them is handed
