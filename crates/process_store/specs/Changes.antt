@@ -6,7 +6,7 @@ use Rattle.erl_steps.specs.declared.world.Instance.{Instance}
 use Rattle.process.specs.declared.activity.Activity.{Activity}
 use Rattle.process.specs.declared.activity.Activity.TheVariants as activity
 use Rattle.process.specs.declared.process.Ran.{Ran}
-use Rattle.process.specs.Process.{IsRunning, rested, resumed, suspended, unrested}
+use Rattle.process.specs.Process.{IsRunning, first_taken, rested, resumed, suspended, unrested}
 use Rattle.process_index.specs.Calls.{with_call, without}
 use Rattle.process_index.specs.declared.calls.Call.{Call}
 use Rattle.process_store.specs.declared.living.Living.{Living}
@@ -42,6 +42,10 @@ rest_living at rests_in l = record l { process = rested at rests_in l.process }
 
 abbrev pub unrest_living : Ran → Living → Living
 unrest_living ran l = record l { process = unrested ran l.process }
+
+-- the position of the message that it takes next, if it comes to rest at a place
+abbrev pub IsNext : Place → Option Instance → Option ℕ → Living → Type 0
+IsNext at rests_in next l = next ≡ first_taken l.process.pid at rests_in l.process.mailbox
 
 -- A process lives and runs.
 

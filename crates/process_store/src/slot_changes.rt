@@ -2,7 +2,7 @@
 ghost use Rattle.std.specs.Prelude.{◌≡◌, false, IfOk, IfSome, OnErr, OnOk};
 ghost use Rattle.std.specs.Option.{option_map};
 ghost use Rattle.process_index.specs.Calls.{has};
-ghost use Rattle.process_store.specs.Changes.{CanTurn, LivesAndRuns, Turned, closed_living, reopened_living, rest_living, resume_living, suspend_living, unrest_living};
+ghost use Rattle.process_store.specs.Changes.{CanTurn, IsNext, LivesAndRuns, Turned, closed_living, reopened_living, rest_living, resume_living, suspend_living, unrest_living};
 ghost use Rattle.process_store.specs.Table.{changed_slots, living_at};
 
 use crate::living::Living;
@@ -57,18 +57,18 @@ pub(crate) fn resume_at(slots: &mut Vec<Option<Living>>, pid: u64)
 /// The process in a slot, which lives and runs, rests at a place, one turn on. What it ran is handed out.
 fn rest_in(
     slot: &mut Option<Living>,
-    alloc: Global,
     place: Place,
     rests_in: Option<Instance>,
-) -> Result<Ran, AllocError>
+    next: Option<usize>,
+) -> Ran
     requires running { LivesAndRuns slot.old }
     requires turns { IfSome slot.old CanTurn }
-    ensures ok { OnOk result (slot.new ≡ option_map (rest_living place rests_in) slot.old) }
-    ensures back { IfOk result (λ ran. option_map (unrest_living ran) slot.new ≡ slot.old) }
-    ensures err { OnErr result (slot.new ≡ slot.old) }
+    requires next { IfSome slot.old (IsNext place rests_in next) }
+    ensures rested { slot.new ≡ option_map (rest_living place rests_in) slot.old }
+    ensures back { option_map (unrest_living result) slot.new ≡ slot.old }
 {
     match slot {
-        Some(living) => living.process.rest(alloc, place, rests_in),
+        Some(living) => living.process.rest_next(place, rests_in, next),
         None => unreachable!(),
     }
 }
@@ -78,21 +78,21 @@ fn rest_in(
 pub(crate) fn rest_at(
     slots: &mut Vec<Option<Living>>,
     pid: u64,
-    alloc: Global,
     place: Place,
     rests_in: Option<Instance>,
-) -> Result<Ran, AllocError>
+    next: Option<usize>,
+) -> Ran
     requires running { LivesAndRuns (living_at slots.old.items pid) }
     requires turns { IfSome (living_at slots.old.items pid) CanTurn }
-    ensures ok { OnOk result (slots.new.items ≡ changed_slots (rest_living place rests_in) pid slots.old.items) }
-    ensures back { IfOk result (λ ran. changed_slots (unrest_living ran) pid slots.new.items ≡ slots.old.items) }
-    ensures err { OnErr result (slots.new.items ≡ slots.old.items) }
+    requires next { IfSome (living_at slots.old.items pid) (IsNext place rests_in next) }
+    ensures rested { slots.new.items ≡ changed_slots (rest_living place rests_in) pid slots.old.items }
+    ensures back { changed_slots (unrest_living result) pid slots.new.items ≡ slots.old.items }
 {
     let position = pid as usize;
     if slots.len() <= position {
         unreachable!();
     }
-    rest_in(&mut slots[position], alloc, place, rests_in)
+    rest_in(&mut slots[position], place, rests_in, next)
 }
 
 /// The process in a slot, if one lives there, runs again what it ran before it rested.

@@ -1,6 +1,7 @@
 // Elementary changes of one process of the table, each with the one that takes it back.
 ghost use Rattle.std.specs.Prelude.{◌≡◌, IfNone, IfOk, IfSome, IsSome, None, OnErr, OnOk, Some};
-ghost use Rattle.process_store.specs.Changes.{CanReopen, CanTurnAt, HasTurned, IsRunningAt, closed_in, is_suspended, owner_of, reopened, rest_living, resume_living, suspend_living, suspended_as, unrest_living, was_suspended};
+ghost use Rattle.process_store.specs.Changes.{CanReopen, CanTurnAt, HasTurned, IsNext, IsRunningAt, closed_in, is_suspended, owner_of, reopened, rest_living, resume_living, suspend_living, suspended_as, unrest_living, was_suspended};
+ghost use Rattle.std.specs.Option.{option_copied};
 ghost use Rattle.process_store.specs.Inverses.{WasCalled};
 ghost use Rattle.process_store.specs.Living.{arrived, unarrived};
 ghost use Rattle.process_store.specs.Table.{changed, living};
@@ -109,8 +110,47 @@ impl ProcessStore {
         ensures fits { IfOk result (λ ran. HasTurned pid self.new) }
         ensures err { OnErr result (self.new ≡ self.old) }
     {
-        let ran = rest_at(&mut self.slots, pid, self.alloc, place, rests_in)?;
-        Ok(ran)
+        let next = self.next_at(pid, &place, rests_in.as_ref())?;
+        Ok(self.rest_next(pid, place, rests_in, next))
+    }
+
+    /// The position of the message that the process of a pid, which lives, takes next, if it comes to rest at a place.
+    ///
+    /// # Errors
+    ///
+    /// `AllocError` where memory is refused.
+    pub fn next_at(
+        &self,
+        pid: u64,
+        place: &Place,
+        rests_in: Option<&Instance>,
+    ) -> Result<Option<usize>, AllocError>
+        requires { IsSome (living pid self.now) }
+        ensures { IfOk result (λ it. IfSome (living pid self.now) (IsNext place.now (option_copied rests_in.entry) it)) }
+    {
+        match self.get(pid) {
+            Some(living) => living.process.next_at(self.alloc, place, rests_in),
+            None => unreachable!(),
+        }
+    }
+
+    /// The process of a pid, which lives and runs, rests at a place, one turn on, and takes next the message that
+    /// [`ProcessStore::next_at`] tells. What it ran is handed out, by which [`ProcessStore::unrest`] takes it back. Takes no memory.
+    pub fn rest_next(
+        &mut self,
+        pid: u64,
+        place: Place,
+        rests_in: Option<Instance>,
+        next: Option<usize>,
+    ) -> Ran
+        requires running { IsRunningAt pid self.old }
+        requires turns { CanTurnAt pid self.old }
+        requires next { IfSome (living pid self.old) (IsNext place rests_in next) }
+        ensures rested { self.new ≡ changed (rest_living place rests_in) pid self.old }
+        ensures back { changed (unrest_living result) pid self.new ≡ self.old }
+        ensures fits { HasTurned pid self.new }
+    {
+        rest_at(&mut self.slots, pid, place, rests_in, next)
     }
 
     /// The process of a pid runs again what it ran before it rested, where it lives. Takes no memory.
