@@ -27,8 +27,11 @@
 //! - [`Process::end`] gives all of a process but code, as do [`Process::told`] and then [`Process::into_ended`], of which the second
 //!   takes no memory; and [`Ended::live`] the process again, with the instances that the table of modules has under those names
 //!   and serials. [`ended_processes_live`]: where the instances that it used stand in the table, it is the process that it was.
+//! - [`Process::rest`] may be made in two steps: [`Process::next_at`] looks for the message that is taken next, and
+//!   [`Process::rest_next`] moves the process, and can't fail.
 //! - What `rest` hands out is kept without code as a [`NamedRan`] ([`Ran::named`], which takes no memory), and is made whole again
-//!   by [`NamedRan::run_again`]. [`jobs_run_again`]: where the instances stand in the table, it is what it was.
+//!   by [`NamedRan::run_again`], or by [`NamedRan::used`] and then [`NamedRan::run_with`], of which the second can't fail.
+//!   [`jobs_run_again`]: where the instances stand in the table, it is what it was.
 //!
 //! # What no contract says
 //!

@@ -1,5 +1,5 @@
 -- The entries have the new value under the number, and what they had under the others.
-use Rattle.std.proofs.Common.{◌++◌, ◌∷◌, [], Some, refl, sym, ap, ◌∙◌}
+use Rattle.std.proofs.Common.{◌++◌, ◌∷◌, [], Some, refl, ap, ◌∙◌}
 use Rattle.std.specs.FinMap.{from_entries}
 use Rattle.process_index.specs.Index.{put}
 use Rattle.process_index.proofs.Few.{pushed, put_in_first, put_in_second}
