@@ -1,14 +1,15 @@
 // A job is committed, and its process rests again.
-ghost use Rattle.std.specs.Prelude.{◌≡◌, IfErr, IfOk, IfSome, IsSome, None, OnErr, OnOk, Some};
+ghost use Rattle.std.specs.Prelude.{◌≡◌, IfErr, IfNone, IfOk, IfSome, IsSome, None, OnErr, OnOk, OnSome, Some};
 ghost use Rattle.std.specs.Option.{option_copied};
 ghost use Rattle.process.specs.Ended.{ended, ended_with};
-ghost use Rattle.process.specs.Rerun.{runs_again};
+ghost use Rattle.process.specs.Rerun.{ran_in, runs_again};
 ghost use Rattle.process_commit.specs.Acts.{acts_told};
 ghost use Rattle.process_commit.specs.Commits.{CanUnrest, IsRunning, RestsBack, loaded_as, rested_after, rests_in, unrested};
 ghost use Rattle.process_commit.specs.Pieces.{held_of};
-ghost use Rattle.process_store.specs.Changes.{CanTurnAt};
+ghost use Rattle.process_commit.specs.Parted.{all_reopened, all_unsent};
+ghost use Rattle.process_store.specs.Changes.{CanTurnAt, HasTurned, unrest_living};
 ghost use Rattle.process_store.specs.Pieces.{HoldsLost};
-ghost use Rattle.process_store.specs.Table.{living};
+ghost use Rattle.process_store.specs.Table.{changed, living};
 
 use crate::acting::{Acted, act_all};
 use crate::answers::{Closed, reopen_all};
@@ -17,7 +18,7 @@ use code_server::Modules;
 use erl_eval::{Act, Place};
 use erl_forms::Module;
 use erl_machine::{Instance, Job};
-use process::{NamedRan, Told};
+use process::{NamedRan, Told, Used};
 use process_ending::Reply;
 use process_store::ProcessStore;
 use std::alloc::{AllocError, Global};
@@ -99,7 +100,9 @@ pub fn commit_rest(
     let pid = job.pid;
     let told = told_of(store, alloc, pid)?;
     let rests_in = rests_in(alloc, place, job.code.as_slice())?;
-    let ran = store.rest(pid, place.copy(alloc)?, rests_in)?;
+    let at = place.copy(alloc)?;
+    let next = store.next_at(pid, &at, rests_in.as_ref())?;
+    let ran = store.rest_next(pid, at, rests_in, next);
     match act_all(store, alloc, None, acts, 0) {
         Ok(acted) => {
             let Acted {
@@ -122,6 +125,47 @@ pub fn commit_rest(
     }
 }
 
+/// Makes ready what takes the commit of a job back whose process rests again: the instances that the process used are handed out, as
+/// they stand in the table of modules, and the calls are open again; or nothing, where memory is refused, and where one of the
+/// instances is not in the table.
+fn open_again(
+    store: &mut ProcessStore,
+    alloc: Global,
+    modules: &Modules<Module>,
+    rested: &Rested,
+) -> Option<Used>
+    requires { CanUnrest rested.now store.old }
+    ensures some { OnSome result (store.new ≡ all_reopened rested.now.closed store.old) }
+    ensures used { IfSome result (λ used. runs_again modules.now rested.now.ran ≡ Some (ran_in used.rests_in used.code rested.now.ran)) }
+    ensures none { IfNone result (store.new ≡ store.old) }
+{
+    let Ok(used) = rested.ran.used(alloc, modules) else {
+        return None;
+    };
+    let Some(used) = used else {
+        return None;
+    };
+    match reopen_all(store, rested.closed.as_slice()) {
+        Ok(()) => Some(used),
+        Err(_) => None,
+    }
+}
+
+/// The messages go, and the process runs again what it ran, with these instances. Takes no memory.
+fn take_back(store: &mut ProcessStore, rested: Rested, used: Used)
+    requires { HasTurned rested.pid (all_unsent rested.receivers store.old) }
+    ensures { store.new ≡ changed (unrest_living (ran_in used.rests_in used.code rested.ran)) rested.pid (all_unsent rested.receivers store.old) }
+{
+    let Rested {
+        pid,
+        ran,
+        receivers,
+        ..
+    } = rested;
+    unsend_all(store, receivers.as_slice());
+    store.unrest(pid, ran.run_with(used));
+}
+
 /// Takes the commit of a job back whose process rests again: the calls are open again, the messages go, and the process runs again
 /// what it ran, with the instances that it used, as they stand in the table of modules.
 ///
@@ -141,34 +185,11 @@ pub fn revert_rest(
     ensures back { IfErr result (λ it. it ≡ rested) }
     ensures err { OnErr result (store.new ≡ store.old) }
 {
-    let Rested {
-        pid,
-        ran,
-        receivers,
-        closed,
-    } = rested;
-    let (ran, told) = match ran.run_again(alloc, modules) {
-        Ok(runs) => runs,
-        Err(ran) => {
-            return Err(Rested {
-                pid,
-                ran,
-                receivers,
-                closed,
-            });
-        }
-    };
-    match reopen_all(store, closed.as_slice()) {
-        Ok(()) => {
-            unsend_all(store, receivers.as_slice());
-            store.unrest(pid, ran);
+    match open_again(store, alloc, modules, &rested) {
+        Some(used) => {
+            take_back(store, rested, used);
             Ok(())
         }
-        Err(_) => Err(Rested {
-            pid,
-            ran: ran.named(told),
-            receivers,
-            closed,
-        }),
+        None => Err(rested),
     }
 }
