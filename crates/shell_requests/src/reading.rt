@@ -1,6 +1,7 @@
 // Lines, read as requests.
 ghost use Rattle.std.specs.Prelude.{◌≡◌, Some};
 ghost use Rattle.std.specs.Option.{option_map};
+ghost use Rattle.std.specs.Str.{bytes_eq};
 ghost use Rattle.shell_requests.specs.Reading.{meant, said, who_is};
 ghost use Rattle.shell_requests.specs.Request.{process_of, request_by, request_of, shape_of, spoken};
 
@@ -14,11 +15,18 @@ use crate::words::{
 /// The shape of the first of these words that a word is, or none: a table, a command a line.
 macro_rules! shape_in {
     ($word:expr; $($command:literal => $shape:expr,)*) => {{
-        $(if $word == $command {
+        $(if is_command($word, $command) {
             return Some($shape);
         })*
         None
     }};
+}
+
+/// Whether a word is that of a command. The lengths tell most words apart.
+fn is_command(word: &str, command: &str) -> bool
+    ensures { result ≡ bytes_eq word.now command.now }
+{
+    word.len() == command.len() && word == command
 }
 
 /// What follows the word of a command.
