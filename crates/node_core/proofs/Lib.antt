@@ -1,4 +1,5 @@
 pub mod Accepting
 pub mod Backs
 pub mod Booting
+pub mod Refusing
 pub mod Spared

@@ -1,3 +1,4 @@
+pub mod Errors
 pub mod Evaluated
 pub mod Node
 pub mod OneOutcome

@@ -31,13 +31,13 @@ fn killing_told(
     modules: &Modules<Module>,
     processes: &Processes,
     name: &Atom,
-    answer: &Answer,
+    answer: Answer,
     n: usize,
 ) -> Result<Vec<Told<Answer, Note>>, AllocError>
-    ensures { IfOk result (λ it. it.items ≡ replicate n (record { answer = answer.now; note = reporting (purge_told name.now modules.now processes.now) })) }
+    ensures { IfOk result (λ it. it.items ≡ replicate n (record { answer = answer; note = reporting (purge_told name.now modules.now processes.now) })) }
 {
     let note = reporting(purge_told(modules, processes, alloc, name)?);
-    tell(alloc, answer, &note, n)
+    tell(alloc, answer, note, n)
 }
 
 /// The children, if any, whose processes linger in a module have none, and are due or not.
@@ -62,6 +62,7 @@ fn end_lingering(
 
 impl Node {
     /// A module is loaded; where it has old code, that is purged first.
+    #[inline(never)]
     pub(crate) fn load(&mut self, code: &Module, n: usize) -> Step
         ensures accepted { IfOk result (λ done. Accepts (Steps self.old (event.Load code.now)) self.new n done.told.items) }
         ensures reversible { IfOk result (λ done. Undoes done.trace self.old self.new) }
@@ -76,7 +77,7 @@ impl Node {
             &self.modules,
             &self.processes,
             code.name(),
-            &Answer::Unit,
+            Answer::Unit,
             n,
         ) else {
             return Err(StepError::Memory);
@@ -109,6 +110,7 @@ impl Node {
     }
 
     /// A module's old code is purged, and those who linger in it are killed.
+    #[inline(never)]
     pub(crate) fn purge(&mut self, name: &Atom, n: usize) -> Step
         ensures accepted { IfOk result (λ done. Accepts (Steps self.old (event.Purge name.now)) self.new n done.told.items) }
         ensures reversible { IfOk result (λ done. Undoes done.trace self.old self.new) }
@@ -116,7 +118,7 @@ impl Node {
         ensures err { OnErr result (self.new ≡ self.old) }
     {
         let killed = Answer::Killed(is_lingered_in(&self.modules, &self.processes, name));
-        let Ok(told) = killing_told(self.alloc, &self.modules, &self.processes, name, &killed, n)
+        let Ok(told) = killing_told(self.alloc, &self.modules, &self.processes, name, killed, n)
         else {
             return Err(StepError::Memory);
         };
@@ -149,10 +151,11 @@ impl Node {
         ensures { IfOk result (λ it. it.items ≡ replicate n (record { answer = answer.Unit; note = reporting [] })) }
     {
         let note = reporting(Vec::new(self.alloc));
-        tell(self.alloc, &Answer::Unit, &note, n)
+        tell(self.alloc, Answer::Unit, note, n)
     }
 
     /// A module's current code becomes old.
+    #[inline(never)]
     pub(crate) fn delete(&mut self, name: &Atom, n: usize) -> Step
         ensures accepted { IfOk result (λ done. Accepts (Steps self.old (event.Delete name.now)) self.new n done.told.items) }
         ensures reversible { IfOk result (λ done. Undoes done.trace self.old self.new) }
@@ -175,6 +178,7 @@ impl Node {
     }
 
     /// A module's old code is purged, where nobody lingers in it.
+    #[inline(never)]
     pub(crate) fn soft_purge(&mut self, name: &Atom, n: usize) -> Step
         ensures accepted { IfOk result (λ done. Accepts (Steps self.old (event.SoftPurge name.now)) self.new n done.told.items) }
         ensures reversible { IfOk result (λ done. Undoes done.trace self.old self.new) }

@@ -5,16 +5,17 @@ ghost use Rattle.app_table.specs.Undo.{undone as apps_before};
 ghost use Rattle.undo_journal.specs.Reversible.{Accepts, Refuses};
 ghost use Rattle.node_core.specs.Record.{AppsBack, Undoes};
 ghost use Rattle.node_core.specs.Step.{MayRunOut, Step as Steps, arrival_of, ended_by};
+ghost use Rattle.node_core.specs.Errors.{error_of};
 ghost use Rattle.node_core.specs.declared.event.Answer.TheVariants as answer;
 ghost use Rattle.node_core.specs.declared.event.Event.TheVariants as event;
 
 use crate::event::{Answer, Note, Refusal};
 use crate::node::Node;
 use crate::record::Record;
-use crate::telling::{room, tell, tell_jobs, tell_replies};
+use crate::telling::{room, sharing, tell, tell_jobs, tell_replies};
 use erl_machine::{Done, End};
 use erl_term::{Atom, Term};
-use process_table::Body;
+use process_table::{Body, ProcError};
 use std::alloc::{AllocError, Global};
 use sys_protocol::Apps;
 use undo_journal::{StepError, Stepped, Told};
@@ -40,7 +41,7 @@ fn arrival_told(
         replies: Row::new(Vec::new(alloc)),
         arrival,
     };
-    tell(alloc, &Answer::Unit, &note, n)
+    tell(alloc, Answer::Unit, note, n)
 }
 
 /// The child, if any, whose process ends by a job has none, and is due or not.
@@ -74,44 +75,69 @@ pub(crate) fn unend(apps: &mut Apps, undo: Option<sys_protocol::Undo>)
     }
 }
 
+/// Why a step isn't made: the refusal, or want of memory where there is none.
+fn error_of(refusal: Option<ProcError>) -> StepError<Refusal>
+    ensures { result ≡ error_of refusal }
+{
+    match refusal {
+        Some(why) => StepError::Rule(Refusal::OfProcesses(why)),
+        None => StepError::Memory,
+    }
+}
+
 impl Node {
-    /// A message of a client comes for the process of a name.
+    /// A message of a client comes for the process of a name. A cast is made up once, and is from then on what it comes as.
+    #[inline(never)]
     pub(crate) fn arrive(&mut self, client: u64, name: &Atom, body: &Body, n: usize) -> Step
         ensures accepted { IfOk result (λ done. Accepts (Steps self.old (event.Arrive client name.now body.now)) self.new n done.told.items) }
         ensures reversible { IfOk result (λ done. Undoes done.trace self.old self.new) }
         ensures refused { IfErr result (Refuses (Steps self.old (event.Arrive client name.now body.now)) (MayRunOut self.old (event.Arrive client name.now body.now))) }
         ensures err { OnErr result (self.new ≡ self.old) }
     {
-        if let Some(refusal) = self.processes.arrive_refusal(name, body) {
-            return Err(StepError::Rule(Refusal::OfProcesses(refusal)));
+        match body {
+            Body::Cast(_) => match body.message(self.alloc) {
+                Ok(Some(message)) => self.receive(client, name, &Body::Info(message), n),
+                Ok(None) => self.receive(client, name, body, n),
+                Err(_) => Err(error_of(self.processes.arrive_refusal(name, body))),
+            },
+            Body::Call { .. } | Body::Info(_) => self.receive(client, name, body, n),
         }
+    }
+
+    /// This comes for the process of a name.
+    fn receive(&mut self, client: u64, name: &Atom, body: &Body, n: usize) -> Step
+        ensures accepted { IfOk result (λ done. Accepts (Steps self.old (event.Arrive client name.now body.now)) self.new n done.told.items) }
+        ensures reversible { IfOk result (λ done. Undoes done.trace self.old self.new) }
+        ensures refused { IfErr result (Refuses (Steps self.old (event.Arrive client name.now body.now)) (MayRunOut self.old (event.Arrive client name.now body.now))) }
+        ensures err { OnErr result (self.new ≡ self.old) }
+    {
         let Ok(told) = arrival_told(self.alloc, name, body, n) else {
-            return Err(StepError::Memory);
+            return Err(error_of(self.processes.arrive_refusal(name, body)));
         };
-        let Ok(undo) = self.processes.arrive(client, name, body) else {
-            return Err(StepError::Memory);
+        let undo = match self.processes.arrive(client, name, body) {
+            Ok(undo) => undo,
+            Err(_) => return Err(error_of(self.processes.arrive_refusal(name, body))),
         };
         Ok(Stepped {
-            told,
+            told: sharing(told, self.alloc, &self.processes, &undo),
             trace: Record::OfProcesses(undo, None),
         })
     }
 
     /// A process takes its next message, and runs it.
+    #[inline(never)]
     pub(crate) fn take(&mut self, pid: u64, n: usize) -> Step
         ensures accepted { IfOk result (λ done. Accepts (Steps self.old (event.Take pid)) self.new n done.told.items) }
         ensures reversible { IfOk result (λ done. Undoes done.trace self.old self.new) }
         ensures refused { IfErr result (Refuses (Steps self.old (event.Take pid)) (MayRunOut self.old (event.Take pid))) }
         ensures err { OnErr result (self.new ≡ self.old) }
     {
-        if let Some(refusal) = self.processes.take_refusal(pid) {
-            return Err(StepError::Rule(Refusal::OfProcesses(refusal)));
-        }
         let Ok(told) = room(self.alloc, n) else {
-            return Err(StepError::Memory);
+            return Err(error_of(self.processes.take_refusal(pid)));
         };
-        let Ok((jobs, undo)) = self.processes.take(&self.modules, pid, n) else {
-            return Err(StepError::Memory);
+        let (jobs, undo) = match self.processes.take(&self.modules, pid, n) {
+            Ok(taken) => taken,
+            Err(_) => return Err(error_of(self.processes.take_refusal(pid))),
         };
         Ok(Stepped {
             told: tell_jobs(told, self.alloc, jobs),
@@ -120,6 +146,7 @@ impl Node {
     }
 
     /// What a job has done is done.
+    #[inline(never)]
     pub(crate) fn commit(&mut self, done: &Done, n: usize) -> Step
         ensures accepted { IfOk result (λ it. Accepts (Steps self.old (event.Commit done.now)) self.new n it.told.items) }
         ensures reversible { IfOk result (λ it. Undoes it.trace self.old self.new) }

@@ -4,10 +4,12 @@ ghost use Rattle.node_core.specs.declared.event.Answer.TheVariants as answer;
 
 use crate::event::{Answer, Note};
 use erl_machine::Job;
+use erl_term::Term;
 use process_ending::Reply;
+use process_table::{Processes, Undo};
 use std::alloc::{AllocError, Global};
 use undo_journal::Told;
-use values::{Duplicate, Row};
+use values::{Duplicate, Row, Same};
 
 /// One of several equal values.
 fn push_told(
@@ -24,19 +26,36 @@ fn push_told(
     Ok(())
 }
 
-/// What is told of an event, in `n` equal values.
-pub(crate) fn tell(
+/// Several equal values of what is told of an event, with room for one more.
+fn tell_copies(
     alloc: Global,
     answer: &Answer,
     note: &Note,
-    n: usize,
+    copies: usize,
 ) -> Result<Vec<Told<Answer, Note>>, AllocError>
-    ensures { IfOk result (λ it. it.items ≡ replicate n (record { answer = answer.now; note = note.now })) }
+    ensures { IfOk result (λ it. it.items ≡ replicate copies (record { answer = answer.now; note = note.now })) }
 {
-    let mut told = Vec::with_capacity(alloc, n)?;
-    for _i in 0..n {
+    let mut told = Vec::with_capacity(alloc, copies.saturating_add(1))?;
+    for _i in 0..copies {
         push_told(&mut told, alloc, answer, note)?;
     }
+    Ok(told)
+}
+
+/// What is told of an event, in `n` equal values. The last of them is not copied.
+pub(crate) fn tell(
+    alloc: Global,
+    answer: Answer,
+    note: Note,
+    n: usize,
+) -> Result<Vec<Told<Answer, Note>>, AllocError>
+    ensures { IfOk result (λ it. it.items ≡ replicate n (record { answer = answer; note = note })) }
+{
+    let Some(copies) = n.checked_sub(1) else {
+        return Ok(Vec::new(alloc));
+    };
+    let mut told = tell_copies(alloc, &answer, &note, copies)?;
+    told.push(Told { answer, note })?;
     Ok(told)
 }
 
@@ -47,6 +66,82 @@ pub(crate) fn reporting(replies: Vec<Reply>) -> Note
     Note {
         replies: Row::new(replies),
         arrival: None,
+    }
+}
+
+/// An equal term: a copy of another one, which shares what that is made of, where they are equal, and else the same.
+fn shared_term(own: Term, alloc: Global, other: &Term) -> Term
+    ensures { result ≡ own }
+{
+    if !other.same(&own) {
+        return own;
+    }
+    match other.copy(alloc) {
+        Ok(copy) => copy,
+        Err(_) => own,
+    }
+}
+
+/// An equal note, whose message shares what it is made of with this one, where they are equal.
+fn shared_note(note: Note, alloc: Global, message: &Term) -> Note
+    ensures { result ≡ note }
+{
+    let Note { replies, arrival } = note;
+    match arrival {
+        Some((name, own)) => Note {
+            replies,
+            arrival: Some((name, shared_term(own, alloc, message))),
+        },
+        None => Note {
+            replies,
+            arrival: None,
+        },
+    }
+}
+
+/// The same is told. In the last of it, which is what is kept, the message shares what it is made of with this one, where they are equal.
+fn share_last(
+    told: Vec<Told<Answer, Note>>,
+    alloc: Global,
+    message: &Term,
+) -> Vec<Told<Answer, Note>>
+    ensures { result.items ≡ told.items }
+{
+    let mut told = told;
+    let Some(last) = told.pop() else {
+        return told;
+    };
+    let Told { answer, note } = last;
+    told.push_reserved(Told {
+        answer,
+        note: shared_note(note, alloc, message),
+    });
+    told
+}
+
+/// The message that an arrival brought, where it waits last.
+fn newest<'a>(processes: &'a Processes, undo: &Undo) -> Option<&'a Term> {
+    match undo {
+        Undo::Arrived { pid, .. } => {
+            let process = &processes.get(*pid)?.process;
+            process.message(process.len().checked_sub(1)?)
+        }
+        _ => None,
+    }
+}
+
+/// The same is told of an arrival. So that there is one message and not two, what is kept of it shares its message with the process.
+pub(crate) fn sharing(
+    told: Vec<Told<Answer, Note>>,
+    alloc: Global,
+    processes: &Processes,
+    undo: &Undo,
+) -> Vec<Told<Answer, Note>>
+    ensures { result.items ≡ told.items }
+{
+    match newest(processes, undo) {
+        Some(message) => share_last(told, alloc, message),
+        None => told,
     }
 }
 

@@ -1,34 +1,11 @@
--- The message arrives.
-use Rattle.std.proofs.Common.{[], sym, subst, ap}
-use Rattle.code_loading.proofs.Stepping.{steps_keep_code}
-use Rattle.code_loading.specs.Consistent.{IsConsistent}
-use Rattle.process_store.specs.Table.{Table}
-use Rattle.process_table.specs.Messages.{message_of}
-use Rattle.process_table.specs.Steps.{after_arrival, arrive_refusal}
-use Rattle.undo_journal.specs.Reversible.{Accepted}
-use Rattle.node_core.proofs.Accepting.{accepted_of, unless_none}
-use Rattle.node_core.specs.Node.{NodeState, with_processes}
-use Rattle.node_core.specs.Step.{arrival_of}
-use Rattle.node_core.specs.declared.event.Answer.{Answer}
-use Rattle.node_core.specs.declared.event.Answer.TheVariants as answer
-use Rattle.node_core.specs.declared.event.Event.TheVariants as event
-use Rattle.node_core.specs.declared.event.Note.{Note}
-use Rattle.node_core.specs.declared.event.Refusal.TheVariants.{OfProcesses}
+-- What a cast comes as couldn't be made.
+use Rattle.std.proofs.Common.{◌∙◌, ap}
+use Rattle.node_core.proofs.Refusing.{arrival-refused}
+use Rattle.node_core.specs.Errors.{error_of}
+use Rattle.node_core.specs.Node.{NodeState}
 use Rattle.node_core.proofs.node.Node.arrive.Goals as goal
 
-pub invariant_of-self-2 : goal.invariant_of-self-2
-invariant_of-self-2 c =
-    subst (λ (t : Table). IsConsistent c.self.inside.modules t) (sym c.in-Ok-arrive.ensures.arrived) (steps_keep_code.arrivals c.args.client c.args.name.now c.args.body.now c.self.inside.modules c.self.inside.processes c.self.invariant)
-
-pub returns-clause-accepted : goal.returns-clause-accepted
-returns-clause-accepted c =
-    let m = c.self.inside.modules in
-    let t = c.self.inside.processes in
-    let apps = c.self.inside.apps in
-    let n : NodeState = record { modules = m; processes = t; apps = apps } in
-    let k = c.args.n in
-    let name = c.args.name.now in
-    let body = c.args.body.now in
-    let a : Accepted NodeState Answer Note = record { node = with_processes (after_arrival c.args.client name body t) n; answer = answer.Unit; note = record { replies = []; arrival = arrival_of name (message_of body) } } in
-    let new : NodeState = record { modules = m; processes = c.arrive.new.self; apps = apps } in
-    accepted_of n c.args.self.now (event.Arrive c.args.client name body) a new k c.in-Ok.told.items c.self.view_is (unless_none (arrive_refusal name body t) OfProcesses a c.in-Ok-arrive.ensures.ok) (ap (λ (u : Table). with_processes u n) c.in-Ok-arrive.ensures.arrived) c.in-Ok.ensures
+pub returns-in-Err-clause-refused : goal.returns-in-Err-clause-refused
+returns-in-Err-clause-refused c =
+    let n : NodeState = record { modules = c.self.inside.modules; processes = c.self.inside.processes; apps = c.self.inside.apps } in
+    arrival-refused c.args.client c.args.name.now c.args.body.now n c.args.self.now c.error_of.result c.self.view_is (c.error_of.ensures ∙ ap error_of c.arrive_refusal.ensures)
