@@ -11,6 +11,7 @@ use release_files::{Files, read_release};
 use std::alloc::Global;
 use std::hash::RandomState;
 use std::io::{Read, Write};
+use std::mem::forget;
 
 /// The node of the release of a version that files say.
 fn boot(alloc: Global, hashing: RandomState, files: &Files, vsn: &str) -> Result<Node, StartFault>
@@ -30,6 +31,8 @@ fn boot(alloc: Global, hashing: RandomState, files: &Files, vsn: &str) -> Result
 /// Boots the release of a version that files say, reads commands, one a line, and writes their answers.
 ///
 /// Names are hashed by `hashing`.
+///
+/// What the shell holds in the end is left to the end of the program, and not let go of piece by piece.
 ///
 /// The fault of the end, if there is one, says what was written: after a fault of the reader the answers of the lines that a newline
 /// ended; after a fault of the writer, and where no memory was left to answer with, a front of the answers.
@@ -62,5 +65,8 @@ pub fn run<R: Read, W: Write>(
     let Ok(mut shell) = Shell::new(alloc, hashing, files, node) else {
         return Err(StartFault::NoMemory);
     };
-    Ok(serve(alloc, &mut shell, reader, writer))
+    let ended = serve(alloc, &mut shell, reader, writer);
+    // The program ends with the run, and its memory goes back whole then: to let go of each step would only take time.
+    forget(shell);
+    Ok(ended)
 }
