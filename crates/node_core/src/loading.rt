@@ -19,7 +19,7 @@ use code_server::{CodeError, Modules};
 use erl_forms::Module;
 use erl_term::{Atom, Predefined, Term};
 use process_table::Processes;
-use reserved_box::Reserved;
+use reserved_box::{Boxed, Reserved};
 use std::alloc::{AllocError, Global};
 use sys_protocol::Apps;
 use undo_journal::{StepError, Stepped, Told};
@@ -47,7 +47,7 @@ fn end_lingering(
     modules: &Modules<Module>,
     processes: &Processes,
     name: &Atom,
-) -> Result<Option<sys_protocol::Undo>, AllocError>
+) -> Result<Option<Boxed<sys_protocol::Undo>>, AllocError>
     ensures ended { OnOk result (apps.new ≡ all_ended killed (lingering name.now modules.now processes.now) apps.old) }
     ensures inverse { IfOk result (λ undo. AppsBack undo apps.old apps.new) }
     ensures err { OnErr result (apps.new ≡ apps.old) }
@@ -57,7 +57,9 @@ fn end_lingering(
         return Ok(None);
     }
     let killed = Term::Atom(Atom::predefined(Predefined::Killed));
-    Ok(Some(apps.ended(pids.as_slice(), &killed)?))
+    let room = Reserved::new(alloc)?;
+    let undo = apps.ended(pids.as_slice(), &killed)?;
+    Ok(Some(room.fill(undo)))
 }
 
 impl Node {

@@ -1,6 +1,7 @@
 // Events of processes.
-ghost use Rattle.std.specs.Prelude.{◌≡◌, [], IfErr, IfOk, IfSome, None, OnErr, OnOk, replicate};
+ghost use Rattle.std.specs.Prelude.{◌≡◌, ◌∷◌, [], IfErr, IfOk, IfSome, None, OnErr, OnOk, replicate};
 ghost use Rattle.process_table.specs.Messages.{message_of};
+ghost use Rattle.app_table.specs.Applications.{all_ended};
 ghost use Rattle.app_table.specs.Undo.{undone as apps_before};
 ghost use Rattle.undo_journal.specs.Reversible.{Accepts, Refuses};
 ghost use Rattle.node_core.specs.Record.{AppsBack, Undoes};
@@ -16,6 +17,7 @@ use crate::telling::{room, sharing, tell, tell_jobs, tell_replies};
 use erl_machine::{Done, End};
 use erl_term::{Atom, Term};
 use process_table::{Body, ProcError};
+use reserved_box::{Boxed, Reserved};
 use std::alloc::{AllocError, Global};
 use sys_protocol::Apps;
 use undo_journal::{StepError, Stepped, Told};
@@ -44,13 +46,29 @@ fn arrival_told(
     tell(alloc, Answer::Unit, note, n)
 }
 
+/// The child, if any, whose process ends for a reason has none, and is due or not.
+fn end_one(
+    apps: &mut Apps,
+    alloc: Global,
+    pid: u64,
+    reason: &Term,
+) -> Result<Option<Boxed<sys_protocol::Undo>>, AllocError>
+    ensures ended { OnOk result (apps.new ≡ all_ended reason.now (pid ∷ []) apps.old) }
+    ensures inverse { IfOk result (λ undo. AppsBack undo apps.old apps.new) }
+    ensures err { OnErr result (apps.new ≡ apps.old) }
+{
+    let room = Reserved::new(alloc)?;
+    let undo = apps.ended(&[pid], reason)?;
+    Ok(Some(room.fill(undo)))
+}
+
 /// The child, if any, whose process ends by a job has none, and is due or not.
 fn end_child(
     apps: &mut Apps,
     alloc: Global,
     pid: u64,
     end: &End,
-) -> Result<Option<sys_protocol::Undo>, AllocError>
+) -> Result<Option<Boxed<sys_protocol::Undo>>, AllocError>
     ensures ended { OnOk result (apps.new ≡ ended_by pid end.now apps.old) }
     ensures inverse { IfOk result (λ undo. AppsBack undo apps.old apps.new) }
     ensures err { OnErr result (apps.new ≡ apps.old) }
@@ -59,18 +77,19 @@ fn end_child(
         End::Rest(_) => Ok(None),
         End::Value(_) => {
             let normal = Term::Atom(Atom::word(alloc, "normal")?);
-            Ok(Some(apps.ended(&[pid], &normal)?))
+            end_one(apps, alloc, pid, &normal)
         }
-        End::Exit(reason) => Ok(Some(apps.ended(&[pid], reason)?)),
+        End::Exit(reason) => end_one(apps, alloc, pid, reason),
     }
 }
 
 /// Takes an end of children back.
-pub(crate) fn unend(apps: &mut Apps, undo: Option<sys_protocol::Undo>)
+pub(crate) fn unend(apps: &mut Apps, undo: Option<Boxed<sys_protocol::Undo>>)
     ensures undone { IfSome undo (λ it. apps.new ≡ apps_before it apps.old) }
     ensures none { undo ≡ None → apps.new ≡ apps.old }
 {
     if let Some(undo) = undo {
+        let (undo, _) = undo.open();
         apps.revert(undo);
     }
 }

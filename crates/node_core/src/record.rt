@@ -6,9 +6,9 @@ use reserved_box::Boxed;
 #[derive(Drop)]
 pub enum Record {
     /// The processes were changed, and with them children, if any.
-    OfProcesses(process_table::Undo, Option<sys_protocol::Undo>),
+    OfProcesses(process_table::Undo, Option<Boxed<sys_protocol::Undo>>),
     /// A module was loaded or purged, processes that lingered in it were killed, and with them children, if any.
-    OfCode(Boxed<code_loading::Undo>, Option<sys_protocol::Undo>),
+    OfCode(Boxed<code_loading::Undo>, Option<Boxed<sys_protocol::Undo>>),
     /// A module was deleted.
     OfDeletion(code_server::Undo<Module>),
 }

@@ -15,7 +15,7 @@ impl Node {
     pub(crate) fn revert_processes(
         &mut self,
         undo: process_table::Undo,
-        ended: Option<sys_protocol::Undo>,
+        ended: Option<Boxed<sys_protocol::Undo>>,
     ) -> Result<(), Record>
         requires { (before : NodeState) × Undoes (record_of.OfProcesses undo ended) before self.old }
         ensures ok { OnOk result ((before : NodeState) → Undoes (record_of.OfProcesses undo ended) before self.old → self.new ≡ before) }
@@ -35,7 +35,7 @@ impl Node {
     pub(crate) fn revert_code(
         &mut self,
         undo: Boxed<code_loading::Undo>,
-        ended: Option<sys_protocol::Undo>,
+        ended: Option<Boxed<sys_protocol::Undo>>,
     ) -> Result<(), Record>
         requires { (before : NodeState) × Undoes (record_of.OfCode undo ended) before self.old }
         ensures ok { OnOk result ((before : NodeState) → Undoes (record_of.OfCode undo ended) before self.old → self.new ≡ before) }

@@ -12,6 +12,7 @@ use crate::record::Record;
 use crate::telling::{room, tell_revived};
 use code_loading::current_code;
 use erl_term::{Atom, Term};
+use reserved_box::Reserved;
 use sys_protocol::SysError;
 use undo_journal::{StepError, Stepped};
 
@@ -33,13 +34,16 @@ impl Node {
         let Ok(told) = room(self.alloc, n) else {
             return Err(StepError::Memory);
         };
+        let Ok(memory) = Reserved::new(self.alloc) else {
+            return Err(StepError::Memory);
+        };
         match self
             .apps
             .revive(&mut self.processes, code.as_slice(), app, id, n)
         {
             Ok(revival) => Ok(Stepped {
                 told: tell_revived(told, revival.pid, revival.told),
-                trace: Record::OfProcesses(revival.processes, Some(revival.undo)),
+                trace: Record::OfProcesses(revival.processes, Some(memory.fill(revival.undo))),
             }),
             Err(SysError::Memory) => Err(StepError::Memory),
             Err(refusal) => Err(StepError::Rule(Refusal::OfApps(refusal))),
