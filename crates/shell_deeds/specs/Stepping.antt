@@ -1,5 +1,5 @@
 -- What a step of the node does to the shell.
-use Rattle.std.specs.Prelude.{◌≡◌, Ok}
+use Rattle.std.specs.Prelude.{◌≡◌, [], Ok}
 use Rattle.undo_journal.specs.Reversible.{Accepted}
 use Rattle.node_core.specs.Node.{NodeState}
 use Rattle.node_core.specs.Step.{Step}
@@ -15,3 +15,7 @@ pub record IsStepped (told : Answer) (old : ShellState) (e : Event) (new : Shell
   pub rule : Step (node_of old) e (Ok accepted)
   pub answer : told ≡ accepted.answer
   pub after : new ≡ stepped accepted old
+
+-- An event that sends no replies where it is accepted, whatever the node is.
+abbrev pub SendsNothing : Event → Type 0
+SendsNothing e = (n : NodeState) (a : Accepted NodeState Answer Note) → Step n e (Ok a) → a.note.replies ≡ []

@@ -1,12 +1,12 @@
 // What arrives for processes.
-ghost use Rattle.std.specs.Prelude.{◌≡◌, ◌++◌, ℕ, List, IfOk, None};
+ghost use Rattle.std.specs.Prelude.{◌≡◌, ◌++◌, ℕ, List, IfOk, MatchResult, None};
 ghost use Rattle.std.specs.Str.{chars};
 ghost use Rattle.erl_term.specs.Term.{tree};
 ghost use Rattle.erl_term.specs.declared.term.Term.{Term};
 ghost use Rattle.process_table.specs.Steps.{arrive_refusal, call_refusal};
 ghost use Rattle.shell_answers.specs.Answers.{line_of};
 ghost use Rattle.shell_deeds.specs.Deeds.{Arrives, arrival_answer, arrival_event, body_of, event_of_arrival, tried};
-ghost use Rattle.shell_deeds.specs.Done.{IsDone, after_missed};
+ghost use Rattle.shell_deeds.specs.Done.{IsDone, Misreads, after_missed};
 ghost use Rattle.shell_deeds.specs.Halts.{HaltsBy, MayAllRunOut, RefusesAll, halt_answer, halt_fate, refusal_of_call};
 ghost use Rattle.shell_deeds.specs.State.{next_number, node_of};
 ghost use Rattle.shell_deeds.specs.Terms.{IsRead, one};
@@ -32,7 +32,7 @@ impl Holdings {
     ) -> Said
         ensures { IfOk result (λ fate. IsDone (Arrives self.old kind (chars name.entry.text.now) text.now fate) self.new out.old.items out.new.items) }
     {
-        match term_of(self.alloc, text) {
+        match self.read_term(text) {
             Ok(term) => self.arrive_term(kind, name, term, out),
             Err(Misread::NotOne) => say(Fixed::BadCommand, out),
             Err(Misread::Faulty(error)) => say_term_fault(error, out),
@@ -40,17 +40,30 @@ impl Holdings {
         }
     }
 
+    /// The term of a text, which is kept for the lines that follow.
+    fn read_term(&mut self, text: &str) -> Result<Term, Misread>
+        ensures read { MatchResult result (λ t. IsRead text.now (one (tree t))) (Misreads text.now) }
+        ensures held { self.new ≡ self.old }
+    {
+        if let Some(term) = self.recent.get(self.alloc, text) {
+            return Ok(term);
+        }
+        let term = term_of(self.alloc, text)?;
+        self.recent.keep(self.alloc, text, &term);
+        Ok(term)
+    }
+
     /// Has a term arrive.
     fn arrive_term(&mut self, kind: Arrival, name: Name<'_>, term: Term, out: &mut Vec<u8>) -> Said
         ensures { IfOk result (λ fate. (text : List ℕ) → IsRead text (one (tree term))
             → IsDone (Arrives self.old kind (chars name.entry.text.now) text fate) self.new out.old.items out.new.items) }
     {
-        let number = self.next_number();
-        let Ok(atom) = name.atom(self.alloc) else {
+        let Ok(atom) = self.atom_of(name) else {
             let halt = self.halt_of_arrival(kind, name);
             return self.tell_kept_out(halt, kind, out);
         };
-        match self.make(arrival_event(kind, number, atom, term)) {
+        let number = self.next_number();
+        match self.admit(arrival_event(kind, number, atom, term)) {
             Ok(()) => self.tell_arrived(kind, number, out),
             Err(halt) => self.tell_kept_out(halt, kind, out),
         }

@@ -1,6 +1,7 @@
 // What the shell holds from one line to the next.
 ghost use Rattle.std.specs.Prelude.{◌≡◌, ◌+◌, ◌↔◌, IfOk, IsTrue, OnErr, OnOk, length};
 
+use crate::recent::{RecentNames, RecentTerms};
 use erl_machine::Job;
 use node_core::Node;
 use process_ending::Reply;
@@ -23,6 +24,10 @@ pub struct Holdings {
     pub(crate) jobs: Vec<Job>,
     pub(crate) calls: u64,
     pub(crate) sent: Vec<Row<Reply>>,
+    /// Names that lines had not long ago. Contracts don't see them.
+    pub(crate) names: RecentNames,
+    /// Terms that lines had not long ago. Contracts don't see them.
+    pub(crate) recent: RecentTerms,
 }
 
 impl Model for Holdings {
@@ -69,6 +74,8 @@ impl Holdings {
             jobs: Vec::new(alloc),
             calls: 0,
             sent: Vec::new(alloc),
+            names: RecentNames::new(alloc),
+            recent: RecentTerms::new(alloc),
         })
     }
 

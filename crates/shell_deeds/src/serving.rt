@@ -43,6 +43,7 @@ impl Holdings {
     }
 
     /// Keeps the job that a process runs.
+    #[inline(never)]
     pub(crate) fn retake(&mut self, pid: u64, out: &mut Vec<u8>) -> Said
         ensures { IfOk result (λ fate. IsDone (ServesAs self.old Retake (Some pid) fate) self.new out.old.items out.new.items) }
     {
@@ -65,6 +66,7 @@ impl Holdings {
     }
 
     /// Tells what a process is.
+    #[inline(never)]
     pub(crate) fn show(&self, pid: u64, out: &mut Vec<u8>) -> Said
         ensures { IfOk result (λ fate. IsDone (ServesAs self.now Show (Some pid) fate) self.now out.old.items out.new.items) }
     {

@@ -2,7 +2,7 @@
 ghost use Rattle.std.specs.Prelude.{◌≡◌, ◌<◌, ◌++◌, ◌∷◌, [], IfErr, IfOk, OnErr, OnOk, length, vec_capacity, vec_len};
 ghost use Rattle.node_core.specs.declared.event.Answer.{Answer};
 ghost use Rattle.shell_deeds.specs.Halts.{Halts};
-ghost use Rattle.shell_deeds.specs.Stepping.{IsStepped};
+ghost use Rattle.shell_deeds.specs.Stepping.{IsStepped, SendsNothing};
 
 use crate::holdings::Holdings;
 use node_core::{Answer, Event, Note, Refusal};
@@ -86,6 +86,50 @@ impl Holdings {
             Ok(_) => Ok(()),
             Err(halt) => Err(halt),
         }
+    }
+}
+
+impl Holdings {
+    /// Has an event happen that sends no replies. Nobody is told of it, and its row is empty.
+    ///
+    /// # Errors
+    ///
+    /// Why it has not happened. All is then as it was.
+    fn happen(&mut self, event: &Event) -> Result<(), Halt>
+        requires { SendsNothing event.now }
+        ensures stepped { OnOk result ((answer : Answer) × IsStepped answer self.old event.now self.new) }
+        ensures halted { IfErr result (λ halt. Halts halt self.old event.now) }
+        ensures err { OnErr result (self.new ≡ self.old) }
+    {
+        if self.sent.reserve(1).is_err() {
+            return Err(self.halt_of(event));
+        }
+        match self.journal.perform(event, 0) {
+            Ok(_) => {
+                self.sent.push_reserved(Row::new(Vec::new(self.alloc)));
+                Ok(())
+            }
+            Err(JournalError::Step(why)) => Err(Halt::Refused(why)),
+            Err(JournalError::SerialEnd) => Err(Halt::Full),
+            Err(JournalError::Memory { .. }) => Err(Halt::Memory),
+            Err(JournalError::DeadMark) => unreachable!(),
+        }
+    }
+}
+
+impl Holdings {
+    /// Has an event happen that nothing else needs and that sends no replies.
+    ///
+    /// # Errors
+    ///
+    /// Why it has not happened. All is then as it was.
+    pub(crate) fn admit(&mut self, event: Event) -> Result<(), Halt>
+        requires { SendsNothing event }
+        ensures stepped { OnOk result ((answer : Answer) × IsStepped answer self.old event self.new) }
+        ensures halted { IfErr result (λ halt. Halts halt self.old event) }
+        ensures err { OnErr result (self.new ≡ self.old) }
+    {
+        self.happen(&event)
     }
 }
 
