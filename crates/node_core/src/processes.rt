@@ -47,6 +47,7 @@ fn arrival_told(
 }
 
 /// The child, if any, whose process ends for a reason has none, and is due or not.
+#[inline(never)]
 fn end_one(
     apps: &mut Apps,
     alloc: Global,

@@ -101,6 +101,7 @@ impl Holdings {
     }
 
     /// Tells why it has not arrived. A call is counted, unless memory was refused.
+    #[inline(never)]
     fn tell_kept_out(&mut self, halt: Halt, kind: Arrival, out: &mut Vec<u8>) -> Said
         ensures { IfOk result (λ fate. (fate ≡ halt_fate halt) × (self.new ≡ after_missed halt kind self.old) × (out.new.items ≡ out.old.items ++ line_of (halt_answer halt))) }
     {
@@ -119,6 +120,7 @@ impl Holdings {
     }
 
     /// What stands against an arrival whatever its term is, or else want of memory.
+    #[inline(never)]
     fn halt_of_arrival(&self, kind: Arrival, name: Name<'_>) -> Halt
         ensures { HaltsBy (RefusesAll self.now (arrival_event self.now kind (chars name.entry.text.now))) (MayAllRunOut self.now (arrival_event self.now kind (chars name.entry.text.now))) result self.now }
     {

@@ -48,6 +48,7 @@ impl Holdings {
     }
 
     /// What stands against the result of a job that is told without memory, or else want of it.
+    #[inline(never)]
     fn halt_of_job(&self, job: &Job) -> Halt
         ensures { HaltsBy (RefusesResult self.now job.now) (MayCommit self.now job.now) result self.now }
     {

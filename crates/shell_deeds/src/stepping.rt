@@ -23,6 +23,7 @@ pub(crate) enum Halt {
 
 impl Holdings {
     /// What stands against an event that is told without memory, or else want of it.
+    #[inline(never)]
     pub(crate) fn halt_of(&self, event: &Event) -> Halt
         ensures { Halts result self.now event.now }
     {

@@ -50,6 +50,7 @@ pub(crate) fn refuse(out: &mut Vec<u8>) -> Said
 }
 
 /// Appends why an event was not performed.
+#[inline(never)]
 pub(crate) fn tell_halt(halt: Halt, out: &mut Vec<u8>) -> Said
     ensures { IfOk result (λ fate. (fate ≡ halt_fate halt) × (out.new.items ≡ out.old.items ++ line_of (halt_answer halt))) }
 {
