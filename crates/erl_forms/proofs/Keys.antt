@@ -1,6 +1,5 @@
 -- Functions by their names and numbers of arguments.
-use Rattle.std.proofs.Common.{◌≡◌, ℕ, ◌+◌, ◌<◌, max, Bool, true, false, ◌&&◌, ◌==◌, if◌then◌else◌, List, [], ◌∷◌, ◌++◌, Option, None, Some, is_some, slice_get, length, get_or, take, zero, suc, sym, ap, ◌∙◌, refl, true≢false, arith}
-use Rattle.std.proofs.lemmas.List.{take_more}
+use Rattle.std.proofs.Common.{◌≡◌, ℕ, ◌+◌, max, Bool, true, false, ◌&&◌, ◌==◌, if◌then◌else◌, List, [], ◌∷◌, ◌++◌, Option, None, Some, is_some, slice_get, take, zero, suc, sym, ap, ◌∙◌, refl, true≢false, arith}
 use Rattle.std.proofs.lemmas.Map.Keys.{IsDistinct-head, IsDistinct-tail}
 use Rattle.std.proofs.lemmas.Bool.{eq-eqb, eqb-true}
 use Rattle.std.proofs.lemmas.Option.{none-some, same_Some}
@@ -15,15 +14,10 @@ use Rattle.erl_forms.specs.Module.{Key, key_eq, definition_depth, functions_dept
 
 -- one function more
 
-push : (fs : List (Key × Function)) (f : Key × Function) →
+pub depths_push : (fs : List (Key × Function)) (f : Key × Function) →
     functions_depth (fs ++ f ∷ []) ≡ max (functions_depth fs) (definition_depth f.1.definition)
-push [] f = omega arith
-push (g ∷ gs) f = omega (arith, push gs f)
-
-pub functions_more : (items : List (Key × Function)) (i : ℕ) (f : Key × Function) → i < length items → f ≡ get_or items i f →
-    functions_depth (take (i + 1) items) ≡ max (functions_depth (take i items)) (definition_depth f.1.definition)
-functions_more items i f within is =
-    ap functions_depth (take_more items i f within ∙ ap (λ g. take i items ++ g ∷ []) (sym is)) ∙ push (take i items) f
+depths_push [] f = omega arith
+depths_push (g ∷ gs) f = omega (arith, depths_push gs f)
 
 -- keys that are found equal are equal
 

@@ -62,18 +62,11 @@ clauses_noted items i c before between after within is first second =
     noted_then before between after (called_in_clauses (clauses (take i items))) (called_in_row c.body) first second ∙
     ap (noted before) (sym (ap (λ cs. called_in_clauses (clauses cs)) (take_more items i c within ∙ ap (λ d. take i items ++ d ∷ []) (sym is)) ∙ clauses_push (take i items) c))
 
-functions_push : (fs : List (Key × Function)) (f : Key × Function) →
+pub functions_push : (fs : List (Key × Function)) (f : Key × Function) →
     called_in_functions (fs ++ f ∷ []) ≡ called_in_functions fs ++ called_in_definition f.1.definition
 functions_push [] f = append-none (called_in_definition f.1.definition)
 functions_push (g ∷ gs) f =
     front-same (called_in_definition g.1.definition) (called_in_functions (gs ++ f ∷ [])) (called_in_functions gs ++ called_in_definition f.1.definition) (functions_push gs f) ∙ sym (append-assoc (called_in_definition g.1.definition) (called_in_functions gs) (called_in_definition f.1.definition))
-
-pub functions_noted : (items : List (Key × Function)) (i : ℕ) (f : Key × Function) (before between after : List (List ℕ)) →
-    i < length items → f ≡ get_or items i f → between ≡ noted before (called_in_functions (take i items)) →
-    after ≡ noted between (called_in_definition f.1.definition) → after ≡ noted before (called_in_functions (take (i + 1) items))
-functions_noted items i f before between after within is first second =
-    noted_then before between after (called_in_functions (take i items)) (called_in_definition f.1.definition) first second ∙
-    ap (noted before) (sym (ap called_in_functions (take_more items i f within ∙ ap (λ g. take i items ++ g ∷ []) (sym is)) ∙ functions_push (take i items) f))
 
 -- What is noted is each name once: no name is lost, and none is made up.
 

@@ -11,8 +11,9 @@
 //!
 //! # What is proved
 //!
-//! - [`Module::new`] gives none exactly where two functions have one name and one number of arguments, and else the module
-//!   of just these functions, in their order.
+//! - [`Module::new`], and [`ModuleBuilder::build`] of the functions that a builder was given one after the other, gives none
+//!   exactly where two functions have one name and one number of arguments, and else the module of just these functions, in
+//!   their order.
 //! - [`Module::function`] finds the function of a name and a number of arguments, [`Module::exported`] finds it where it is
 //!   exported, and [`Module::exports`] tells whether it is.
 //! - [`Module::remote_modules`] are the modules that are named in remote calls, each once: none is left out, and none is made
@@ -48,6 +49,6 @@ mod pattern;
 
 pub use expression::{Clause, Clauses, Expression, Expressions, Guard};
 pub use function::{Definition, Function};
-pub use module::Module;
+pub use module::{Module, ModuleBuilder};
 pub use operation::{BuiltIn, Connective, Operation, Operator};
 pub use pattern::{Pattern, Patterns};

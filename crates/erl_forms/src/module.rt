@@ -5,12 +5,14 @@ ghost use Rattle.std.specs.Map.{keys_of, lookup};
 ghost use Rattle.std.specs.Option.{option_copied};
 ghost use Rattle.erl_forms.specs.Module.{key_eq, function_of, exported_of, functions_depth, called_in_functions, AreNamesOf};
 
-use crate::calls::{Names, note_calls};
-use crate::depths::depth_of;
+mod building;
+
+use crate::calls::Names;
 use crate::function::Function;
 use crate::name_and_arity::NameAndArity;
+pub use building::ModuleBuilder;
 use erl_term::{Atom, Term};
-use indexmap::{Equivalent, IndexMap, IndexSet};
+use indexmap::{Equivalent, IndexMap};
 use std::alloc::{AllocError, Global};
 use std::hash::RandomState;
 use std::marker::Model;
@@ -91,20 +93,8 @@ impl Module {
             (λ m. IsDistinct key_eq (keys_of functions.items)
             × (m ≡ record { name = name; vsn = vsn; functions = functions.items }))) }
     {
-        let called = called_modules(alloc, hashing, functions.as_slice())?;
-        let depth = greatest_depth(functions.as_slice());
-        let Some(functions) = by_name(alloc, hashing, functions)? else {
-            return Ok(None);
-        };
-        let parts = Parts {
-            name,
-            vsn,
-            functions,
-            called,
-            depth,
-        };
-        let parts = Arc::new(alloc, parts)?;
-        Ok(Some(Module { parts }))
+        let builder = ModuleBuilder::of(alloc, hashing, functions)?;
+        builder.build(alloc, hashing, name, vsn)
     }
 
     /// The module's name. Takes no memory.
@@ -178,32 +168,6 @@ impl Duplicate for Module {
         let parts = Arc::try_clone(&self.parts)?;
         Ok(Module { parts })
     }
-}
-
-/// The modules that are named in the remote calls of functions.
-fn called_modules(
-    alloc: Global,
-    hashing: RandomState,
-    functions: &[((Atom, u32), Function)],
-) -> Result<Names, AllocError>
-    ensures { IfOk result (λ names. AreNamesOf names.keys (called_in_functions functions.now)) }
-{
-    let mut names = IndexSet::with_hasher(alloc, hashing);
-    for entry in functions {
-        note_calls(alloc, &entry.1.definition, &mut names)?;
-    }
-    Ok(names)
-}
-
-/// The greatest depth of functions, at most `2^64 - 1`.
-fn greatest_depth(functions: &[((Atom, u32), Function)]) -> u64
-    ensures { result ≡ min (functions_depth functions.now) (2 ^ 64 - 1) }
-{
-    let mut depth = 0;
-    for entry in functions {
-        depth = depth_of(&entry.1.definition).max(depth);
-    }
-    depth
 }
 
 /// Functions by their names and numbers of arguments; none where two have the same.

@@ -16,7 +16,7 @@ use std::hash::RandomState;
 use values::Duplicate;
 
 /// Functions by their names and numbers of arguments, each once.
-pub(crate) type Functions = IndexSet<(Atom, usize), RandomState>;
+pub type Functions = IndexSet<(Atom, usize), RandomState>;
 
 /// A function's name and number of arguments, borrowed: it stands for the key that it is equal to.
 #[derive(Clone, Copy, PartialEq, Eq, Hash)]
@@ -131,8 +131,14 @@ fn note_heading(
     }
 }
 
-/// Notes the functions of forms, and the first fault with them.
-pub(crate) fn note_functions(
+/// Notes the functions of forms, and the first fault with their headings, which is one of a function that is there twice.
+///
+/// Takes time and memory for each form.
+///
+/// # Errors
+///
+/// `AllocError` where memory is refused.
+pub fn note_functions(
     alloc: Global,
     forms: &[FormTree],
     functions: &mut Functions,

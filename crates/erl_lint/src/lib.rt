@@ -51,6 +51,6 @@ mod walk;
 
 pub use binding::is_anonymous;
 pub use fault::StaticFault;
-pub use functions::count;
-pub use module::first_fault;
+pub use functions::{Functions, count, note_functions};
+pub use module::{first_fault, first_in_form};
 pub use scope::Scope;

@@ -64,8 +64,14 @@ fn first_in_forms<'a>(
     Ok(found)
 }
 
-/// The first fault with those of a form.
-fn first_in_form<'a>(
+/// The first fault with those of a form of a module that has these functions. In `scope` nothing is bound, before and behind it.
+///
+/// Takes time for each part of the form, as [`first_fault`] does.
+///
+/// # Errors
+///
+/// `AllocError` where memory is refused.
+pub fn first_in_form<'a>(
     functions: &Functions,
     form: &'a FormTree,
     scope: &mut Scope<'a>,

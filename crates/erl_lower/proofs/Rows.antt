@@ -19,10 +19,10 @@ use Rattle.erl_syntax.specs.declared.shape.Infix.{Infix}
 use Rattle.erl_syntax.specs.declared.shape.Infix.TheVariants as operators
 use Rattle.erl_syntax.specs.declared.shape.Shape.{Shape}
 use Rattle.erl_syntax.specs.declared.shape.Shape.TheVariants as shapes
-use Rattle.erl_syntax.specs.Tree.{Trees, more, node, none}
+use Rattle.erl_syntax.specs.Tree.{Trees, node}
 use Rattle.erl_syntax.specs.TreeForms.{tree, trees, guards, clauses}
 use Rattle.erl_syntax.specs.Heights.{tree_height, trees_height, guards_height, clauses_height}
-use Rattle.erl_lint.specs.Scopes.{Names, binds, binds_in, binds_in_first, binds_in_match, pattern_names, pattern_names_in, with_names}
+use Rattle.erl_lint.specs.Scopes.{Names, binds, binds_in, binds_in_first, binds_in_match, pattern_names, with_names}
 use Rattle.erl_forms.specs.declared.pattern.Pattern.{Pattern}
 use Rattle.erl_forms.specs.declared.expression.Expression.{Expression}
 use Rattle.erl_forms.specs.declared.expression.Clause.{Clause}

@@ -3,3 +3,4 @@ pub mod BuiltIns
 pub mod Patterns
 pub mod Expressions
 pub mod Meaning
+pub mod Lowering

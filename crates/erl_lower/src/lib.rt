@@ -1,7 +1,7 @@
 //! Modules of Erlang that are written as syntax trees, as the modules that they mean.
 //!
-//! [`lowered`] makes of a [`erl_syntax::ModuleTree`] the [`erl_forms::Module`] that it means (Erlang Reference Manual, Modules,
-//! Functions and Expressions):
+//! [`lowered`] makes of a [`erl_syntax::ModuleTree`] the [`erl_forms::Module`] that it means, or tells its first static fault
+//! (Erlang Reference Manual, Modules, Functions and Expressions):
 //!
 //! - A variable becomes its place among those that are bound, in the order of evaluation: the first that a clause binds is 0.
 //!   Of a tuple, a list, a call or an operator the parts are evaluated from left to right, of `P = E` first E and then P. `_`
@@ -13,15 +13,17 @@
 //!
 //! # What is proved
 //!
-//! [`lowered`] gives the module that the definitions of `specs/` say: `meaning` of the tree, and none exactly where two functions
-//! have one name and number of arguments. The definitions are total functions of trees. So they say something also of trees
-//! that no source is read as: there a variable that nothing binds has the place behind all that are bound, and an integer that
-//! no term has is the nearest one.
+//! [`lowered`] tells the first static fault of a tree exactly where `erl_lint`'s definitions say that it has one. Of a tree
+//! without one it gives the module that the definitions of `specs/` say: `meaning` of the tree, and none exactly where two
+//! functions have one name and number of arguments. The definitions are total functions of trees. So they say something also of
+//! trees that no source is read as: there a variable that nothing binds has the place behind all that are bound, and an integer
+//! that no term has is the nearest one.
 //!
 //! # What no contract says
 //!
 //! That there is memory, and what a call costs. Variables are looked up as [`Scope`](erl_lint::Scope) does it, and functions by
-//! hashes with keys that nobody outside knows. Each part of a module is looked at once. Recursion goes as deep as the trees are
+//! hashes with keys that nobody outside knows. Each form is searched for faults, lowered and let go before the next one, so that
+//! its parts are at hand and their memory is soon used again. Recursion goes as deep as the trees are
 //! nested: who reads a module from outside bounds that.
 #![tactic(auto)]
 
@@ -29,9 +31,10 @@ mod built_ins;
 mod expressions;
 mod literals;
 mod making;
+mod module;
 mod numbers;
 mod parts;
 mod patterns;
 mod program;
 
-pub use program::lowered;
+pub use module::{Lowering, lowered};

@@ -1,19 +1,19 @@
-// Modules: their functions, what they export, and their `-vsn`.
+// What a module's forms mean: its functions, what is exported, and its `-vsn`.
 ghost use Rattle.std.specs.Prelude.{◌≡◌, ℕ, List, [], ◌++◌, IfOk, MatchOption, OnOk, option_map};
 ghost use Rattle.std.specs.Option.{option_to_list};
 ghost use Rattle.indexmap.specs.IndexSet.{insert_all};
 ghost use Rattle.erl_term.specs.Term.{tree};
 ghost use Rattle.erl_forms.specs.declared.function.Definition.TheVariants as definition_of;
 ghost use Rattle.erl_forms.specs.Module.{key_eq};
-ghost use Rattle.erl_lower.specs.Meaning.{HasNoMeaning, IsMeaning, entries_of, entries_of_form, exports_of as exports_in, function_clauses, function_of as function_in_form, function_with, functions_in, key_of as key_in, loop_of, version_in as version_in_forms, version_of as version_in_form};
+ghost use Rattle.erl_lower.specs.Meaning.{entries_of, entries_of_form, exports_of as exports_in, function_clauses, function_of as function_in_form, function_with, functions_in, key_of as key_in, loop_of, version_in as version_in_forms, version_of as version_in_form};
 
 use crate::expressions::{lower_clause, lower_clauses, lower_guards};
 use crate::literals::lower_term;
 use crate::numbers::number_of;
 use crate::patterns::lower_patterns;
-use erl_forms::{Clauses, Definition, Function, Guard, Module, Patterns};
+use erl_forms::{Clauses, Definition, Function, Guard, Patterns};
 use erl_lint::{Scope, count};
-use erl_syntax::{Exported, FormTree, FunctionClause, LoopTree, ModuleTree};
+use erl_syntax::{Exported, FormTree, FunctionClause, LoopTree};
 use erl_term::{Atom, Term, Terms};
 use indexmap::IndexSet;
 use std::alloc::{AllocError, Global};
@@ -21,33 +21,10 @@ use std::hash::RandomState;
 use values::Duplicate;
 
 /// Functions by their names and numbers of arguments, each once.
-type Exports = IndexSet<(Atom, u64), RandomState>;
+pub(crate) type Exports = IndexSet<(Atom, u64), RandomState>;
 
 /// A function of a module, with its name and number of arguments.
-type Entry = ((Atom, u32), Function);
-
-/// The module that a tree means; none where two of its functions have one name and one number of arguments.
-///
-/// Names are hashed by `hashing`. Takes time and memory for each part of the tree. Recurses as deep as the tree is nested.
-///
-/// # Errors
-///
-/// `AllocError` where memory is refused.
-pub fn lowered(
-    alloc: Global,
-    hashing: RandomState,
-    tree: &ModuleTree,
-) -> Result<Option<Module>, AllocError>
-    ensures { IfOk result (λ it. MatchOption it (HasNoMeaning «tree».now) (λ m. IsMeaning «tree».now m)) }
-{
-    let own = &tree.name.name;
-    let forms = tree.forms.as_slice();
-    let exports = exports_of(alloc, hashing, forms)?;
-    let vsn = version_in(alloc, own, forms)?;
-    let mut scope = Scope::new(alloc, hashing);
-    let functions = lower_functions(alloc, own, &exports, forms, &mut scope)?;
-    Module::new(alloc, hashing, own.copy(alloc)?, vsn, functions)
-}
+pub(crate) type Entry = ((Atom, u32), Function);
 
 /// The term of a `-vsn`; none of another form.
 fn version_of(alloc: Global, own: &Atom, form: &FormTree) -> Result<Option<Term>, AllocError>
@@ -63,7 +40,11 @@ fn version_of(alloc: Global, own: &Atom, form: &FormTree) -> Result<Option<Term>
 }
 
 /// The term of the first `-vsn`, if there is one.
-fn version_in(alloc: Global, own: &Atom, forms: &[FormTree]) -> Result<Option<Term>, AllocError>
+pub(crate) fn version_in(
+    alloc: Global,
+    own: &Atom,
+    forms: &[FormTree],
+) -> Result<Option<Term>, AllocError>
     ensures { IfOk result (λ it. option_map tree it ≡ version_in_forms own.now forms.now) }
 {
     for form in forms {
@@ -76,7 +57,7 @@ fn version_in(alloc: Global, own: &Atom, forms: &[FormTree]) -> Result<Option<Te
 }
 
 /// What is exported.
-fn exports_of(
+pub(crate) fn exports_of(
     alloc: Global,
     hashing: RandomState,
     forms: &[FormTree],
@@ -188,7 +169,7 @@ fn lower_loop<'a>(
 }
 
 /// The function that a form defines, if it defines one.
-fn lower_form<'a>(
+pub(crate) fn lower_form<'a>(
     alloc: Global,
     own: &Atom,
     exports: &Exports,
@@ -216,33 +197,4 @@ fn lower_form<'a>(
         }
         _ => Ok(None),
     }
-}
-
-/// Puts a function, if there is one, behind others.
-fn push_entry(entries: &mut Vec<Entry>, entry: Option<Entry>) -> Result<(), AllocError>
-    ensures { OnOk result (entries.new.items ≡ entries.old.items ++ option_to_list entry) }
-{
-    if let Some(entry) = entry {
-        entries.push(entry)?;
-    }
-    Ok(())
-}
-
-/// The functions of forms, in the order of the source.
-fn lower_functions<'a>(
-    alloc: Global,
-    own: &Atom,
-    exports: &Exports,
-    forms: &'a [FormTree],
-    scope: &mut Scope<'a>,
-) -> Result<Vec<Entry>, AllocError>
-    requires { scope.old ≡ [] }
-    ensures { IfOk result (λ entries. entries.items ≡ functions_in own.now exports.now.keys forms.now) }
-{
-    let mut entries = Vec::with_capacity(alloc, forms.len())?;
-    for form in forms {
-        let entry = lower_form(alloc, own, exports, form, scope)?;
-        push_entry(&mut entries, entry)?;
-    }
-    Ok(entries)
 }

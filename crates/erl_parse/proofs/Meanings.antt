@@ -1,5 +1,5 @@
 -- Bytes mean one module at most, and what is told of them says that they mean none.
-use Rattle.std.proofs.Common.{◌≡◌, ℕ, ◌<◌, List, [], length, Option, Some, None, ap, subst, sym, ◌∙◌, refl, arith, ◌⊎◌, inl, inr}
+use Rattle.std.proofs.Common.{◌≡◌, ℕ, List, length, Option, Some, None, ap, subst, sym, ◌∙◌, refl, arith, ◌⊎◌, inl, inr}
 use Rattle.std.specs.Prelude.{Result, Ok, Err, IfErr}
 use Rattle.std.proofs.lemmas.Option.{none-some}
 use Rattle.std.specs.Str.{chars, IsUtf8}
@@ -15,11 +15,11 @@ use Rattle.erl_lint.specs.declared.fault.StaticFault.{StaticFault}
 use Rattle.erl_lint.specs.First.{IsFirstFault}
 use Rattle.erl_lint.specs.Faults.{faults_of}
 use Rattle.module_forms.proofs.Modules.{one_module}
-use Rattle.erl_lower.specs.Meaning.{meaning, IsMeaning}
+use Rattle.erl_lower.specs.Meaning.{IsMeaning}
 use Rattle.erl_parse.proofs.Apart.{functions_apart}
 use Rattle.erl_parse.specs.declared.error.LangError.{LangError}
 use Rattle.erl_parse.specs.declared.error.LangError.TheVariants as errors
-use Rattle.erl_parse.specs.Sources.{IsWritten, IsSource, IsNoSource, OneModule, FaultlessMean}
+use Rattle.erl_parse.specs.Sources.{IsWritten, IsNoSource, OneModule, FaultlessMean}
 use Rattle.erl_parse.specs.Telling.{StopsAt, AreNoModule, Says, not_utf8, faulty, misplaced, unclosed, no_dot, static, memory}
 use Rattle.erl_parse.specs.Telling.{TellsRefusal, stopped, at_token, in_bracket, at_end, TellsTree, has_fault, has_no_meaning, no_memory}
 

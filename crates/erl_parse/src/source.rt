@@ -9,8 +9,7 @@ ghost use Rattle.erl_parse.specs.Telling.{Says, TellsTree};
 use crate::error::LangError;
 use crate::telling::{of_refusal, of_static, of_token};
 use erl_forms::Module;
-use erl_lint::first_fault;
-use erl_lower::lowered;
+use erl_lower::{Lowering, lowered};
 use erl_scan::{Fault, ReadError, Scanned, scan};
 use erl_syntax::ModuleTree;
 use module_forms::read_forms;
@@ -51,7 +50,7 @@ fn read_text(alloc: Global, hashing: RandomState, text: &str) -> Result<Module, 
     drop(tokens);
     match tree {
         Ok(tree) => match fault {
-            None => module_of(alloc, hashing, &tree),
+            None => module_of(alloc, hashing, tree),
             Some(fault) => Err(of_token(fault)),
         },
         Err(refusal) => Err(of_refusal(refusal, fault, text.len())),
@@ -60,16 +59,15 @@ fn read_text(alloc: Global, hashing: RandomState, text: &str) -> Result<Module, 
 
 /// The module that a tree means, where it has no static fault. It means none where two functions have one name and one number of
 /// arguments, which is a static fault.
-fn module_of(alloc: Global, hashing: RandomState, tree: &ModuleTree) -> Result<Module, LangError>
-    ensures found { IfOk result (λ m. (faults_of tree.now ≡ []) × IsMeaning tree.now m) }
-    ensures refused { IfErr result (λ e. TellsTree tree.now e) }
+fn module_of(alloc: Global, hashing: RandomState, tree: ModuleTree) -> Result<Module, LangError>
+    ensures found { IfOk result (λ m. (faults_of tree ≡ []) × IsMeaning tree m) }
+    ensures refused { IfErr result (λ e. TellsTree tree e) }
 {
-    if let Some(fault) = first_fault(alloc, hashing, tree)? {
-        return Err(of_static(fault));
-    }
+    let at = tree.name.at;
     match lowered(alloc, hashing, tree)? {
-        Some(it) => Ok(it),
-        None => Err(LangError::Syntax(tree.name.at)),
+        Lowering::Module(Some(module)) => Ok(module),
+        Lowering::Module(None) => Err(LangError::Syntax(at)),
+        Lowering::Fault(fault) => Err(of_static(fault)),
     }
 }
 

@@ -15,13 +15,13 @@ returns-in-None-clause-refused c =
     let written : IsWritten c.args.text.now c.in-Ok.tree = search rules in
     results_say c.args.text.now c.in-Ok.tree written c.module_of.result c.module_of.ensures.refused
 
-pub returns-in-Ok-clause-refused : goal.returns-in-Ok-clause-refused
-returns-in-Ok-clause-refused c =
+pub returns-in-Some-clause-refused : goal.returns-in-Some-clause-refused
+returns-in-Some-clause-refused c =
     let stops : StopsAt c.args.text.now c.in-Some.fault = search rules in
     faulty {e = c.in-Some.fault} c.of_token.ensures stops
 
-pub returns-clause-refused : goal.returns-clause-refused
-returns-clause-refused c =
+pub returns-in-Err-clause-refused : goal.returns-in-Err-clause-refused
+returns-in-Err-clause-refused c =
     let scan : IsScanOf (chars c.args.text.now) c.in_ok-tokens.tokens.items c.in_ok-tokens.field-0.fault = search rules in
     let same : c.as_slice.result.now ≡ c.in_ok-tokens.tokens.items = search rules in
     let none : (tree : ModuleTree) → IsModule (terminals c.as_slice.result.now) tree → ⊥ =
