@@ -1,5 +1,6 @@
 pub mod Ascii
 pub mod Bounds
+pub mod EqualTexts
 pub mod Parts
 pub mod Accessing
 pub mod Rows

@@ -43,6 +43,7 @@
 mod accessors;
 mod atom;
 mod conversions;
+mod equal_texts;
 mod predefined;
 mod printing;
 mod term;

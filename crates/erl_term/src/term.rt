@@ -136,6 +136,7 @@ impl Duplicate for Term {
 
 impl Same for Term {
     #[cycle(same)]
+    #[inline(always)]
     fn same(&self, other: &Term) -> bool
         ensures { IsTrue result ↔ (self.now ≡ other.now) }
     {
@@ -152,6 +153,7 @@ impl Same for Term {
 
 impl Same for Terms {
     #[cycle(same)]
+    #[inline(always)]
     fn same(&self, other: &Terms) -> bool
         ensures { IsTrue result ↔ (self.now ≡ other.now) }
     {
@@ -161,6 +163,7 @@ impl Same for Terms {
 
 /// Whether two rows have equal terms, as many of them and in one order.
 #[cycle(same)]
+#[inline(never)]
 fn same_rows(ts: &[Term], us: &[Term]) -> bool
     ensures { IsTrue result ↔ (ts.now ≡ us.now) }
 {
