@@ -74,6 +74,7 @@ impl Patterns {
 
 impl Same for Pattern {
     #[cycle(same)]
+    #[inline(always)]
     fn same(&self, other: &Pattern) -> bool
         ensures { IsTrue result ↔ (self.now ≡ other.now) }
     {
@@ -92,6 +93,7 @@ impl Same for Pattern {
 
 impl Same for Patterns {
     #[cycle(same)]
+    #[inline(always)]
     fn same(&self, other: &Patterns) -> bool
         ensures { IsTrue result ↔ (self.now ≡ other.now) }
     {
@@ -101,6 +103,7 @@ impl Same for Patterns {
 
 /// Whether two rows have equal patterns, as many of them and in one order.
 #[cycle(same)]
+#[inline(never)]
 fn same_rows(ps: &[Pattern], qs: &[Pattern]) -> bool
     ensures { IsTrue result ↔ (ps.now ≡ qs.now) }
 {

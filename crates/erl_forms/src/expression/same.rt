@@ -6,6 +6,7 @@ use values::Same;
 
 impl Same for Expression {
     #[cycle(same)]
+    #[inline(always)]
     fn same(&self, other: &Expression) -> bool
         ensures { IsTrue result ↔ (self.now ≡ other.now) }
     {
@@ -26,6 +27,7 @@ impl Same for Expression {
 
 impl Same for Expressions {
     #[cycle(same)]
+    #[inline(always)]
     fn same(&self, other: &Expressions) -> bool
         ensures { IsTrue result ↔ (self.now ≡ other.now) }
     {
@@ -35,6 +37,7 @@ impl Same for Expressions {
 
 impl Same for Guard {
     #[cycle(same)]
+    #[inline(always)]
     fn same(&self, other: &Guard) -> bool
         ensures { IsTrue result ↔ (self.now ≡ other.now) }
     {
@@ -44,6 +47,7 @@ impl Same for Guard {
 
 impl Same for Clause {
     #[cycle(same)]
+    #[inline(always)]
     fn same(&self, other: &Clause) -> bool
         ensures { IsTrue result ↔ (self.now ≡ other.now) }
     {
@@ -55,6 +59,7 @@ impl Same for Clause {
 
 impl Same for Clauses {
     #[cycle(same)]
+    #[inline(always)]
     fn same(&self, other: &Clauses) -> bool
         ensures { IsTrue result ↔ (self.now ≡ other.now) }
     {
@@ -64,6 +69,7 @@ impl Same for Clauses {
 
 /// Whether two rows have equal expressions, as many of them and in one order.
 #[cycle(same)]
+#[inline(never)]
 fn same_expressions(es: &[Expression], fs: &[Expression]) -> bool
     ensures { IsTrue result ↔ (es.now ≡ fs.now) }
 {
@@ -80,6 +86,7 @@ fn same_expressions(es: &[Expression], fs: &[Expression]) -> bool
 
 /// Whether two guard sequences have equal guards, as many of them and in one order.
 #[cycle(same)]
+#[inline]
 fn same_guards(gs: &[Expressions], hs: &[Expressions]) -> bool
     ensures { IsTrue result ↔ (gs.now ≡ hs.now) }
 {
@@ -96,6 +103,7 @@ fn same_guards(gs: &[Expressions], hs: &[Expressions]) -> bool
 
 /// Whether two rows have equal clauses, as many of them and in one order.
 #[cycle(same)]
+#[inline(never)]
 fn same_clauses(cs: &[Clause], ds: &[Clause]) -> bool
     ensures { IsTrue result ↔ (cs.now ≡ ds.now) }
 {
