@@ -2,13 +2,13 @@
 //!
 //! A step that can't be given up half-way asks for all its memory before its first change: [`Reserved::new`] asks for the memory of one
 //! value, and [`Reserved::fill`] puts the value there without asking for more. [`Boxed::open`] takes it out, and keeps the memory
-//! for it or for the next one. What holds a large value but seldom, such as a variant of an enum, holds so three words in its place.
+//! for it or for the next one. What holds a large value but seldom, such as a variant of an enum, holds so one word in its place.
 //!
 //! Contracts see a [`Boxed`] as its value alone. What no contract says: that there is memory, and that a value is moved once, into its
 //! memory or out of it.
 #![tactic(auto)]
 
-ghost use Rattle.std.specs.Prelude.{◌≡◌, ◌<◌, ◌∷◌, ⊤, [], vec_capacity};
+ghost use Rattle.std.specs.Prelude.{◌≡◌, ⊤, None, Some};
 
 use std::alloc::{AllocError, Global};
 use std::marker::Model;
@@ -17,7 +17,8 @@ use std::snapshot::Snapshot;
 /// The memory of one value, which isn't there yet.
 #[derive(Drop)]
 pub struct Reserved<T> {
-    items: Vec<T>,
+    /// Nothing is there.
+    place: Box<Option<T>>,
 }
 
 impl<T> Model for Reserved<T> {
@@ -25,13 +26,14 @@ impl<T> Model for Reserved<T> {
 
     ghost view = { λ _. tt };
 
-    ghost invariant = { λ room. (room.items.items ≡ []) × (0 < vec_capacity room.items) };
+    ghost invariant = { λ room. room.place.value ≡ None };
 }
 
 /// A value in memory of its own.
 #[derive(Drop)]
 pub struct Boxed<T> {
-    items: Vec<T>,
+    /// The value is there.
+    place: Box<Option<T>>,
     value: Snapshot<T>,
 }
 
@@ -40,7 +42,7 @@ impl<T> Model for Boxed<T> {
 
     ghost view = { λ boxed. boxed.value.value };
 
-    ghost invariant = { λ boxed. (boxed.items.items ≡ boxed.value.value ∷ []) × (0 < vec_capacity boxed.items) };
+    ghost invariant = { λ boxed. boxed.place.value ≡ Some boxed.value.value };
 }
 
 impl<T> Reserved<T> {
@@ -53,18 +55,20 @@ impl<T> Reserved<T> {
     where
         T: Drop,
     {
-        let items = Vec::with_capacity(alloc, 1)?;
-        Ok(Reserved { items })
+        let place = Box::new(alloc, None)?;
+        Ok(Reserved { place })
     }
 
     /// Puts a value there. Takes no memory.
     pub fn fill(self, value: T) -> Boxed<T>
         ensures { result ≡ value }
     {
-        let Reserved { mut items } = self;
+        let Reserved { mut place } = self;
         let seen = Snapshot::of(&value);
-        items.push_reserved(value);
-        Boxed { items, value: seen }
+        match place.replace(value) {
+            None => Boxed { place, value: seen },
+            Some(_) => unreachable!(),
+        }
     }
 }
 
@@ -73,9 +77,9 @@ impl<T> Boxed<T> {
     pub fn open(self) -> (T, Reserved<T>)
         ensures { result.0 ≡ self }
     {
-        let Boxed { mut items, .. } = self;
-        match items.pop() {
-            Some(value) => (value, Reserved { items }),
+        let Boxed { mut place, .. } = self;
+        match place.take() {
+            Some(value) => (value, Reserved { place }),
             None => unreachable!(),
         }
     }
