@@ -1,5 +1,5 @@
 -- Lemmas on what a call of a journal does to its timeline.
-use Rattle.std.proofs.Common.{◌≡◌, ℕ, zero, suc, ◌+◌, ◌-◌, ◌<◌, ◌≤◌, List, [], ◌∷◌, ◌++◌, length, take, drop, map, replicate, Some, None, Option, Result, option_map, sym, ap, subst, ◌∙◌, refl, inl, inr, add-one, arith}
+use Rattle.std.proofs.Common.{◌≡◌, ℕ, zero, suc, ◌+◌, ◌-◌, ◌<◌, ◌≤◌, List, [], ◌∷◌, ◌++◌, length, take, drop, map, replicate, Some, Option, Result, option_map, sym, ap, subst, ◌∙◌, refl, inl, inr, add-one, arith}
 use Rattle.std.proofs.lemmas.List.{append-nil, map_push, take-map, drop-map, take_all, drop_all, take-take, length-take-le, length-drop, length-map, drop-drop, take-append-drop, drop-append-le, take_rest}
 use Rattle.std.proofs.Math.Seq.{take-length, drop-length}
 use Rattle.std.proofs.lemmas.Bool.{cases_lt}

@@ -1,13 +1,12 @@
 // The journal.
 ghost use Rattle.std.specs.Prelude.{◌≡◌, ◌↔◌, ◌-◌, ◌^◌, [], length, Some, Err, IfOk, IfErr, IsTrue, OnOk, OnErr, replicate};
 ghost use Rattle.undo_journal.specs.Journal.{Performs, PerformFails, UndoFails, IsOutOfMemoryAt};
-ghost use Rattle.undo_journal.specs.Reversible.{AcceptsWith, Refuses};
 ghost use Rattle.undo_journal.specs.Timeline.{here, opened, cut_to, cut_stations, node_at, notes_of, report_of, IsFront, IsOrdered};
 
 use crate::error::JournalError;
 use crate::past::{Entry, keep_newest, kept_entries, newest_serial, put, reports_on, take_back_to};
 use crate::report::Report;
-use crate::reversible::{Reversible, StepError, Stepped, Told};
+use crate::reversible::{Noted, Reversible, StepError, Told};
 use std::alloc::{AllocError, Global};
 use std::marker::Model;
 use std::snapshot::Snapshot;
@@ -119,8 +118,8 @@ impl<S: Reversible> Journal<S> {
                 None => Err(self.out_of_memory()),
             };
         }
-        let (told, trace, note) = match step(&mut self.state, event, n) {
-            Ok(stepped) => stepped,
+        let Noted { told, note, trace } = match self.state.step_noted(event, n) {
+            Ok(noted) => noted,
             Err(StepError::Rule(refusal)) => return Err(JournalError::Step(refusal)),
             Err(StepError::Memory) => return Err(self.out_of_memory()),
         };
@@ -186,25 +185,4 @@ impl<S: Reversible> Journal<S> {
             reports: Vec::new(self.alloc),
         }
     }
-}
-
-/// Makes a step, and sets one of the equal values that tell of it aside: its note is the journal's.
-fn step<S: Reversible>(
-    state: &mut S,
-    event: &S::Event,
-    n: u8,
-) -> Result<(Vec<Told<S::Answer, S::Note>>, S::Record, S::Note), StepError<S::Refusal>>
-    ensures accepted { IfOk result
-        (λ done. AcceptsWith (S.rule state.old event.now) state.new n done.0.items done.2) }
-    ensures reversible { IfOk result (λ done. S.undoes done.1 state.old state.new) }
-    ensures refused { IfErr result
-        (Refuses (S.rule state.old event.now) (S.may_run_out state.old event.now)) }
-    ensures err { OnErr result (state.new ≡ state.old) }
-{
-    let Stepped { mut told, trace } = state.step(event, usize::from(n) + 1)?;
-    let Some(kept) = told.pop() else {
-        unreachable!()
-    };
-    let Told { answer: _, note } = kept;
-    Ok((told, trace, note))
 }

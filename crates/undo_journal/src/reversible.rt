@@ -1,6 +1,6 @@
 // A machine whose steps can be taken back.
 ghost use Rattle.std.specs.Prelude.{◌≡◌, ◌+◌, Result, Err, IfOk, IfErr, MatchOption, OnOk, OnErr};
-ghost use Rattle.undo_journal.specs.Reversible.{Accepted, Accepts, Refuses};
+ghost use Rattle.undo_journal.specs.Reversible.{Accepted, Accepts, AcceptsWith, Refuses};
 
 use values::Duplicate;
 
@@ -19,6 +19,17 @@ pub struct Told<A, N> {
 pub struct Stepped<A, N, R> {
     /// Equal values, as many as were asked for.
     pub told: Vec<Told<A, N>>,
+    /// The record by which [`Reversible::revert`] takes the step back.
+    pub trace: R,
+}
+
+/// What a machine hands out with an accepted step whose note is kept.
+#[derive(Drop)]
+pub struct Noted<A, N, R> {
+    /// Equal values, as many as were asked for.
+    pub told: Vec<Told<A, N>>,
+    /// The note, once more.
+    pub note: N,
     /// The record by which [`Reversible::revert`] takes the step back.
     pub trace: R,
 }
@@ -82,6 +93,34 @@ pub trait Reversible: Drop {
         ensures refused { IfErr result
             (Refuses (rule self.old event.now) (may_run_out self.old event.now)) }
         ensures err { OnErr result (self.new ≡ self.old) };
+
+    /// Makes one step, as [`Reversible::step`] does, and hands its note out once more, for who keeps it.
+    ///
+    /// By itself it makes the step with one equal value more, and keeps the note of that. A machine whose answers cost much
+    /// does better to copy the note alone.
+    ///
+    /// # Errors
+    ///
+    /// Those of a step.
+    fn step_noted(
+        &mut self,
+        event: &Self::Event,
+        n: u8,
+    ) -> Result<Noted<Self::Answer, Self::Note, Self::Record>, StepError<Self::Refusal>>
+        ensures accepted { IfOk result
+            (λ done. AcceptsWith (rule self.old event.now) self.new n done.told.items done.note) }
+        ensures reversible { IfOk result (λ done. undoes done.trace self.old self.new) }
+        ensures refused { IfErr result
+            (Refuses (rule self.old event.now) (may_run_out self.old event.now)) }
+        ensures err { OnErr result (self.new ≡ self.old) }
+    {
+        let Stepped { mut told, trace } = self.step(event, usize::from(n) + 1)?;
+        let Some(kept) = told.pop() else {
+            unreachable!()
+        };
+        let Told { answer: _, note } = kept;
+        Ok(Noted { told, note, trace })
+    }
 
     /// Takes back the newest step, whose record this is: the machine stands right after that step.
     ///

@@ -1,6 +1,6 @@
 -- The state is the last station's node, so the rule that the step follows is that node's. The entry
 -- that is put is the next station's.
-use Rattle.std.proofs.Common.{◌≡◌, ◌+◌, ◌∷◌, [], ◌++◌, Err, subst, sym, ap, ◌∙◌, refl}
+use Rattle.std.proofs.Common.{◌+◌, ◌∷◌, [], ◌++◌, Err, subst, ap, ◌∙◌, refl}
 use Rattle.undo_journal.specs.declared.past.Entry.{Entry}
 use Rattle.undo_journal.specs.Past.{timeline_of}
 use Rattle.undo_journal.specs.Reversible.{AcceptsWith}
@@ -40,15 +40,15 @@ returns-in-Err-Memory-clause-refused g c =
 pub invariant_of-self-2 : goal.invariant_of-self-2
 invariant_of-self-2 g c =
     let j = c.self.inside in
-    let entry : Entry g.row.S.Denot g.row.S-Record.Denot g.row.S-Note.Denot = record { serial = j.last + 1; trace = c.in-Ok.stepped.1; note = c.in-Ok.stepped.2; node = c.of.result } in
-    kept-push g.S.Reversible.undoes j.floor j.first.value j.first_note j.past.items c.put.new.past.items j.last entry j.state c.step.new.state refl c.of.ensures (c.put.ensures ∙ ap (λ ps. ps ++ entry ∷ []) c.reserve.ensures.items) c.in-Ok.ensures.reversible c.self.invariant.0 c.self.invariant.1
+    let entry : Entry g.row.S.Denot g.row.S-Record.Denot g.row.S-Note.Denot = record { serial = j.last + 1; trace = c.in-Ok.noted.trace; note = c.in-Ok.noted.note; node = c.of.result } in
+    kept-push g.S.Reversible.undoes j.floor j.first.value j.first_note j.past.items c.put.new.past.items j.last entry j.state c.step_noted.new.self refl c.of.ensures (c.put.ensures ∙ ap (λ ps. ps ++ entry ∷ []) c.reserve.ensures.items) c.in-Ok.ensures.reversible c.self.invariant.0 c.self.invariant.1
 
 pub returns-clause-performed : goal.returns-clause-performed
 returns-clause-performed g c =
     let j = c.self.inside in
     let t = c.args.self.now in
-    let entry : Entry g.row.S.Denot g.row.S-Record.Denot g.row.S-Note.Denot = record { serial = j.last + 1; trace = c.in-Ok.stepped.1; note = c.in-Ok.stepped.2; node = c.of.result } in
+    let entry : Entry g.row.S.Denot g.row.S-Record.Denot g.row.S-Note.Denot = record { serial = j.last + 1; trace = c.in-Ok.noted.trace; note = c.in-Ok.noted.note; node = c.of.result } in
     let items = c.put.ensures ∙ ap (λ ps. ps ++ entry ∷ []) c.reserve.ensures.items in
     let node = state_of-timeline g.S.Reversible.undoes j.floor j.first.value j.first_note j.past.items j.last j.state c.self.invariant.0 ∙ ap (λ u. (here u).node) c.self.view_is in
     let new = ap (λ ps. timeline_of j.floor j.first.value j.first_note ps (j.last + 1)) items ∙ timeline_of-push j.floor j.first.value j.first_note j.past.items j.last entry refl ∙ ap (λ u. appended u c.of.result.value entry.note) c.self.view_is ∙ ap (λ s. appended t s entry.note) c.of.ensures in
-    Performs-from (g.S.Reversible.rule (here t).node c.args.event.now) c.step.new.state c.args.n c.in-Ok.stepped.0.items entry.note t _ (subst (λ s. AcceptsWith (g.S.Reversible.rule s c.args.event.now) c.step.new.state c.args.n c.in-Ok.stepped.0.items entry.note) node c.in-Ok.ensures.accepted) new
+    Performs-from (g.S.Reversible.rule (here t).node c.args.event.now) c.step_noted.new.self c.args.n c.in-Ok.noted.told.items entry.note t _ (subst (λ s. AcceptsWith (g.S.Reversible.rule s c.args.event.now) c.step_noted.new.self c.args.n c.in-Ok.noted.told.items entry.note) node c.in-Ok.ensures.accepted) new
