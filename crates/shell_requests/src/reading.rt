@@ -1,5 +1,6 @@
 // Lines, read as requests.
-ghost use Rattle.std.specs.Prelude.{◌≡◌, Some};
+ghost use Rattle.std.specs.Bool.{OnFalse};
+ghost use Rattle.std.specs.Prelude.{◌≡◌, Some, false};
 ghost use Rattle.std.specs.Option.{option_map};
 ghost use Rattle.std.specs.Str.{bytes_eq};
 ghost use Rattle.shell_requests.specs.Reading.{meant, said, who_is};
@@ -22,11 +23,21 @@ macro_rules! shape_in {
     }};
 }
 
-/// Whether a word is that of a command. The lengths tell most words apart.
+/// Whether a word is that of a command. The lengths and the first bytes tell most words apart.
 fn is_command(word: &str, command: &str) -> bool
     ensures { result ≡ bytes_eq word.now command.now }
 {
-    word.len() == command.len() && word == command
+    word.len() == command.len() && begin_alike(word, command) && word == command
+}
+
+/// Whether two words begin with the same byte, or one has none.
+fn begin_alike(word: &str, command: &str) -> bool
+    ensures { OnFalse result (bytes_eq word.now command.now ≡ false) }
+{
+    match (word.as_bytes(), command.as_bytes()) {
+        ([first, ..], [other, ..]) => *first == *other,
+        (_, _) => true,
+    }
 }
 
 /// What follows the word of a command.
