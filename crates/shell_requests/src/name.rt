@@ -40,6 +40,7 @@ impl<'a> Name<'a> {
     /// # Errors
     ///
     /// `AllocError` where memory is refused.
+    #[inline(never)]
     pub fn atom(self, alloc: Global) -> Result<Atom, AllocError>
         ensures { IfOk result (λ atom. atom ≡ chars self.entry.text.now) }
     {

@@ -177,6 +177,7 @@ impl<S: Reversible> Journal<S> {
     }
 
     /// Want of memory that changed nothing.
+    #[inline(never)]
     fn out_of_memory(&self) -> JournalError<S::Refusal, S::Note>
         ensures { IsOutOfMemoryAt (here self.now).serial result }
     {
