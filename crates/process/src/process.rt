@@ -4,6 +4,7 @@ ghost use Rattle.std.specs.Option.{option_copied};
 ghost use Rattle.process.specs.Process.{awaited, IsRunning, can_take, delivered, first_taken, job_of, rested, resumed, run_at, started, suspended, takes_at, undelivered, unrested, untaken};
 
 mod ending;
+mod named_code;
 mod rerunning;
 
 use crate::activity::{Activity, Running};
@@ -11,6 +12,7 @@ pub use ending::{Did, Ended, NamedRunning, Told, ended_processes_live};
 use erl_eval::Place;
 use erl_machine::{Instance, Job, matches};
 use erl_term::{Atom, Term};
+pub use named_code::NamedInstances;
 pub use rerunning::{NamedRan, Used, jobs_run_again};
 use std::alloc::{AllocError, Global};
 use std::collections::VecDeque;
@@ -21,11 +23,12 @@ use values::{Duplicate, Row, Same};
 /// A process.
 #[derive(Drop)]
 pub struct Process {
+    // What tells whether it uses an instance lies first, so that a look at every process reads little of each.
+    rests_in: Option<Instance>,
+    activity: Activity,
     pid: u64,
     name: Option<Atom>,
     place: Place,
-    rests_in: Option<Instance>,
-    activity: Activity,
     turn: u64,
     mailbox: VecDeque<Term>,
     /// The position of the message that it takes next.
@@ -373,6 +376,7 @@ impl Process {
 
     /// The process rests at a place, one turn on, and takes next the message that [`Process::next_at`] tells. What it ran is handed
     /// out. Takes no memory.
+    #[inline(always)]
     pub fn rest_next(
         &mut self,
         place: Place,
@@ -400,6 +404,7 @@ impl Process {
     }
 
     /// The process runs again what it ran before it rested. Takes no memory.
+    #[inline(always)]
     pub fn unrest(&mut self, ran: Ran)
         requires { 0 < self.old.turn }
         ensures { self.new ≡ unrested ran self.old }

@@ -5,6 +5,7 @@ ghost use Rattle.job_code.specs.Named.{all_found};
 ghost use Rattle.process.specs.Process.{awaited};
 ghost use Rattle.process.specs.Ended.{EndedProcessesLive, activity_by, code_found, code_named, did_by, ended, ended_with, held, lived, lives, named, rests_found};
 
+use super::named_code::{NamedInstances, name_of};
 use super::{Process, first_of};
 use crate::activity::{Activity, Running};
 use code_server::Modules;
@@ -12,7 +13,7 @@ use erl_eval::Place;
 use erl_forms::Module;
 use erl_machine::Instance;
 use erl_term::{Atom, Term};
-use job_code::{NamedInstance, instance_of, instances_of, named_of};
+use job_code::{NamedInstance, instance_of, instances_of};
 use std::alloc::{AllocError, Global};
 use std::collections::VecDeque;
 use std::marker::Model;
@@ -37,7 +38,7 @@ pub struct NamedRunning {
     /// The message.
     pub message: Term,
     /// What tells the instances of its code, in their order.
-    pub code: Row<NamedInstance>,
+    pub code: NamedInstances,
 }
 
 /// A process that was taken out whole, so that it can live again. It holds no code: the instances that it used are told by
@@ -71,7 +72,7 @@ pub struct Told {
     /// The instance of its place, where this is a loop function.
     pub rests_in: Option<NamedInstance>,
     /// The code that it runs in, in order, where it runs.
-    pub code: Row<NamedInstance>,
+    pub code: NamedInstances,
 }
 
 /// The instances that an ended process used, and the position of the message that it takes next.
@@ -86,6 +87,7 @@ struct Found {
 }
 
 /// What tells the instance of a place, where there is one.
+#[inline(always)]
 fn place_told(
     alloc: Global,
     rests_in: Option<&Instance>,
@@ -95,19 +97,17 @@ fn place_told(
     let Some(it) = rests_in else {
         return Ok(None);
     };
-    Ok(Some(NamedInstance {
-        name: it.name.copy(alloc)?,
-        serial: it.serial,
-    }))
+    Ok(Some(name_of(alloc, it)?))
 }
 
 /// What tells the code that a process runs in.
-fn code_told(alloc: Global, activity: &Activity) -> Result<Row<NamedInstance>, AllocError>
+#[inline(always)]
+fn code_told(alloc: Global, activity: &Activity) -> Result<NamedInstances, AllocError>
     ensures { IfOk result (λ it. it ≡ code_named activity.now) }
 {
     match activity {
-        Activity::Idle | Activity::Suspended => Ok(Row::new(Vec::new(alloc))),
-        Activity::Runs(running) => Ok(Row::new(named_of(alloc, running.code.as_slice())?)),
+        Activity::Idle | Activity::Suspended => Ok(NamedInstances::none(alloc)),
+        Activity::Runs(running) => Ok(NamedInstances::of(alloc, running.code.as_slice())?),
     }
 }
 
@@ -162,6 +162,7 @@ impl Process {
     /// # Errors
     ///
     /// `AllocError` where memory is refused.
+    #[inline(always)]
     pub fn told(&self, alloc: Global) -> Result<Told, AllocError>
         ensures { IfOk result (λ told. ended_with told.rests_in told.code self.now ≡ ended self.now) }
     {
@@ -230,13 +231,13 @@ impl Process {
 
 impl Did {
     /// What the process does again, in this code, and what tells the code.
-    fn into_activity(self, alloc: Global, code: Row<Instance>) -> (Activity, Row<NamedInstance>)
+    fn into_activity(self, alloc: Global, code: Row<Instance>) -> (Activity, NamedInstances)
         ensures activity { result.0 ≡ activity_by code self }
         ensures told { did_by result.1 result.0 ≡ self }
     {
         match self {
-            Did::Idle => (Activity::Idle, Row::new(Vec::new(alloc))),
-            Did::Suspended => (Activity::Suspended, Row::new(Vec::new(alloc))),
+            Did::Idle => (Activity::Idle, NamedInstances::none(alloc)),
+            Did::Suspended => (Activity::Suspended, NamedInstances::none(alloc)),
             Did::Ran(ran) => {
                 let NamedRunning {
                     entry_serial,

@@ -36,6 +36,7 @@ pub struct Used {
 
 impl Ran {
     /// The same without code: its instances are told so. Takes no memory.
+    #[inline(always)]
     pub fn named(self, told: Told) -> NamedRan
         ensures { result ≡ ran_with told.rests_in told.code self }
     {
@@ -109,6 +110,7 @@ impl NamedRan {
     }
 
     /// What the job has left behind, with these instances. Takes no memory.
+    #[inline(always)]
     pub fn run_with(self, used: Used) -> Ran
         ensures { result ≡ ran_in used.rests_in used.code self }
     {
