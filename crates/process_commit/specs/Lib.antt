@@ -1,5 +1,6 @@
 pub mod Acts
 pub mod Commits
 pub mod Exits
+pub mod Kept
 pub mod Parted
 pub mod Pieces

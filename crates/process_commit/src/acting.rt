@@ -1,13 +1,18 @@
 // What a job has done is done to the processes.
 ghost use Rattle.std.specs.Prelude.{◌≡◌, ◌+◌, ◌≤◌, IfOk, OnErr, OnOk, vec_capacity, vec_len};
+ghost use Rattle.process_commit.specs.Acts.{answered, reply_of};
 ghost use Rattle.process_commit.specs.Parted.{AllReopen, acts_sent, all_answered, all_reopened, all_unsent, answers_of, answers_told};
+ghost use Rattle.process_store.specs.Changes.{owner_of};
 
 use crate::answers::{Closed, answer_all, answers_of};
+use crate::closed_calls::ClosedCalls;
 use crate::sends::send_all;
 use erl_eval::Act;
-use process_ending::Reply;
+use erl_term::Term;
+use process_ending::{Reply, ReplyBody};
 use process_store::ProcessStore;
 use std::alloc::{AllocError, Global};
+use values::Duplicate;
 
 /// What the acts of a job have come to.
 #[derive(Drop)]
@@ -17,7 +22,55 @@ pub(crate) struct Acted {
     /// Whom messages were sent to, in order.
     pub(crate) receivers: Vec<u64>,
     /// The calls that were closed, in order.
-    pub(crate) closed: Vec<Closed>,
+    pub(crate) closed: ClosedCalls,
+}
+
+/// Does the acts of a job that has given one reply, and nothing else: closes the call that it is for, where it is open, and tells its
+/// client. There is room for more replies then.
+///
+/// # Errors
+///
+/// `AllocError` where memory is refused. The processes are then as they were.
+#[inline(always)]
+fn act_reply(
+    store: &mut ProcessStore,
+    alloc: Global,
+    number: u64,
+    reply: &Term,
+    more: usize,
+) -> Result<Acted, AllocError>
+    ensures table { OnOk result (store.new ≡ answered number store.old) }
+    ensures told { IfOk result (λ it. it.replies.items ≡ reply_of reply.now (owner_of number store.old)) }
+    ensures fits { IfOk result (λ it. AllReopen it.closed store.new) }
+    ensures back { IfOk result (λ it. all_unsent it.receivers.items (all_reopened it.closed store.new) ≡ store.old) }
+    ensures room { IfOk result (λ it. vec_len it.replies + more ≤ vec_capacity it.replies) }
+    ensures err { OnErr result (store.new ≡ store.old) }
+{
+    let Some(room) = more.checked_add(1) else {
+        return Err(AllocError);
+    };
+    let mut replies = Vec::with_capacity(alloc, room)?;
+    let reply = reply.copy(alloc)?;
+    let receivers = Vec::new(alloc);
+    match store.close(number) {
+        Some((pid, call)) => {
+            replies.push_reserved(Reply {
+                client: call.client,
+                number: call.number,
+                body: ReplyBody::Reply(reply),
+            });
+            Ok(Acted {
+                replies,
+                receivers,
+                closed: ClosedCalls::one(Closed { pid, call }),
+            })
+        }
+        None => Ok(Acted {
+            replies,
+            receivers,
+            closed: ClosedCalls::none(alloc),
+        }),
+    }
 }
 
 /// Does acts, in order: first the messages, but for those to one process, if one is spared, and then the replies. There is room for
@@ -26,7 +79,7 @@ pub(crate) struct Acted {
 /// # Errors
 ///
 /// `AllocError` where memory is refused. The processes are then as they were.
-pub(crate) fn act_all(
+fn act_in_order(
     store: &mut ProcessStore,
     alloc: Global,
     spared: Option<u64>,
@@ -35,8 +88,8 @@ pub(crate) fn act_all(
 ) -> Result<Acted, AllocError>
     ensures table { OnOk result (store.new ≡ all_answered (answers_of acts.now) (acts_sent spared acts.now store.old)) }
     ensures told { IfOk result (λ it. it.replies.items ≡ answers_told (answers_of acts.now) (acts_sent spared acts.now store.old)) }
-    ensures fits { IfOk result (λ it. AllReopen it.closed.items store.new) }
-    ensures back { IfOk result (λ it. all_unsent it.receivers.items (all_reopened it.closed.items store.new) ≡ store.old) }
+    ensures fits { IfOk result (λ it. AllReopen it.closed store.new) }
+    ensures back { IfOk result (λ it. all_unsent it.receivers.items (all_reopened it.closed store.new) ≡ store.old) }
     ensures room { IfOk result (λ it. vec_len it.replies + more ≤ vec_capacity it.replies) }
     ensures err { OnErr result (store.new ≡ store.old) }
 {
@@ -51,6 +104,36 @@ pub(crate) fn act_all(
     Ok(Acted {
         replies,
         receivers,
-        closed,
+        closed: ClosedCalls::many(closed),
     })
+}
+
+/// Does acts, in order, as [`act_in_order`] does them. One reply alone, as most jobs give, takes the memory of what is told, and no
+/// other.
+///
+/// # Errors
+///
+/// `AllocError` where memory is refused. The processes are then as they were.
+#[inline(always)]
+pub(crate) fn act_all(
+    store: &mut ProcessStore,
+    alloc: Global,
+    spared: Option<u64>,
+    acts: &[Act],
+    more: usize,
+) -> Result<Acted, AllocError>
+    ensures table { OnOk result (store.new ≡ all_answered (answers_of acts.now) (acts_sent spared acts.now store.old)) }
+    ensures told { IfOk result (λ it. it.replies.items ≡ answers_told (answers_of acts.now) (acts_sent spared acts.now store.old)) }
+    ensures fits { IfOk result (λ it. AllReopen it.closed store.new) }
+    ensures back { IfOk result (λ it. all_unsent it.receivers.items (all_reopened it.closed store.new) ≡ store.old) }
+    ensures room { IfOk result (λ it. vec_len it.replies + more ≤ vec_capacity it.replies) }
+    ensures err { OnErr result (store.new ≡ store.old) }
+{
+    match acts {
+        [only] => match only {
+            Act::Reply { number, term } => act_reply(store, alloc, *number, term, more),
+            _ => act_in_order(store, alloc, spared, acts, more),
+        },
+        _ => act_in_order(store, alloc, spared, acts, more),
+    }
 }

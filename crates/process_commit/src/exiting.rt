@@ -10,7 +10,8 @@ ghost use Rattle.process_store.specs.Pieces.{HoldsLost};
 ghost use Rattle.process_store.specs.Table.{living};
 
 use crate::acting::{Acted, act_all};
-use crate::answers::{Closed, reopen_all};
+use crate::answers::reopen_all;
+use crate::closed_calls::ClosedCalls;
 use crate::resting::told_of;
 use crate::sends::unsend_all;
 use code_server::Modules;
@@ -31,7 +32,7 @@ pub struct Exited {
     /// Whom messages were sent to, in order.
     pub receivers: Row<u64>,
     /// The calls that were closed by replies, in order.
-    pub closed: Row<Closed>,
+    pub closed: ClosedCalls,
 }
 
 /// A reason, as often as the process of a pid, which lives, has open calls.
@@ -109,7 +110,7 @@ pub fn commit_exit(
             let exited = Exited {
                 ended: ended_process(pid, living, told),
                 receivers: Row::new(receivers),
-                closed: Row::new(closed),
+                closed,
             };
             Ok((replies, exited))
         }

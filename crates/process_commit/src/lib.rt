@@ -30,11 +30,13 @@
 
 mod acting;
 mod answers;
+mod closed_calls;
 mod exiting;
 mod resting;
 mod sends;
 
 pub use answers::{Answer, Closed, answer_all, answer_of, reopen_all};
+pub use closed_calls::ClosedCalls;
 pub use exiting::{Exited, commit_exit, revert_exit};
 pub use resting::{Rested, commit_rest, rests_in, revert_rest};
 pub use sends::receiver_of;

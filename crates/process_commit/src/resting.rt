@@ -12,7 +12,8 @@ ghost use Rattle.process_store.specs.Pieces.{HoldsLost};
 ghost use Rattle.process_store.specs.Table.{changed, living};
 
 use crate::acting::{Acted, act_all};
-use crate::answers::{Closed, reopen_all};
+use crate::answers::reopen_all;
+use crate::closed_calls::ClosedCalls;
 use crate::sends::unsend_all;
 use code_server::Modules;
 use erl_eval::{Act, Place};
@@ -34,7 +35,7 @@ pub struct Rested {
     /// Whom messages were sent to, in order.
     pub receivers: Row<u64>,
     /// The calls that were closed, in order.
-    pub closed: Row<Closed>,
+    pub closed: ClosedCalls,
 }
 
 /// The instance of a loop function's place, among the code in which it came to rest; none of a callback module's.
@@ -66,6 +67,7 @@ fn loaded_as(serial: u64, code: &[Instance]) -> Option<&Instance>
 }
 
 /// What tells the instances that a process uses, which lives.
+#[inline(always)]
 pub(crate) fn told_of(store: &ProcessStore, alloc: Global, pid: u64) -> Result<Told, AllocError>
     requires { IsSome (living pid store.now) }
     ensures { IfOk result (λ told. IfSome (living pid store.now) (λ l. ended_with told.rests_in told.code l.process ≡ ended l.process)) }
@@ -114,7 +116,7 @@ pub fn commit_rest(
                 pid,
                 ran: ran.named(told),
                 receivers: Row::new(receivers),
-                closed: Row::new(closed),
+                closed,
             };
             Ok((replies, rested))
         }
@@ -128,6 +130,7 @@ pub fn commit_rest(
 /// Makes ready what takes the commit of a job back whose process rests again: the instances that the process used are handed out, as
 /// they stand in the table of modules, and the calls are open again; or nothing, where memory is refused, and where one of the
 /// instances is not in the table.
+#[inline(always)]
 fn open_again(
     store: &mut ProcessStore,
     alloc: Global,
@@ -152,6 +155,7 @@ fn open_again(
 }
 
 /// The messages go, and the process runs again what it ran, with these instances. Takes no memory.
+#[inline(always)]
 fn take_back(store: &mut ProcessStore, rested: Rested, used: Used)
     requires { HasTurned rested.pid (all_unsent rested.receivers store.old) }
     ensures { store.new ≡ changed (unrest_living (ran_in used.rests_in used.code rested.ran)) rested.pid (all_unsent rested.receivers store.old) }

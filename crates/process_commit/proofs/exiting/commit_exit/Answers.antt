@@ -47,12 +47,12 @@ returns-clause-inverse c =
     let l = c.in-Some.living in
     let told = c.in_ok-told.told in
     let acted = c.in_ok-acted.acted in
-    let is : ◌≡◌ {A = Exited} (record { ended = c.ended_process.result; receivers = c.new.result; closed = c.new-in-Some.result }) (record { ended = ended_as pid told.rests_in told.code l; receivers = acted.receivers.items; closed = acted.closed.items }) = λ i. record { ended = c.ended_process.ensures i; receivers = c.new.ensures i; closed = c.new-in-Some.ensures i } in
+    let is : ◌≡◌ {A = Exited} (record { ended = c.ended_process.result; receivers = c.new.result; closed = acted.closed }) (record { ended = ended_as pid told.rests_in told.code l; receivers = acted.receivers.items; closed = acted.closed }) = λ i. record { ended = c.ended_process.ensures i; receivers = c.new.ensures i; closed = acted.closed } in
     subst (λ (u : Exited). ExitsBack u t c.remove.new.self) (sym is) (λ modules. (
-      exited_fits modules pid c.act_all.new.store c.remove.new.self l told acted.receivers.items acted.closed.items c.in-Some.ensures.returns c.in-Some.ensures.back c.in_ok-acted.ensures.fits,
+      exited_fits modules pid c.act_all.new.store c.remove.new.self l told acted.receivers.items acted.closed c.in-Some.ensures.returns c.in-Some.ensures.back c.in_ok-acted.ensures.fits,
       λ sound stand.
           let alive = leaver_lives pid c.args.acts.now (answers_of c.args.acts.now) t c.act_all.new.store c.in_ok-acted.ensures.table modules l told c.in-Some.ensures.process c.requires c.in_ok-told.ensures sound stand in
-          exited_back modules pid t c.act_all.new.store c.remove.new.self l told acted.receivers.items acted.closed.items alive c.in-Some.ensures.back c.in_ok-acted.ensures.back,
+          exited_back modules pid t c.act_all.new.store c.remove.new.self l told acted.receivers.items acted.closed alive c.in-Some.ensures.back c.in_ok-acted.ensures.back,
     ))
 
 pub returns-clause-pieces : goal.returns-clause-pieces

@@ -23,17 +23,17 @@ returns-in-Ok-clause-inverse c =
     let told = c.in_ok-told.told in
     let ran = c.rest_next-ran.result in
     let told_so : c.named.result ≡ ran_with told.rests_in told.code ran = c.named.ensures in
-    let is : ◌≡◌ {A = Rested} (record { pid = c.args.job.now.pid; ran = c.named.result; receivers = c.new.result; closed = c.new-in-Ok.result }) (record { pid = c.args.job.now.pid; ran = ran_with told.rests_in told.code ran; receivers = acted.receivers.items; closed = acted.closed.items }) = λ i. record { pid = c.args.job.now.pid; ran = told_so i; receivers = c.new.ensures i; closed = c.new-in-Ok.ensures i } in
+    let is : ◌≡◌ {A = Rested} (record { pid = c.args.job.now.pid; ran = c.named.result; receivers = c.new.result; closed = acted.closed }) (record { pid = c.args.job.now.pid; ran = ran_with told.rests_in told.code ran; receivers = acted.receivers.items; closed = acted.closed }) = λ i. record { pid = c.args.job.now.pid; ran = told_so i; receivers = c.new.ensures i; closed = acted.closed } in
     subst (λ (u : Rested). RestsBack u c.args.store.now c.act_all.new.store) (sym is) (λ modules. (
       (c.in-Ok.ensures.fits, subst (HasTurned c.args.job.now.pid) (sym c.in-Ok.ensures.back) c.rest_next-ran.ensures.fits),
-      λ sound stand. rested_back modules c.args.job.now c.args.store.now c.rest_next-ran.new.self c.act_all.new.store told ran acted.receivers.items acted.closed.items sound stand c.requires.running c.in_ok-told.ensures c.rest_next-ran.ensures.back c.in-Ok.ensures.back,
+      λ sound stand. rested_back modules c.args.job.now c.args.store.now c.rest_next-ran.new.self c.act_all.new.store told ran acted.receivers.items acted.closed sound stand c.requires.running c.in_ok-told.ensures c.rest_next-ran.ensures.back c.in-Ok.ensures.back,
     ))
 
 pub returns-in-Ok-clause-pieces : goal.returns-in-Ok-clause-pieces
 returns-in-Ok-clause-pieces c =
     let job = c.args.job.now in
     let told = c.in_ok-told.told in
-    let u : Rested = record { pid = job.pid; ran = c.named.result; receivers = c.new.result; closed = c.new-in-Ok.result } in
+    let u : Rested = record { pid = job.pid; ran = c.named.result; receivers = c.new.result; closed = c.in-Ok.acted.closed } in
     let (l, lives) = running_lives (living job.pid c.args.store.now) job c.requires.running in
     let done = rested_is job c.args.place.now c.in_ok-at.at c.in_ok-rests_in.rests_in c.as_slice.result.now c.args.acts.now c.args.store.now c.rest_next-ran.new.self c.act_all.new.store c.in_ok-at.ensures c.as_slice.ensures c.in_ok-rests_in.ensures c.rest_next-ran.ensures.rested c.in-Ok.ensures.table in
     rested_lost u c.args.place.now (rests_in c.args.place.now job.code) told.rests_in told.code c.rest_next-ran.result c.args.acts.now c.args.store.now c.rest_next-ran.new.self c.act_all.new.store job.pid l lives c.rest_next-ran.ensures.back done refl c.named.ensures
