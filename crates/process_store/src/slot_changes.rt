@@ -55,6 +55,7 @@ pub(crate) fn resume_at(slots: &mut Vec<Option<Living>>, pid: u64)
 }
 
 /// The process in a slot, which lives and runs, rests at a place, one turn on. What it ran is handed out.
+#[inline(always)]
 fn rest_in(
     slot: &mut Option<Living>,
     place: Place,
@@ -75,6 +76,7 @@ fn rest_in(
 
 /// A process that lives and runs rests at a place, one turn on. What it ran is handed out.
 #[tactic(auto, using(crate::proofs::Slots::slots_from_write))]
+#[inline(always)]
 pub(crate) fn rest_at(
     slots: &mut Vec<Option<Living>>,
     pid: u64,
@@ -96,6 +98,7 @@ pub(crate) fn rest_at(
 }
 
 /// The process in a slot, if one lives there, runs again what it ran before it rested.
+#[inline(always)]
 fn unrest_in(slot: &mut Option<Living>, ran: Ran)
     requires { IfSome slot.old Turned }
     ensures { slot.new ≡ option_map (unrest_living ran) slot.old }
@@ -107,6 +110,7 @@ fn unrest_in(slot: &mut Option<Living>, ran: Ran)
 
 /// A process runs again what it ran before it rested.
 #[tactic(auto, using(crate::proofs::Slots::slots_from_write))]
+#[inline(always)]
 pub(crate) fn unrest_at(slots: &mut Vec<Option<Living>>, pid: u64, ran: Ran)
     requires { IfSome (living_at slots.old.items pid) Turned }
     ensures { slots.new.items ≡ changed_slots (unrest_living ran) pid slots.old.items }

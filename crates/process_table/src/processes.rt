@@ -46,6 +46,7 @@ impl Model for Processes {
 }
 
 impl Processes {
+    ghost use Rattle.process_table.specs.Messages.{message_of};
     ghost use Rattle.process_table.specs.Steps.{IsNextRunnable, Takes, Tells, after_arrival, arrive_refusal, is_repeated, is_runnable, missing, retake_refusal, start_refusal, take_refusal, with_process};
     ghost use Rattle.process_store.specs.Table.{changed, empty_table, is_open, living, next_pid, pid_of};
     ghost use Rattle.process_commit.specs.Commits.{job_at};
@@ -194,6 +195,41 @@ impl Processes {
             Ok(None) => return Err(ProcError::CounterEnd),
             Err(_) => return Err(ProcError::Memory),
         };
+        let call = body.call(client);
+        match self.store.arrive(pid, message, call) {
+            Ok(()) => Ok(Undo::Arrived { pid, call }),
+            Err(_) => Err(ProcError::Memory),
+        }
+    }
+
+    /// The same as [`Processes::arrive`] where the message is there already that this comes as, so that it isn't made once more.
+    ///
+    /// # Errors
+    ///
+    /// In this order: `NoProc` where no process has the name, `DuplicateCall` where a call of this number is open, `Memory`. The table
+    /// is then as it was.
+    pub fn arrive_made(
+        &mut self,
+        client: u64,
+        name: &Atom,
+        body: &Body,
+        message: Term,
+    ) -> Result<Undo, ProcError>
+        requires { message_of body.now ≡ Some message }
+        ensures ok { OnOk result (arrive_refusal name.now body.now self.old ≡ None) }
+        ensures arrived { OnOk result (self.new ≡ after_arrival client name.now body.now self.old) }
+        ensures inverse { IfOk result (λ undo. TakesBack undo self.old self.new) }
+        ensures pieces { IfOk result (λ undo. HoldsLost (held undo self.new) self.old self.new) }
+        ensures refused { IfErr result (λ e. Tells e (arrive_refusal name.now body.now self.old)) }
+        ensures err { OnErr result (self.new ≡ self.old) }
+    {
+        let Some(pid) = self.pid_of(name) else {
+            return Err(ProcError::NoProc);
+        };
+        let repeated = self.is_repeated(body);
+        if repeated {
+            return Err(ProcError::DuplicateCall);
+        }
         let call = body.call(client);
         match self.store.arrive(pid, message, call) {
             Ok(()) => Ok(Undo::Arrived { pid, call }),

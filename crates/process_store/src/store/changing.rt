@@ -136,6 +136,7 @@ impl ProcessStore {
 
     /// The process of a pid, which lives and runs, rests at a place, one turn on, and takes next the message that
     /// [`ProcessStore::next_at`] tells. What it ran is handed out, by which [`ProcessStore::unrest`] takes it back. Takes no memory.
+    #[inline(always)]
     pub fn rest_next(
         &mut self,
         pid: u64,
@@ -154,6 +155,7 @@ impl ProcessStore {
     }
 
     /// The process of a pid runs again what it ran before it rested, where it lives. Takes no memory.
+    #[inline(always)]
     pub fn unrest(&mut self, pid: u64, ran: Ran)
         requires { HasTurned pid self.old }
         ensures { self.new ≡ changed (unrest_living ran) pid self.old }

@@ -1,5 +1,5 @@
 // A job is committed.
-ghost use Rattle.std.specs.Prelude.{◌≡◌, ◌↔◌, IfErr, IfOk, IsSome, IsTrue, None, OnErr, OnOk, replicate};
+ghost use Rattle.std.specs.Prelude.{◌≡◌, ◌↔◌, ◌∷◌, [], IfErr, IfOk, IsSome, IsTrue, None, OnErr, OnOk, replicate};
 ghost use Rattle.process_commit.specs.Commits.{IsRunning};
 ghost use Rattle.process_store.specs.Changes.{CanTurnAt};
 ghost use Rattle.process_store.specs.Table.{living};
@@ -115,6 +115,27 @@ impl Processes {
         }
     }
 
+    /// What a job that a process runs has done is done, and the process rests or ends. What clients are told is handed out in one value.
+    fn conclude_once(
+        &mut self,
+        job: &Job,
+        acts: &[Act],
+        end: &End,
+    ) -> Result<(Vec<Row<Reply>>, Undo), AllocError>
+        requires running { IsRunning job.now self.old }
+        requires turns { CanTurnAt job.now.pid self.old }
+        ensures concluded { OnOk result (self.new ≡ concluded job.now acts.now end.now self.old) }
+        ensures told { IfOk result (λ it. it.0.items ≡ told_by job.now.pid acts.now end.now self.old ∷ []) }
+        ensures inverse { IfOk result (λ it. TakesBackEnds it.1 self.old self.new) }
+        ensures pieces { IfOk result (λ it. HoldsLost (held it.1 self.new) self.old self.new) }
+        ensures err { OnErr result (self.new ≡ self.old) }
+    {
+        let mut told = Vec::with_capacity(self.alloc, 1)?;
+        let (replies, undo) = self.conclude(job, acts, end)?;
+        told.push_reserved(Row::new(replies));
+        Ok((told, undo))
+    }
+
     /// What a job that a process runs has done is done, and the process rests or ends. What clients are told is handed out in `n` equal
     /// values.
     fn conclude_telling(
@@ -132,6 +153,9 @@ impl Processes {
         ensures pieces { IfOk result (λ it. HoldsLost (held it.1 self.new) self.old self.new) }
         ensures err { OnErr result (self.new ≡ self.old) }
     {
+        if n == 1 {
+            return self.conclude_once(job, acts, end);
+        }
         let telling = self.telling(job.pid, acts, end, n)?;
         let (replies, undo) = self.conclude(job, acts, end)?;
         Ok((telling.tell(replies), undo))
