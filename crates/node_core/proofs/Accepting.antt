@@ -1,7 +1,7 @@
 -- What is accepted, and told as often as it is asked for.
-use Rattle.std.proofs.Common.{◌≡◌, ℕ, zero, suc, List, ◌∷◌, map, replicate, Option, None, Some, Ok, Err, MatchOption, option_map, refl, sym, ap, subst}
+use Rattle.std.proofs.Common.{◌≡◌, ℕ, zero, suc, List, ◌∷◌, map, replicate, Option, None, Some, Ok, Err, MatchOption, option_map, refl, sym, ap, subst, ◌∙◌}
 use Rattle.process_table.specs.declared.error.ProcError.{ProcError}
-use Rattle.undo_journal.specs.Reversible.{Accepted, Accepts, told_of}
+use Rattle.undo_journal.specs.Reversible.{Accepted, Accepts, AcceptsWith, told_of}
 use Rattle.undo_journal.specs.declared.reversible.Told.{Told}
 use Rattle.node_core.specs.Node.{NodeState}
 use Rattle.node_core.specs.Step.{Step, unless}
@@ -27,6 +27,15 @@ unless_some o of a e some = ap (λ p. unless p of a) (sym some)
 -- An event is accepted: seen from what a node holds.
 pub accepted_of : (n now : NodeState) (e : Event) (a : Accepted NodeState Answer Note) (new : NodeState) (k : ℕ) (told : List (Told Answer Note)) → n ≡ now → Step n e (Ok a) → new ≡ a.node → told ≡ replicate k (told_of a) → Accepts (Step now e) new k told
 accepted_of n now e a new k told view step is tells = subst (λ m. Accepts (Step m e) new k told) view (a, step, sym is, tells)
+
+-- the same, and its note is kept
+pub accepted_with : (n now : NodeState) (e : Event) (a : Accepted NodeState Answer Note) (new : NodeState) (k : ℕ) (told : List (Told Answer Note)) (note : Note) → n ≡ now → Step n e (Ok a) → new ≡ a.node → told ≡ replicate k (told_of a) → a.note ≡ note → AcceptsWith (Step now e) new k told note
+accepted_with n now e a new k told note view step is tells same = subst (λ m. AcceptsWith (Step m e) new k told note) view (a, step, sym is, tells, same)
+
+-- What is accepted with a note is accepted without it.
+pub accepted_alone : (now : NodeState) (e other : Event) (new : NodeState) (k : ℕ) (told said : List (Told Answer Note)) (note : Note) → e ≡ other → said ≡ told → AcceptsWith (Step now e) new k told note → Accepts (Step now other) new k said
+accepted_alone now e other new k told said note same alike accepts =
+    subst (λ d. Accepts (Step now d) new k said) same (accepts.0, accepts.1, accepts.2, alike ∙ accepts.3)
 
 -- Why an event is refused is told, or nothing stands against it.
 

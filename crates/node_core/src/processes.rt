@@ -3,7 +3,7 @@ ghost use Rattle.std.specs.Prelude.{◌≡◌, ◌∷◌, [], IfErr, IfOk, IfSom
 ghost use Rattle.process_table.specs.Messages.{message_of};
 ghost use Rattle.app_table.specs.Applications.{all_ended};
 ghost use Rattle.app_table.specs.Undo.{undone as apps_before};
-ghost use Rattle.undo_journal.specs.Reversible.{Accepts, Refuses};
+ghost use Rattle.undo_journal.specs.Reversible.{Accepts, AcceptsWith, Refuses};
 ghost use Rattle.node_core.specs.Record.{AppsBack, Undoes};
 ghost use Rattle.node_core.specs.Step.{MayRunOut, Step as Steps, arrival_of, ended_by};
 ghost use Rattle.node_core.specs.Errors.{error_of};
@@ -13,37 +13,45 @@ ghost use Rattle.node_core.specs.declared.event.Event.TheVariants as event;
 use crate::event::{Answer, Note, Refusal};
 use crate::node::Node;
 use crate::record::Record;
-use crate::telling::{room, sharing, tell, tell_jobs, tell_replies};
+use crate::telling::{reporting_nothing, room, tell_jobs, tell_note, tell_replies};
 use erl_machine::{Done, End};
 use erl_term::{Atom, Term};
 use process_table::{Body, ProcError};
 use reserved_box::{Boxed, Reserved};
 use std::alloc::{AllocError, Global};
 use sys_protocol::Apps;
-use undo_journal::{StepError, Stepped, Told};
+use undo_journal::{Noted, StepError, Stepped, Told};
 use values::{Duplicate, Row};
 
 /// What one step of a node gives.
 pub(crate) type Step = Result<Stepped<Answer, Note, Record>, StepError<Refusal>>;
 
-/// What is told of an arrival, in `n` equal values.
+/// What one step of a node gives whose note is kept.
+pub(crate) type NotedStep = Result<Noted<Answer, Note, Record>, StepError<Refusal>>;
+
+/// That a message came for a process of a name. It shares what it is made of with the message.
+fn arrival_note(alloc: Global, name: &Atom, message: &Term) -> Result<Note, AllocError>
+    ensures { IfOk result (λ it. it ≡ record { replies = []; arrival = arrival_of name.now (Some message.now) }) }
+{
+    Ok(Note {
+        replies: Row::new(Vec::new(alloc)),
+        arrival: Some((name.copy(alloc)?, message.copy(alloc)?)),
+    })
+}
+
+/// What an undo of an arrival reports, and what is told of the arrival, in `n` equal values.
 fn arrival_told(
     alloc: Global,
     name: &Atom,
-    body: &Body,
+    message: &Term,
     n: usize,
-) -> Result<Vec<Told<Answer, Note>>, AllocError>
-    ensures { IfOk result (λ it. it.items ≡ replicate n (record { answer = answer.Unit; note = record { replies = []; arrival = arrival_of name.now (message_of body.now) } })) }
+) -> Result<(Vec<Told<Answer, Note>>, Note), AllocError>
+    ensures told { IfOk result (λ it. it.0.items ≡ replicate n (record { answer = answer.Unit; note = record { replies = []; arrival = arrival_of name.now (Some message.now) } })) }
+    ensures note { IfOk result (λ it. it.1 ≡ record { replies = []; arrival = arrival_of name.now (Some message.now) }) }
 {
-    let arrival = match body.message(alloc)? {
-        Some(message) => Some((name.copy(alloc)?, message)),
-        None => None,
-    };
-    let note = Note {
-        replies: Row::new(Vec::new(alloc)),
-        arrival,
-    };
-    tell(alloc, Answer::Unit, note, n)
+    let note = arrival_note(alloc, name, message)?;
+    let told = tell_note(alloc, &note, n)?;
+    Ok((told, note))
 }
 
 /// The child, if any, whose process ends for a reason has none, and is due or not.
@@ -106,48 +114,53 @@ fn error_of(refusal: Option<ProcError>) -> StepError<Refusal>
 }
 
 impl Node {
-    /// A message of a client comes for the process of a name. A cast is made up once, and is from then on what it comes as.
+    /// A message of a client comes for the process of a name. It is made up once.
     #[inline(never)]
-    pub(crate) fn arrive(&mut self, client: u64, name: &Atom, body: &Body, n: usize) -> Step
-        ensures accepted { IfOk result (λ done. Accepts (Steps self.old (event.Arrive client name.now body.now)) self.new n done.told.items) }
+    pub(crate) fn arrive(&mut self, client: u64, name: &Atom, body: &Body, n: usize) -> NotedStep
+        ensures accepted { IfOk result (λ done. AcceptsWith (Steps self.old (event.Arrive client name.now body.now)) self.new n done.told.items done.note) }
         ensures reversible { IfOk result (λ done. Undoes done.trace self.old self.new) }
         ensures refused { IfErr result (Refuses (Steps self.old (event.Arrive client name.now body.now)) (MayRunOut self.old (event.Arrive client name.now body.now))) }
         ensures err { OnErr result (self.new ≡ self.old) }
     {
-        match body {
-            Body::Cast(_) => match body.message(self.alloc) {
-                Ok(Some(message)) => self.receive(client, name, &Body::Info(message), n),
-                Ok(None) => self.receive(client, name, body, n),
-                Err(_) => Err(error_of(self.processes.arrive_refusal(name, body))),
-            },
-            Body::Call { .. } | Body::Info(_) => self.receive(client, name, body, n),
+        match body.message(self.alloc) {
+            Ok(Some(message)) => self.receive(client, name, body, message, n),
+            _ => Err(error_of(self.processes.arrive_refusal(name, body))),
         }
     }
 
-    /// This comes for the process of a name.
-    fn receive(&mut self, client: u64, name: &Atom, body: &Body, n: usize) -> Step
-        ensures accepted { IfOk result (λ done. Accepts (Steps self.old (event.Arrive client name.now body.now)) self.new n done.told.items) }
+    /// This message comes for the process of a name.
+    fn receive(
+        &mut self,
+        client: u64,
+        name: &Atom,
+        body: &Body,
+        message: Term,
+        n: usize,
+    ) -> NotedStep
+        requires { message_of body.now ≡ Some message }
+        ensures accepted { IfOk result (λ done. AcceptsWith (Steps self.old (event.Arrive client name.now body.now)) self.new n done.told.items done.note) }
         ensures reversible { IfOk result (λ done. Undoes done.trace self.old self.new) }
         ensures refused { IfErr result (Refuses (Steps self.old (event.Arrive client name.now body.now)) (MayRunOut self.old (event.Arrive client name.now body.now))) }
         ensures err { OnErr result (self.new ≡ self.old) }
     {
-        let Ok(told) = arrival_told(self.alloc, name, body, n) else {
+        let Ok((told, note)) = arrival_told(self.alloc, name, &message, n) else {
             return Err(error_of(self.processes.arrive_refusal(name, body)));
         };
-        let undo = match self.processes.arrive(client, name, body) {
+        let undo = match self.processes.arrive_made(client, name, body, message) {
             Ok(undo) => undo,
             Err(_) => return Err(error_of(self.processes.arrive_refusal(name, body))),
         };
-        Ok(Stepped {
-            told: sharing(told, self.alloc, &self.processes, &undo),
+        Ok(Noted {
+            told,
+            note,
             trace: Record::OfProcesses(undo, None),
         })
     }
 
     /// A process takes its next message, and runs it.
     #[inline(never)]
-    pub(crate) fn take(&mut self, pid: u64, n: usize) -> Step
-        ensures accepted { IfOk result (λ done. Accepts (Steps self.old (event.Take pid)) self.new n done.told.items) }
+    pub(crate) fn take(&mut self, pid: u64, n: usize) -> NotedStep
+        ensures accepted { IfOk result (λ done. AcceptsWith (Steps self.old (event.Take pid)) self.new n done.told.items done.note) }
         ensures reversible { IfOk result (λ done. Undoes done.trace self.old self.new) }
         ensures refused { IfErr result (Refuses (Steps self.old (event.Take pid)) (MayRunOut self.old (event.Take pid))) }
         ensures err { OnErr result (self.new ≡ self.old) }
@@ -159,8 +172,9 @@ impl Node {
             Ok(taken) => taken,
             Err(_) => return Err(error_of(self.processes.take_refusal(pid))),
         };
-        Ok(Stepped {
+        Ok(Noted {
             told: tell_jobs(told, self.alloc, jobs),
+            note: reporting_nothing(self.alloc),
             trace: Record::OfProcesses(undo, None),
         })
     }

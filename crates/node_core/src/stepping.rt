@@ -1,20 +1,22 @@
 // Steps of the node, and what takes them back.
 ghost use Rattle.node_core.specs.Record.{Undoes};
-ghost use Rattle.std.specs.Prelude.{◌≡◌, option_map};
+ghost use Rattle.std.specs.Prelude.{◌≡◌, IfErr, IfOk, OnErr, option_map};
+ghost use Rattle.undo_journal.specs.Reversible.{AcceptsWith, Refuses};
 ghost use Rattle.node_core.specs.Step.{MayRunOut, Step as Steps, soft_purge_refusal};
 ghost use Rattle.node_core.specs.declared.event.Refusal.TheVariants.{OfApps, OfModules, OfProcesses};
 ghost use Rattle.node_core.specs.OneOutcome.{one_outcome_of};
 
 use crate::event::{Answer, Event, Note, Refusal};
 use crate::node::Node;
-use crate::processes::Step;
+use crate::processes::{NotedStep, Step};
 use crate::record::Record;
+use crate::telling::without_note;
 use code_loading::is_lingered_in;
 use code_server::CodeError;
 use erl_term::Atom;
 use process_table::ProcError;
 use sys_protocol::SysError;
-use undo_journal::Reversible;
+use undo_journal::{Noted, Reversible, Stepped, Told};
 
 /// A refusal of the processes, if there is one.
 fn of_processes(refusal: Option<ProcError>) -> Option<Refusal>
@@ -49,6 +51,23 @@ impl Node {
     }
 }
 
+impl Node {
+    /// Makes a step with one equal value more, and keeps the note of that.
+    fn step_aside(&mut self, event: &Event, n: u8) -> NotedStep
+        ensures accepted { IfOk result (λ done. AcceptsWith (Steps self.old event.now) self.new n done.told.items done.note) }
+        ensures reversible { IfOk result (λ done. Undoes done.trace self.old self.new) }
+        ensures refused { IfErr result (Refuses (Steps self.old event.now) (MayRunOut self.old event.now)) }
+        ensures err { OnErr result (self.new ≡ self.old) }
+    {
+        let Stepped { mut told, trace } = self.step(event, usize::from(n) + 1)?;
+        let Some(kept) = told.pop() else {
+            unreachable!()
+        };
+        let Told { answer: _, note } = kept;
+        Ok(Noted { told, note, trace })
+    }
+}
+
 impl Reversible for Node {
     type Event = Event;
 
@@ -68,14 +87,30 @@ impl Reversible for Node {
 
     fn step(&mut self, event: &Event, n: usize) -> Step {
         match event {
-            Event::Arrive { client, name, body } => self.arrive(*client, name, body, n),
-            Event::Take(pid) => self.take(*pid, n),
+            Event::Arrive { client, name, body } => {
+                let noted = self.arrive(*client, name, body, n)?;
+                Ok(without_note(noted))
+            }
+            Event::Take(pid) => {
+                let noted = self.take(*pid, n)?;
+                Ok(without_note(noted))
+            }
             Event::Commit(done) => self.commit(done, n),
             Event::Revive { app, id } => self.revive(app, id, n),
             Event::Load(code) => self.load(code, n),
             Event::Delete(name) => self.delete(name, n),
             Event::Purge(name) => self.purge(name, n),
             Event::SoftPurge(name) => self.soft_purge(name, n),
+        }
+    }
+
+    fn step_noted(&mut self, event: &Event, n: u8) -> NotedStep {
+        match event {
+            Event::Arrive { client, name, body } => {
+                self.arrive(*client, name, body, usize::from(n))
+            }
+            Event::Take(pid) => self.take(*pid, usize::from(n)),
+            _ => self.step_aside(event, n),
         }
     }
 

@@ -3,13 +3,12 @@ ghost use Rattle.std.specs.Prelude.{◌≡◌, ◌≤◌, ◌++◌, ◌∷◌, [
 ghost use Rattle.node_core.specs.declared.event.Answer.TheVariants as answer;
 
 use crate::event::{Answer, Note};
+use crate::record::Record;
 use erl_machine::Job;
-use erl_term::Term;
 use process_ending::Reply;
-use process_table::{Processes, Undo};
 use std::alloc::{AllocError, Global};
-use undo_journal::Told;
-use values::{Duplicate, Row, Same};
+use undo_journal::{Noted, Stepped, Told};
+use values::{Duplicate, Row};
 
 /// One of several equal values.
 fn push_told(
@@ -26,16 +25,17 @@ fn push_told(
     Ok(())
 }
 
-/// Several equal values of what is told of an event, with room for one more.
+/// Several equal values of what is told of an event, with room for some more.
 fn tell_copies(
     alloc: Global,
     answer: &Answer,
     note: &Note,
     copies: usize,
+    more: usize,
 ) -> Result<Vec<Told<Answer, Note>>, AllocError>
     ensures { IfOk result (λ it. it.items ≡ replicate copies (record { answer = answer.now; note = note.now })) }
 {
-    let mut told = Vec::with_capacity(alloc, copies.saturating_add(1))?;
+    let mut told = Vec::with_capacity(alloc, copies.saturating_add(more))?;
     for _i in 0..copies {
         push_told(&mut told, alloc, answer, note)?;
     }
@@ -54,9 +54,30 @@ pub(crate) fn tell(
     let Some(copies) = n.checked_sub(1) else {
         return Ok(Vec::new(alloc));
     };
-    let mut told = tell_copies(alloc, &answer, &note, copies)?;
+    let mut told = tell_copies(alloc, &answer, &note, copies, 1)?;
     told.push(Told { answer, note })?;
     Ok(told)
+}
+
+/// What is told of an event whose answer says nothing, in `n` equal values. The note is copied for each.
+pub(crate) fn tell_note(
+    alloc: Global,
+    note: &Note,
+    n: usize,
+) -> Result<Vec<Told<Answer, Note>>, AllocError>
+    ensures { IfOk result (λ it. it.items ≡ replicate n (record { answer = answer.Unit; note = note.now })) }
+{
+    if n == 0 {
+        return Ok(Vec::new(alloc));
+    }
+    tell_copies(alloc, &Answer::Unit, note, n, 0)
+}
+
+/// That nothing was sent, and nothing came.
+pub(crate) fn reporting_nothing(alloc: Global) -> Note
+    ensures { result ≡ record { replies = []; arrival = None } }
+{
+    reporting(Vec::new(alloc))
 }
 
 /// That these replies were sent, and nothing came.
@@ -69,80 +90,17 @@ pub(crate) fn reporting(replies: Vec<Reply>) -> Note
     }
 }
 
-/// An equal term: a copy of another one, which shares what that is made of, where they are equal, and else the same.
-fn shared_term(own: Term, alloc: Global, other: &Term) -> Term
-    ensures { result ≡ own }
+/// A step whose note is not kept.
+pub(crate) fn without_note(noted: Noted<Answer, Note, Record>) -> Stepped<Answer, Note, Record>
+    ensures told { result.told.items ≡ noted.told.items }
+    ensures trace { result.trace ≡ noted.trace }
 {
-    if !other.same(&own) {
-        return own;
-    }
-    match other.copy(alloc) {
-        Ok(copy) => copy,
-        Err(_) => own,
-    }
-}
-
-/// An equal note, whose message shares what it is made of with this one, where they are equal.
-fn shared_note(note: Note, alloc: Global, message: &Term) -> Note
-    ensures { result ≡ note }
-{
-    let Note { replies, arrival } = note;
-    match arrival {
-        Some((name, own)) => Note {
-            replies,
-            arrival: Some((name, shared_term(own, alloc, message))),
-        },
-        None => Note {
-            replies,
-            arrival: None,
-        },
-    }
-}
-
-/// The same is told. In the last of it, which is what is kept, the message shares what it is made of with this one, where they are equal.
-fn share_last(
-    told: Vec<Told<Answer, Note>>,
-    alloc: Global,
-    message: &Term,
-) -> Vec<Told<Answer, Note>>
-    ensures { result.items ≡ told.items }
-{
-    let mut told = told;
-    let Some(last) = told.pop() else {
-        return told;
-    };
-    let Told { answer, note } = last;
-    told.push_reserved(Told {
-        answer,
-        note: shared_note(note, alloc, message),
-    });
-    told
-}
-
-/// The message that an arrival brought, where it waits last.
-fn newest<'a>(processes: &'a Processes, undo: &Undo) -> Option<&'a Term> {
-    match undo {
-        Undo::Arrived { pid, .. } => {
-            let process = &processes.get(*pid)?.process;
-            process.message(process.len().checked_sub(1)?)
-        }
-        _ => None,
-    }
-}
-
-/// The same is told of an arrival. So that there is one message and not two, what is kept of it shares its message with the process.
-pub(crate) fn sharing(
-    told: Vec<Told<Answer, Note>>,
-    alloc: Global,
-    processes: &Processes,
-    undo: &Undo,
-) -> Vec<Told<Answer, Note>>
-    ensures { result.items ≡ told.items }
-{
-    match newest(processes, undo) {
-        Some(message) => share_last(told, alloc, message),
-        None => told,
-    }
+    let Noted {
+        told,
+        note: _,
+        trace,
+    } = noted;
+    Stepped { told, trace }
 }
 
 /// Room to tell of an event `n` times.
@@ -189,7 +147,7 @@ pub(crate) fn tell_jobs(
     for job in jobs {
         told.push_reserved(Told {
             answer: Answer::Job(job),
-            note: reporting(Vec::new(alloc)),
+            note: reporting_nothing(alloc),
         });
     }
     told

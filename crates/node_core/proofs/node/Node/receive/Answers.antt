@@ -1,12 +1,13 @@
--- The message arrives.
-use Rattle.std.proofs.Common.{◌∙◌, [], sym, subst, ap}
+-- The message that was made arrives.
+use Rattle.std.proofs.Common.{◌≡◌, ◌∙◌, [], Option, Some, replicate, sym, subst, ap}
+use Rattle.erl_term.specs.declared.term.Term.{Term}
 use Rattle.code_loading.proofs.Stepping.{steps_keep_code}
 use Rattle.code_loading.specs.Consistent.{IsConsistent}
 use Rattle.process_store.specs.Table.{Table}
 use Rattle.process_table.specs.Messages.{message_of}
 use Rattle.process_table.specs.Steps.{after_arrival, arrive_refusal}
 use Rattle.undo_journal.specs.Reversible.{Accepted}
-use Rattle.node_core.proofs.Accepting.{accepted_of, unless_none}
+use Rattle.node_core.proofs.Accepting.{accepted_with, unless_none}
 use Rattle.node_core.proofs.Refusing.{arrival-refused}
 use Rattle.node_core.specs.Errors.{error_of}
 use Rattle.node_core.specs.Node.{NodeState, with_processes}
@@ -20,7 +21,7 @@ use Rattle.node_core.proofs.node.Node.receive.Goals as goal
 
 pub invariant_of-self-2 : goal.invariant_of-self-2
 invariant_of-self-2 c =
-    subst (λ (t : Table). IsConsistent c.self.inside.modules t) (sym c.in-Ok-arrive.ensures.arrived) (steps_keep_code.arrivals c.args.client c.args.name.now c.args.body.now c.self.inside.modules c.self.inside.processes c.self.invariant)
+    subst (λ (t : Table). IsConsistent c.self.inside.modules t) (sym c.in-Ok-arrive_made.ensures.arrived) (steps_keep_code.arrivals c.args.client c.args.name.now c.args.body.now c.self.inside.modules c.self.inside.processes c.self.invariant)
 
 pub returns-clause-accepted : goal.returns-clause-accepted
 returns-clause-accepted c =
@@ -32,8 +33,9 @@ returns-clause-accepted c =
     let name = c.args.name.now in
     let body = c.args.body.now in
     let a : Accepted NodeState Answer Note = record { node = with_processes (after_arrival c.args.client name body t) n; answer = answer.Unit; note = record { replies = []; arrival = arrival_of name (message_of body) } } in
-    let new : NodeState = record { modules = m; processes = c.arrive.new.self; apps = apps } in
-    accepted_of n c.args.self.now (event.Arrive c.args.client name body) a new k c.sharing.result.items c.self.view_is (unless_none (arrive_refusal name body t) OfProcesses a c.in-Ok-arrive.ensures.ok) (ap (λ (u : Table). with_processes u n) c.in-Ok-arrive.ensures.arrived) (c.sharing.ensures ∙ c.in-Ok.ensures)
+    let same : Some c.args.message ≡ message_of body = sym c.requires in
+    let new : NodeState = record { modules = m; processes = c.arrive_made.new.self; apps = apps } in
+    accepted_with n c.args.self.now (event.Arrive c.args.client name body) a new k c.in-Ok.told.items c.in-Ok.note c.self.view_is (unless_none (arrive_refusal name body t) OfProcesses a c.in-Ok-arrive_made.ensures.ok) (ap (λ (u : Table). with_processes u n) c.in-Ok-arrive_made.ensures.arrived) (c.in-Ok.ensures.told ∙ ap (λ (o : Option Term). replicate k (record { answer = answer.Unit; note = record { replies = []; arrival = arrival_of name o } })) same) (sym (c.in-Ok.ensures.note ∙ ap (λ (o : Option Term). record { replies = []; arrival = arrival_of name o }) same))
 
 pub returns-in_default-clause-refused : goal.returns-in_default-clause-refused
 returns-in_default-clause-refused c =

@@ -7,7 +7,7 @@ use Rattle.process_commit.specs.Commits.{job_at}
 use Rattle.process_store.specs.Table.{Table, living}
 use Rattle.undo_journal.specs.Reversible.{Accepted}
 use Rattle.undo_journal.specs.declared.reversible.Told.{Told}
-use Rattle.node_core.proofs.Accepting.{accepted_of, each_of}
+use Rattle.node_core.proofs.Accepting.{accepted_with, each_of}
 use Rattle.process_table.specs.Steps.{take_refusal}
 use Rattle.node_core.proofs.Refusing.{take-refused}
 use Rattle.node_core.specs.Errors.{error_of}
@@ -38,7 +38,7 @@ returns-clause-accepted c =
     let new : NodeState = record { modules = m; processes = c.take.new.self; apps = apps } in
     let said : Job → Told Answer Note = λ j. record { answer = answer.Job j; note = record { replies = []; arrival = None } } in
     let runs = ap (λ (u : Table). job_at (living pid u)) (sym takes.table) ∙ takes.runs in
-    accepted_of n c.args.self.now (event.Take pid) a new k c.tell_jobs.result.items c.self.view_is (job, c.in-Ok-take.ensures.ok, takes.code, runs, refl) (ap (λ (u : Table). with_processes u n) takes.table) (c.tell_jobs.ensures ∙ ap (map said) takes.told ∙ each_of said job k)
+    accepted_with n c.args.self.now (event.Take pid) a new k c.tell_jobs.result.items c.reporting_nothing.result c.self.view_is (job, c.in-Ok-take.ensures.ok, takes.code, runs, refl) (ap (λ (u : Table). with_processes u n) takes.table) (c.tell_jobs.ensures ∙ ap (map said) takes.told ∙ each_of said job k) (sym c.reporting_nothing.ensures)
 
 pub returns-in_default-clause-refused : goal.returns-in_default-clause-refused
 returns-in_default-clause-refused c =
