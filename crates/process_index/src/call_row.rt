@@ -57,6 +57,7 @@ impl CallRow {
     /// # Errors
     ///
     /// `AllocError` where memory is refused. The calls are then as they were.
+    #[inline(always)]
     pub(crate) fn insert(&mut self, place: usize, call: Call) -> Result<(), AllocError>
         requires { place ≤ length self.old }
         ensures ok { OnOk result (self.new ≡ insert self.old place call) }
@@ -75,6 +76,7 @@ impl CallRow {
 
     /// Takes the call at a place out, in the time that it takes to move those before it or those behind it, whichever are fewer, by
     /// and large. Takes no memory.
+    #[inline(always)]
     pub(crate) fn remove(&mut self, place: usize)
         requires { place < length self.old }
         ensures { self.new ≡ remove self.old place }
@@ -94,11 +96,19 @@ impl CallRow {
     fn close_up(&mut self)
         ensures { self.new ≡ self.old }
     {
-        let left = self.items.len() - self.gone;
-        if left < self.gone {
-            self.items.rotate_left(self.gone);
-            self.items.truncate(left);
-            self.gone = 0;
+        if self.items.len() - self.gone < self.gone {
+            self.pack();
         }
+    }
+
+    /// Those that are there stand at the front, and none is gone.
+    #[inline(never)]
+    fn pack(&mut self)
+        ensures { self.new ≡ self.old }
+    {
+        let left = self.items.len() - self.gone;
+        self.items.rotate_left(self.gone);
+        self.items.truncate(left);
+        self.gone = 0;
     }
 }

@@ -70,6 +70,7 @@ impl Calls {
     /// # Errors
     ///
     /// `AllocError` where memory is refused. The calls are then as they were.
+    #[inline(always)]
     pub fn insert(&mut self, call: Call) -> Result<(), AllocError>
         requires { has call self.old ≡ false }
         ensures ok { OnOk result (self.new ≡ with_call call self.old) }
@@ -81,6 +82,7 @@ impl Calls {
     }
 
     /// Takes a call out, where it is there. Takes no memory.
+    #[inline(always)]
     pub fn remove(&mut self, call: Call)
         ensures { self.new ≡ without call self.old }
     {

@@ -117,6 +117,7 @@ impl CallIndex {
     }
 
     /// Whose the call with a number is, where it is open. Takes no memory.
+    #[inline(always)]
     pub fn get(&self, number: u64) -> Option<Owner>
         ensures { result ≡ map.get self.now number }
     {
@@ -147,6 +148,7 @@ impl CallIndex {
     }
 
     /// Takes the call with a number out, where it is open, and hands out whose it was. Takes no memory.
+    #[inline(always)]
     pub fn take(&mut self, number: u64) -> Option<Owner>
         ensures owner { result ≡ map.get self.old number }
         ensures taken { self.new ≡ put number None self.old }
@@ -157,6 +159,7 @@ impl CallIndex {
     }
 
     /// Takes the call with a number out, where it is open. Takes no memory.
+    #[inline(always)]
     pub fn remove(&mut self, number: u64)
         ensures { self.new ≡ put number None self.old }
     {
