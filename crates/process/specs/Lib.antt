@@ -1,3 +1,4 @@
+pub mod Code
 pub mod Ended
 pub mod Kept
 pub mod Process

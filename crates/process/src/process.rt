@@ -8,6 +8,7 @@ mod named_code;
 mod rerunning;
 
 use crate::activity::{Activity, Running};
+use crate::code::Code;
 pub use ending::{Did, Ended, NamedRunning, Told, ended_processes_live};
 use erl_eval::Place;
 use erl_machine::{Instance, Job, matches};
@@ -63,6 +64,7 @@ pub struct Ran {
 }
 
 /// The position of the first message that is taken at a place.
+#[inline(always)]
 fn first_of(
     alloc: Global,
     pid: u64,
@@ -248,7 +250,7 @@ impl Process {
             self.activity = Activity::Runs(Running {
                 entry_serial,
                 message,
-                code,
+                code: Code::many(code),
             });
             self.next = None;
         }
@@ -309,7 +311,7 @@ impl Process {
         };
         let place = self.place.copy(alloc)?;
         let message = running.message.copy(alloc)?;
-        let code = running.code.copy(alloc)?;
+        let code = running.code.row(alloc)?;
         Ok(Some(Job {
             pid: self.pid,
             turn: self.turn,
@@ -331,7 +333,7 @@ impl Process {
                     && running.entry_serial == job.entry_serial
                     && running.message.same(&job.message)
                     && self.place.same(&job.place)
-                    && running.code.same(&job.code)
+                    && running.code.is(&job.code)
             }
             Activity::Idle | Activity::Suspended => false,
         }
@@ -363,6 +365,7 @@ impl Process {
     /// # Errors
     ///
     /// `AllocError` where memory is refused.
+    #[inline(always)]
     pub fn next_at(
         &self,
         alloc: Global,

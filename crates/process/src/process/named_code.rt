@@ -50,6 +50,7 @@ impl Model for NamedInstances {
 
 impl NamedInstances {
     /// No instance. Takes no memory.
+    #[inline(always)]
     pub fn none(alloc: Global) -> NamedInstances
         ensures { result ≡ [] }
     {
@@ -63,6 +64,7 @@ impl NamedInstances {
     /// # Errors
     ///
     /// `AllocError` where memory is refused.
+    #[inline(always)]
     pub fn of(alloc: Global, instances: &[Instance]) -> Result<NamedInstances, AllocError>
         ensures { IfOk result (λ it. it ≡ map named_instance (map instance instances.now)) }
     {
@@ -83,6 +85,7 @@ impl NamedInstances {
     }
 
     /// What tells the instances, in their order. Takes no memory.
+    #[inline(always)]
     pub fn as_slice(&self) -> &[NamedInstance]
         ensures { result.now ≡ self.now }
     {

@@ -5,13 +5,13 @@ ghost use Rattle.process.specs.Rerun.{JobsRunAgain, ran_in, ran_with, runs_again
 use super::Ran;
 use super::ending::{NamedRunning, Told, code_in, place_found};
 use crate::activity::Running;
+use crate::code::Code;
 use code_server::Modules;
 use erl_eval::Place;
 use erl_forms::Module;
 use erl_machine::Instance;
 use job_code::NamedInstance;
 use std::alloc::{AllocError, Global};
-use values::Row;
 
 /// What a job leaves behind when its process rests again: where it rested before, and what it ran. It holds no code: the
 /// instances that the process used are told by names and serials.
@@ -31,7 +31,7 @@ pub struct Used {
     /// The instance of its place.
     pub rests_in: Option<Instance>,
     /// The code that it ran in.
-    pub code: Row<Instance>,
+    pub code: Code,
 }
 
 impl Ran {
