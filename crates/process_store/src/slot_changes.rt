@@ -123,6 +123,7 @@ pub(crate) fn unrest_at(slots: &mut Vec<Option<Living>>, pid: u64, ran: Ran)
 }
 
 /// A call is open no more to the process in a slot, if one lives there and was asked.
+#[inline(always)]
 fn close_in(slot: &mut Option<Living>, call: Call)
     ensures { slot.new ≡ option_map (closed_living call) slot.old }
 {
@@ -133,6 +134,7 @@ fn close_in(slot: &mut Option<Living>, call: Call)
 
 /// A call is open to a process no more.
 #[tactic(auto, using(crate::proofs::Slots::slots_from_write))]
+#[inline(always)]
 pub(crate) fn close_at(slots: &mut Vec<Option<Living>>, pid: u64, call: Call)
     ensures { slots.new.items ≡ changed_slots (closed_living call) pid slots.old.items }
 {
@@ -144,6 +146,7 @@ pub(crate) fn close_at(slots: &mut Vec<Option<Living>>, pid: u64, call: Call)
 }
 
 /// A call is open to the process in a slot, if one lives there.
+#[inline(always)]
 fn reopen_in(slot: &mut Option<Living>, call: Call) -> Result<(), AllocError>
     requires { IfSome slot.old (λ l. has call l.calls ≡ false) }
     ensures ok { OnOk result (slot.new ≡ option_map (reopened_living call) slot.old) }
@@ -157,6 +160,7 @@ fn reopen_in(slot: &mut Option<Living>, call: Call) -> Result<(), AllocError>
 
 /// A call is open to a process.
 #[tactic(auto, using(crate::proofs::Slots::slots_from_write))]
+#[inline(always)]
 pub(crate) fn reopen_at(
     slots: &mut Vec<Option<Living>>,
     pid: u64,

@@ -119,6 +119,7 @@ impl ProcessStore {
     /// # Errors
     ///
     /// `AllocError` where memory is refused.
+    #[inline(always)]
     pub fn next_at(
         &self,
         pid: u64,
