@@ -79,6 +79,7 @@ fn act_reply(
 /// # Errors
 ///
 /// `AllocError` where memory is refused. The processes are then as they were.
+#[inline(never)]
 fn act_in_order(
     store: &mut ProcessStore,
     alloc: Global,

@@ -22,6 +22,7 @@ use erl_machine::{Instance, Job};
 use process::{NamedRan, Told, Used};
 use process_ending::Reply;
 use process_store::ProcessStore;
+use reserved_box::{Boxed, Reserved};
 use std::alloc::{AllocError, Global};
 use values::{Duplicate, Row};
 
@@ -43,6 +44,7 @@ pub struct Rested {
 /// # Errors
 ///
 /// `AllocError` where memory is refused.
+#[inline(always)]
 pub fn rests_in(
     alloc: Global,
     place: &Place,
@@ -79,7 +81,7 @@ pub(crate) fn told_of(store: &ProcessStore, alloc: Global, pid: u64) -> Result<T
 }
 
 /// Commits a job whose process rests again at a place: its acts are done, in order, and then it rests there, one turn on. What clients
-/// are told is handed out.
+/// are told is handed out, and what takes this back, in memory of its own.
 ///
 /// # Errors
 ///
@@ -90,7 +92,7 @@ pub fn commit_rest(
     job: &Job,
     acts: &[Act],
     place: &Place,
-) -> Result<(Vec<Reply>, Rested), AllocError>
+) -> Result<(Vec<Reply>, Boxed<Rested>), AllocError>
     requires running { IsRunning job.now store.old }
     requires turns { CanTurnAt job.now.pid store.old }
     ensures rested { OnOk result (store.new ≡ rested_after job.now place.now acts.now store.old) }
@@ -99,6 +101,7 @@ pub fn commit_rest(
     ensures pieces { IfOk result (λ it. HoldsLost (held_of it.1 store.new) store.old store.new) }
     ensures err { OnErr result (store.new ≡ store.old) }
 {
+    let room = Reserved::new(alloc)?;
     let pid = job.pid;
     let told = told_of(store, alloc, pid)?;
     let rests_in = rests_in(alloc, place, job.code.as_slice())?;
@@ -112,12 +115,12 @@ pub fn commit_rest(
                 receivers,
                 closed,
             } = acted;
-            let rested = Rested {
+            let rested = room.fill(Rested {
                 pid,
                 ran: ran.named(told),
                 receivers: Row::new(receivers),
                 closed,
-            };
+            });
             Ok((replies, rested))
         }
         Err(refused) => {
@@ -181,19 +184,21 @@ pub fn revert_rest(
     store: &mut ProcessStore,
     alloc: Global,
     modules: &Modules<Module>,
-    rested: Rested,
-) -> Result<(), Rested>
+    rested: Boxed<Rested>,
+) -> Result<(), Boxed<Rested>>
     requires { CanUnrest rested store.old }
     ensures ok { OnOk result (store.new ≡ unrested modules.now rested store.old) }
     ensures kept { OnOk result (IsSome (runs_again modules.now rested.ran)) }
     ensures back { IfErr result (λ it. it ≡ rested) }
     ensures err { OnErr result (store.new ≡ store.old) }
 {
+    let (rested, room) = rested.open();
     match open_again(store, alloc, modules, &rested) {
         Some(used) => {
+            room.free();
             take_back(store, rested, used);
             Ok(())
         }
-        None => Err(rested),
+        None => Err(room.fill(rested)),
     }
 }

@@ -448,6 +448,7 @@ impl Processes {
     }
 
     /// A process that has ended lives again.
+    #[inline(never)]
     fn revert_end(
         &mut self,
         modules: &Modules<Module>,
@@ -467,6 +468,7 @@ impl Processes {
     }
 
     /// Processes that were killed live again.
+    #[inline(never)]
     fn revert_kill(
         &mut self,
         modules: &Modules<Module>,

@@ -107,6 +107,7 @@ impl Processes {
     }
 
     /// What was evaluated inside a step is taken back.
+    #[inline(never)]
     pub(super) fn revert_batched(&mut self, batched: Batched) -> Result<(), Undo>
         requires { CanUnbatch batched self.old }
         ensures ok { OnOk result (self.new ≡ unbatched batched self.old) }

@@ -53,6 +53,7 @@ impl Processes {
     }
 
     /// The process of a job, which lives, ends for a reason, once its acts are done.
+    #[inline(never)]
     fn exit(
         &mut self,
         pid: u64,
@@ -88,9 +89,8 @@ impl Processes {
     {
         match end {
             End::Rest(place) => {
-                let room = Reserved::new(self.alloc)?;
                 let (replies, rested) = commit_rest(&mut self.store, self.alloc, job, acts, place)?;
-                Ok((replies, Undo::Rested(room.fill(rested))))
+                Ok((replies, Undo::Rested(rested)))
             }
             End::Value(_) => {
                 let normal = normal(self.alloc)?;
@@ -236,14 +236,14 @@ impl Processes {
         ensures back { IfErr result (λ it. it ≡ Undo.Rested rested) }
         ensures err { OnErr result (self.new ≡ self.old) }
     {
-        let (rested, room) = rested.open();
         match revert_rest(&mut self.store, self.alloc, modules, rested) {
             Ok(()) => Ok(()),
-            Err(rested) => Err(Undo::Rested(room.fill(rested))),
+            Err(rested) => Err(Undo::Rested(rested)),
         }
     }
 
     /// The commit of a job whose process has ended is taken back.
+    #[inline(never)]
     pub(super) fn revert_exited(
         &mut self,
         modules: &Modules<Module>,
