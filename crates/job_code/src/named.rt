@@ -59,6 +59,7 @@ pub fn named_of(alloc: Global, instances: &[Instance]) -> Result<Vec<NamedInstan
 const FEW: usize = 8;
 
 /// The current code of the module at a place, where that is the instance that is told.
+#[inline(always)]
 fn told_at<'a>(
     modules: &'a Modules<Module>,
     place: usize,
@@ -79,6 +80,7 @@ fn told_at<'a>(
 }
 
 /// The current code of one of the first few modules, where that is the instance that is told.
+#[inline(always)]
 fn told_first<'a>(
     modules: &'a Modules<Module>,
     told: &NamedInstance,
@@ -114,6 +116,7 @@ fn loaded_by_name<'a>(
 }
 
 /// The current or the old code of a module, whichever has the serial.
+#[inline(always)]
 fn loaded<'a>(
     modules: &'a Modules<Module>,
     told: &NamedInstance,
@@ -131,6 +134,7 @@ fn loaded<'a>(
 /// # Errors
 ///
 /// `AllocError` where memory is refused.
+#[inline(always)]
 pub fn instance_of(
     alloc: Global,
     modules: &Modules<Module>,

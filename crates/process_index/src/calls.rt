@@ -95,6 +95,7 @@ impl Calls {
 }
 
 /// How many of the calls come before this one: where it stands among them, or would stand.
+#[inline(always)]
 fn place(calls: &[Call], call: Call) -> usize
     requires { AreInOrder calls.now }
     ensures within { result ≤ length calls.now }

@@ -48,6 +48,7 @@ impl Model for CallIndex {
 }
 
 /// Where the first of these calls stands that has a number.
+#[inline(always)]
 fn place_of(calls: &[(u64, Owner)], number: u64) -> Option<usize>
     ensures { result ≡ position (λ call. nat_eq number call.0) calls.now }
 {
@@ -55,6 +56,7 @@ fn place_of(calls: &[(u64, Owner)], number: u64) -> Option<usize>
 }
 
 /// Whose the first of these calls is that has a number.
+#[inline(always)]
 fn owner_among(calls: &[(u64, Owner)], number: u64) -> Option<Owner>
     ensures { result ≡ lookup (nat_eq number) calls.now }
 {
@@ -65,6 +67,7 @@ fn owner_among(calls: &[(u64, Owner)], number: u64) -> Option<Owner>
 }
 
 /// Whether one of these calls has a number, the first of which gets another owner then.
+#[inline(always)]
 fn put_among(calls: &mut Vec<(u64, Owner)>, number: u64, owner: Owner) -> bool
     ensures put { IsTrue result → (q : ℕ) → lookup (nat_eq q) calls.new.items ≡ cond (nat_eq number q) (Some owner) (lookup (nat_eq q) calls.old.items) }
     ensures absent { result ≡ false → lookup (nat_eq number) calls.old.items ≡ None }
@@ -80,6 +83,7 @@ fn put_among(calls: &mut Vec<(u64, Owner)>, number: u64, owner: Owner) -> bool
 }
 
 /// Takes those of these calls out that have a number.
+#[inline(always)]
 fn remove_among(calls: &mut Vec<(u64, Owner)>, number: u64)
     ensures { calls.new.items ≡ filter (λ call. not (nat_eq number call.0)) calls.old.items }
 {
@@ -87,6 +91,7 @@ fn remove_among(calls: &mut Vec<(u64, Owner)>, number: u64)
 }
 
 /// Whose the call with a number is, of those that are hashed.
+#[inline(always)]
 fn owner_hashed(calls: &HashMap<u64, Owner, RandomState>, number: u64) -> Option<Owner>
     ensures { result ≡ lookup (nat_eq number) calls.now.entries }
 {
@@ -97,6 +102,7 @@ fn owner_hashed(calls: &HashMap<u64, Owner, RandomState>, number: u64) -> Option
 }
 
 /// Takes the call with a number out of those that are hashed.
+#[inline(always)]
 fn remove_hashed(calls: &mut HashMap<u64, Owner, RandomState>, number: u64)
     ensures { (q : ℕ) → lookup (nat_eq q) calls.new.entries ≡ cond (nat_eq number q) None (lookup (nat_eq q) calls.old.entries) }
 {
@@ -132,6 +138,7 @@ impl CallIndex {
     /// # Errors
     ///
     /// `AllocError` where memory is refused. The calls are then as they were.
+    #[inline(always)]
     pub fn insert(&mut self, number: u64, owner: Owner) -> Result<(), AllocError>
         ensures ok { OnOk result (self.new ≡ put number (Some owner) self.old) }
         ensures err { OnErr result (self.new ≡ self.old) }
