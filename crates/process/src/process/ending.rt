@@ -113,6 +113,7 @@ fn code_told(alloc: Global, activity: &Activity) -> Result<NamedInstances, Alloc
 }
 
 /// The instance of a place, where there is one, in the table; none where it is not there.
+#[inline(always)]
 pub(super) fn place_found(
     alloc: Global,
     modules: &Modules<Module>,

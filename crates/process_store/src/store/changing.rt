@@ -166,6 +166,7 @@ impl ProcessStore {
 
     /// Closes the open call of a number, whosever process it is open to, and hands out the pid and the call. Found by key;
     /// takes no memory.
+    #[inline(always)]
     pub fn close(&mut self, number: u64) -> Option<(u64, Call)>
         ensures owner { result ≡ owner_of number self.old }
         ensures closed { IfSome result (λ it. self.new ≡ closed_in it.0 it.1 self.old) }
