@@ -7,7 +7,7 @@ use Rattle.node_core.specs.Node.{NodeState}
 use Rattle.node_core.specs.Step.{Step, unless}
 use Rattle.node_core.specs.declared.event.Answer.{Answer}
 use Rattle.node_core.specs.declared.event.Event.{Event}
-use Rattle.node_core.specs.declared.event.Note.{Note}
+use Rattle.node_core.specs.Note.{Note}
 use Rattle.node_core.specs.declared.event.Refusal.{Refusal}
 use Rattle.node_core.specs.declared.event.Refusal.TheVariants.{OfProcesses}
 

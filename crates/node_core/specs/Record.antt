@@ -8,7 +8,7 @@ use Rattle.app_table.specs.Undo as apps
 use Rattle.app_table.specs.declared.undo.Undo as apps_undo
 use Rattle.node_core.specs.Node.{IsKept, NodeState}
 use Rattle.node_core.specs.declared.record.Record.{Record}
-use Rattle.node_core.specs.declared.record.Record.TheVariants.{OfProcesses, OfCode, OfDeletion}
+use Rattle.node_core.specs.declared.record.Record.TheVariants.{OfProcesses, OfChildren, OfCode, OfDeletion}
 
 -- of the applications, where any were changed
 abbrev pub AppsBack : Option apps_undo.Undo → List Application → List Application → Type 0
@@ -16,8 +16,10 @@ AppsBack None before after = after ≡ before
 AppsBack (Some undo) before after = apps.undone undo after ≡ before
 
 abbrev pub Restores : Record → NodeState → NodeState → Type 0
-Restores (OfProcesses undo ended) before after =
-    (after.modules ≡ before.modules) × TakesBackEnds undo before.processes after.processes × AppsBack ended before.apps after.apps
+Restores (OfProcesses undo) before after =
+    (after.modules ≡ before.modules) × TakesBackEnds undo before.processes after.processes × AppsBack None before.apps after.apps
+Restores (OfChildren undo ended) before after =
+    (after.modules ≡ before.modules) × TakesBackEnds undo before.processes after.processes × AppsBack (Some ended) before.apps after.apps
 Restores (OfCode undo ended) before after =
     loading.TakesBack undo before.modules before.processes after.modules after.processes × AppsBack ended before.apps after.apps
 Restores (OfDeletion undo) before after =

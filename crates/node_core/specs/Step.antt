@@ -35,7 +35,7 @@ use Rattle.node_core.specs.declared.event.Answer.{Answer}
 use Rattle.node_core.specs.declared.event.Answer.TheVariants as answer
 use Rattle.node_core.specs.declared.event.Event.{Event}
 use Rattle.node_core.specs.declared.event.Event.TheVariants.{Arrive, Take, Commit, Revive, Load, Delete, Purge, SoftPurge}
-use Rattle.node_core.specs.declared.event.Note.{Note}
+use Rattle.node_core.specs.Note.{Note}
 use Rattle.node_core.specs.declared.event.Refusal.{Refusal}
 use Rattle.node_core.specs.declared.event.Refusal.TheVariants.{OfProcesses, OfModules, OfApps}
 

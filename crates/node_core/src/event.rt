@@ -3,13 +3,12 @@ use code_server::CodeError;
 use erl_forms::Module;
 use erl_machine::{Done, Job};
 use erl_term::{Atom, Term};
-use process_ending::Reply;
 use process_table::{Body, ProcError};
 use std::alloc::{AllocError, Global};
 use std::fmt;
 use sys_protocol::SysError;
 use thiserror::Error;
-use values::{Duplicate, Row};
+use values::Duplicate;
 
 /// An event: what makes a step of a node.
 #[derive(Drop)]
@@ -57,15 +56,6 @@ pub enum Answer {
     Unit,
 }
 
-/// What an undo of an event reports.
-#[derive(Drop)]
-pub struct Note {
-    /// The replies that were sent, in order.
-    pub replies: Row<Reply>,
-    /// The name and the message of an arrival.
-    pub arrival: Option<(Atom, Term)>,
-}
-
 /// Why an event is refused; never for want of memory.
 #[derive(Drop, Error)]
 pub enum Refusal {
@@ -95,14 +85,5 @@ impl Duplicate for Answer {
             Answer::Killed(killed) => Ok(Answer::Killed(*killed)),
             Answer::Unit => Ok(Answer::Unit),
         }
-    }
-}
-
-impl Duplicate for Note {
-    fn copy(&self, alloc: Global) -> Result<Note, AllocError> {
-        Ok(Note {
-            replies: self.replies.copy(alloc)?,
-            arrival: self.arrival.copy(alloc)?,
-        })
     }
 }

@@ -25,6 +25,7 @@
 mod event;
 mod loading;
 mod node;
+mod note;
 mod processes;
 mod record;
 mod reverting;
@@ -32,6 +33,7 @@ mod reviving;
 mod stepping;
 mod telling;
 
-pub use event::{Answer, Event, Note, Refusal};
+pub use event::{Answer, Event, Refusal};
 pub use node::Node;
+pub use note::Note;
 pub use record::Record;

@@ -9,8 +9,9 @@ ghost use Rattle.node_core.specs.Step.{MayRunOut, Step as Steps, reporting};
 ghost use Rattle.node_core.specs.declared.event.Answer.TheVariants as answer;
 ghost use Rattle.node_core.specs.declared.event.Event.TheVariants as event;
 
-use crate::event::{Answer, Note, Refusal};
+use crate::event::{Answer, Refusal};
 use crate::node::Node;
+use crate::note::Note;
 use crate::processes::{Step, unend};
 use crate::record::Record;
 use crate::telling::{reporting, tell};

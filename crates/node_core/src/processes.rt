@@ -4,14 +4,17 @@ ghost use Rattle.process_table.specs.Messages.{message_of};
 ghost use Rattle.app_table.specs.Applications.{all_ended};
 ghost use Rattle.app_table.specs.Undo.{undone as apps_before};
 ghost use Rattle.undo_journal.specs.Reversible.{Accepts, AcceptsWith, Refuses};
+ghost use Rattle.process_table.specs.Undo.{TakesBackEnds};
+ghost use Rattle.node_core.specs.Node.{IsKept, NodeState};
 ghost use Rattle.node_core.specs.Record.{AppsBack, Undoes};
 ghost use Rattle.node_core.specs.Step.{MayRunOut, Step as Steps, arrival_of, ended_by};
 ghost use Rattle.node_core.specs.Errors.{error_of};
 ghost use Rattle.node_core.specs.declared.event.Answer.TheVariants as answer;
 ghost use Rattle.node_core.specs.declared.event.Event.TheVariants as event;
 
-use crate::event::{Answer, Note, Refusal};
+use crate::event::{Answer, Refusal};
 use crate::node::Node;
+use crate::note::Note;
 use crate::record::Record;
 use crate::telling::{reporting_nothing, room, tell_jobs, tell_note, tell_replies};
 use erl_machine::{Done, End};
@@ -21,7 +24,7 @@ use reserved_box::{Boxed, Reserved};
 use std::alloc::{AllocError, Global};
 use sys_protocol::Apps;
 use undo_journal::{Noted, StepError, Stepped, Told};
-use values::{Duplicate, Row};
+use values::Duplicate;
 
 /// What one step of a node gives.
 pub(crate) type Step = Result<Stepped<Answer, Note, Record>, StepError<Refusal>>;
@@ -33,10 +36,7 @@ pub(crate) type NotedStep = Result<Noted<Answer, Note, Record>, StepError<Refusa
 fn arrival_note(alloc: Global, name: &Atom, message: &Term) -> Result<Note, AllocError>
     ensures { IfOk result (λ it. it ≡ record { replies = []; arrival = arrival_of name.now (Some message.now) }) }
 {
-    Ok(Note {
-        replies: Row::new(Vec::new(alloc)),
-        arrival: Some((name.copy(alloc)?, message.copy(alloc)?)),
-    })
+    Ok(Note::of_arrival(name.copy(alloc)?, message.copy(alloc)?))
 }
 
 /// What an undo of an arrival reports, and what is told of the arrival, in `n` equal values.
@@ -103,6 +103,17 @@ pub(crate) fn unend(apps: &mut Apps, undo: Option<Boxed<sys_protocol::Undo>>)
     }
 }
 
+/// What takes a change of processes back, and with it that of children, if any.
+fn record_of(undo: process_table::Undo, ended: Option<Boxed<sys_protocol::Undo>>) -> Record
+    ensures { (before after : NodeState) → IsKept before → after.modules ≡ before.modules
+        → TakesBackEnds undo before.processes after.processes → AppsBack ended before.apps after.apps → Undoes result before after }
+{
+    match ended {
+        None => Record::OfProcesses(undo),
+        Some(ended) => Record::OfChildren(undo, ended),
+    }
+}
+
 /// Why a step isn't made: the refusal, or want of memory where there is none.
 fn error_of(refusal: Option<ProcError>) -> StepError<Refusal>
     ensures { result ≡ error_of refusal }
@@ -153,7 +164,7 @@ impl Node {
         Ok(Noted {
             told,
             note,
-            trace: Record::OfProcesses(undo, None),
+            trace: Record::OfProcesses(undo),
         })
     }
 
@@ -175,7 +186,7 @@ impl Node {
         Ok(Noted {
             told: tell_jobs(told, self.alloc, jobs),
             note: reporting_nothing(self.alloc),
-            trace: Record::OfProcesses(undo, None),
+            trace: Record::OfProcesses(undo),
         })
     }
 
@@ -204,7 +215,7 @@ impl Node {
         match self.processes.commit_unrefused(done, n) {
             Ok((replies, undo)) => Ok(Stepped {
                 told: tell_replies(told, replies),
-                trace: Record::OfProcesses(undo, ended),
+                trace: record_of(undo, ended),
             }),
             Err(_) => {
                 unend(&mut self.apps, ended);

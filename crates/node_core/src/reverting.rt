@@ -11,23 +11,36 @@ use erl_forms::Module;
 use reserved_box::Boxed;
 
 impl Node {
-    /// Takes back what was done to processes, and to their children.
-    pub(crate) fn revert_processes(
+    /// Takes back what was done to processes alone.
+    pub(crate) fn revert_processes(&mut self, undo: process_table::Undo) -> Result<(), Record>
+        requires { (before : NodeState) × Undoes (record_of.OfProcesses undo) before self.old }
+        ensures ok { OnOk result ((before : NodeState) → Undoes (record_of.OfProcesses undo) before self.old → self.new ≡ before) }
+        ensures err { OnErr result (self.new ≡ self.old) }
+        ensures back { IfErr result (λ it. it ≡ record_of.OfProcesses undo) }
+    {
+        match self.processes.revert(&self.modules, undo) {
+            Ok(()) => Ok(()),
+            Err(undo) => Err(Record::OfProcesses(undo)),
+        }
+    }
+
+    /// Takes back what was done to processes and to their children.
+    pub(crate) fn revert_children(
         &mut self,
         undo: process_table::Undo,
-        ended: Option<Boxed<sys_protocol::Undo>>,
+        ended: Boxed<sys_protocol::Undo>,
     ) -> Result<(), Record>
-        requires { (before : NodeState) × Undoes (record_of.OfProcesses undo ended) before self.old }
-        ensures ok { OnOk result ((before : NodeState) → Undoes (record_of.OfProcesses undo ended) before self.old → self.new ≡ before) }
+        requires { (before : NodeState) × Undoes (record_of.OfChildren undo ended) before self.old }
+        ensures ok { OnOk result ((before : NodeState) → Undoes (record_of.OfChildren undo ended) before self.old → self.new ≡ before) }
         ensures err { OnErr result (self.new ≡ self.old) }
-        ensures back { IfErr result (λ it. it ≡ record_of.OfProcesses undo ended) }
+        ensures back { IfErr result (λ it. it ≡ record_of.OfChildren undo ended) }
     {
         match self.processes.revert(&self.modules, undo) {
             Ok(()) => {
-                unend(&mut self.apps, ended);
+                unend(&mut self.apps, Some(ended));
                 Ok(())
             }
-            Err(undo) => Err(Record::OfProcesses(undo, ended)),
+            Err(undo) => Err(Record::OfChildren(undo, ended)),
         }
     }
 

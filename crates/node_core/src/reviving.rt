@@ -43,7 +43,7 @@ impl Node {
         {
             Ok(revival) => Ok(Stepped {
                 told: tell_revived(told, revival.pid, revival.told),
-                trace: Record::OfProcesses(revival.processes, Some(memory.fill(revival.undo))),
+                trace: Record::OfChildren(revival.processes, memory.fill(revival.undo)),
             }),
             Err(SysError::Memory) => Err(StepError::Memory),
             Err(refusal) => Err(StepError::Rule(Refusal::OfApps(refusal))),

@@ -6,8 +6,9 @@ ghost use Rattle.node_core.specs.Step.{MayRunOut, Step as Steps, soft_purge_refu
 ghost use Rattle.node_core.specs.declared.event.Refusal.TheVariants.{OfApps, OfModules, OfProcesses};
 ghost use Rattle.node_core.specs.OneOutcome.{one_outcome_of};
 
-use crate::event::{Answer, Event, Note, Refusal};
+use crate::event::{Answer, Event, Refusal};
 use crate::node::Node;
+use crate::note::Note;
 use crate::processes::{NotedStep, Step};
 use crate::record::Record;
 use crate::telling::without_note;
@@ -116,7 +117,8 @@ impl Reversible for Node {
 
     fn revert(&mut self, trace: Record) -> Result<(), Record> {
         match trace {
-            Record::OfProcesses(undo, ended) => self.revert_processes(undo, ended),
+            Record::OfProcesses(undo) => self.revert_processes(undo),
+            Record::OfChildren(undo, ended) => self.revert_children(undo, ended),
             Record::OfCode(undo, ended) => self.revert_code(undo, ended),
             Record::OfDeletion(undo) => self.revert_deletion(undo),
         }

@@ -1,11 +1,13 @@
 // What is told of an event.
-ghost use Rattle.std.specs.Prelude.{◌≡◌, ◌≤◌, ◌++◌, ◌∷◌, [], IfOk, None, OnOk, map, replicate, vec_capacity, vec_len};
+ghost use Rattle.std.specs.Prelude.{◌≡◌, ◌+◌, ◌≤◌, ◌++◌, ◌∷◌, [], IfOk, None, OnOk, length, map, replicate, vec_capacity, vec_len};
 ghost use Rattle.node_core.specs.declared.event.Answer.TheVariants as answer;
 
-use crate::event::{Answer, Note};
+use crate::event::Answer;
+use crate::note::Note;
 use crate::record::Record;
 use erl_machine::Job;
 use process_ending::Reply;
+use process_table::Copies;
 use std::alloc::{AllocError, Global};
 use undo_journal::{Noted, Stepped, Told};
 use values::{Duplicate, Row};
@@ -84,10 +86,7 @@ pub(crate) fn reporting_nothing(alloc: Global) -> Note
 pub(crate) fn reporting(replies: Vec<Reply>) -> Note
     ensures { result ≡ record { replies = replies.items; arrival = None } }
 {
-    Note {
-        replies: Row::new(replies),
-        arrival: None,
-    }
+    Note::of_replies(Row::new(replies))
 }
 
 /// A step whose note is not kept.
@@ -111,26 +110,40 @@ pub(crate) fn room(alloc: Global, n: usize) -> Result<Vec<Told<Answer, Note>>, A
     Vec::with_capacity(alloc, n)
 }
 
+/// Tells that these replies were sent.
+fn sent(replies: Row<Reply>) -> Told<Answer, Note>
+    ensures { result ≡ record { answer = answer.Unit; note = record { replies = replies; arrival = None } } }
+{
+    Told {
+        answer: Answer::Unit,
+        note: Note::of_replies(replies),
+    }
+}
+
 /// Tells, as often as there is such a list, that these replies were sent. There is room for it.
-pub(crate) fn tell_replies(
-    told: Vec<Told<Answer, Note>>,
-    lists: Vec<Row<Reply>>,
-) -> Vec<Told<Answer, Note>>
-    requires none { told.items ≡ [] }
-    requires room { vec_len lists ≤ vec_capacity told }
-    ensures { result.items ≡ map (λ replies. record { answer = answer.Unit; note = record { replies = replies; arrival = None } }) lists.items }
+fn tell_others(told: Vec<Told<Answer, Note>>, lists: Vec<Row<Reply>>) -> Vec<Told<Answer, Note>>
+    requires room { vec_len told + vec_len lists ≤ vec_capacity told }
+    ensures { result.items ≡ told.items ++ map (λ replies. record { answer = answer.Unit; note = record { replies = replies; arrival = None } }) lists.items }
 {
     let mut told = told;
     for replies in lists {
-        told.push_reserved(Told {
-            answer: Answer::Unit,
-            note: Note {
-                replies,
-                arrival: None,
-            },
-        });
+        told.push_reserved(sent(replies));
     }
     told
+}
+
+/// Tells, as often as there is such a list, that these replies were sent. There is room for it.
+pub(crate) fn tell_replies(told: Vec<Told<Answer, Note>>, lists: Copies) -> Vec<Told<Answer, Note>>
+    requires none { told.items ≡ [] }
+    requires room { length lists ≤ vec_capacity told }
+    ensures { result.items ≡ map (λ replies. record { answer = answer.Unit; note = record { replies = replies; arrival = None } }) lists }
+{
+    let mut told = told;
+    let (first, others) = lists.into_parts();
+    if let Some(replies) = first {
+        told.push_reserved(sent(replies));
+    }
+    tell_others(told, others)
 }
 
 /// Tells, as often as there is such a job, that it was taken. There is room for it.
@@ -168,10 +181,7 @@ pub(crate) fn tell_revived(
     for replies in lists {
         told.push_reserved(Told {
             answer: Answer::Revived(pid),
-            note: Note {
-                replies,
-                arrival: None,
-            },
+            note: Note::of_replies(replies),
         });
     }
     told

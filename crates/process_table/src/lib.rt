@@ -50,5 +50,6 @@ pub use error::ProcError;
 pub use process_commit::{Closed, Exited, Rested};
 pub use process_ending::{EndedProcess, Reply, ReplyBody};
 pub use process_store::Living;
+pub use process_told::Copies;
 pub use processes::Processes;
 pub use undo::Undo;

@@ -38,7 +38,7 @@ pub enum Undo {
     /// A job was committed, and its process has ended.
     Exited(Boxed<Exited>),
     /// What was evaluated inside a step is done.
-    Batched(Batched),
+    Batched(Boxed<Batched>),
     /// A process has ended.
     Ended(Boxed<EndedProcess>),
     /// Processes were killed.

@@ -23,7 +23,9 @@
 //! each open call, where copies of terms share. Nothing is copied where one value is asked for, but what tells which replies there are.
 #![tactic(auto)]
 
+mod copies;
 mod ready;
 mod telling;
 
+pub use copies::Copies;
 pub use telling::Telling;

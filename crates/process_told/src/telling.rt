@@ -61,6 +61,18 @@ fn make_echo(alloc: Global, answers: &[Answer], reasons: &[Term]) -> Result<Echo
     })
 }
 
+/// These answers themselves, for which there is one place only, and room for what they tell.
+fn echo_of(alloc: Global, answers: Vec<Answer>) -> Result<Echo, AllocError>
+    ensures { IfOk result (IsEcho answers.items []) }
+{
+    let replies = Vec::with_capacity(alloc, answers.len())?;
+    Ok(Echo {
+        answers,
+        reasons: Vec::new(alloc),
+        replies,
+    })
+}
+
 /// So many of them.
 fn make_echoes(
     alloc: Global,
@@ -214,6 +226,25 @@ impl Telling {
             echoes: Vec::new(alloc),
             lists,
             count: n,
+        })
+    }
+
+    /// Makes ready to tell, in two values, what replies to these answers a step gives. The answers are not copied.
+    ///
+    /// # Errors
+    ///
+    /// `AllocError` where memory is refused.
+    pub(crate) fn twice(alloc: Global, answers: Vec<Answer>) -> Result<Telling, AllocError>
+        ensures { IfOk result (IsReady answers.items [] 2) }
+    {
+        let lists = Vec::with_capacity(alloc, 2)?;
+        let echo = echo_of(alloc, answers)?;
+        let mut echoes = Vec::with_capacity(alloc, 1)?;
+        echoes.push(echo)?;
+        Ok(Telling {
+            echoes,
+            lists,
+            count: 2,
         })
     }
 

@@ -12,7 +12,7 @@ use Rattle.process_ending.specs.declared.told.Reply.{Reply}
 use Rattle.process_ending.specs.declared.told.ReplyBody.{ReplyBody}
 use Rattle.process_ending.specs.declared.told.ReplyBody.TheVariants as bodies
 use Rattle.undo_journal.specs.declared.report.Report.{Report}
-use Rattle.node_core.specs.declared.event.Note.{Note}
+use Rattle.node_core.specs.Note.{Note}
 use Rattle.code_server.specs.Modules.{Entry}
 use Rattle.erl_forms.specs.Module.{Forms}
 use Rattle.app_table.specs.Applications.{Application}

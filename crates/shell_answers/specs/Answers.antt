@@ -19,7 +19,7 @@ use Rattle.process_ending.specs.declared.told.ReplyBody.{ReplyBody}
 use Rattle.process_ending.specs.declared.told.ReplyBody.TheVariants.{Reply as Replied, Down}
 use Rattle.app_table.specs.Applications.{Application}
 use Rattle.undo_journal.specs.declared.report.Report.{Report}
-use Rattle.node_core.specs.declared.event.Note.{Note}
+use Rattle.node_core.specs.Note.{Note}
 use Rattle.shell_answers.specs.declared.fixed.Fixed.{Fixed}
 use Rattle.shell_answers.specs.declared.fixed.Fixed.TheVariants.{Done, True, False, BadCommand, LineTooLong, SerialEnd, CounterAtEnd}
 use Rattle.shell_answers.specs.declared.fixed.Fixed.TheVariants.{DeadMark, Memory, NoJob, NoProc, Suspended, Running, Idle as IsIdle, NotRunning}

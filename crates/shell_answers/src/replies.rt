@@ -1,5 +1,6 @@
 // Replies and arrivals, as answers.
 ghost use Rattle.std.specs.Prelude.{◌≡◌, ◌++◌, ◌∷◌, [], ◌&&◌, pos, IfOk, OnOk};
+ghost use Rattle.std.specs.Option.{option_copied};
 ghost use Rattle.erl_term.specs.Term.{tree};
 ghost use Rattle.erl_term.specs.Text.{elements_text, text, utf8};
 ghost use Rattle.erl_term.specs.Tree.{atom, int, list};
@@ -81,7 +82,7 @@ fn put_replies_of(notes: &[Note], out: &mut Vec<u8>) -> Result<(), AllocError>
 {
     let mut is_first = true;
     for note in notes {
-        is_first = put_replies(note.replies.as_slice(), is_first, out)?;
+        is_first = put_replies(note.replies(), is_first, out)?;
     }
     Ok(())
 }
@@ -100,17 +101,17 @@ fn put_arrival(name: &Atom, message: &Term, out: &mut Vec<u8>) -> Result<(), All
 /// Appends an arrival, if it is one, as the next element of a row, of which none, or some, are written. Answers whether none is written
 /// still.
 fn put_next_arrival(
-    arrival: &Option<(Atom, Term)>,
+    arrival: Option<&(Atom, Term)>,
     is_first: bool,
     out: &mut Vec<u8>,
 ) -> Result<bool, AllocError>
-    ensures written { OnOk result (out.new.items ≡ out.old.items ++ utf8 (listed is_first (arrival_of arrival.now))) }
-    ensures first { IfOk result (λ it. it ≡ (is_first && is_none (arrival_of arrival.now))) }
+    ensures written { OnOk result (out.new.items ≡ out.old.items ++ utf8 (listed is_first (arrival_of (option_copied arrival.entry)))) }
+    ensures first { IfOk result (λ it. it ≡ (is_first && is_none (arrival_of (option_copied arrival.entry)))) }
 {
     match arrival {
-        Some((name, message)) => {
+        Some(arrival) => {
             put(separator(is_first), out)?;
-            put_arrival(name, message, out)?;
+            put_arrival(&arrival.0, &arrival.1, out)?;
             Ok(false)
         }
         None => Ok(is_first),
@@ -123,7 +124,7 @@ fn put_arrivals_of(notes: &[Note], out: &mut Vec<u8>) -> Result<(), AllocError>
 {
     let mut is_first = true;
     for note in notes {
-        is_first = put_next_arrival(&note.arrival, is_first, out)?;
+        is_first = put_next_arrival(note.arrival(), is_first, out)?;
     }
     Ok(())
 }

@@ -17,6 +17,7 @@ use erl_term::Atom;
 use process_batch::{Batch, Batched, begin, finish, give_up, revert_batch};
 use process_ending::Reply;
 use process_told::Telling;
+use reserved_box::{Boxed, Reserved};
 use std::alloc::AllocError;
 use values::Row;
 
@@ -66,6 +67,22 @@ impl Processes {
         }
     }
 
+    /// Asks for the memory of what takes a batch back, and gives it up where this is refused.
+    fn room_to_finish(&mut self, batch: Batch) -> Result<(Batch, Reserved<Batched>), AllocError>
+        requires { AllFit batch.changes.items self.old }
+        ensures batch { IfOk result (λ it. it.0 ≡ batch) }
+        ensures ok { OnOk result (self.new ≡ self.old) }
+        ensures err { OnErr result (self.new ≡ all_undone batch.changes.items self.old) }
+    {
+        match Reserved::new(self.alloc) {
+            Ok(room) => Ok((batch, room)),
+            Err(refused) => {
+                give_up(&mut self.store, batch);
+                Err(refused)
+            }
+        }
+    }
+
     /// Finishes a batch: all of it stands, and its replies are given. What clients are told is handed out.
     ///
     /// # Errors
@@ -79,8 +96,9 @@ impl Processes {
         ensures pieces { IfOk result (λ it. (before : Table) → HoldsLost (held it.1 self.new) before self.new) }
         ensures err { OnErr result (self.new ≡ all_undone batch.changes.items self.old) }
     {
+        let (batch, room) = self.room_to_finish(batch)?;
         let (replies, batched) = finish(&mut self.store, self.alloc, batch)?;
-        Ok((replies, Undo::Batched(batched)))
+        Ok((replies, Undo::Batched(room.fill(batched))))
     }
 
     /// Finishes a batch as [`Processes::finish`] does. What clients are told is handed out in `n` equal values, for which there is memory
@@ -101,22 +119,24 @@ impl Processes {
         ensures pieces { IfOk result (λ it. (before : Table) → HoldsLost (held it.1 self.new) before self.new) }
         ensures err { OnErr result (self.new ≡ all_undone batch.changes.items self.old) }
     {
+        let (batch, room) = self.room_to_finish(batch)?;
         let (batch, telling) = self.ready_to_finish(batch, n)?;
         let (replies, batched) = finish(&mut self.store, self.alloc, batch)?;
-        Ok((telling.tell(replies), Undo::Batched(batched)))
+        Ok((telling.tell(replies), Undo::Batched(room.fill(batched))))
     }
 
     /// What was evaluated inside a step is taken back.
     #[inline(never)]
-    pub(super) fn revert_batched(&mut self, batched: Batched) -> Result<(), Undo>
+    pub(super) fn revert_batched(&mut self, batched: Boxed<Batched>) -> Result<(), Undo>
         requires { CanUnbatch batched self.old }
         ensures ok { OnOk result (self.new ≡ unbatched batched self.old) }
         ensures back { IfErr result (λ it. it ≡ Undo.Batched batched) }
         ensures err { OnErr result (self.new ≡ self.old) }
     {
+        let (batched, room) = batched.open();
         match revert_batch(&mut self.store, batched) {
             Ok(()) => Ok(()),
-            Err(batched) => Err(Undo::Batched(batched)),
+            Err(batched) => Err(Undo::Batched(room.fill(batched))),
         }
     }
 }

@@ -19,7 +19,7 @@ use erl_machine::{Done, End, Job};
 use erl_term::{Atom, Term};
 use process_commit::{Exited, Rested, commit_exit, commit_rest, revert_exit, revert_rest};
 use process_ending::Reply;
-use process_told::Telling;
+use process_told::{Copies, Telling};
 use reserved_box::{Boxed, Reserved};
 use std::alloc::{AllocError, Global};
 use values::Row;
@@ -121,19 +121,17 @@ impl Processes {
         job: &Job,
         acts: &[Act],
         end: &End,
-    ) -> Result<(Vec<Row<Reply>>, Undo), AllocError>
+    ) -> Result<(Copies, Undo), AllocError>
         requires running { IsRunning job.now self.old }
         requires turns { CanTurnAt job.now.pid self.old }
         ensures concluded { OnOk result (self.new ≡ concluded job.now acts.now end.now self.old) }
-        ensures told { IfOk result (λ it. it.0.items ≡ told_by job.now.pid acts.now end.now self.old ∷ []) }
+        ensures told { IfOk result (λ it. it.0 ≡ told_by job.now.pid acts.now end.now self.old ∷ []) }
         ensures inverse { IfOk result (λ it. TakesBackEnds it.1 self.old self.new) }
         ensures pieces { IfOk result (λ it. HoldsLost (held it.1 self.new) self.old self.new) }
         ensures err { OnErr result (self.new ≡ self.old) }
     {
-        let mut told = Vec::with_capacity(self.alloc, 1)?;
         let (replies, undo) = self.conclude(job, acts, end)?;
-        told.push_reserved(Row::new(replies));
-        Ok((told, undo))
+        Ok((Copies::one(self.alloc, Row::new(replies)), undo))
     }
 
     /// What a job that a process runs has done is done, and the process rests or ends. What clients are told is handed out in `n` equal
@@ -144,11 +142,11 @@ impl Processes {
         acts: &[Act],
         end: &End,
         n: usize,
-    ) -> Result<(Vec<Row<Reply>>, Undo), AllocError>
+    ) -> Result<(Copies, Undo), AllocError>
         requires running { IsRunning job.now self.old }
         requires turns { CanTurnAt job.now.pid self.old }
         ensures concluded { OnOk result (self.new ≡ concluded job.now acts.now end.now self.old) }
-        ensures told { IfOk result (λ it. it.0.items ≡ replicate n (told_by job.now.pid acts.now end.now self.old)) }
+        ensures told { IfOk result (λ it. it.0 ≡ replicate n (told_by job.now.pid acts.now end.now self.old)) }
         ensures inverse { IfOk result (λ it. TakesBackEnds it.1 self.old self.new) }
         ensures pieces { IfOk result (λ it. HoldsLost (held it.1 self.new) self.old self.new) }
         ensures err { OnErr result (self.new ≡ self.old) }
@@ -158,7 +156,7 @@ impl Processes {
         }
         let telling = self.telling(job.pid, acts, end, n)?;
         let (replies, undo) = self.conclude(job, acts, end)?;
-        Ok((telling.tell(replies), undo))
+        Ok((Copies::of(telling.tell(replies)), undo))
     }
 
     /// Why the commit of what a job gave would be refused, but for want of memory. Takes no memory.
@@ -183,9 +181,9 @@ impl Processes {
     ///
     /// In this order: `Stale` where the process of the job's pid doesn't run an equal job, code included; `CounterEnd` where its turn
     /// is the last; `Memory`. The table is then as it was.
-    pub fn commit(&mut self, done: &Done, n: usize) -> Result<(Vec<Row<Reply>>, Undo), ProcError>
+    pub fn commit(&mut self, done: &Done, n: usize) -> Result<(Copies, Undo), ProcError>
         ensures committed { OnOk result (self.new ≡ committed done.now self.old) }
-        ensures told { IfOk result (λ it. it.0.items ≡ replicate n (commit_told done.now self.old)) }
+        ensures told { IfOk result (λ it. it.0 ≡ replicate n (commit_told done.now self.old)) }
         ensures inverse { IfOk result (λ it. TakesBackEnds it.1 self.old self.new) }
         ensures pieces { IfOk result (λ it. HoldsLost (held it.1 self.new) self.old self.new) }
         ensures ok { OnOk result (IsCommitRefusal None done.now.job self.old) }
@@ -207,14 +205,10 @@ impl Processes {
     /// # Errors
     ///
     /// `AllocError` where memory is refused. The table is then as it was.
-    pub fn commit_unrefused(
-        &mut self,
-        done: &Done,
-        n: usize,
-    ) -> Result<(Vec<Row<Reply>>, Undo), AllocError>
+    pub fn commit_unrefused(&mut self, done: &Done, n: usize) -> Result<(Copies, Undo), AllocError>
         requires { IsCommitRefusal None done.now.job self.old }
         ensures committed { OnOk result (self.new ≡ committed done.now self.old) }
-        ensures told { IfOk result (λ it. it.0.items ≡ replicate n (commit_told done.now self.old)) }
+        ensures told { IfOk result (λ it. it.0 ≡ replicate n (commit_told done.now self.old)) }
         ensures inverse { IfOk result (λ it. TakesBackEnds it.1 self.old self.new) }
         ensures ok { OnOk result (IsCommitRefusal None done.now.job self.old) }
         ensures pieces { IfOk result (λ it. HoldsLost (held it.1 self.new) self.old self.new) }

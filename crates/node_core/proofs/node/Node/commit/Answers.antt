@@ -15,7 +15,7 @@ use Rattle.node_core.specs.Step.{ended_by, reporting}
 use Rattle.node_core.specs.declared.event.Answer.{Answer}
 use Rattle.node_core.specs.declared.event.Answer.TheVariants as answer
 use Rattle.node_core.specs.declared.event.Event.TheVariants as event
-use Rattle.node_core.specs.declared.event.Note.{Note}
+use Rattle.node_core.specs.Note.{Note}
 use Rattle.node_core.proofs.node.Node.commit.Goals as goal
 
 pub invariant_of-self-in-Ok-commit_unrefused : goal.invariant_of-self-in-Ok-commit_unrefused

@@ -13,7 +13,7 @@ use Rattle.node_core.specs.Step.{reporting, without_lingering}
 use Rattle.node_core.specs.declared.event.Answer.{Answer}
 use Rattle.node_core.specs.declared.event.Answer.TheVariants as answer
 use Rattle.node_core.specs.declared.event.Event.TheVariants as event
-use Rattle.node_core.specs.declared.event.Note.{Note}
+use Rattle.node_core.specs.Note.{Note}
 use Rattle.node_core.proofs.node.Node.purge.Goals as goal
 
 pub invariant_of-self-in-Ok-purge : goal.invariant_of-self-in-Ok-purge

@@ -15,7 +15,7 @@ use Rattle.node_core.specs.Step.{arrival_of}
 use Rattle.node_core.specs.declared.event.Answer.{Answer}
 use Rattle.node_core.specs.declared.event.Answer.TheVariants as answer
 use Rattle.node_core.specs.declared.event.Event.TheVariants as event
-use Rattle.node_core.specs.declared.event.Note.{Note}
+use Rattle.node_core.specs.Note.{Note}
 use Rattle.node_core.specs.declared.event.Refusal.TheVariants.{OfProcesses}
 use Rattle.node_core.proofs.node.Node.receive.Goals as goal
 

@@ -14,7 +14,7 @@ use Rattle.node_core.specs.Step.{reporting, soft_purge_refusal}
 use Rattle.node_core.specs.declared.event.Answer.{Answer}
 use Rattle.node_core.specs.declared.event.Answer.TheVariants as answer
 use Rattle.node_core.specs.declared.event.Event.TheVariants as event
-use Rattle.node_core.specs.declared.event.Note.{Note}
+use Rattle.node_core.specs.Note.{Note}
 use Rattle.node_core.specs.declared.event.Refusal.TheVariants.{OfModules}
 use Rattle.node_core.proofs.node.Node.soft_purge.Goals as goal
 

@@ -16,7 +16,7 @@ use Rattle.node_core.specs.Step.{reporting, run_taken}
 use Rattle.node_core.specs.declared.event.Answer.{Answer}
 use Rattle.node_core.specs.declared.event.Answer.TheVariants as answer
 use Rattle.node_core.specs.declared.event.Event.TheVariants as event
-use Rattle.node_core.specs.declared.event.Note.{Note}
+use Rattle.node_core.specs.Note.{Note}
 use Rattle.node_core.proofs.node.Node.take.Goals as goal
 
 pub invariant_of-self-2 : goal.invariant_of-self-2

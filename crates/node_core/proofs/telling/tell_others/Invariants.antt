@@ -2,10 +2,10 @@
 use Rattle.std.proofs.Common.{◌≡◌, ◌≤◌, ◌+◌, ◌++◌, None, map, vec_capacity, vec_len}
 use Rattle.std.specs.Vec.Iter.{into_iter_items, into_iter_len}
 use Rattle.node_core.specs.declared.event.Answer.TheVariants as answer
-use Rattle.node_core.proofs.telling.tell_replies.Given as goal
+use Rattle.node_core.proofs.telling.tell_others.Given as goal
 
 abbrev pub invariant-loop-replies : goal.invariant-loop-replies
 invariant-loop-replies l = record {
-  told : l.told.items ++ map (λ replies. record { answer = answer.Unit; note = record { replies = replies; arrival = None } }) (into_iter_items l.replies-iterator) ≡ map (λ replies. record { answer = answer.Unit; note = record { replies = replies; arrival = None } }) l.fn.lists.items;
+  told : l.told.items ++ map (λ replies. record { answer = answer.Unit; note = record { replies = replies; arrival = None } }) (into_iter_items l.replies-iterator) ≡ l.fn.told.items ++ map (λ replies. record { answer = answer.Unit; note = record { replies = replies; arrival = None } }) l.fn.lists.items;
   room : vec_len l.told + into_iter_len l.replies-iterator ≤ vec_capacity l.told;
 }
