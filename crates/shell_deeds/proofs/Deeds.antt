@@ -5,13 +5,16 @@ use Rattle.undo_journal.specs.declared.error.JournalError.TheVariants as error
 use Rattle.undo_journal.specs.declared.report.Report.{Report}
 use Rattle.undo_journal.specs.Journal.{UndoFails, stopped_reports}
 use Rattle.undo_journal.specs.Timeline.{Station, cut_stations, cut_to, report_of}
-use Rattle.shell_answers.specs.Answers.{line_of, stopped_undo, undone_steps}
+use Rattle.erl_term.specs.Rows.{append_trees}
+use Rattle.erl_term.specs.Tree.{more}
+use Rattle.process_ending.specs.declared.told.Reply.{Reply}
+use Rattle.shell_answers.specs.Answers.{line_of, replied, replies_in, rows_of, stopped_undo, undone_steps}
 use Rattle.node_core.specs.Node.{NodeState}
-use Rattle.node_core.specs.declared.event.Note.{Note}
+use Rattle.node_core.specs.Note.{Note}
 use Rattle.node_core.specs.declared.event.Refusal.{Refusal}
 use Rattle.shell_deeds.specs.Deeds.{Undoes, cut, dead, stopped}
 use Rattle.shell_deeds.specs.Done.{IsDone, first_of, undo_answer, undo_fate, unfinished_answer, unfinished_fate}
-use Rattle.shell_deeds.specs.State.{NodeTimeline, ShellState, with_timeline}
+use Rattle.shell_deeds.specs.State.{NodeTimeline, ShellState, joined, with_timeline}
 use Rattle.shell_deeds.specs.declared.fate.Fate.{Fate}
 
 pub IfOk-then : {T E : Type 0} (r : Result T E) (P Q : T → Type 0) → IfOk r P → ((x : T) → P x → Q x) → IfOk r Q
@@ -39,6 +42,16 @@ unfinished s mark new (error.Memory reached reports) fate text appended fails to
 pub undo-done : (s : ShellState) (mark : ℕ) (new : NodeTimeline) (r : Result (Vec (Report Note) Global) (JournalError Refusal Note)) (fate : Option Fate) (text appended : List ℕ) → OnOk r (cut_to mark s.timeline ≡ Some new) → IfOk r (λ reports. reports.items ≡ replicate 1 (report_of (cut_stations s.timeline new))) → IfErr r (UndoFails mark 1 s.timeline new) → (fate ≡ undo_fate r) × (appended ≡ text ++ line_of (undo_answer r)) → IsDone (Undoes s mark fate) (with_timeline new s) text appended
 undo-done s mark new (Ok reports) fate text appended is reported fails told = undone s mark new reports.items fate text appended is reported told
 undo-done s mark new (Err e) fate text appended is reported fails told = unfinished s mark new e fate text appended fails told
+
+-- the replies of rows are told as those of one row
+
+replies_in-append : (xs ys : List Reply) → replies_in (xs ++ ys) ≡ append_trees (replies_in xs) (replies_in ys)
+replies_in-append [] ys = refl
+replies_in-append (x ∷ xs) ys = ap (more (replied x)) (replies_in-append xs ys)
+
+pub rows-joined : (rows : List (List Reply)) → rows_of rows ≡ replies_in (joined rows)
+rows-joined [] = refl
+rows-joined (row ∷ rows) = ap (append_trees (replies_in row)) (rows-joined rows) ∙ sym (replies_in-append row (joined rows))
 
 -- nothing is appended
 pub nothing : (text : List ℕ) → text ≡ text ++ []

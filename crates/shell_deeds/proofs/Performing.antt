@@ -1,12 +1,15 @@
 -- Lemmas on events that were performed, and on those that were not.
-use Rattle.std.proofs.Common.{◌≡◌, ◌-◌, ◌+◌, ◌^◌, ◌↔◌, ℕ, Bool, true, false, IsTrue, ltb, pos, Err, arith, cond, is_some, length, slice_get, [], ◌∷◌, List, ◌++◌, Option, None, Some, refl, sym, ap, subst, ◌∙◌}
+use Rattle.std.proofs.Common.{◌≡◌, ◌+◌, ◌^◌, ◌↔◌, ℕ, Bool, true, false, IsTrue, ltb, pos, Result, Ok, Err, Vec, Global, cond, is_some, length, [], ◌∷◌, List, ◌++◌, Option, None, Some, refl, sym, ap, subst, ◌∙◌}
 use Rattle.code_server.specs.declared.error.CodeError.{CodeError}
 use Rattle.erl_term.specs.Term.{trees}
 use Rattle.erl_term.specs.declared.term.Term.{Term}
+use Rattle.undo_journal.specs.Journal.{PerformFails}
 use Rattle.undo_journal.specs.Reversible.{Accepted}
+use Rattle.undo_journal.specs.declared.error.JournalError.{JournalError}
+use Rattle.undo_journal.specs.declared.error.JournalError.TheVariants as error
+use Rattle.undo_journal.specs.declared.reversible.Told.{Told}
 use Rattle.erl_machine.specs.declared.jobs.Job.{Job}
 use Rattle.process_commit.specs.Commits.{job_at}
-use Rattle.process_ending.specs.declared.told.Reply.{Reply}
 use Rattle.process_store.specs.Table.{Table, is_open, living}
 use Rattle.process_table.specs.Messages.{call_message}
 use Rattle.process_table.specs.declared.body.Body.TheVariants as body
@@ -14,23 +17,24 @@ use Rattle.process_store.specs.declared.living.Living.{Living}
 use Rattle.process_table.specs.Steps.{Tells, call_refusal, retake_refusal, retake_refusal_of}
 use Rattle.process_table.specs.declared.error.ProcError.{ProcError}
 use Rattle.process_table.specs.declared.error.ProcError.TheVariants as proc
-use Rattle.shell_answers.specs.Answers.{committed, fixed, line_of}
+use Rattle.shell_answers.specs.Answers.{fixed, job_of, line_of}
 use Rattle.shell_answers.specs.Refusals.{proc_refusal}
 use Rattle.node_core.specs.Node.{NodeState}
 use Rattle.node_core.specs.declared.event.Answer.{Answer}
 use Rattle.node_core.specs.declared.event.Answer.TheVariants as tells
 use Rattle.node_core.specs.declared.event.Event.{Event}
 use Rattle.node_core.specs.declared.event.Event.TheVariants as event
-use Rattle.node_core.specs.declared.event.Note.{Note}
-use Rattle.node_core.specs.Step.{unless}
+use Rattle.node_core.specs.Note.{Note}
+use Rattle.node_core.specs.Step.{MayRunOut, Step, unless}
+use Rattle.node_core.specs.declared.event.Refusal.{Refusal}
 use Rattle.node_core.specs.declared.event.Refusal.TheVariants.{OfModules}
 use Rattle.shell_requests.specs.declared.request.Arrival.{Arrival}
 use Rattle.shell_deeds.specs.Deeds.{Commits, Misses, Performs, Retakes, no_memory_to_read, no_memory_to_run, not_run, not_run_full, unread_full, unread_refused, accepted, full, kept_again, no_memory, no_memory_to_keep, not_running, refused, took, tried}
-use Rattle.shell_deeds.specs.Done.{IsDone, IsKept, after_missed, last_row, proc_fate, row_in}
-use Rattle.shell_deeds.specs.Halts.{Halts, HaltsBy, MayAllRunOut, MayCommit, RefusesAll, RefusesResult, halt_answer, halt_fate, missed_fate, refusal_of_call}
+use Rattle.shell_deeds.specs.Done.{IsDone, IsKept, after_missed, proc_fate}
+use Rattle.shell_deeds.specs.Halts.{Halts, HaltsBy, MayAllRunOut, MayCommit, RefusesAll, RefusesResult, halt_answer, halt_by, halt_fate, missed_fate, refusal_of_call}
 use Rattle.undo_journal.specs.declared.history.Command.TheVariants.{Perform}
-use Rattle.shell_deeds.specs.State.{Deed, ShellState, carried, node_of, stepped}
-use Rattle.shell_deeds.specs.Stepping.{IsStepped}
+use Rattle.shell_deeds.specs.State.{Deed, IsFull, ShellState, node_of, stepped, with_job}
+use Rattle.shell_deeds.specs.Stepping.{IsStepped, SendsNothing}
 use Rattle.shell_deeds.specs.Terms.{IsNotOne}
 use Rattle.shell_deeds.specs.declared.fate.Fate.{Fate}
 use Rattle.shell_deeds.specs.declared.fate.Fate.TheVariants as fates
@@ -54,12 +58,16 @@ performed s new e done answer fate after text appended after_by text_by is does 
     let text_at : appended ≡ text ++ (done a).text = told.2 ∙ (λ i. text ++ text_by (is.after i) (is.answer i)) ∙ ap (λ (d : Deed). text ++ d.text) (sym (does a)) in
     subst (λ f. IsDone (Performs s s e done f) after text appended) (sym told.0) (done a, accepted is.room a is.rule, at, text_at)
 
--- a take that was accepted is a command
-pub took-is : (s : ShellState) (pid : ℕ) (a : Answer) → took s pid a ≡ record { text = (took s pid a).text; after = (took s pid a).after; command = Some (Perform (event.Take pid)) }
-took-is s pid (tells.Job job) = refl
-took-is s pid (tells.Revived n) = refl
-took-is s pid (tells.Killed b) = refl
-took-is s pid tells.Unit = refl
+-- a take sends no replies
+pub take-is-quiet : (pid : ℕ) → SendsNothing (event.Take pid)
+take-is-quiet pid = λ n a is. ap (λ (x : Accepted NodeState Answer Note). x.note.replies) is.4
+
+-- and one that was accepted has its job kept
+pub taken-done : (s : ShellState) (pid : ℕ) (a : Accepted NodeState Answer Note) (fate : Option Fate) (new : ShellState) (text appended : List ℕ) → (IsFull s → ⊥) → Step (node_of s) (event.Take pid) (Ok a) → ((job : Job) → a.answer ≡ tells.Job job → (fate ≡ None) × (new ≡ with_job job (stepped a s)) × (appended ≡ text ++ line_of (job_of (length s.jobs + 1) pid))) → IsDone (Performs s s (event.Take pid) (λ b. took (stepped b s) pid b.answer) fate) new text appended
+taken-done s pid a fate new text appended room rule told =
+    let is : a.answer ≡ tells.Job rule.0 = ap (λ (x : Accepted NodeState Answer Note). x.answer) rule.4 in
+    let said = told rule.0 is in
+    subst (λ f. IsDone (Performs s s (event.Take pid) (λ b. took (stepped b s) pid b.answer) f) new text appended) (sym said.0) (took (stepped a s) pid a.answer, accepted room a rule, said.1 ∙ ap (λ (x : Answer). (took (stepped a s) pid x).after) (sym is), said.2 ∙ ap (λ (x : Answer). text ++ (took (stepped a s) pid x).text) (sym is))
 
 -- a process that runs a job refuses no retake
 unrefused_at : (o : Option Living) (job : Job) → job_at o ≡ Some job → retake_refusal_of o ≡ None
@@ -90,25 +98,14 @@ untaken_again s pid proc.DuplicateCall fate text appended tells told = subst (λ
 untaken_again s pid proc.CounterEnd fate text appended tells told = subst (λ f. IsDone (Retakes s pid f) s text appended) (sym told.0) (retold s pid proc.CounterEnd text appended tells told.1)
 untaken_again s pid proc.Memory fate text appended tells told = subst (λ f. IsDone (Retakes s pid f) s text appended) (sym told.0) (_, no_memory_to_keep tells, refl, told.1)
 
--- the replies of the newest step
-
-one_more : {A : Type 0} (xs : List A) (x : A) → length (xs ++ x ∷ []) ≡ length xs + 1
-one_more [] x = refl
-one_more (y ∷ ys) x = omega (arith, one_more ys x)
-
-behind : {A : Type 0} (xs : List A) (x : A) → slice_get (xs ++ x ∷ []) (length xs) ≡ Some x
-behind [] x = refl
-behind (y ∷ ys) x = behind ys x
-
-slice_last : {A : Type 0} (xs : List A) (x : A) → slice_get (xs ++ x ∷ []) (length (xs ++ x ∷ []) - 1) ≡ Some x
-slice_last xs x =
-    let last : length (xs ++ x ∷ []) - 1 ≡ length xs = omega (arith, one_more xs x) in ap (slice_get (xs ++ x ∷ [])) last ∙ behind xs x
-
-pub last-row : (rows : List (List Reply)) (row : List Reply) → last_row (rows ++ row ∷ []) ≡ row
-last-row rows row = ap row_in (slice_last rows row)
-
-pub committed-is : (s : ShellState) (e : Event) (a : Accepted NodeState Answer Note) → carried (stepped a s) e (committed a.note.replies) ≡ record { text = line_of (committed (last_row (stepped a s).sent)); after = stepped a s; command = Some (Perform e) }
-committed-is s e a = ap (λ row. carried (stepped a s) e (committed row)) (sym (last-row s.sent a.note.replies))
+-- an event that the journal refuses is not performed
+pub failed : (s : ShellState) (e : Event) (r : Result (Vec (Told Answer Note) Global) (JournalError Refusal Note)) (why : JournalError Refusal Note) → r ≡ Err why → (IsFull s → r ≡ Err error.SerialEnd) → PerformFails (Step (node_of s) e) (MayRunOut (node_of s) e) s.timeline why → Halts (halt_by why) s e
+failed s e r (error.Step refusal) is at_end fails =
+    ((λ full. let ends : r ≡ Err error.SerialEnd = at_end full in let never : ⊥ = cc in never), fails)
+failed s e r error.SerialEnd is at_end fails = fails
+failed s e r error.DeadMark is at_end fails = absurd fails
+failed s e r (error.Memory mark reports) is at_end fails =
+    ((λ full. let ends : r ≡ Err error.SerialEnd = at_end full in let never : ⊥ = cc in never), fails.0)
 
 -- Where a part was not read, and where a job was not run.
 

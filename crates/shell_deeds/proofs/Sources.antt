@@ -12,7 +12,7 @@ use Rattle.undo_journal.specs.Reversible.{Accepted}
 use Rattle.node_core.specs.Node.{NodeState}
 use Rattle.node_core.specs.Step.{unless}
 use Rattle.node_core.specs.declared.event.Refusal.TheVariants.{OfProcesses}
-use Rattle.node_core.specs.declared.event.Note.{Note}
+use Rattle.node_core.specs.Note.{Note}
 use Rattle.node_core.specs.declared.event.Answer.{Answer}
 use Rattle.node_core.specs.declared.event.Event.{Event}
 use Rattle.node_core.specs.declared.event.Event.TheVariants as event

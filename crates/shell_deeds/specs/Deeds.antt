@@ -28,10 +28,10 @@ use Rattle.node_core.specs.declared.event.Answer.{Answer}
 use Rattle.node_core.specs.declared.event.Answer.TheVariants as tells
 use Rattle.node_core.specs.declared.event.Event.{Event}
 use Rattle.node_core.specs.declared.event.Event.TheVariants as event
-use Rattle.node_core.specs.declared.event.Note.{Note}
+use Rattle.node_core.specs.Note.{Note}
 use Rattle.node_core.specs.declared.event.Refusal.{Refusal}
 use Rattle.release_files.specs.Files.{file_of}
-use Rattle.shell_answers.specs.Answers.{apps_of, called, committed, fixed, job_of, line_of, loaded, mark_at, modules_of, process_of, revived, rows_of, stopped_undo, undone_steps}
+use Rattle.shell_answers.specs.Answers.{apps_of, called, committed, fixed, job_of, line_of, loaded, mark_at, modules_of, process_of, replies_in, revived, stopped_undo, undone_steps}
 use Rattle.shell_answers.specs.Faults.{source_fault, term_fault}
 use Rattle.shell_answers.specs.Refusals.{proc_refusal, refusal_of}
 use Rattle.shell_answers.specs.declared.faults.SourceFault.TheVariants as source
@@ -208,7 +208,7 @@ pub data Undoes (s : ShellState) (mark : ℕ) : Option Fate → Deed → Type 0 
 abbrev pub told : ShellState → Question → Tree
 told s questions.Modules = list (modules_of (node_of s).modules.entries)
 told s questions.Apps = list (apps_of (node_of s).apps)
-told s questions.Replies = list (rows_of s.sent)
+told s questions.Replies = list (replies_in s.sent)
 told s questions.Mark = mark_at (here s.timeline).serial
 
 -- What the shell may do of a request, by what became of it for want of memory.

@@ -1,5 +1,5 @@
 -- How a line ends: what was done, and what an event that was not performed answers.
-use Rattle.std.specs.Prelude.{◌≡◌, ◌≢◌, ◌+◌, ◌-◌, ℕ, Bool, length, slice_get, option_and_then, position, List, [], ◌∷◌, ◌++◌, Option, None, Some, Result, Ok, Err, Vec}
+use Rattle.std.specs.Prelude.{◌≡◌, ◌≢◌, ◌+◌, ℕ, Bool, length, slice_get, option_and_then, position, List, [], ◌∷◌, ◌++◌, Option, None, Some, Result, Ok, Err, Vec}
 use Rattle.std.specs.Global.{Global}
 use Rattle.std.specs.Ordering.{eq_by_cmp, on}
 use Rattle.erl_forms.specs.Module.{Forms}
@@ -14,13 +14,12 @@ use Rattle.erl_term.specs.Tree.{Tree}
 use Rattle.erl_term.specs.declared.term.Term.{Term}
 use Rattle.app_table.specs.Applications.{has_id}
 use Rattle.app_table.specs.declared.child.Child.{Child}
-use Rattle.process_ending.specs.declared.told.Reply.{Reply}
 use Rattle.process_table.specs.declared.error.ProcError.{ProcError}
 use Rattle.process_table.specs.declared.error.ProcError.TheVariants as proc
 use Rattle.undo_journal.specs.declared.report.Report.{Report}
 use Rattle.undo_journal.specs.declared.error.JournalError.{JournalError}
 use Rattle.undo_journal.specs.declared.error.JournalError.TheVariants as error
-use Rattle.node_core.specs.declared.event.Note.{Note}
+use Rattle.node_core.specs.Note.{Note}
 use Rattle.node_core.specs.declared.event.Refusal.{Refusal}
 use Rattle.release_files.specs.Files.{file_of}
 use Rattle.shell_answers.specs.Answers.{fixed, job_of, line_of, stopped_undo, undone_steps}
@@ -92,15 +91,6 @@ proc_fate proc.NameTaken = None
 proc_fate proc.DuplicateCall = None
 proc_fate proc.CounterEnd = None
 proc_fate proc.Memory = Some fates.Refused
-
--- the last of rows
-
-abbrev pub row_in : Option (List Reply) → List Reply
-row_in None = []
-row_in (Some row) = row
-
-abbrev pub last_row : List (List Reply) → List Reply
-last_row rows = row_in (slice_get rows (length rows - 1))
 
 -- A term was read, or it is told why none was. Where memory was refused nothing is said of the text.
 

@@ -10,9 +10,12 @@ use Rattle.process_table.specs.declared.error.ProcError.{ProcError}
 use Rattle.process_table.specs.declared.error.ProcError.TheVariants as proc
 use Rattle.code_server.specs.Modules.{delete_refusal}
 use Rattle.code_server.specs.declared.error.CodeError.{CodeError}
+use Rattle.undo_journal.specs.declared.error.JournalError.{JournalError}
+use Rattle.undo_journal.specs.declared.error.JournalError.TheVariants as error
 use Rattle.node_core.specs.Node.{NodeState}
 use Rattle.node_core.specs.Step.{MayRunOut, Step, soft_purge_refusal}
 use Rattle.node_core.specs.declared.event.Event.{Event}
+use Rattle.node_core.specs.Note.{Note}
 use Rattle.node_core.specs.declared.event.Refusal.{Refusal}
 use Rattle.node_core.specs.declared.event.Refusal.TheVariants.{OfProcesses}
 use Rattle.shell_answers.specs.Answers.{fixed}
@@ -35,6 +38,13 @@ HaltsBy Refuses MayRun Memory s = (IsFull s → ⊥) × MayRun
 -- of an event
 abbrev pub Halts : Halt → ShellState → Event → Type 0
 Halts halt s e = HaltsBy (λ why. Step (node_of s) e (Err why)) (MayRunOut (node_of s) e) halt s
+
+-- by the journal's error; no event has a dead mark
+abbrev pub halt_by : JournalError Refusal Note → Halt
+halt_by (error.Step why) = Refused why
+halt_by error.SerialEnd = Full
+halt_by error.DeadMark = Memory
+halt_by (error.Memory mark reports) = Memory
 
 -- of events that differ in a part which could not be read, whatever it is
 abbrev pub RefusesAll : {X : Type 0} → ShellState → (X → Event) → Refusal → Type 0

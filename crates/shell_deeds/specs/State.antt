@@ -1,5 +1,5 @@
 -- What the shell holds from one line to the next, and what a line does.
-use Rattle.std.specs.Prelude.{◌≡◌, ℕ, ◌+◌, ◌-◌, ◌^◌, nat_lt, if◌then◌else◌, List, [], ◌∷◌, ◌++◌, Option, None, Some}
+use Rattle.std.specs.Prelude.{◌≡◌, ℕ, ◌+◌, ◌-◌, ◌^◌, nat_lt, if◌then◌else◌, List, [], ◌∷◌, ◌++◌, Option, None, Some, flat_map}
 use Rattle.erl_machine.specs.declared.jobs.Job.{Job}
 use Rattle.erl_term.specs.Tree.{Tree}
 use Rattle.process_ending.specs.declared.told.Reply.{Reply}
@@ -10,7 +10,7 @@ use Rattle.undo_journal.specs.Timeline.{Timeline, appended, here, opened}
 use Rattle.node_core.specs.Node.{NodeState}
 use Rattle.node_core.specs.declared.event.Answer.{Answer}
 use Rattle.node_core.specs.declared.event.Event.{Event}
-use Rattle.node_core.specs.declared.event.Note.{Note}
+use Rattle.node_core.specs.Note.{Note}
 use Rattle.release_files.specs.Files.{Contents}
 use Rattle.shell_answers.specs.Answers.{line_of}
 
@@ -19,13 +19,17 @@ abbrev pub NodeTimeline : Type 0
 NodeTimeline = Timeline NodeState Note
 
 -- What the shell holds. Beside the journal, and not taken back by an undo, stand the files, the jobs whose results can be committed, how many
--- calls were tried, and all replies that were ever sent, a row a step.
+-- calls were tried, and all replies that were ever sent, in order.
 pub record ShellState : Type 0 where
   pub files : Contents
   pub timeline : NodeTimeline
   pub jobs : List Job
   pub calls : ℕ
-  pub sent : List (List Reply)
+  pub sent : List Reply
+
+-- the replies of rows, in order
+abbrev pub joined : List (List Reply) → List Reply
+joined rows = flat_map (λ row. row) rows
 
 -- it begins with a node that has booted
 abbrev pub opened_shell : Contents → NodeState → ShellState
@@ -57,7 +61,7 @@ stepped a s = record {
   timeline = appended s.timeline a.node a.note;
   jobs = s.jobs;
   calls = s.calls;
-  sent = s.sent ++ a.note.replies ∷ [];
+  sent = s.sent ++ a.note.replies;
 }
 
 -- What a line does: its answer, the shell after it, and the command to the journal that made it so, if one was carried out.

@@ -5,7 +5,7 @@ use Rattle.node_core.specs.Node.{NodeState}
 use Rattle.node_core.specs.Step.{Step}
 use Rattle.node_core.specs.declared.event.Answer.{Answer}
 use Rattle.node_core.specs.declared.event.Event.{Event}
-use Rattle.node_core.specs.declared.event.Note.{Note}
+use Rattle.node_core.specs.Note.{Note}
 use Rattle.shell_deeds.specs.State.{IsFull, ShellState, node_of, stepped}
 
 -- The rule accepts an event, which is answered so, and the shell is the one behind it.

@@ -5,21 +5,23 @@ ghost use Rattle.erl_term.specs.Term.{tree};
 ghost use Rattle.erl_term.specs.declared.term.Term.{Term};
 ghost use Rattle.process_table.specs.Steps.{arrive_refusal, call_refusal};
 ghost use Rattle.shell_answers.specs.Answers.{line_of};
-ghost use Rattle.shell_deeds.specs.Deeds.{Arrives, arrival_answer, arrival_event, body_of, event_of_arrival, tried};
+ghost use Rattle.shell_deeds.specs.Deeds.{Arrives, Performs, arrival_answer, arrival_event, body_of, event_of_arrival, tried};
 ghost use Rattle.shell_deeds.specs.Done.{IsDone, Misreads, after_missed};
-ghost use Rattle.shell_deeds.specs.Halts.{HaltsBy, MayAllRunOut, RefusesAll, halt_answer, halt_fate, refusal_of_call};
-ghost use Rattle.shell_deeds.specs.State.{next_number, node_of};
+ghost use Rattle.shell_deeds.specs.Halts.{HaltsBy, MayAllRunOut, RefusesAll, halt_answer, halt_by, halt_fate, refusal_of_call};
+ghost use Rattle.shell_deeds.specs.State.{carried, next_number, node_of, stepped};
+ghost use Rattle.shell_deeds.specs.Stepping.{SendsNothing};
 ghost use Rattle.shell_deeds.specs.Terms.{IsRead, one};
 
 use crate::holdings::Holdings;
 use crate::reading::{Misread, term_of};
-use crate::stepping::Halt;
+use crate::stepping::{Halt, halt_by};
 use crate::telling::{Said, say, say_term_fault, tell_halt, tell_missed};
 use erl_term::{Atom, Term};
-use node_core::{Event, Refusal};
+use node_core::{Event, Note, Refusal};
 use process_table::{Body, ProcError};
 use shell_answers::{Fixed, write_called};
 use shell_requests::{Arrival, Name};
+use undo_journal::JournalError;
 
 impl Holdings {
     /// Has the term of a text arrive for the process of a name.
@@ -63,9 +65,19 @@ impl Holdings {
             return self.tell_kept_out(halt, kind, out);
         };
         let number = self.next_number();
-        match self.admit(arrival_event(kind, number, atom, term)) {
-            Ok(()) => self.tell_arrived(kind, number, out),
-            Err(halt) => self.tell_kept_out(halt, kind, out),
+        self.arrive_by(&arrival_event(kind, number, atom, term), kind, number, out)
+    }
+
+    /// Has a term arrive by this event, and tells it.
+    fn arrive_by(&mut self, event: &Event, kind: Arrival, number: u64, out: &mut Vec<u8>) -> Said
+        requires quiet { SendsNothing event.now }
+        requires numbered { number ≡ next_number self.old }
+        ensures { IfOk result (λ fate. IsDone (Performs self.old (tried kind self.old) event.now
+            (λ a. carried (stepped a (tried kind self.old)) event.now (arrival_answer kind (next_number self.old))) fate) self.new out.old.items out.new.items) }
+    {
+        match self.journal.perform(event, 0) {
+            Ok(_) => self.tell_arrived(kind, number, out),
+            Err(error) => self.tell_failed_arrival(error, kind, out),
         }
     }
 
@@ -107,6 +119,19 @@ impl Holdings {
     {
         self.count_unless_refused(&halt, kind);
         tell_halt(halt, out)
+    }
+
+    /// Tells why the journal performed no arrival. A call is counted, unless memory was refused.
+    #[inline(never)]
+    fn tell_failed_arrival(
+        &mut self,
+        error: JournalError<Refusal, Note>,
+        kind: Arrival,
+        out: &mut Vec<u8>,
+    ) -> Said
+        ensures { IfOk result (λ fate. (fate ≡ halt_fate (halt_by error)) × (self.new ≡ after_missed (halt_by error) kind self.old) × (out.new.items ≡ out.old.items ++ line_of (halt_answer (halt_by error)))) }
+    {
+        self.tell_kept_out(halt_by(error), kind, out)
     }
 
     /// One call more was tried, if it is a call, unless memory was refused.

@@ -14,7 +14,7 @@ use undo_journal::Journal;
 use values::Row;
 
 /// What the shell holds from one line to the next: the files, the journal of the node, the jobs whose results can be committed, how many
-/// calls were tried, and all replies that were ever sent, a row a step.
+/// calls were tried, and all replies that were ever sent.
 #[derive(Drop)]
 pub struct Holdings {
     pub(crate) alloc: Global,
@@ -23,6 +23,7 @@ pub struct Holdings {
     pub(crate) journal: Journal<Node>,
     pub(crate) jobs: Vec<Job>,
     pub(crate) calls: u64,
+    /// All replies, in one row, or in several where memory was refused to join them. Contracts see them as one list.
     pub(crate) sent: Vec<Row<Reply>>,
     /// Names that lines had not long ago. Contracts don't see them.
     pub(crate) names: RecentNames,
@@ -34,7 +35,7 @@ impl Model for Holdings {
     ghost use Rattle.std.specs.Coded.{codes};
     ghost use Rattle.erl_term.specs.contracts.term.Terms as terms;
     ghost use Rattle.erl_forms.specs.contracts.module.Module as forms;
-    ghost use Rattle.shell_deeds.specs.State.{ShellState};
+    ghost use Rattle.shell_deeds.specs.State.{ShellState, joined};
 
     ghost Value = { ShellState };
 
@@ -45,7 +46,7 @@ impl Model for Holdings {
       timeline = h.journal;
       jobs = h.jobs.items;
       calls = h.calls;
-      sent = h.sent.items;
+      sent = joined h.sent.items;
     } };
 }
 
@@ -98,13 +99,6 @@ impl Holdings {
         ensures { result.now ≡ (node_of self.now).processes }
     {
         self.node().processes()
-    }
-
-    /// Makes room for one job more. Nothing is changed.
-    pub(crate) fn make_room(&mut self) -> Result<(), AllocError>
-        ensures { self.new ≡ self.old }
-    {
-        self.jobs.reserve(1)
     }
 
     /// The number of the job that is kept next, counted from 1.

@@ -1,44 +1,44 @@
 // What a process is asked for.
-ghost use Rattle.std.specs.Prelude.{◌≡◌, ◌++◌, IfOk, None, Some};
-ghost use Rattle.shell_deeds.specs.Deeds.{ServesAs, took};
-ghost use Rattle.shell_answers.specs.Answers.{fixed, line_of};
+ghost use Rattle.std.specs.Prelude.{◌≡◌, ◌+◌, ◌<◌, ◌++◌, ◌∷◌, [], IfOk, None, Some, length, vec_capacity, vec_len};
+ghost use Rattle.erl_machine.specs.declared.jobs.Job.{Job};
+ghost use Rattle.node_core.specs.declared.event.Answer.{Answer};
+ghost use Rattle.node_core.specs.declared.event.Answer.TheVariants as tells;
+ghost use Rattle.node_core.specs.declared.event.Event.TheVariants as event;
+ghost use Rattle.node_core.specs.Note.{Note};
+ghost use Rattle.shell_deeds.specs.Deeds.{ServesAs};
+ghost use Rattle.shell_answers.specs.Answers.{fixed, job_of, line_of};
 ghost use Rattle.shell_answers.specs.Refusals.{proc_refusal};
 ghost use Rattle.shell_deeds.specs.Done.{IsDone, IsKept, proc_fate};
+ghost use Rattle.undo_journal.specs.declared.reversible.Told.{Told};
 ghost use Rattle.shell_requests.specs.declared.request.Service.TheVariants.{Retake, Show, Take};
 
 use crate::holdings::Holdings;
-use crate::telling::{Said, refuse, say, tell_halt};
+use crate::telling::{Said, refuse, say, tell_failed};
 use erl_machine::Job;
-use node_core::{Answer, Event};
+use node_core::{Answer, Event, Note};
 use process_table::ProcError;
 use shell_answers::{Fixed, proc_refusal, write_job, write_process};
+use undo_journal::Told;
 
 impl Holdings {
     /// Takes the next message of a process, and keeps the job.
     pub(crate) fn take(&mut self, pid: u64, out: &mut Vec<u8>) -> Said
         ensures { IfOk result (λ fate. IsDone (ServesAs self.old Take (Some pid) fate) self.new out.old.items out.new.items) }
     {
-        if self.make_room().is_err() {
-            return tell_halt(self.halt_of(&Event::Take(pid)), out);
-        }
-        match self.carry_out(Event::Take(pid)) {
-            Ok(answer) => self.take_job(pid, answer, out),
-            Err(halt) => tell_halt(halt, out),
-        }
+        self.take_by(&Event::Take(pid), pid, out)
     }
 
-    /// Keeps the job that was taken, and tells its number.
-    fn take_job(&mut self, pid: u64, answer: Answer, out: &mut Vec<u8>) -> Said
-        ensures { IfOk result (λ fate. (fate ≡ None) × (self.new ≡ (took self.old pid answer).after)
-            × (out.new.items ≡ out.old.items ++ (took self.old pid answer).text)) }
+    /// Takes the next message of a process by this event, and keeps the job.
+    fn take_by(&mut self, taking: &Event, pid: u64, out: &mut Vec<u8>) -> Said
+        requires { taking.now ≡ event.Take pid }
+        ensures { IfOk result (λ fate. IsDone (ServesAs self.old Take (Some pid) fate) self.new out.old.items out.new.items) }
     {
-        match answer {
-            Answer::Job(job) => {
-                write_job(self.next_place(), pid, out)?;
-                self.keep(job)?;
-                Ok(None)
-            }
-            Answer::Revived(_) | Answer::Killed(_) | Answer::Unit => say(Fixed::Done, out),
+        if self.jobs.reserve(1).is_err() {
+            return self.tell_halt_of(taking, out);
+        }
+        match self.journal.perform(taking, 1) {
+            Ok(told) => tell_taken(&mut self.jobs, pid, answer_of(told), out),
+            Err(error) => tell_failed(error, out),
         }
     }
 
@@ -78,6 +78,40 @@ impl Holdings {
             None => say(Fixed::NoProc, out),
         }
     }
+}
+
+/// The answer of what is told once.
+fn answer_of(mut told: Vec<Told<Answer, Note>>) -> Answer
+    requires { length told.items ≡ 1 }
+    ensures { (it : Told Answer Note) → told.items ≡ it ∷ [] → result ≡ it.answer }
+{
+    match told.pop() {
+        Some(Told { answer, note: _ }) => answer,
+        None => unreachable!(),
+    }
+}
+
+/// Keeps the job of an answer, for which there is room. An answer of another kind is dropped.
+fn keep_told(jobs: &mut Vec<Job>, answer: Answer)
+    requires { vec_len jobs.old < vec_capacity jobs.old }
+    ensures { (job : Job) → answer ≡ tells.Job job → jobs.new.items ≡ jobs.old.items ++ job ∷ [] }
+{
+    match answer {
+        Answer::Job(job) => jobs.push_reserved(job),
+        Answer::Revived(_) | Answer::Killed(_) | Answer::Unit => (),
+    }
+}
+
+/// Keeps the job of the answer to a take, for which there is room, and tells its number.
+fn tell_taken(jobs: &mut Vec<Job>, pid: u64, answer: Answer, out: &mut Vec<u8>) -> Said
+    requires { vec_len jobs.old < vec_capacity jobs.old }
+    ensures { IfOk result (λ fate. (job : Job) → answer ≡ tells.Job job → (fate ≡ None)
+        × (jobs.new.items ≡ jobs.old.items ++ job ∷ []) × (out.new.items ≡ out.old.items ++ line_of (job_of (length jobs.old.items + 1) pid))) }
+{
+    let place = jobs.len() as u64 + 1;
+    keep_told(jobs, answer);
+    write_job(place, pid, out)?;
+    Ok(None)
 }
 
 /// Tells why a job isn't taken again.

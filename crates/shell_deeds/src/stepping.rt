@@ -1,12 +1,19 @@
 // Steps of the node.
 ghost use Rattle.std.specs.Prelude.{◌≡◌, ◌<◌, ◌++◌, ◌∷◌, [], IfErr, IfOk, OnErr, OnOk, length, vec_capacity, vec_len};
 ghost use Rattle.node_core.specs.declared.event.Answer.{Answer};
-ghost use Rattle.shell_deeds.specs.Halts.{Halts};
-ghost use Rattle.shell_deeds.specs.Stepping.{IsStepped, SendsNothing};
+ghost use Rattle.node_core.specs.Note.{Note};
+ghost use Rattle.undo_journal.specs.declared.reversible.Told.{Told};
+ghost use Rattle.shell_deeds.specs.Halts.{Halts, halt_answer, halt_by, halt_fate};
+ghost use Rattle.shell_deeds.specs.declared.stepping.Halt.{Halt};
+ghost use Rattle.shell_answers.specs.Answers.{line_of};
+ghost use Rattle.shell_deeds.specs.State.{joined};
+ghost use Rattle.shell_deeds.specs.Stepping.{IsStepped};
 
 use crate::holdings::Holdings;
+use crate::telling::{Said, tell_halt};
 use node_core::{Answer, Event, Note, Refusal};
 use process_ending::Reply;
+use std::alloc::Global;
 use undo_journal::{JournalError, Reversible, Told};
 use values::Row;
 
@@ -24,7 +31,7 @@ pub(crate) enum Halt {
 impl Holdings {
     /// What stands against an event that is told without memory, or else want of it.
     #[inline(never)]
-    pub(crate) fn halt_of(&self, event: &Event) -> Halt
+    fn halt_of(&self, event: &Event) -> Halt
         ensures { Halts result self.now event.now }
     {
         if self.is_full() {
@@ -36,7 +43,15 @@ impl Holdings {
         }
     }
 
-    /// Performs an event, and sends its replies: they are the last row then.
+    /// Tells what stands against an event that is told without memory, or else want of it.
+    #[inline(never)]
+    pub(crate) fn tell_halt_of(&self, event: &Event, out: &mut Vec<u8>) -> Said
+        ensures { IfOk result (λ fate. (halt : Halt) × Halts halt self.now event.now × (fate ≡ halt_fate halt) × (out.new.items ≡ out.old.items ++ line_of (halt_answer halt))) }
+    {
+        tell_halt(self.halt_of(event), out)
+    }
+
+    /// Performs an event, and sends its replies.
     ///
     /// # Errors
     ///
@@ -50,11 +65,8 @@ impl Holdings {
             return Err(self.halt_of(event));
         }
         match self.journal.perform(event, 1) {
-            Ok(told) => Ok(send(&mut self.sent, told)),
-            Err(JournalError::Step(why)) => Err(Halt::Refused(why)),
-            Err(JournalError::SerialEnd) => Err(Halt::Full),
-            Err(JournalError::Memory { .. }) => Err(Halt::Memory),
-            Err(JournalError::DeadMark) => unreachable!(),
+            Ok(told) => Ok(send_told(self.alloc, &mut self.sent, told)),
+            Err(error) => Err(halt_by(error)),
         }
     }
 }
@@ -90,59 +102,53 @@ impl Holdings {
     }
 }
 
-impl Holdings {
-    /// Has an event happen that sends no replies. Nobody is told of it, and its row is empty.
-    ///
-    /// # Errors
-    ///
-    /// Why it has not happened. All is then as it was.
-    fn happen(&mut self, event: &Event) -> Result<(), Halt>
-        requires { SendsNothing event.now }
-        ensures stepped { OnOk result ((answer : Answer) × IsStepped answer self.old event.now self.new) }
-        ensures halted { IfErr result (λ halt. Halts halt self.old event.now) }
-        ensures err { OnErr result (self.new ≡ self.old) }
-    {
-        if self.sent.reserve(1).is_err() {
-            return Err(self.halt_of(event));
-        }
-        match self.journal.perform(event, 0) {
-            Ok(_) => {
-                self.sent.push_reserved(Row::new(Vec::new(self.alloc)));
-                Ok(())
-            }
-            Err(JournalError::Step(why)) => Err(Halt::Refused(why)),
-            Err(JournalError::SerialEnd) => Err(Halt::Full),
-            Err(JournalError::Memory { .. }) => Err(Halt::Memory),
-            Err(JournalError::DeadMark) => unreachable!(),
-        }
+/// Why an event was not performed, by the journal's error. No event has a dead mark.
+#[inline(never)]
+pub(crate) fn halt_by(error: JournalError<Refusal, Note>) -> Halt
+    ensures { result ≡ halt_by error }
+{
+    match error {
+        JournalError::Step(why) => Halt::Refused(why),
+        JournalError::SerialEnd => Halt::Full,
+        JournalError::Memory { .. } | JournalError::DeadMark => Halt::Memory,
     }
 }
 
-impl Holdings {
-    /// Has an event happen that nothing else needs and that sends no replies.
-    ///
-    /// # Errors
-    ///
-    /// Why it has not happened. All is then as it was.
-    pub(crate) fn admit(&mut self, event: Event) -> Result<(), Halt>
-        requires { SendsNothing event }
-        ensures stepped { OnOk result ((answer : Answer) × IsStepped answer self.old event self.new) }
-        ensures halted { IfErr result (λ halt. Halts halt self.old event) }
-        ensures err { OnErr result (self.new ≡ self.old) }
-    {
-        self.happen(&event)
+/// Moves replies into the last row that was sent, if there is one, and memory for that. Amortized, it costs a move of each.
+fn join_last(sent: &mut Vec<Row<Reply>>, replies: &mut Vec<Reply>)
+    requires { vec_len sent.old < vec_capacity sent.old }
+    ensures all { joined sent.new.items ++ replies.new.items ≡ joined sent.old.items ++ replies.old.items }
+    ensures room { vec_len sent.new < vec_capacity sent.new }
+{
+    let Some(last) = sent.pop() else {
+        return;
+    };
+    let mut last = last.into_vec();
+    let _ = last.append(replies);
+    sent.push_reserved(Row::new(last));
+}
+
+/// Sends replies, for whose row there is room: they join the last row, or are one where they can't. There is no row of none.
+pub(crate) fn send(sent: &mut Vec<Row<Reply>>, replies: Row<Reply>)
+    requires { vec_len sent.old < vec_capacity sent.old }
+    ensures { joined sent.new.items ≡ joined sent.old.items ++ replies }
+{
+    let mut replies = replies.into_vec();
+    join_last(sent, &mut replies);
+    if !replies.as_slice().is_empty() {
+        sent.push_reserved(Row::new(replies));
     }
 }
 
 /// Sends the replies of what is told once, for whose row there is room, and hands the answer out.
-fn send(sent: &mut Vec<Row<Reply>>, mut told: Vec<Told<Answer, Note>>) -> Answer
+fn send_told(alloc: Global, sent: &mut Vec<Row<Reply>>, mut told: Vec<Told<Answer, Note>>) -> Answer
     requires room { vec_len sent.old < vec_capacity sent.old }
     requires once { length told.items ≡ 1 }
-    ensures { (it : Told Answer Note) → told.items ≡ it ∷ [] → (result ≡ it.answer) × (sent.new.items ≡ sent.old.items ++ it.note.replies ∷ []) }
+    ensures { (it : Told Answer Note) → told.items ≡ it ∷ [] → (result ≡ it.answer) × (joined sent.new.items ≡ joined sent.old.items ++ it.note.replies) }
 {
     match told.pop() {
         Some(Told { answer, note }) => {
-            let _ = sent.push(note.replies);
+            send(sent, note.into_replies(alloc));
             answer
         }
         None => unreachable!(),

@@ -1,6 +1,7 @@
 // Undos, and questions.
-ghost use Rattle.std.specs.Prelude.{◌≡◌, ◌++◌, [], IfOk, None, Some};
-ghost use Rattle.shell_answers.specs.Answers.{line_of, stopped_undo, undone_steps};
+ghost use Rattle.std.specs.Prelude.{◌≡◌, ◌++◌, [], IfOk, None, OnOk, Some};
+ghost use Rattle.erl_term.specs.Tree.{list};
+ghost use Rattle.shell_answers.specs.Answers.{line_of, replies_in, stopped_undo, undone_steps};
 ghost use Rattle.shell_deeds.specs.Deeds.{Undoes, told};
 ghost use Rattle.shell_deeds.specs.Done.{IsDone, first_of, undo_answer, undo_fate, unfinished_answer, unfinished_fate};
 ghost use Rattle.shell_deeds.specs.declared.fate.Fate.TheVariants.{StoppedAt};
@@ -13,7 +14,7 @@ use shell_answers::{
     Fixed, write_apps, write_mark, write_modules, write_replies, write_stopped, write_undone,
 };
 use shell_requests::Question;
-use std::alloc::Global;
+use std::alloc::{AllocError, Global};
 use undo_journal::{JournalError, Mark, Report};
 use values::Row;
 
@@ -29,10 +30,17 @@ impl Holdings {
         match question {
             Question::Modules => write_modules(self.journal.state().modules(), out)?,
             Question::Apps => write_apps(self.journal.state().apps(), out)?,
-            Question::Replies => write_replies(self.sent.as_slice(), out)?,
+            Question::Replies => self.tell_replies(out)?,
             Question::Mark => write_mark(self.journal.mark(), out)?,
         }
         Ok(None)
+    }
+
+    /// Tells all replies that were ever sent.
+    fn tell_replies(&self, out: &mut Vec<u8>) -> Result<(), AllocError>
+        ensures { OnOk result (out.new.items ≡ out.old.items ++ line_of (list (replies_in self.now.sent))) }
+    {
+        write_replies(self.sent.as_slice(), out)
     }
 
     /// Undoes every step after a mark, and tells what was undone.

@@ -15,7 +15,7 @@ returns-in_default c =
 pub returns-in-Ok : goal.returns-in-Ok
 returns-in-Ok c =
     let s = c.args.self.now in
-    subst (λ (o : Option Job). IfOk c.commit_done.result (λ fate. IsDone (CommitsKept s o fate) c.commit_done.new.self c.args.out.now.items c.commit_done.new.out.items)) c.in-Some.ensures (IfOk-then c.commit_done.result _ _ c.commit_done.ensures (λ fate done. done-as c.commit_done.new.self c.args.out.now.items c.commit_done.new.out.items (λ d does. ran c.in-Ok.done fate d c.in-Ok.ensures does) done))
+    subst (λ (o : Option Job). IfOk c.commit_by.result (λ fate. IsDone (CommitsKept s o fate) c.commit_by.new.self c.args.out.now.items c.commit_by.new.out.items)) c.in-Some.ensures (IfOk-then c.commit_by.result _ _ c.commit_by.ensures (λ fate done. done-as c.commit_by.new.self c.args.out.now.items c.commit_by.new.out.items (λ d does. ran c.in-Ok.done fate d c.in-Ok.ensures does) done))
 
 pub returns-in-Err : goal.returns-in-Err
 returns-in-Err c =
