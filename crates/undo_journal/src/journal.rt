@@ -1,5 +1,6 @@
 // The journal.
 ghost use Rattle.std.specs.Prelude.{◌≡◌, ◌↔◌, ◌-◌, ◌^◌, [], length, Some, Err, IfOk, IfErr, IsTrue, OnOk, OnErr, replicate};
+ghost use Rattle.std.specs.Option.{option_copied};
 ghost use Rattle.undo_journal.specs.Journal.{Performs, PerformFails, UndoFails, IsOutOfMemoryAt};
 ghost use Rattle.undo_journal.specs.Timeline.{here, opened, cut_to, cut_stations, node_at, notes_of, report_of, IsFront, IsOrdered};
 
@@ -79,6 +80,16 @@ impl<S: Reversible> Journal<S> {
         ensures { result.now ≡ (here self.now).node }
     {
         &self.state
+    }
+
+    /// What the newest step has noted: nothing where the machine stands where the journal began. Takes no memory.
+    pub fn newest_note(&self) -> Option<&S::Note>
+        ensures { option_copied result ≡ (here self.now).note }
+    {
+        match self.past.as_slice().last() {
+            Some(entry) => Some(&entry.note),
+            None => self.first_note.as_ref(),
+        }
     }
 
     /// Whether no serial is left for another step. Takes no memory.

@@ -20,7 +20,8 @@
 //! - [`Journal::undo`] cuts exactly the stations after the mark's, and reports n times how many there
 //!   were and their notes, oldest first. An undo that finds no memory stands at a station at or after
 //!   the mark, names it, and reports what it cut; the same undo, called again, has the same end.
-//! - [`Journal::mark`] names the node where the machine stands, and [`Journal::state`] lends it.
+//! - [`Journal::mark`] names the node where the machine stands, [`Journal::state`] lends it, and [`Journal::newest_note`] the note of
+//!   the newest step.
 //! - [`replay`]: after any list of commands, want of memory among them, the timeline is where the
 //!   commands lead as they were carried out, and the node is the fold of the rule over the live steps.
 //! - [`commands_have_one_end`]: from a timeline commands lead to one timeline at most, with one list of
