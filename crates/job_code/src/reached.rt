@@ -135,7 +135,7 @@ pub fn job_code(
     let places = reached_places(alloc, modules, &entered.module)?;
     // The proof asks that names differ in the table, and `len` tells it.
     let _ = modules.len();
-    let mut code = Vec::new(alloc);
+    let mut code = Vec::with_capacity(alloc, places.len().saturating_add(1))?;
     code.push(entered)?;
     push_current(alloc, modules, &places, &mut code)?;
     Ok(code)
