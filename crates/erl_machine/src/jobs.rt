@@ -1,5 +1,5 @@
 // Jobs: a message that a process has taken, and what it gives.
-ghost use Rattle.std.specs.Prelude.{◌≡◌, IfOk, MatchOption, None, Some, map};
+ghost use Rattle.std.specs.Prelude.{[], ◌≡◌, IfErr, IfOk, MatchOption, None, Some, map};
 ghost use Rattle.std.specs.Option.{option_copied};
 ghost use Rattle.erl_term.specs.Term.{tree};
 ghost use Rattle.erl_term.specs.Tree.{count, more, none};
@@ -148,6 +148,7 @@ fn receive<'a>(
 
 impl Job {
     /// What the job gives in a loop function of the instance that is entered.
+    #[inline(never)]
     fn hear_in<'a>(
         &self,
         world: &World<'a>,
@@ -236,6 +237,38 @@ impl Job {
         let job = self.copy(alloc)?;
         Ok(Done { job, outcome })
     }
+
+    /// What stands in the place of a job that is lent out: no process's, with no code. Takes no memory.
+    pub fn blank(alloc: Global) -> Job
+        ensures { result.code ≡ [] }
+    {
+        Job {
+            pid: 0,
+            turn: 0,
+            place: Place::Server {
+                module: Atom::predefined(Predefined::Normal),
+                state: Term::Int(0),
+            },
+            entry_serial: 0,
+            message: Term::Int(0),
+            code: Row::new(Vec::new(alloc)),
+        }
+    }
+
+    /// Runs the job, as [`Job::run`] does, and copies nothing: the job itself is in what is done.
+    ///
+    /// # Errors
+    ///
+    /// The job, where [`Job::run`] is refused memory.
+    pub fn run_whole(self, alloc: Global) -> Result<Done, Job>
+        ensures done { IfOk result (λ it. it.job ≡ self) }
+        ensures back { IfErr result (λ it. it ≡ self) }
+    {
+        match self.give(alloc) {
+            Ok(outcome) => Ok(Done { job: self, outcome }),
+            Err(_) => Err(self),
+        }
+    }
 }
 
 /// A job that was run, and what it gave. Nobody can make one up.
@@ -252,6 +285,14 @@ impl Done {
         ensures { result.now ≡ self.now.job }
     {
         &self.job
+    }
+
+    /// The job, for who keeps it. Takes no memory.
+    pub fn into_job(self) -> Job
+        ensures { result ≡ self.job }
+    {
+        let Done { job, outcome: _ } = self;
+        job
     }
 
     /// What it gave. Takes no memory.
