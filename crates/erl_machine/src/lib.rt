@@ -15,7 +15,8 @@
 //!
 //! # What no contract says
 //!
-//! That there is memory, and what a call costs: a step costs what it changes ([`erl_steps`]). `AllocError` is also the answer where
+//! That there is memory, and what a call costs: a step costs what it changes ([`erl_steps`]), and [`Job::run`] copies its job, where
+//! [`Job::run_whole`] copies nothing. `AllocError` is also the answer where
 //! there are more arguments or more nested calls than a `u32` counts.
 #![tactic(auto)]
 

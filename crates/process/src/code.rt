@@ -5,7 +5,7 @@ use erl_machine::Instance;
 use std::alloc::{AllocError, Global};
 use std::marker::Model;
 use std::slice;
-use values::{Row, copied_slice, same_slices};
+use values::{Duplicate, Row, copied_slice, same_slices};
 
 /// How code is held.
 #[derive(Drop)]
@@ -16,8 +16,8 @@ pub(crate) enum Held {
     Many(Row<Instance>),
 }
 
-/// The code that a process runs in: instances, in order, which contracts see as their list. One instance that is found again takes no
-/// memory of its own.
+/// The code that a process runs in: instances, in order, which contracts see as their list. One instance that is copied or found
+/// again takes no row.
 #[derive(Drop)]
 pub struct Code {
     held: Held,
@@ -51,11 +51,26 @@ impl Code {
 
     /// These instances. Takes no memory.
     #[inline(always)]
-    pub(crate) fn many(instances: Row<Instance>) -> Code
+    pub fn many(instances: Row<Instance>) -> Code
         ensures { result ≡ instances }
     {
         Code {
             held: Held::Many(instances),
+        }
+    }
+
+    /// Code of instances equal to these. One takes no row.
+    ///
+    /// # Errors
+    ///
+    /// `AllocError` where memory is refused.
+    #[inline(always)]
+    pub fn of(alloc: Global, instances: &[Instance]) -> Result<Code, AllocError>
+        ensures { IfOk result (λ it. it ≡ instances.now) }
+    {
+        match instances {
+            [only] => Ok(Code::one(only.copy(alloc)?)),
+            _ => Ok(Code::many(Row::new(copied_slice(alloc, instances)?))),
         }
     }
 

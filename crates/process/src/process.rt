@@ -19,7 +19,7 @@ use std::alloc::{AllocError, Global};
 use std::collections::VecDeque;
 use std::marker::Model;
 use std::mem;
-use values::{Duplicate, Row, Same};
+use values::{Duplicate, Same};
 
 /// A process.
 #[derive(Drop)]
@@ -243,14 +243,14 @@ impl Process {
     }
 
     /// The message at a position is taken: the process runs it, in this code. Takes no memory.
-    pub fn take(&mut self, position: usize, entry_serial: u64, code: Row<Instance>)
+    pub fn take(&mut self, position: usize, entry_serial: u64, code: Code)
         ensures { self.new ≡ run_at position entry_serial code self.old }
     {
         if let Some(message) = self.mailbox.remove(position) {
             self.activity = Activity::Runs(Running {
                 entry_serial,
                 message,
-                code: Code::many(code),
+                code,
             });
             self.next = None;
         }
