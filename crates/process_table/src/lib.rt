@@ -15,7 +15,8 @@
 //! - [`Processes::commit`] does what a job gave, its acts in order and then its end, and tells what clients are told of it, in as many
 //!   equal values as are asked for (`committed`, `commit_told`), just where the process of the job's pid runs an equal job, code included, and can be counted one turn on
 //!   (`RefusesCommit`). It takes a [`erl_machine::Done`], which nobody can make up. [`Processes::commit_unrefused`] does the same where
-//!   [`Processes::commit_refusal`] has told that nothing stands against it, and doesn't compare the job once more.
+//!   [`Processes::commit_refusal`] has told that nothing stands against it, and doesn't compare the job once more, and
+//!   [`Processes::commit_once`] does that and tells it once.
 //! - [`Processes::kill_users`] takes each user of an instance out, and nobody else (`without_users` of
 //!   [`process_ending`]).
 //! - [`Processes::arrive_refusal`], [`Processes::take_refusal`] and [`Processes::commit_refusal`] tell without memory why a step would be
@@ -35,7 +36,7 @@
 //! # What no contract says
 //!
 //! That there is memory, and what a call costs: a step costs what its elementary change costs ([`process_store`]); a take copies the
-//! code of its job, which is shared; an end copies names of modules, and its undo looks for their instances. `runnable` walks over the
+//! code of its job, which is shared, and no job but those that are asked for beside it; an end copies names of modules, and its undo looks for their instances. `runnable` walks over the
 //! slots, and evaluates nothing.
 #![tactic(auto)]
 

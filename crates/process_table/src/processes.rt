@@ -1,5 +1,5 @@
 // The processes of a node.
-ghost use Rattle.std.specs.Prelude.{◌≡◌, None, Some, IfOk, IfErr, OnOk, OnErr};
+ghost use Rattle.std.specs.Prelude.{◌≡◌, ◌+◌, ◌∷◌, None, Some, IfOk, IfErr, OnOk, OnErr};
 ghost use Rattle.std.specs.Option.{option_copied};
 
 mod batching;
@@ -14,6 +14,7 @@ use erl_eval::Place;
 use erl_forms::Module;
 use erl_machine::{Instance, Job};
 use erl_term::{Atom, Term};
+use process::Code;
 use process_commit::rests_in;
 use process_ending::{
     EndedProcess, Reply, downs_of, end, kill_users, return_all, return_ended, told_by_kill, users,
@@ -273,8 +274,8 @@ impl Processes {
         }
     }
 
-    /// A process takes the first message that it takes where it rests, and runs it. The job is handed out in `n` equal values: the
-    /// message, and the code, which is the instance that is entered and what it can reach.
+    /// A process takes the first message that it takes where it rests, and runs it. The job is handed out: the message, and the code,
+    /// which is the instance that is entered and what it can reach; and so many equal jobs more.
     ///
     /// # Errors
     ///
@@ -284,12 +285,12 @@ impl Processes {
         &mut self,
         modules: &Modules<Module>,
         pid: u64,
-        n: usize,
-    ) -> Result<(Vec<Job>, Undo), ProcError>
+        more: usize,
+    ) -> Result<(Job, Vec<Job>, Undo), ProcError>
         ensures ok { OnOk result (take_refusal pid self.old ≡ None) }
-        ensures taken { IfOk result (λ it. Takes modules.now pid n it.0.items self.old self.new) }
-        ensures inverse { IfOk result (λ it. TakesBack it.1 self.old self.new) }
-        ensures pieces { IfOk result (λ it. HoldsLost (held it.1 self.new) self.old self.new) }
+        ensures taken { IfOk result (λ it. Takes modules.now pid (more + 1) (it.0 ∷ it.1.items) self.old self.new) }
+        ensures inverse { IfOk result (λ it. TakesBack it.2 self.old self.new) }
+        ensures pieces { IfOk result (λ it. HoldsLost (held it.2 self.new) self.old self.new) }
         ensures refused { IfErr result (λ e. Tells e (take_refusal pid self.old)) }
         ensures err { OnErr result (self.new ≡ self.old) }
     {
@@ -303,11 +304,14 @@ impl Processes {
         let Ok(Some(job)) = job_for(self.alloc, modules, living, position) else {
             return Err(ProcError::Memory);
         };
-        let Ok(jobs) = copies(self.alloc, &job, n) else {
+        let Ok(code) = Code::of(self.alloc, job.code.as_slice()) else {
             return Err(ProcError::Memory);
         };
-        self.store.run(pid, position, job.entry_serial, job.code);
-        Ok((jobs, Undo::Taken { pid, position }))
+        let Ok(others) = copies(self.alloc, &job, more) else {
+            return Err(ProcError::Memory);
+        };
+        self.store.run(pid, position, job.entry_serial, code);
+        Ok((job, others, Undo::Taken { pid, position }))
     }
 
     /// The job that a process runs.

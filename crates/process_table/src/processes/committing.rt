@@ -200,7 +200,8 @@ impl Processes {
     }
 
     /// Commits what a job gave where nothing stands against it, as [`Processes::commit_refusal`] has told: so the job isn't compared
-    /// once more with what its process runs.
+    /// once more with what its process runs. What clients are told is handed out in `n` equal values; [`Processes::commit_once`] hands
+    /// it out once.
     ///
     /// # Errors
     ///
@@ -216,6 +217,24 @@ impl Processes {
     {
         let (job, outcome) = (done.job(), done.outcome());
         self.conclude_telling(job, outcome.acts.as_slice(), &outcome.end, n)
+    }
+
+    /// The same as [`Processes::commit_unrefused`], where what clients are told is handed out once.
+    ///
+    /// # Errors
+    ///
+    /// `AllocError` where memory is refused. The table is then as it was.
+    pub fn commit_once(&mut self, done: &Done) -> Result<(Vec<Reply>, Undo), AllocError>
+        requires { IsCommitRefusal None done.now.job self.old }
+        ensures committed { OnOk result (self.new ≡ committed done.now self.old) }
+        ensures told { IfOk result (λ it. it.0.items ≡ commit_told done.now self.old) }
+        ensures inverse { IfOk result (λ it. TakesBackEnds it.1 self.old self.new) }
+        ensures ok { OnOk result (IsCommitRefusal None done.now.job self.old) }
+        ensures pieces { IfOk result (λ it. HoldsLost (held it.1 self.new) self.old self.new) }
+        ensures err { OnErr result (self.new ≡ self.old) }
+    {
+        let (job, outcome) = (done.job(), done.outcome());
+        self.conclude(job, outcome.acts.as_slice(), &outcome.end)
     }
 
     /// The commit of a job whose process rests again is taken back.

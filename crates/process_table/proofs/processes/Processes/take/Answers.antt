@@ -1,6 +1,8 @@
 -- The process runs its job, and the undo takes the message back.
-use Rattle.std.proofs.Common.{◌≡◌, Some, option_map, sym, ap, subst, ◌∙◌}
+use Rattle.std.proofs.Common.{◌≡◌, ◌∷◌, List, Some, add-one, option_map, sym, ap, subst, ◌∙◌}
 use Rattle.std.specs.Option.{option_copied}
+use Rattle.erl_machine.specs.declared.jobs.Job.{Job}
+use Rattle.erl_steps.specs.declared.world.Instance.{Instance}
 use Rattle.process_store.specs.declared.living.Living.{Living}
 use Rattle.process_store.specs.Living.{run, takes_next}
 use Rattle.process_store.specs.Table.{Table, changed, living}
@@ -20,12 +22,14 @@ returns-clause-taken c =
     let lives : living pid t ≡ Some l = ap (living pid) (sym c.self.view_is) ∙ there in
     let job = c.in-Ok-Some.job in
     let position = c.in-Ok.position in
-    let is : c.run.new.self ≡ changed (run position job.entry_serial job.code) pid t = c.run.ensures.runs ∙ ap (changed (run position job.entry_serial job.code) pid) c.self.view_is in
-    let now : living pid c.run.new.self ≡ option_map (run position job.entry_serial job.code) (Some l) = c.run.ensures.process ∙ ap (option_map (run position job.entry_serial job.code)) there in
+    let code : List Instance = c.in-Ok-of.code in
+    let same : code ≡ job.code = c.in-Ok-of.ensures ∙ c.as_slice.ensures in
+    let is : c.run.new.self ≡ changed (run position job.entry_serial job.code) pid t = c.run.ensures.runs ∙ ap (changed (run position job.entry_serial code) pid) c.self.view_is ∙ ap (λ (x : List Instance). changed (run position job.entry_serial x) pid t) same in
+    let now : living pid c.run.new.self ≡ option_map (run position job.entry_serial job.code) (Some l) = c.run.ensures.process ∙ ap (option_map (run position job.entry_serial code)) there ∙ ap (λ (x : List Instance). option_map (run position job.entry_serial x) (Some l)) same in
     let told = rw c.in-Ok-Some.field-0-is at c.in-Ok-Some.ensures in
     record {
       job = job;
-      told = c.in-Ok-copies.ensures;
+      told = rw add-one (ap (λ (others : List Job). job ∷ others) c.in-Ok-copies.ensures);
       code = subst (λ o. IsCodeOf c.args.modules.now o job) (sym lives) told.4;
       table = taken_is t c.run.new.self (Some l) pid position job.entry_serial job.code lives c.in-Ok.ensures.next is;
       runs = job_is (living pid c.run.new.self) l position job now told.0 told.1 told.2 told.3;
