@@ -9,7 +9,7 @@ use Rattle.undo_journal.specs.declared.reversible.Told.{Told}
 use Rattle.undo_journal.specs.declared.error.JournalError.{JournalError}
 use Rattle.undo_journal.specs.declared.error.JournalError.TheVariants.{Step, DeadMark, SerialEnd, Memory}
 use Rattle.undo_journal.specs.Past.{Chained, station_of, stations, timeline_of, shortened}
-use Rattle.undo_journal.specs.Reversible.{Accepted, Accepts, AcceptsWith, told_of}
+use Rattle.undo_journal.specs.Reversible.{Accepted, Accepts, AcceptsOnce, AcceptsWith, told_of}
 use Rattle.undo_journal.specs.Timeline.{Station, Timeline, newest, here, appended, kept_to, cut_to, cut_stations, notes_of, report_of, Rises, IsFront, IsOrdered}
 use Rattle.undo_journal.specs.Journal.{IsOutOfMemoryAt, Performs, PerformFails, UndoFails, Stopped, stopped_reports}
 use Rattle.undo_journal.proofs.Chains.{Chained-push}
@@ -59,6 +59,12 @@ AcceptsWith-aside {S} {A} {N} {F} IsRuled node n count told rest aside same acce
     let all = sym is ∙ accepts.3 ∙ ap (λ k. replicate (k + 1) (told_of accepts.0)) same ∙ ap (λ k. replicate k (told_of accepts.0)) (add-one n) in
     let parts = replicate-popped n (told_of accepts.0) rest aside all in
     (accepts.0, accepts.1, accepts.2, parts.0, ap (λ (t : Told A N). t.note) (sym parts.1))
+
+-- of what tells of a step once, that is the answer
+pub AcceptsOnce-of : {S A N F : Type 0} (IsRuled : Result (Accepted S A N) F → Type 0) (node : S) (told rest : List (Told A N)) (once : Told A N) (note : N) → AcceptsWith IsRuled node 1 told note → told ≡ rest ++ once ∷ [] → AcceptsOnce IsRuled node once.answer note
+AcceptsOnce-of {S} {A} {N} {F} IsRuled node told rest once note accepts is =
+    let parts = replicate-popped 0 (told_of accepts.0) rest once (sym is ∙ accepts.3) in
+    (accepts.0, accepts.1, accepts.2, ap (λ (t : Told A N). t.answer) (sym parts.1), accepts.4)
 
 -- the rule's step is performed
 pub Performs-from : {S A N F : Type 0} (IsRuled : Result (Accepted S A N) F → Type 0) (node : S) (n : ℕ) (told : List (Told A N)) (note : N) (old new : Timeline S N) → AcceptsWith IsRuled node n told note → new ≡ appended old node note → Performs IsRuled n old told new

@@ -1,13 +1,13 @@
 // The journal.
 ghost use Rattle.std.specs.Prelude.{◌≡◌, ◌↔◌, ◌-◌, ◌^◌, [], length, Some, Err, IfOk, IfErr, IsTrue, OnOk, OnErr, replicate};
 ghost use Rattle.std.specs.Option.{option_copied};
-ghost use Rattle.undo_journal.specs.Journal.{Performs, PerformFails, UndoFails, IsOutOfMemoryAt};
+ghost use Rattle.undo_journal.specs.Journal.{Performs, PerformsOnce, PerformFails, UndoFails, IsOutOfMemoryAt};
 ghost use Rattle.undo_journal.specs.Timeline.{here, opened, cut_to, cut_stations, node_at, notes_of, report_of, IsFront, IsOrdered};
 
 use crate::error::JournalError;
 use crate::past::{Entry, keep_newest, kept_entries, newest_serial, put, reports_on, take_back_to};
 use crate::report::Report;
-use crate::reversible::{Noted, Reversible, StepError, Told};
+use crate::reversible::{Answered, Noted, Reversible, StepError, Told};
 use std::alloc::{AllocError, Global};
 use std::marker::Model;
 use std::snapshot::Snapshot;
@@ -143,6 +143,53 @@ impl<S: Reversible> Journal<S> {
         };
         put(&mut self.past, entry);
         Ok(told)
+    }
+
+    /// Performs an event, as [`Journal::perform`] does, and hands its answer out once. Its note is the newest
+    /// ([`Journal::newest_note`]).
+    ///
+    /// # Errors
+    ///
+    /// Those of [`Journal::perform`]. Each leaves the journal as it was.
+    pub fn perform_once(
+        &mut self,
+        event: &S::Event,
+    ) -> Result<S::Answer, JournalError<S::Refusal, S::Note>>
+        ensures performed { IfOk result
+            (λ answer. PerformsOnce (S.rule (here self.old).node event.now) self.old answer self.new) }
+        ensures refused { IfErr result
+            (PerformFails (S.rule (here self.old).node event.now)
+            (S.may_run_out (here self.old).node event.now) self.old) }
+        ensures serial_end { self.old.last ≡ 2 ^ 64 - 1 → result ≡ Err JournalError.SerialEnd }
+        ensures err { OnErr result (self.new ≡ self.old) }
+    {
+        if self.last == u64::MAX {
+            return Err(JournalError::SerialEnd);
+        }
+        if self.past.reserve(1).is_err() {
+            return match self.state.refusal(event) {
+                Some(refusal) => Err(JournalError::Step(refusal)),
+                None => Err(self.out_of_memory()),
+            };
+        }
+        let Answered {
+            answer,
+            note,
+            trace,
+        } = match self.state.step_answered(event) {
+            Ok(answered) => answered,
+            Err(StepError::Rule(refusal)) => return Err(JournalError::Step(refusal)),
+            Err(StepError::Memory) => return Err(self.out_of_memory()),
+        };
+        self.last += 1;
+        let entry = Entry {
+            serial: self.last,
+            trace,
+            note,
+            node: Snapshot::of(&self.state),
+        };
+        put(&mut self.past, entry);
+        Ok(answer)
     }
 
     /// Undoes every step after the mark, and reports it `n` times: how many steps, and their notes,

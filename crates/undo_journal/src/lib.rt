@@ -16,7 +16,7 @@
 //!
 //! - [`Journal::perform`] appends the station that the rule gives, under the next serial, and tells n
 //!   equal values of it. Where it is refused, the timeline is as before, and want of memory hides no
-//!   refusal that is told without memory.
+//!   refusal that is told without memory. [`Journal::perform_once`] does the same, and hands the answer out by itself.
 //! - [`Journal::undo`] cuts exactly the stations after the mark's, and reports n times how many there
 //!   were and their notes, oldest first. An undo that finds no memory stands at a station at or after
 //!   the mark, names it, and reports what it cut; the same undo, called again, has the same end.
@@ -47,4 +47,4 @@ pub use error::JournalError;
 pub use history::{Command, Replayed, commands_have_one_end, marks_name_nodes, replay};
 pub use journal::{Journal, Mark};
 pub use report::Report;
-pub use reversible::{Noted, Reversible, StepError, Stepped, Told};
+pub use reversible::{Answered, Noted, Reversible, StepError, Stepped, Told};
