@@ -9,9 +9,11 @@ use Rattle.undo_journal.specs.declared.reversible.Told.{Told}
 use Rattle.undo_journal.specs.declared.error.JournalError.{JournalError}
 use Rattle.undo_journal.specs.declared.error.JournalError.TheVariants.{Step, DeadMark, SerialEnd, Memory}
 use Rattle.undo_journal.specs.Past.{Chained, station_of, stations, timeline_of, shortened}
-use Rattle.undo_journal.specs.Reversible.{Accepted, Accepts, AcceptsOnce, AcceptsWith, told_of}
+use Rattle.undo_journal.specs.Reversible.{Accepted, Accepts, AcceptsOnce, AcceptsWith, Refuses, told_of}
+use Rattle.undo_journal.specs.declared.reversible.StepError.{StepError}
+use Rattle.undo_journal.specs.declared.reversible.StepError.TheVariants as steps
 use Rattle.undo_journal.specs.Timeline.{Station, Timeline, newest, here, appended, kept_to, cut_to, cut_stations, notes_of, report_of, Rises, IsFront, IsOrdered}
-use Rattle.undo_journal.specs.Journal.{IsOutOfMemoryAt, Performs, PerformFails, UndoFails, Stopped, stopped_reports}
+use Rattle.undo_journal.specs.Journal.{FailsBy, IsOutOfMemoryAt, Performs, PerformFails, UndoFails, Stopped, stopped_reports}
 use Rattle.undo_journal.proofs.Chains.{Chained-push}
 use Rattle.undo_journal.proofs.Stations.{newest-push, Rises-push, Rises-take, newest-take, newest-take-le, newest-take-lt, kept_to-newest, kept_to-names, notes_of-stations}
 
@@ -36,11 +38,6 @@ kept-push undoes floor node noted past items last p state after next at is step 
     let reversible = subst (λ s. undoes p.trace state s) (sym at) step in
     let pushed = Chained-push undoes node past p state chain reversible in
     (rw is (subst (λ s. Chained undoes node (past ++ p ∷ []) s) at pushed), rw is (IsOrdered-push floor node noted past last p next ordered))
-
--- want of memory, told where the entries are kept elsewhere
-pub want-at : {S R N F : Type 0} (floor : ℕ) (node : S) (noted : Option N) (past items : List (Entry S R N)) (last : ℕ) (t : Timeline S N) (e : JournalError F N) → items ≡ past → timeline_of floor node noted past last ≡ t → IsOutOfMemoryAt (here (timeline_of floor node noted items last)).serial e → IsOutOfMemoryAt (here t).serial e
-want-at floor node noted past items last t e same is want =
-    subst (λ u. IsOutOfMemoryAt (here u).serial e) (ap (λ ps. timeline_of floor node noted ps last) same ∙ is) want
 
 -- of one value more than n equal ones, what is left when one is set aside
 replicate-popped : {X : Type 0} (n : ℕ) (x : X) (rest : List X) (aside : X) → rest ++ aside ∷ [] ≡ replicate (suc n) x → (rest ≡ replicate n x) × (aside ≡ x)
@@ -242,3 +239,8 @@ noted-front floor node noted past items last k t within front is =
     let behind : drop (length (stations items)) (stations past) ≡ stations (drop k past) = rw count (drop-map station_of k past) in
     let notes = notes_of-stations (drop k past) in
     subst (λ u. length (notes_of (cut_stations u (timeline_of floor node noted items last))) ≡ length (cut_stations u (timeline_of floor node noted items last))) is (rw (behind, notes) (simp length-map refl))
+
+-- why a step failed is why its event is not performed
+pub PerformFails-by : {S A N F : Type 0} (IsRuled : Result (Accepted S A N) F → Type 0) (MayRunOut : Type 0) (old : Timeline S N) (error : StepError F) (e : JournalError F N) → Refuses IsRuled MayRunOut error → FailsBy error (here old).serial e → PerformFails IsRuled MayRunOut old e
+PerformFails-by IsRuled MayRunOut old (steps.Rule f) e refuses is = subst (λ x. PerformFails IsRuled MayRunOut old x) (sym is) refuses
+PerformFails-by IsRuled MayRunOut old steps.Memory e may want = PerformFails-from_want IsRuled MayRunOut old e may want

@@ -1,11 +1,13 @@
 // The journal.
 ghost use Rattle.std.specs.Prelude.{◌≡◌, ◌↔◌, ◌-◌, ◌^◌, [], length, Some, Err, IfOk, IfErr, IsTrue, OnOk, OnErr, replicate};
 ghost use Rattle.std.specs.Option.{option_copied};
-ghost use Rattle.undo_journal.specs.Journal.{Performs, PerformsOnce, PerformFails, UndoFails, IsOutOfMemoryAt};
+ghost use Rattle.undo_journal.specs.Journal.{FailsBy, Performs, PerformsOnce, PerformFails, UndoFails, IsOutOfMemoryAt};
 ghost use Rattle.undo_journal.specs.Timeline.{here, opened, cut_to, cut_stations, node_at, notes_of, report_of, IsFront, IsOrdered};
 
 use crate::error::JournalError;
-use crate::past::{Entry, keep_newest, kept_entries, newest_serial, put, reports_on, take_back_to};
+use crate::past::{
+    Entry, enter, keep_newest, kept_entries, newest_serial, reports_on, take_back_to,
+};
 use crate::report::Report;
 use crate::reversible::{Answered, Noted, Reversible, StepError, Told};
 use std::alloc::{AllocError, Global};
@@ -124,24 +126,14 @@ impl<S: Reversible> Journal<S> {
             return Err(JournalError::SerialEnd);
         }
         if self.past.reserve(1).is_err() {
-            return match self.state.refusal(event) {
-                Some(refusal) => Err(JournalError::Step(refusal)),
-                None => Err(self.out_of_memory()),
-            };
+            return Err(self.failure_without_memory(event));
         }
         let Noted { told, note, trace } = match self.state.step_noted(event, n) {
             Ok(noted) => noted,
-            Err(StepError::Rule(refusal)) => return Err(JournalError::Step(refusal)),
-            Err(StepError::Memory) => return Err(self.out_of_memory()),
+            Err(error) => return Err(self.failure(error)),
         };
         self.last += 1;
-        let entry = Entry {
-            serial: self.last,
-            trace,
-            note,
-            node: Snapshot::of(&self.state),
-        };
-        put(&mut self.past, entry);
+        enter(&mut self.past, self.last, trace, note, &self.state);
         Ok(told)
     }
 
@@ -167,10 +159,7 @@ impl<S: Reversible> Journal<S> {
             return Err(JournalError::SerialEnd);
         }
         if self.past.reserve(1).is_err() {
-            return match self.state.refusal(event) {
-                Some(refusal) => Err(JournalError::Step(refusal)),
-                None => Err(self.out_of_memory()),
-            };
+            return Err(self.failure_without_memory(event));
         }
         let Answered {
             answer,
@@ -178,17 +167,10 @@ impl<S: Reversible> Journal<S> {
             trace,
         } = match self.state.step_answered(event) {
             Ok(answered) => answered,
-            Err(StepError::Rule(refusal)) => return Err(JournalError::Step(refusal)),
-            Err(StepError::Memory) => return Err(self.out_of_memory()),
+            Err(error) => return Err(self.failure(error)),
         };
         self.last += 1;
-        let entry = Entry {
-            serial: self.last,
-            trace,
-            note,
-            node: Snapshot::of(&self.state),
-        };
-        put(&mut self.past, entry);
+        enter(&mut self.past, self.last, trace, note, &self.state);
         Ok(answer)
     }
 
@@ -232,6 +214,28 @@ impl<S: Reversible> Journal<S> {
             mark: self.mark(),
             reports,
         })
+    }
+
+    /// Why an event isn't performed for which there is no memory: the rule refuses it, as is told without memory, or memory is wanting.
+    #[inline(never)]
+    fn failure_without_memory(&self, event: &S::Event) -> JournalError<S::Refusal, S::Note>
+        ensures { PerformFails (S.rule (here self.now).node event.now) (S.may_run_out (here self.now).node event.now) self.now result }
+    {
+        match self.state.refusal(event) {
+            Some(refusal) => JournalError::Step(refusal),
+            None => self.out_of_memory(),
+        }
+    }
+
+    /// Why an event isn't performed whose step failed, and changed nothing.
+    #[inline(never)]
+    fn failure(&self, error: StepError<S::Refusal>) -> JournalError<S::Refusal, S::Note>
+        ensures { FailsBy error (here self.now).serial result }
+    {
+        match error {
+            StepError::Rule(refusal) => JournalError::Step(refusal),
+            StepError::Memory => self.out_of_memory(),
+        }
     }
 
     /// Want of memory that changed nothing.

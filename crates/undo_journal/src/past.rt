@@ -21,7 +21,7 @@ pub(crate) struct Entry<S, R, N> {
 }
 
 /// Appends an entry where there is room for it, and so takes no memory.
-pub(crate) fn put<P>(past: &mut Vec<P>, entry: P)
+fn put<P>(past: &mut Vec<P>, entry: P)
     requires { vec_len past.old < vec_capacity past.old }
     ensures { past.new.items ≡ past.old.items ++ entry ∷ [] }
 {
@@ -29,6 +29,27 @@ pub(crate) fn put<P>(past: &mut Vec<P>, entry: P)
         Ok(()) => (),
         Err(_) => unreachable!(),
     }
+}
+
+/// Enters a step of a serial, after which the machine stands so, where there is room for it.
+pub(crate) fn enter<S: Reversible>(
+    past: &mut Vec<Entry<S, S::Record, S::Note>>,
+    at: u64,
+    trace: S::Record,
+    note: S::Note,
+    state: &S,
+)
+    requires { vec_len past.old < vec_capacity past.old }
+    ensures { (entry : Entry S S.Record S.Note) × (past.new.items ≡ past.old.items ++ entry ∷ []) × (entry.serial ≡ at)
+        × (entry.trace ≡ trace) × (entry.note ≡ note) × (entry.node.value ≡ state.now) }
+{
+    let entered = Entry {
+        serial: at,
+        trace,
+        note,
+        node: Snapshot::of(state),
+    };
+    put(past, entered);
 }
 
 /// The serial of the newest station, which is `floor`, the first one's, where there are no entries.
