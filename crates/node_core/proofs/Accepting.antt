@@ -1,5 +1,5 @@
 -- What is accepted, and told as often as it is asked for.
-use Rattle.std.proofs.Common.{◌≡◌, ℕ, zero, suc, List, ◌∷◌, map, replicate, Option, None, Some, Ok, Err, MatchOption, option_map, refl, sym, ap, subst, ◌∙◌}
+use Rattle.std.proofs.Common.{◌≡◌, ◌+◌, ℕ, zero, suc, List, ◌∷◌, add-one, map, replicate, Option, None, Some, Ok, Err, MatchOption, option_map, refl, sym, ap, subst, ◌∙◌}
 use Rattle.process_table.specs.declared.error.ProcError.{ProcError}
 use Rattle.undo_journal.specs.Reversible.{Accepted, Accepts, AcceptsWith, told_of}
 use Rattle.undo_journal.specs.declared.reversible.Told.{Told}
@@ -15,6 +15,18 @@ use Rattle.node_core.specs.declared.event.Refusal.TheVariants.{OfProcesses}
 pub each_of : {A B : Type 0} (f : A → B) (x : A) (n : ℕ) → map f (replicate n x) ≡ replicate n (f x)
 each_of f x zero = refl
 each_of f x (suc n) = ap (λ ys. f x ∷ ys) (each_of f x n)
+
+-- and of the first by itself
+pub first_of : {A B : Type 0} (f : A → B) (x : A) (k n : ℕ) → n ≡ k + 1 → f x ∷ map f (replicate k x) ≡ replicate n (f x)
+first_of f x k n is = ap (λ ys. f x ∷ ys) (each_of f x k) ∙ ap (λ m. replicate m (f x)) (sym (is ∙ add-one k))
+
+-- of equal values the first is told by itself
+pub parted : {A : Type 0} (first same : A) (others : List A) (more : ℕ) → first ∷ others ≡ replicate (more + 1) same → (first ≡ same) × (others ≡ replicate more same)
+parted first same others more all =
+    let parts : first ∷ others ≡ same ∷ replicate more same = all ∙ ap (λ k. replicate k same) (add-one more) in
+    let one : first ≡ same = cc in
+    let rest : others ≡ replicate more same = cc in
+    (one, rest)
 
 -- nothing stands against it
 pub unless_none : {E : Type 0} (o : Option E) (of : E → Refusal) (a : Accepted NodeState Answer Note) → o ≡ None → Ok a ≡ unless o of a

@@ -1,13 +1,15 @@
 // Events of processes.
-ghost use Rattle.std.specs.Prelude.{◌≡◌, ◌∷◌, [], IfErr, IfOk, IfSome, None, OnErr, OnOk, replicate};
+ghost use Rattle.std.specs.Prelude.{◌≡◌, ◌∷◌, [], IfErr, IfOk, IfSome, None, OnErr, OnOk, Option, replicate};
 ghost use Rattle.process_table.specs.Messages.{message_of};
+ghost use Rattle.process_table.specs.declared.error.ProcError.{ProcError};
 ghost use Rattle.app_table.specs.Applications.{all_ended};
 ghost use Rattle.app_table.specs.Undo.{undone as apps_before};
-ghost use Rattle.undo_journal.specs.Reversible.{Accepts, AcceptsWith, Refuses};
+ghost use Rattle.undo_journal.specs.Reversible.{Accepts, AcceptsOnce, AcceptsWith, Refuses};
 ghost use Rattle.process_table.specs.Undo.{TakesBackEnds};
 ghost use Rattle.node_core.specs.Node.{IsKept, NodeState};
 ghost use Rattle.node_core.specs.Record.{AppsBack, Undoes};
 ghost use Rattle.node_core.specs.Step.{MayRunOut, Step as Steps, arrival_of, ended_by};
+ghost use Rattle.process_table.specs.Commit.{IsCommitRefusal};
 ghost use Rattle.node_core.specs.Errors.{error_of};
 ghost use Rattle.node_core.specs.declared.event.Answer.TheVariants as answer;
 ghost use Rattle.node_core.specs.declared.event.Event.TheVariants as event;
@@ -16,14 +18,14 @@ use crate::event::{Answer, Refusal};
 use crate::node::Node;
 use crate::note::Note;
 use crate::record::Record;
-use crate::telling::{reporting_nothing, room, tell_jobs, tell_note, tell_replies};
+use crate::telling::{reporting, reporting_nothing, room, tell_note, tell_replies, tell_taken};
 use erl_machine::{Done, End};
 use erl_term::{Atom, Term};
-use process_table::{Body, ProcError};
+use process_table::{Body, ProcError, Processes};
 use reserved_box::{Boxed, Reserved};
 use std::alloc::{AllocError, Global};
 use sys_protocol::Apps;
-use undo_journal::{Noted, StepError, Stepped, Told};
+use undo_journal::{Answered, Noted, StepError, Stepped, Told};
 use values::Duplicate;
 
 /// What one step of a node gives.
@@ -31,6 +33,9 @@ pub(crate) type Step = Result<Stepped<Answer, Note, Record>, StepError<Refusal>>
 
 /// What one step of a node gives whose note is kept.
 pub(crate) type NotedStep = Result<Noted<Answer, Note, Record>, StepError<Refusal>>;
+
+/// What one step of a node gives that is answered once.
+pub(crate) type AnsweredStep = Result<Answered<Answer, Note, Record>, StepError<Refusal>>;
 
 /// That a message came for a process of a name. It shares what it is made of with the message.
 fn arrival_note(alloc: Global, name: &Atom, message: &Term) -> Result<Note, AllocError>
@@ -89,6 +94,28 @@ fn end_child(
             end_one(apps, alloc, pid, &normal)
         }
         End::Exit(reason) => end_one(apps, alloc, pid, reason),
+    }
+}
+
+/// The child, if any, whose process ends by a job has none, and is due or not; or it is told what stands against the commit of the job.
+fn end_by(
+    apps: &mut Apps,
+    alloc: Global,
+    processes: &Processes,
+    done: &Done,
+) -> Result<Option<Boxed<sys_protocol::Undo>>, StepError<Refusal>>
+    ensures ended { OnOk result (apps.new ≡ ended_by done.now.job.pid done.now.outcome.end apps.old) }
+    ensures inverse { IfOk result (λ undo. AppsBack undo apps.old apps.new) }
+    ensures ok { OnOk result (IsCommitRefusal None done.now.job processes.now) }
+    ensures refused { IfErr result (λ e. (why : Option ProcError) × IsCommitRefusal why done.now.job processes.now × (e ≡ error_of why)) }
+    ensures err { OnErr result (apps.new ≡ apps.old) }
+{
+    if let Some(refusal) = processes.commit_refusal(done) {
+        return Err(StepError::Rule(Refusal::OfProcesses(refusal)));
+    }
+    match end_child(apps, alloc, done.job().pid, &done.outcome().end) {
+        Ok(ended) => Ok(ended),
+        Err(_) => Err(StepError::Memory),
     }
 }
 
@@ -179,15 +206,60 @@ impl Node {
         let Ok(told) = room(self.alloc, n) else {
             return Err(error_of(self.processes.take_refusal(pid)));
         };
-        let (jobs, undo) = match self.processes.take(&self.modules, pid, n) {
+        let more = n.saturating_sub(1);
+        let (job, others, undo) = match self.processes.take(&self.modules, pid, more) {
             Ok(taken) => taken,
             Err(_) => return Err(error_of(self.processes.take_refusal(pid))),
         };
         Ok(Noted {
-            told: tell_jobs(told, self.alloc, jobs),
+            told: tell_taken(told, self.alloc, job, others, n),
             note: reporting_nothing(self.alloc),
             trace: Record::OfProcesses(undo),
         })
+    }
+
+    /// A process takes its next message, and runs it. Its job is the answer.
+    #[inline(never)]
+    pub(crate) fn take_answered(&mut self, pid: u64) -> AnsweredStep
+        ensures accepted { IfOk result (λ done. AcceptsOnce (Steps self.old (event.Take pid)) self.new done.answer done.note) }
+        ensures reversible { IfOk result (λ done. Undoes done.trace self.old self.new) }
+        ensures refused { IfErr result (Refuses (Steps self.old (event.Take pid)) (MayRunOut self.old (event.Take pid))) }
+        ensures err { OnErr result (self.new ≡ self.old) }
+    {
+        let (job, _, undo) = match self.processes.take(&self.modules, pid, 0) {
+            Ok(taken) => taken,
+            Err(_) => return Err(error_of(self.processes.take_refusal(pid))),
+        };
+        Ok(Answered {
+            answer: Answer::Job(job),
+            note: reporting_nothing(self.alloc),
+            trace: Record::OfProcesses(undo),
+        })
+    }
+
+    /// What a job has done is done, and told to nobody but by its note.
+    #[inline(never)]
+    pub(crate) fn commit_noted(&mut self, done: &Done) -> NotedStep
+        ensures accepted { IfOk result (λ it. AcceptsWith (Steps self.old (event.Commit done.now)) self.new 0 it.told.items it.note) }
+        ensures reversible { IfOk result (λ it. Undoes it.trace self.old self.new) }
+        ensures refused { IfErr result (Refuses (Steps self.old (event.Commit done.now)) (MayRunOut self.old (event.Commit done.now))) }
+        ensures err { OnErr result (self.new ≡ self.old) }
+    {
+        let ended = match end_by(&mut self.apps, self.alloc, &self.processes, done) {
+            Ok(ended) => ended,
+            Err(error) => return Err(error),
+        };
+        match self.processes.commit_once(done) {
+            Ok((replies, undo)) => Ok(Noted {
+                told: Vec::new(self.alloc),
+                note: reporting(replies),
+                trace: record_of(undo, ended),
+            }),
+            Err(_) => {
+                unend(&mut self.apps, ended);
+                Err(StepError::Memory)
+            }
+        }
     }
 
     /// What a job has done is done.
@@ -198,19 +270,12 @@ impl Node {
         ensures refused { IfErr result (Refuses (Steps self.old (event.Commit done.now)) (MayRunOut self.old (event.Commit done.now))) }
         ensures err { OnErr result (self.new ≡ self.old) }
     {
-        if let Some(refusal) = self.processes.commit_refusal(done) {
-            return Err(StepError::Rule(Refusal::OfProcesses(refusal)));
-        }
         let Ok(told) = room(self.alloc, n) else {
-            return Err(StepError::Memory);
+            return Err(error_of(self.processes.commit_refusal(done)));
         };
-        let Ok(ended) = end_child(
-            &mut self.apps,
-            self.alloc,
-            done.job().pid,
-            &done.outcome().end,
-        ) else {
-            return Err(StepError::Memory);
+        let ended = match end_by(&mut self.apps, self.alloc, &self.processes, done) {
+            Ok(ended) => ended,
+            Err(error) => return Err(error),
         };
         match self.processes.commit_unrefused(done, n) {
             Ok((replies, undo)) => Ok(Stepped {

@@ -1,7 +1,7 @@
 // Steps of the node, and what takes them back.
 ghost use Rattle.node_core.specs.Record.{Undoes};
 ghost use Rattle.std.specs.Prelude.{◌≡◌, IfErr, IfOk, OnErr, option_map};
-ghost use Rattle.undo_journal.specs.Reversible.{AcceptsWith, Refuses};
+ghost use Rattle.undo_journal.specs.Reversible.{AcceptsOnce, AcceptsWith, Refuses};
 ghost use Rattle.node_core.specs.Step.{MayRunOut, Step as Steps, soft_purge_refusal};
 ghost use Rattle.node_core.specs.declared.event.Refusal.TheVariants.{OfApps, OfModules, OfProcesses};
 ghost use Rattle.node_core.specs.OneOutcome.{one_outcome_of};
@@ -9,7 +9,7 @@ ghost use Rattle.node_core.specs.OneOutcome.{one_outcome_of};
 use crate::event::{Answer, Event, Refusal};
 use crate::node::Node;
 use crate::note::Note;
-use crate::processes::{NotedStep, Step};
+use crate::processes::{AnsweredStep, NotedStep, Step};
 use crate::record::Record;
 use crate::telling::without_note;
 use code_loading::is_lingered_in;
@@ -17,7 +17,7 @@ use code_server::CodeError;
 use erl_term::Atom;
 use process_table::ProcError;
 use sys_protocol::SysError;
-use undo_journal::{Noted, Reversible, Stepped, Told};
+use undo_journal::{Answered, Noted, Reversible, Stepped, Told};
 
 /// A refusal of the processes, if there is one.
 fn of_processes(refusal: Option<ProcError>) -> Option<Refusal>
@@ -69,6 +69,31 @@ impl Node {
     }
 }
 
+impl Node {
+    /// Makes a step that is told once, and answers by that.
+    fn step_once(&mut self, event: &Event) -> AnsweredStep
+        ensures accepted { IfOk result (λ done. AcceptsOnce (Steps self.old event.now) self.new done.answer done.note) }
+        ensures reversible { IfOk result (λ done. Undoes done.trace self.old self.new) }
+        ensures refused { IfErr result (Refuses (Steps self.old event.now) (MayRunOut self.old event.now)) }
+        ensures err { OnErr result (self.new ≡ self.old) }
+    {
+        let Noted {
+            mut told,
+            note,
+            trace,
+        } = self.step_noted(event, 1)?;
+        let Some(once) = told.pop() else {
+            unreachable!()
+        };
+        let Told { answer, note: _ } = once;
+        Ok(Answered {
+            answer,
+            note,
+            trace,
+        })
+    }
+}
+
 impl Reversible for Node {
     type Event = Event;
 
@@ -111,7 +136,15 @@ impl Reversible for Node {
                 self.arrive(*client, name, body, usize::from(n))
             }
             Event::Take(pid) => self.take(*pid, usize::from(n)),
+            Event::Commit(done) if n == 0 => self.commit_noted(done),
             _ => self.step_aside(event, n),
+        }
+    }
+
+    fn step_answered(&mut self, event: &Event) -> AnsweredStep {
+        match event {
+            Event::Take(pid) => self.take_answered(*pid),
+            _ => self.step_once(event),
         }
     }
 

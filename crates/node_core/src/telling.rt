@@ -1,5 +1,5 @@
 // What is told of an event.
-ghost use Rattle.std.specs.Prelude.{◌≡◌, ◌+◌, ◌≤◌, ◌++◌, ◌∷◌, [], IfOk, None, OnOk, length, map, replicate, vec_capacity, vec_len};
+ghost use Rattle.std.specs.Prelude.{◌≡◌, ◌+◌, ◌-◌, ◌≤◌, ◌++◌, ◌∷◌, [], IfOk, None, OnOk, length, map, replicate, vec_capacity, vec_len};
 ghost use Rattle.node_core.specs.declared.event.Answer.TheVariants as answer;
 
 use crate::event::Answer;
@@ -146,24 +146,51 @@ pub(crate) fn tell_replies(told: Vec<Told<Answer, Note>>, lists: Copies) -> Vec<
     tell_others(told, others)
 }
 
+/// Tells that a job was taken.
+fn tell_job(alloc: Global, job: Job) -> Told<Answer, Note>
+    ensures { result ≡ record { answer = answer.Job job; note = record { replies = []; arrival = None } } }
+{
+    Told {
+        answer: Answer::Job(job),
+        note: reporting_nothing(alloc),
+    }
+}
+
 /// Tells, as often as there is such a job, that it was taken. There is room for it.
-pub(crate) fn tell_jobs(
+fn tell_jobs(
     told: Vec<Told<Answer, Note>>,
     alloc: Global,
     jobs: Vec<Job>,
 ) -> Vec<Told<Answer, Note>>
-    requires none { told.items ≡ [] }
-    requires room { vec_len jobs ≤ vec_capacity told }
-    ensures { result.items ≡ map (λ job. record { answer = answer.Job job; note = record { replies = []; arrival = None } }) jobs.items }
+    requires room { vec_len told + vec_len jobs ≤ vec_capacity told }
+    ensures { result.items ≡ told.items ++ map (λ job. record { answer = answer.Job job; note = record { replies = []; arrival = None } }) jobs.items }
 {
     let mut told = told;
     for job in jobs {
-        told.push_reserved(Told {
-            answer: Answer::Job(job),
-            note: reporting_nothing(alloc),
-        });
+        told.push_reserved(tell_job(alloc, job));
     }
     told
+}
+
+/// Tells `n` times that a job was taken, where there are as many more equal jobs as it takes beside this one. There is room for it.
+pub(crate) fn tell_taken(
+    told: Vec<Told<Answer, Note>>,
+    alloc: Global,
+    job: Job,
+    others: Vec<Job>,
+    n: usize,
+) -> Vec<Told<Answer, Note>>
+    requires none { told.items ≡ [] }
+    requires others { others.items ≡ replicate (n - 1) job }
+    requires room { n ≤ vec_capacity told }
+    ensures { result.items ≡ replicate n (record { answer = answer.Job job; note = record { replies = []; arrival = None } }) }
+{
+    if n == 0 {
+        return told;
+    }
+    let mut told = told;
+    told.push_reserved(tell_job(alloc, job));
+    tell_jobs(told, alloc, others)
 }
 
 /// Tells, as often as there is such a list, that a child runs as the process of a pid, and that these replies were sent. There is room

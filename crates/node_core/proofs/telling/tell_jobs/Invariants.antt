@@ -6,6 +6,6 @@ use Rattle.node_core.proofs.telling.tell_jobs.Given as goal
 
 abbrev pub invariant-loop-job : goal.invariant-loop-job
 invariant-loop-job l = record {
-  told : l.told.items ++ map (λ job. record { answer = answer.Job job; note = record { replies = []; arrival = None } }) (into_iter_items l.job-iterator) ≡ map (λ job. record { answer = answer.Job job; note = record { replies = []; arrival = None } }) l.fn.jobs.items;
+  told : l.told.items ++ map (λ job. record { answer = answer.Job job; note = record { replies = []; arrival = None } }) (into_iter_items l.job-iterator) ≡ l.fn.told.items ++ map (λ job. record { answer = answer.Job job; note = record { replies = []; arrival = None } }) l.fn.jobs.items;
   room : vec_len l.told + into_iter_len l.job-iterator ≤ vec_capacity l.told;
 }

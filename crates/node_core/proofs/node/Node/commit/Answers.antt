@@ -2,14 +2,13 @@
 use Rattle.std.proofs.Common.{◌≡◌, ◌∙◌, List, None, map, sym, subst, ap, refl}
 use Rattle.code_loading.proofs.Stepping.{steps_keep_code}
 use Rattle.code_loading.specs.Consistent.{IsConsistent}
-use Rattle.erl_machine.specs.declared.evaluation.Outcome.{Outcome as Evaluated}
-use Rattle.erl_machine.specs.declared.jobs.Job.{Job}
 use Rattle.process_ending.specs.declared.told.Reply.{Reply}
 use Rattle.process_store.specs.Table.{Table}
 use Rattle.process_table.specs.Commit.{commit_told, committed}
 use Rattle.undo_journal.specs.Reversible.{Accepted}
 use Rattle.undo_journal.specs.declared.reversible.Told.{Told}
 use Rattle.node_core.proofs.Accepting.{accepted_of, each_of}
+use Rattle.node_core.proofs.Refusing.{commit-refused}
 use Rattle.node_core.specs.Node.{NodeState}
 use Rattle.node_core.specs.Step.{ended_by, reporting}
 use Rattle.node_core.specs.declared.event.Answer.{Answer}
@@ -31,8 +30,18 @@ returns-in-Ok-commit_unrefused-clause-accepted c =
     let k = c.args.n in
     let done = c.args.done.now in
     let a : Accepted NodeState Answer Note = record { node = record { modules = m; processes = committed done t; apps = ended_by done.job.pid done.outcome.end apps }; answer = answer.Unit; note = reporting (commit_told done t) } in
-    let new : NodeState = record { modules = m; processes = c.commit_unrefused.new.self; apps = c.end_child.new.apps } in
+    let new : NodeState = record { modules = m; processes = c.commit_unrefused.new.self; apps = c.end_by.new.apps } in
     let said : List Reply → Told Answer Note = λ rs. record { answer = answer.Unit; note = record { replies = rs; arrival = None } } in
-    let ended = c.in-Ok-end_child.ensures.ended ∙ ap (λ (j : Job). ended_by j.pid c.outcome.result.now.end apps) c.job.ensures ∙ ap (λ (o : Evaluated). ended_by done.job.pid o.end apps) c.outcome.ensures.outcome in
-    let is : new ≡ a.node = (λ i. record { modules = m; processes = c.in-Ok-commit_unrefused.ensures.committed i; apps = ended i }) in
+    let is : new ≡ a.node = (λ i. record { modules = m; processes = c.in-Ok-commit_unrefused.ensures.committed i; apps = c.in-Ok-end_by.ensures.ended i }) in
     accepted_of n c.args.self.now (event.Commit done) a new k c.tell_replies.result.items c.self.view_is (c.in-Ok-commit_unrefused.ensures.ok.0, c.in-Ok-commit_unrefused.ensures.ok.1, refl) is (c.tell_replies.ensures ∙ ap (map said) c.in-Ok-commit_unrefused.ensures.told ∙ each_of said (commit_told done t) k)
+
+pub returns-in_default-clause-refused : goal.returns-in_default-clause-refused
+returns-in_default-clause-refused c =
+    let n : NodeState = record { modules = c.self.inside.modules; processes = c.self.inside.processes; apps = c.self.inside.apps } in
+    commit-refused c.args.done.now n c.args.self.now c.error_of.result c.commit_refusal.result c.self.view_is c.commit_refusal.ensures c.error_of.ensures
+
+pub returns-in-Err-clause-refused : goal.returns-in-Err-clause-refused
+returns-in-Err-clause-refused c =
+    let n : NodeState = record { modules = c.self.inside.modules; processes = c.self.inside.processes; apps = c.self.inside.apps } in
+    let why = c.in-Err.ensures.refused in
+    commit-refused c.args.done.now n c.args.self.now c.in-Err.error why.0 c.self.view_is why.1 why.2
