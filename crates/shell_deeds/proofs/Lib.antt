@@ -1,4 +1,5 @@
 mod Deeds
 mod Finding
+mod Lending
 mod Performing
 mod Sources

@@ -1,5 +1,5 @@
 -- Lemmas on events that were performed, and on those that were not.
-use Rattle.std.proofs.Common.{◌≡◌, ◌+◌, ◌^◌, ◌↔◌, ℕ, Bool, true, false, IsTrue, ltb, pos, Result, Ok, Err, Vec, Global, cond, is_some, length, [], ◌∷◌, List, ◌++◌, Option, None, Some, refl, sym, ap, subst, ◌∙◌}
+use Rattle.std.proofs.Common.{◌≡◌, ◌+◌, ◌^◌, ◌↔◌, ℕ, Bool, true, false, IsTrue, ltb, pos, Result, Ok, Err, cond, is_some, length, [], ◌∷◌, List, ◌++◌, Option, None, Some, refl, sym, ap, subst, ◌∙◌}
 use Rattle.code_server.specs.declared.error.CodeError.{CodeError}
 use Rattle.erl_term.specs.Term.{trees}
 use Rattle.erl_term.specs.declared.term.Term.{Term}
@@ -7,7 +7,6 @@ use Rattle.undo_journal.specs.Journal.{PerformFails}
 use Rattle.undo_journal.specs.Reversible.{Accepted}
 use Rattle.undo_journal.specs.declared.error.JournalError.{JournalError}
 use Rattle.undo_journal.specs.declared.error.JournalError.TheVariants as error
-use Rattle.undo_journal.specs.declared.reversible.Told.{Told}
 use Rattle.erl_machine.specs.declared.jobs.Job.{Job}
 use Rattle.process_commit.specs.Commits.{job_at}
 use Rattle.process_store.specs.Table.{Table, is_open, living}
@@ -99,7 +98,7 @@ untaken_again s pid proc.CounterEnd fate text appended tells told = subst (λ f.
 untaken_again s pid proc.Memory fate text appended tells told = subst (λ f. IsDone (Retakes s pid f) s text appended) (sym told.0) (_, no_memory_to_keep tells, refl, told.1)
 
 -- an event that the journal refuses is not performed
-pub failed : (s : ShellState) (e : Event) (r : Result (Vec (Told Answer Note) Global) (JournalError Refusal Note)) (why : JournalError Refusal Note) → r ≡ Err why → (IsFull s → r ≡ Err error.SerialEnd) → PerformFails (Step (node_of s) e) (MayRunOut (node_of s) e) s.timeline why → Halts (halt_by why) s e
+pub failed : {X : Type 0} (s : ShellState) (e : Event) (r : Result X (JournalError Refusal Note)) (why : JournalError Refusal Note) → r ≡ Err why → (IsFull s → r ≡ Err error.SerialEnd) → PerformFails (Step (node_of s) e) (MayRunOut (node_of s) e) s.timeline why → Halts (halt_by why) s e
 failed s e r (error.Step refusal) is at_end fails =
     ((λ full. let ends : r ≡ Err error.SerialEnd = at_end full in let never : ⊥ = cc in never), fails)
 failed s e r error.SerialEnd is at_end fails = fails

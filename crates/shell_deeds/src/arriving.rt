@@ -25,6 +25,7 @@ use undo_journal::JournalError;
 
 impl Holdings {
     /// Has the term of a text arrive for the process of a name.
+    #[inline(never)]
     pub(crate) fn arrive(
         &mut self,
         kind: Arrival,

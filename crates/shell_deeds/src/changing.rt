@@ -19,6 +19,7 @@ use shell_requests::{Change, Name};
 impl Holdings {
     /// Deletes or purges a module's code.
     #[inline(never)]
+    #[inline(never)]
     pub(crate) fn change(&mut self, kind: Change, name: Name<'_>, out: &mut Vec<u8>) -> Said
         ensures { IfOk result (λ fate. IsDone (Changes self.old kind (chars name.entry.text.now) fate) self.new out.old.items out.new.items) }
     {

@@ -29,6 +29,7 @@ mod naming;
 mod reading;
 mod recent;
 mod reviving;
+mod sending;
 mod serving;
 mod stepping;
 mod telling;

@@ -32,6 +32,7 @@ pub(crate) enum Unloaded {
 impl Holdings {
     /// Loads the module of the file at a path.
     #[inline(never)]
+    #[inline(never)]
     pub(crate) fn load(&mut self, name: Name<'_>, path: &str, out: &mut Vec<u8>) -> Said
         ensures { IfOk result (λ fate. IsDone (Loads self.old (chars name.entry.text.now) path.now fate) self.new out.old.items out.new.items) }
     {

@@ -1,27 +1,24 @@
 // What a process is asked for.
 ghost use Rattle.std.specs.Prelude.{◌≡◌, ◌+◌, ◌<◌, ◌++◌, ◌∷◌, [], IfOk, None, Some, length, vec_capacity, vec_len};
 ghost use Rattle.erl_machine.specs.declared.jobs.Job.{Job};
-ghost use Rattle.node_core.specs.declared.event.Answer.{Answer};
 ghost use Rattle.node_core.specs.declared.event.Answer.TheVariants as tells;
 ghost use Rattle.node_core.specs.declared.event.Event.TheVariants as event;
-ghost use Rattle.node_core.specs.Note.{Note};
 ghost use Rattle.shell_deeds.specs.Deeds.{ServesAs};
 ghost use Rattle.shell_answers.specs.Answers.{fixed, job_of, line_of};
 ghost use Rattle.shell_answers.specs.Refusals.{proc_refusal};
 ghost use Rattle.shell_deeds.specs.Done.{IsDone, IsKept, proc_fate};
-ghost use Rattle.undo_journal.specs.declared.reversible.Told.{Told};
 ghost use Rattle.shell_requests.specs.declared.request.Service.TheVariants.{Retake, Show, Take};
 
 use crate::holdings::Holdings;
 use crate::telling::{Said, refuse, say, tell_failed};
 use erl_machine::Job;
-use node_core::{Answer, Event, Note};
+use node_core::{Answer, Event};
 use process_table::ProcError;
 use shell_answers::{Fixed, proc_refusal, write_job, write_process};
-use undo_journal::Told;
 
 impl Holdings {
     /// Takes the next message of a process, and keeps the job.
+    #[inline(never)]
     pub(crate) fn take(&mut self, pid: u64, out: &mut Vec<u8>) -> Said
         ensures { IfOk result (λ fate. IsDone (ServesAs self.old Take (Some pid) fate) self.new out.old.items out.new.items) }
     {
@@ -36,8 +33,8 @@ impl Holdings {
         if self.jobs.reserve(1).is_err() {
             return self.tell_halt_of(taking, out);
         }
-        match self.journal.perform(taking, 1) {
-            Ok(told) => tell_taken(&mut self.jobs, pid, answer_of(told), out),
+        match self.journal.perform_once(taking) {
+            Ok(answer) => tell_taken(&mut self.jobs, pid, answer, out),
             Err(error) => tell_failed(error, out),
         }
     }
@@ -77,17 +74,6 @@ impl Holdings {
             }
             None => say(Fixed::NoProc, out),
         }
-    }
-}
-
-/// The answer of what is told once.
-fn answer_of(mut told: Vec<Told<Answer, Note>>) -> Answer
-    requires { length told.items ≡ 1 }
-    ensures { (it : Told Answer Note) → told.items ≡ it ∷ [] → result ≡ it.answer }
-{
-    match told.pop() {
-        Some(Told { answer, note: _ }) => answer,
-        None => unreachable!(),
     }
 }
 

@@ -6,15 +6,15 @@ ghost use Rattle.undo_journal.specs.declared.reversible.Told.{Told};
 ghost use Rattle.shell_deeds.specs.Halts.{Halts, halt_answer, halt_by, halt_fate};
 ghost use Rattle.shell_deeds.specs.declared.stepping.Halt.{Halt};
 ghost use Rattle.shell_answers.specs.Answers.{line_of};
-ghost use Rattle.shell_deeds.specs.State.{joined};
+ghost use Rattle.shell_deeds.specs.State.{ShellState, joined};
 ghost use Rattle.shell_deeds.specs.Stepping.{IsStepped};
 
 use crate::holdings::Holdings;
 use crate::telling::{Said, tell_halt};
-use node_core::{Answer, Event, Note, Refusal};
+use node_core::{Answer, Event, Node, Note, Refusal};
 use process_ending::Reply;
 use std::alloc::Global;
-use undo_journal::{JournalError, Reversible, Told};
+use undo_journal::{Journal, JournalError, Reversible, Told};
 use values::Row;
 
 /// Why an event was not performed.
@@ -30,17 +30,10 @@ pub(crate) enum Halt {
 
 impl Holdings {
     /// What stands against an event that is told without memory, or else want of it.
-    #[inline(never)]
     fn halt_of(&self, event: &Event) -> Halt
         ensures { Halts result self.now event.now }
     {
-        if self.is_full() {
-            return Halt::Full;
-        }
-        match self.node().refusal(event) {
-            Some(why) => Halt::Refused(why),
-            None => Halt::Memory,
-        }
+        halt_of(&self.journal, event)
     }
 
     /// Tells what stands against an event that is told without memory, or else want of it.
@@ -99,6 +92,20 @@ impl Holdings {
             Ok(_) => Ok(()),
             Err(halt) => Err(halt),
         }
+    }
+}
+
+/// What stands against an event that is told without memory, or else want of it.
+#[inline(never)]
+pub(crate) fn halt_of(journal: &Journal<Node>, event: &Event) -> Halt
+    ensures { (s : ShellState) → s.timeline ≡ journal.now → Halts result s event.now }
+{
+    if journal.is_full() {
+        return Halt::Full;
+    }
+    match journal.state().refusal(event) {
+        Some(why) => Halt::Refused(why),
+        None => Halt::Memory,
     }
 }
 

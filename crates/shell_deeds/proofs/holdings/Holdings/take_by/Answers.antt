@@ -1,7 +1,7 @@
 -- The job is kept, or it is told why there is none.
 use Rattle.std.proofs.Common.{◌≡◌, ◌+◌, ◌++◌, ◌∷◌, [], List, IfOk, Ok, ap, append-nil, length, subst, sym, ◌∙◌}
 use Rattle.erl_machine.specs.declared.jobs.Job.{Job}
-use Rattle.undo_journal.specs.Reversible.{Accepted, told_of}
+use Rattle.undo_journal.specs.Reversible.{Accepted}
 use Rattle.node_core.specs.Node.{NodeState}
 use Rattle.node_core.specs.Step.{Step}
 use Rattle.node_core.specs.declared.event.Answer.{Answer}
@@ -38,12 +38,11 @@ returns-in-Ok c =
     let a : Accepted NodeState Answer Note = it.0 in
     let s : ShellState = record { files = h.files; timeline = h.journal; jobs = h.jobs.items; calls = h.calls; sent = joined h.sent.items } in
     let rule : Step (node_of s) (event.Take pid) (Ok a) = subst (λ (e : Event). Step (node_of s) e (Ok a)) c.requires it.1 in
-    let new : ShellState = record { files = h.files; timeline = c.perform.new.self; jobs = c.tell_taken.new.jobs.items; calls = h.calls; sent = joined h.sent.items } in
-    let answer : c.answer_of.result ≡ a.answer = c.answer_of.ensures (told_of a) it.3 in
-    let room = λ (full : IsFull s). (let end = c.perform.ensures.serial_end full in let never : ⊥ = cc (end, c.in-Ok.is) in never) in
+    let new : ShellState = record { files = h.files; timeline = c.perform_once.new.self; jobs = c.tell_taken.new.jobs.items; calls = h.calls; sent = joined h.sent.items } in
+    let room = λ (full : IsFull s). (let end = c.perform_once.ensures.serial_end full in let never : ⊥ = cc (end, c.in-Ok.is) in never) in
     let sent : joined h.sent.items ≡ joined h.sent.items ++ a.note.replies = sym (append-nil (joined h.sent.items)) ∙ ap (λ rs. joined h.sent.items ++ rs) (sym (take-is-quiet pid (node_of s) a rule)) in
     subst (λ (t : ShellState). IfOk c.tell_taken.result (λ fate. IsDone (Performs t t (event.Take pid) (λ b. took (stepped b t) pid b.answer) fate) new here out)) c.self.view_is (IfOk-then c.tell_taken.result _ _ c.tell_taken.ensures (λ fate told. taken-done s pid a fate new here out room rule (λ job is.
-    let said = told job (answer ∙ is) in
+    let said = told job (it.3 ∙ is) in
     let jobs = said.1 ∙ ap (λ (js : List Job). js ++ job ∷ []) c.reserve.ensures.items in (
       said.0,
       (λ i. record { files = h.files; timeline = it.2 i; jobs = jobs i; calls = h.calls; sent = sent i }),
@@ -57,8 +56,8 @@ returns-in-Err c =
     let here = c.args.out.now.items in
     let out = c.tell_failed.new.out.items in
     let s : ShellState = record { files = h.files; timeline = h.journal; jobs = h.jobs.items; calls = h.calls; sent = joined h.sent.items } in
-    let new : ShellState = record { files = h.files; timeline = c.perform.new.self; jobs = c.reserve.new.self.items; calls = h.calls; sent = joined h.sent.items } in
+    let new : ShellState = record { files = h.files; timeline = c.perform_once.new.self; jobs = c.reserve.new.self.items; calls = h.calls; sent = joined h.sent.items } in
     let same : new ≡ s = (λ i. record { files = h.files; timeline = c.in-Err.ensures.err i; jobs = c.reserve.ensures.items i; calls = h.calls; sent = joined h.sent.items }) in
-    let failure : Halts (halt_by c.in-Err.error) s c.args.taking.now = failed s c.args.taking.now c.perform.result c.in-Err.error c.in-Err.is c.perform.ensures.serial_end c.in-Err.ensures.refused in
+    let failure : Halts (halt_by c.in-Err.error) s c.args.taking.now = failed s c.args.taking.now c.perform_once.result c.in-Err.error c.in-Err.is c.perform_once.ensures.serial_end c.in-Err.ensures.refused in
     let halt : Halts (halt_by c.in-Err.error) s (event.Take pid) = subst (λ (e : Event). Halts (halt_by c.in-Err.error) s e) c.requires failure in
     subst (λ (t : ShellState). IfOk c.tell_failed.result (λ fate. IsDone (Performs t t (event.Take pid) (λ b. took (stepped b t) pid b.answer) fate) new here out)) c.self.view_is (subst (λ (u : ShellState). IfOk c.tell_failed.result (λ fate. IsDone (Performs s s (event.Take pid) (λ b. took (stepped b s) pid b.answer) fate) u here out)) (sym same) (IfOk-then c.tell_failed.result _ _ c.tell_failed.ensures (λ fate told. halted s (event.Take pid) (λ b. took (stepped b s) pid b.answer) (halt_by c.in-Err.error) fate here out halt told)))
