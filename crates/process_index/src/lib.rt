@@ -21,7 +21,8 @@
 //!
 //! That there is memory, and what a call costs. An index is asked and changed by key, in a time that does not grow with it,
 //! but for an insertion that makes it grow; keys are hashed by secrets that come from outside, so nobody who picks names or
-//! numbers can make that slow. Up to eight numbers are compared before one is hashed: while few calls are open that costs less.
+//! numbers can make that slow. Up to eight numbers are compared before one is hashed, and a name is compared with each where at
+//! most eight are registered: while calls or names are few that costs less.
 //! A call is found among those of its process in logarithmic time. To put it in or take it out moves
 //! those before it or those behind it: none where clients and numbers rise, and none where the first goes or comes back.
 #![tactic(auto)]

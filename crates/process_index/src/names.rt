@@ -1,6 +1,8 @@
 // Registered names.
 ghost use Rattle.std.specs.Prelude.{◌≡◌, None, Some, OnOk, OnErr};
 ghost use Rattle.std.specs.FinMap as map;
+ghost use Rattle.std.specs.Map.{lookup};
+ghost use Rattle.std.specs.Str.{bytes_eq};
 ghost use Rattle.process_index.specs.Index.{put};
 
 use erl_term::Atom;
@@ -9,10 +11,13 @@ use std::collections::HashMap;
 use std::hash::RandomState;
 use std::marker::Model;
 
+/// So many names are compared in turn, which takes less time than to hash one.
+const FEW: usize = 8;
+
 /// The names that are registered, and the pids of the processes that have them.
 ///
-/// Contracts see it as a finite map from a name's characters to a pid. Names are hashed by keys that nobody outside
-/// knows, so nobody can pick names that collide.
+/// Contracts see it as a finite map from a name's characters to a pid. A name is compared with each where few are registered,
+/// and else hashed, by keys that nobody outside knows: so nobody can pick names that collide.
 #[derive(Drop)]
 pub struct NameIndex {
     pids: HashMap<Atom, u64, RandomState>,
@@ -30,6 +35,18 @@ impl Model for NameIndex {
     ghost view = { λ index. map.from_entries index.pids.entries };
 }
 
+/// The pid under a name, sought from the first entry to the last.
+fn pid_among(pids: &HashMap<Atom, u64, RandomState>, name: &Atom) -> Option<u64>
+    ensures { result ≡ lookup (bytes_eq name.now) pids.now.entries }
+{
+    for (other, pid) in pids.iter() {
+        if name == other {
+            return Some(*pid);
+        }
+    }
+    None
+}
+
 impl NameIndex {
     /// No name is registered. Names are hashed by `hashing`. Takes no memory.
     pub fn new(alloc: Global, hashing: RandomState) -> NameIndex
@@ -44,6 +61,9 @@ impl NameIndex {
     pub fn get(&self, name: &Atom) -> Option<u64>
         ensures { result ≡ map.get self.now name.now }
     {
+        if self.pids.len() <= FEW {
+            return pid_among(&self.pids, name);
+        }
         self.pids.get(name).copied()
     }
 
