@@ -12,6 +12,12 @@
 //! Contracts see a `Modules<C>` as a `Table C`: the entries (name, instances) in order, and the next
 //! serial.
 //!
+//! # What a look-up costs
+//!
+//! A name is compared with each name of the table where there are at most eight modules, which takes less time than to hash
+//! it. In a greater table it is found by key, in a time that does not grow with the table; names are hashed by keys that
+//! nobody outside knows. [`Modules::find`] walks over the table.
+//!
 //! # What is proved
 //!
 //! - Each change makes of the table what its definition says, is refused in the order that it says, and leaves the table

@@ -10,6 +10,7 @@ use std::alloc::{AllocError, Global};
 use std::collections::HashMap;
 use std::hash::RandomState;
 use std::marker::Model;
+use values::Same;
 
 /// So many names are compared in turn, which takes less time than to hash one.
 const FEW: usize = 8;
@@ -35,12 +36,13 @@ impl Model for NameIndex {
     ghost view = { λ index. map.from_entries index.pids.entries };
 }
 
-/// The pid under a name, sought from the first entry to the last.
+/// The pid under a name, sought from the first entry to the last. It stands by itself, so that what calls it stays small.
+#[inline(never)]
 fn pid_among(pids: &HashMap<Atom, u64, RandomState>, name: &Atom) -> Option<u64>
     ensures { result ≡ lookup (bytes_eq name.now) pids.now.entries }
 {
     for (other, pid) in pids.iter() {
-        if name == other {
+        if name.same(other) {
             return Some(*pid);
         }
     }
