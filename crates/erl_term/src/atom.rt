@@ -150,7 +150,7 @@ impl Duplicate for Atom {
 }
 
 impl Same for Atom {
-    #[inline]
+    #[inline(always)]
     fn same(&self, other: &Atom) -> bool {
         match (&self.name, &other.name) {
             (Name::Known(one), Name::Known(another)) => *one == *another,

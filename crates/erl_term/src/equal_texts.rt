@@ -3,7 +3,7 @@ ghost use Rattle.std.specs.Prelude.{◌≡◌, ◌≤◌, ◌↔◌, IsTrue, len
 
 /// Whether two texts are equal. Those of up to 16 bytes, as names mostly are, are compared by the numbers that their first
 /// and their last bytes make, which may overlap. Takes no memory.
-#[inline]
+#[inline(always)]
 pub(crate) fn same_text(one: &str, other: &str) -> bool
     ensures { IsTrue result ↔ (one.now ≡ other.now) }
 {
@@ -26,7 +26,7 @@ fn same_long(one: &str, other: &str) -> bool
 }
 
 /// Whether two rows of at most 16 bytes, one as long as the other, are equal.
-#[inline]
+#[inline(always)]
 fn same_short(a: &[u8], b: &[u8]) -> bool
     requires alike { length a.now ≡ length b.now }
     requires short { length a.now ≤ 16 }
@@ -45,7 +45,7 @@ fn same_short(a: &[u8], b: &[u8]) -> bool
 }
 
 /// Whether two rows of eight to 16 bytes, one as long as the other, are equal.
-#[inline]
+#[inline(always)]
 fn same_eights(a: &[u8], b: &[u8]) -> bool
     requires alike { length a.now ≡ length b.now }
     requires long { 8 ≤ length a.now }
@@ -57,7 +57,7 @@ fn same_eights(a: &[u8], b: &[u8]) -> bool
 }
 
 /// Whether the first eight bytes of two rows are equal, compared as one number.
-#[inline]
+#[inline(always)]
 fn same_first_eight(a: &[u8], b: &[u8]) -> bool
     requires first { 8 ≤ length a.now }
     requires second { 8 ≤ length b.now }
@@ -70,7 +70,7 @@ fn same_first_eight(a: &[u8], b: &[u8]) -> bool
 }
 
 /// Whether two rows of four to 8 bytes, one as long as the other, are equal.
-#[inline]
+#[inline(always)]
 fn same_fours(a: &[u8], b: &[u8]) -> bool
     requires alike { length a.now ≡ length b.now }
     requires long { 4 ≤ length a.now }
@@ -82,7 +82,7 @@ fn same_fours(a: &[u8], b: &[u8]) -> bool
 }
 
 /// Whether the first four bytes of two rows are equal, compared as one number.
-#[inline]
+#[inline(always)]
 fn same_first_four(a: &[u8], b: &[u8]) -> bool
     requires first { 4 ≤ length a.now }
     requires second { 4 ≤ length b.now }
@@ -95,7 +95,7 @@ fn same_first_four(a: &[u8], b: &[u8]) -> bool
 }
 
 /// Whether two rows of two to 4 bytes, one as long as the other, are equal.
-#[inline]
+#[inline(always)]
 fn same_twos(a: &[u8], b: &[u8]) -> bool
     requires alike { length a.now ≡ length b.now }
     requires long { 2 ≤ length a.now }
@@ -107,7 +107,7 @@ fn same_twos(a: &[u8], b: &[u8]) -> bool
 }
 
 /// Whether the first two bytes of two rows are equal, compared as one number.
-#[inline]
+#[inline(always)]
 fn same_first_two(a: &[u8], b: &[u8]) -> bool
     requires first { 2 ≤ length a.now }
     requires second { 2 ≤ length b.now }
