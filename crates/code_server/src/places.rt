@@ -1,4 +1,4 @@
-// Reads and writes of the map at a place. Each says exactly what the map's entries are then.
+// Where a module stands among a few, and reads and writes of the map at a place, which say exactly what its entries are then.
 ghost use Rattle.std.specs.Prelude.{◌≡◌, ◌-◌, ◌<◌, ◌≤◌, ◌++◌, [], ◌∷◌, None, Some, is_some, length, insert, remove, take, slice_get, option_and_then, option_map, IfErr, OnOk, OnErr};
 ghost use Rattle.std.specs.Map.{lookup};
 ghost use Rattle.std.specs.Str.{bytes_eq};
