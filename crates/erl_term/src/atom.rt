@@ -167,7 +167,7 @@ impl Same for Atom {
 fn same_spelled(one: &Atom, other: &Atom) -> bool
     ensures { IsTrue result ↔ (one.now ≡ other.now) }
 {
-    one.as_str() == other.as_str()
+    same_text(one.as_str(), other.as_str())
 }
 
 impl PartialEq for Atom {
