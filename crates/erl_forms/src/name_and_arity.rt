@@ -22,7 +22,8 @@ impl Equivalent<(Atom, u32)> for NameAndArity<'_> {
 
     ghost respects_eq = { Prim.search (hashing, rules) };
 
+    /// The numbers of arguments are compared first: that costs less.
     fn equivalent(&self, key: &(Atom, u32)) -> bool {
-        *self.name == key.0 && self.arity == key.1
+        self.arity == key.1 && *self.name == key.0
     }
 }
