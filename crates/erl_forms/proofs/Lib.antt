@@ -1,5 +1,7 @@
 pub mod ExpressionRows
 pub mod Keys
+pub mod ModuleBytes
 pub mod Noting
 pub mod PatternRows
 pub mod Seeking
+pub mod Written

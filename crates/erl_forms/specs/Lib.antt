@@ -2,8 +2,11 @@ pub mod Expression
 pub mod ExpressionCode
 pub mod ExpressionFalls
 pub mod ExpressionForms
+pub mod FormsCode
 pub mod Heights
 pub mod Module
+pub mod ModuleBytes
+pub mod OperationCode
 pub mod Pattern
 pub mod PatternCode
 pub mod PatternFalls

@@ -38,6 +38,7 @@
 //! compared in either order, for equality is symmetric, and what is `Copy` may be copied by `copy` or as it stands.
 #![tactic(auto)]
 
+mod bytes;
 mod calls;
 mod depths;
 mod expression;

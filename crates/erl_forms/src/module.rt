@@ -1,5 +1,5 @@
 // Modules.
-ghost use Rattle.std.specs.Prelude.{◌≡◌, ◌↔◌, ◌-◌, ◌^◌, min, is_some, slice_get, IsTrue, IfOk, MatchOption};
+ghost use Rattle.std.specs.Prelude.{◌≡◌, ◌-◌, ◌^◌, min, is_some, IfOk, MatchOption};
 ghost use Rattle.std.specs.List.{IsDistinct};
 ghost use Rattle.std.specs.Map.{keys_of, lookup};
 ghost use Rattle.std.specs.Option.{option_copied};
@@ -41,11 +41,14 @@ struct Parts {
     called: Names,
     /// How deep the functions are nested, at most 2^64 - 1.
     depth: u64,
+    /// The bytes that tell all that the module is: modules are compared by them.
+    bytes: Vec<u8>,
 }
 
 impl Model for Module {
     ghost use Rattle.std.specs.Prelude.{◌≡◌, ◌-◌, ◌^◌, min};
     ghost use Rattle.erl_forms.specs.Module.{Forms, AreNamesOf, called_in_functions, functions_depth};
+    ghost use Rattle.erl_forms.specs.FormsCode.{forms_bytes};
     ghost use Rattle.std.specs.Coded.{codes};
     ghost use Rattle.erl_term.specs.contracts.term.Terms as terms;
     ghost use Rattle.erl_forms.specs.contracts.pattern.Patterns as patterns;
@@ -71,7 +74,12 @@ impl Model for Module {
     } };
 
     ghost invariant = { λ m. AreNamesOf m.parts.value.called.keys (called_in_functions m.parts.value.functions.entries)
-        × (m.parts.value.depth ≡ min (functions_depth m.parts.value.functions.entries) (2 ^ 64 - 1)) };
+        × (m.parts.value.depth ≡ min (functions_depth m.parts.value.functions.entries) (2 ^ 64 - 1))
+        × (m.parts.value.bytes.items ≡ forms_bytes (record {
+          name = m.parts.value.name;
+          vsn = m.parts.value.vsn;
+          functions = m.parts.value.functions.entries;
+        })) };
 }
 
 impl Module {
@@ -157,9 +165,7 @@ impl Module {
 
 impl Same for Module {
     fn same(&self, other: &Module) -> bool {
-        self.name().same(other.name())
-            && self.parts.vsn.same(&other.parts.vsn)
-            && same_functions(&self.parts.functions, &other.parts.functions)
+        self.parts.bytes.as_slice() == other.parts.bytes.as_slice()
     }
 }
 
@@ -201,32 +207,4 @@ fn among_few<'a>(functions: &'a Functions, name: &Atom, arity: u32) -> Option<&'
         }
     }
     None
-}
-
-/// Whether two tables have equal functions under equal keys, as many of them and in one order.
-fn same_functions(fs: &Functions, gs: &Functions) -> bool
-    ensures { IsTrue result ↔ (fs.now.entries ≡ gs.now.entries) }
-{
-    if fs.len() != gs.len() {
-        return false;
-    }
-    for place in 0..fs.len() {
-        if !same_at(fs, gs, place) {
-            return false;
-        }
-    }
-    true
-}
-
-/// Whether two tables have equal functions under equal keys at a place.
-fn same_at(fs: &Functions, gs: &Functions, place: usize) -> bool
-    ensures { IsTrue result ↔ (slice_get fs.now.entries place ≡ slice_get gs.now.entries place) }
-{
-    match (fs.get_index(place), gs.get_index(place)) {
-        (Some((key, f)), Some((other, g))) => {
-            key.0.same(&other.0) && key.1 == other.1 && f.same(g)
-        }
-        (None, None) => true,
-        (_, _) => false,
-    }
 }

@@ -2,9 +2,14 @@
 ghost use Rattle.std.specs.Prelude.{◌≡◌, [], ◌∷◌, ◌++◌, IfOk, MatchOption};
 ghost use Rattle.std.specs.List.{IsDistinct};
 ghost use Rattle.std.specs.Map.{keys_of};
+ghost use Rattle.erl_term.specs.TreeCode.{chars_code};
+ghost use Rattle.erl_forms.specs.FormsCode.{vsn_code};
 ghost use Rattle.erl_forms.specs.Module.{key_eq};
+ghost use Rattle.erl_forms.specs.ModuleBytes.{written};
 
 use super::{Module, Parts, by_name};
+use crate::bytes::functions::{write_entry, write_vsn};
+use crate::bytes::{END, PAIR, write_name};
 use crate::calls::{Names, note_calls};
 use crate::depths::depth_of;
 use crate::function::Function;
@@ -25,16 +30,19 @@ pub struct ModuleBuilder {
     called: Names,
     /// How deep the functions are nested, at most 2^64 - 1.
     depth: u64,
+    /// The front of the module's bytes: those of the functions so far.
+    bytes: Vec<u8>,
 }
 
 impl Model for ModuleBuilder {
-    ghost use Rattle.std.specs.Prelude.{◌≡◌, ◌-◌, ◌^◌, List, [], min};
+    ghost use Rattle.std.specs.Prelude.{◌≡◌, ◌-◌, ◌^◌, List, [], ◌∷◌, min};
     ghost use Rattle.std.specs.Coded.{codes};
     ghost use Rattle.std.specs.Str.{bytes_eq};
     ghost use Rattle.indexmap.specs.IndexSet.{insert_all};
     ghost use Rattle.erl_term.specs.contracts.term.Terms as terms;
     ghost use Rattle.erl_forms.specs.declared.function.Function.{Function};
     ghost use Rattle.erl_forms.specs.Module.{Key, called_in_functions, functions_depth};
+    ghost use Rattle.erl_forms.specs.FormsCode.{begun};
     ghost use Rattle.erl_forms.specs.contracts.pattern.Patterns as patterns;
     ghost use Rattle.erl_forms.specs.contracts.expression.Expressions as expressions;
     ghost use Rattle.erl_forms.specs.contracts.expression.Guard as guards;
@@ -54,7 +62,8 @@ impl Model for ModuleBuilder {
     ghost view = { λ b. b.functions.items };
 
     ghost invariant = { λ b. (b.called.keys ≡ insert_all bytes_eq [] (called_in_functions b.functions.items))
-        × (b.depth ≡ min (functions_depth b.functions.items) (2 ^ 64 - 1)) };
+        × (b.depth ≡ min (functions_depth b.functions.items) (2 ^ 64 - 1))
+        × (b.bytes.items ≡ begun b.functions.items (1 ∷ [])) };
 }
 
 impl ModuleBuilder {
@@ -70,10 +79,14 @@ impl ModuleBuilder {
     ) -> Result<ModuleBuilder, AllocError>
         ensures { IfOk result (λ it. it ≡ []) }
     {
+        let functions = Vec::with_capacity(alloc, capacity)?;
+        let mut bytes = Vec::new(alloc);
+        bytes.push(PAIR)?;
         Ok(ModuleBuilder {
-            functions: Vec::with_capacity(alloc, capacity)?,
+            functions,
             called: IndexSet::with_hasher(alloc, hashing),
             depth: 0,
+            bytes,
         })
     }
 
@@ -111,14 +124,18 @@ impl ModuleBuilder {
             mut functions,
             mut called,
             depth,
+            mut bytes,
         } = self;
         note_calls(alloc, &function.definition, &mut called)?;
+        bytes.push(PAIR)?;
+        write_entry(&key, &function, &mut bytes)?;
         let depth = depth_of(&function.definition).max(depth);
         functions.push((key, function))?;
         Ok(ModuleBuilder {
             functions,
             called,
             depth,
+            bytes,
         })
     }
 
@@ -143,7 +160,9 @@ impl ModuleBuilder {
             functions,
             called,
             depth,
+            bytes,
         } = self;
+        let bytes = finished(bytes, &name, &vsn)?;
         let Some(functions) = by_name(alloc, hashing, functions)? else {
             return Ok(None);
         };
@@ -153,8 +172,22 @@ impl ModuleBuilder {
             functions,
             called,
             depth,
+            bytes,
         };
         let parts = Arc::new(alloc, parts)?;
         Ok(Some(Module { parts }))
     }
+}
+
+/// The bytes of a module, of which those of its functions are given. They take no more room than they need.
+fn finished(mut bytes: Vec<u8>, name: &Atom, vsn: &Option<Term>) -> Result<Vec<u8>, AllocError>
+    ensures { IfOk result (λ it. it.items ≡
+        written (vsn_code vsn.now) (written (chars_code name.now) (bytes.items ++ 0 ∷ [] ++ 1 ∷ []))) }
+{
+    bytes.push(END)?;
+    bytes.push(PAIR)?;
+    write_name(name, &mut bytes)?;
+    write_vsn(vsn, &mut bytes)?;
+    bytes.shrink_to_fit();
+    Ok(bytes)
 }

@@ -1,0 +1,11 @@
+-- None is one byte.
+use Rattle.std.proofs.Common.{◌≡◌, ℕ, ◌+◌, ◌-◌, ◌<◌, List, [], ◌∷◌, ◌++◌, drop, sym, ap, ◌∙◌, refl, arith, rules, lit<, OnOk, append_assoc}
+use base.Stored.{Gv, gnil, gnum, gcons}
+use Rattle.erl_forms.specs.FormsCode.{vsn_code}
+use Rattle.erl_forms.specs.ModuleBytes.{written}
+use Rattle.erl_forms.proofs.Written.{written-nil, like}
+use Rattle.erl_forms.proofs.bytes.functions.write_vsn.Goals as goal
+
+pub returns-in_ok-push-in-None : goal.returns-in_ok-push-in-None
+returns-in_ok-push-in-None c =
+    c.in_ok-push-in-None.ensures.items ∙ sym (written-nil c.args.out.now.items) ∙ like gnil (vsn_code c.args.vsn.now) c.args.out.now.items (sym (ap (λ x. vsn_code x) c.in-None.is))
