@@ -1,5 +1,5 @@
 -- The bytes of a module tell it, and are those of its functions and, behind them, of its name and its attribute.
-use Rattle.std.proofs.Common.{◌≡◌, ℕ, List, [], ◌∷◌, ◌++◌, Option, sym, ap, ◌∙◌, refl}
+use Rattle.std.proofs.Common.{◌≡◌, ℕ, List, [], ◌∷◌, ◌++◌, Option, sym, ◌∙◌, refl}
 use base.Stored.{gcons}
 use Rattle.erl_term.specs.declared.term.Term.{Term}
 use Rattle.erl_term.specs.TreeCode.{chars_code}

@@ -1,5 +1,5 @@
 -- What is written is read back: the bytes of a ghost value tell it, whatever stands behind them.
-use Rattle.std.proofs.Common.{◌≡◌, ℕ, zero, suc, ◌+◌, ◌-◌, ◌/◌, ◌%◌, ◌^◌, ◌<◌, ◌≤◌, Bool, true, false, List, [], ◌∷◌, ◌++◌, cond, ltb, ltb-true, ltb-false, lt-ltb, le-ltb, ◌⊎◌, inl, inr, sym, ap, subst, ◌∙◌, refl, arith, append_assoc, w64, ℤ, pos, negsuc, ◌<ℤ◌, ◌≤ℤ◌, unsigned_abs, length, get_or, drop, Result, Ok, Err, OnOk}
+use Rattle.std.proofs.Common.{◌≡◌, ℕ, zero, suc, ◌+◌, ◌-◌, ◌/◌, ◌%◌, ◌^◌, ◌<◌, ◌≤◌, Bool, true, false, List, [], ◌∷◌, ◌++◌, cond, ltb, ltb-true, lt-ltb, le-ltb, ◌⊎◌, inl, inr, sym, ap, subst, ◌∙◌, refl, arith, append_assoc, w64, ℤ, pos, negsuc, ◌<ℤ◌, ◌≤ℤ◌, unsigned_abs, length, get_or, drop, Result, Ok, Err, OnOk}
 use base.Stored.{Gv, gnil, gnum, gcons}
 use Rattle.std.proofs.lemmas.List.{drop_more}
 use Rattle.std.proofs.lemmas.Int.{ints}

@@ -24,18 +24,21 @@
 //! # What no contract says
 //!
 //! That there is memory, and what a call costs. [`Module::new`] takes time and memory for each function and for each remote
-//! call in it, and one look at each part besides. What is asked of a module takes no memory, and time that does not grow with
-//! the module: up to eight functions are compared in turn, and more are looked up by hashes with keys that nobody outside
-//! knows. A copy of a module costs a count, and a copy of anything else its size; comparing is linear, also where a module is
-//! compared with its own copy.
+//! call in it, and one look at each part besides, which it writes down: a module keeps the bytes that tell all that it is, one
+//! for each ASCII character of a name, one for a small number, nine for a number over 124, and one to three for each other
+//! part, in no more room than they take. What is asked of a module takes no memory, and time that does not grow with the
+//! module: up to eight functions are compared in turn, and more are looked up by hashes with keys that nobody outside knows. A
+//! copy of a module costs a count, and a copy of anything else its size. Two modules are compared by their bytes, many at a
+//! time, also where a module is compared with its own copy; comparing anything else is linear.
 //!
-//! [`Module::new`], comparing, copying a function and dropping recurse as deep as the patterns and expressions are nested,
-//! which [`Module::depth`] tells, and then as deep as a literal's term, which it does not count. Who makes modules of
-//! texts from outside bounds both. The tests make, copy, compare and drop modules of depth 256.
+//! [`Module::new`], comparing or copying what a module is made of, and dropping recurse as deep as the patterns and
+//! expressions are nested, which [`Module::depth`] tells, and then as deep as a literal's term, which it does not count. Who
+//! makes modules of texts from outside bounds both. The tests make, copy, compare and drop modules of depth 256.
 //!
 //! In which order the modules of remote calls are told is not said either: it is that in which they are noted. Of the 45
-//! wrong bodies that `rt plant` could judge none was let through. Two that it doesn't try are right: rows and modules may be
-//! compared in either order, for equality is symmetric, and what is `Copy` may be copied by `copy` or as it stands.
+//! wrong bodies that `rt plant` could judge before modules kept their bytes none was let through. Two that it doesn't try are
+//! right: rows and modules may be compared in either order, for equality is symmetric, and what is `Copy` may be copied by
+//! `copy` or as it stands.
 #![tactic(auto)]
 
 mod bytes;

@@ -26,6 +26,8 @@ type Functions = IndexMap<(Atom, u32), Function, RandomState>;
 const FEW: usize = 8;
 
 /// A module of Erlang as its source says (Erlang Reference Manual, Modules). Its copies share it.
+///
+/// It keeps the bytes that tell all that it is, so that two modules are compared in the time that it takes to compare those.
 #[derive(Drop)]
 pub struct Module {
     parts: Arc<Parts>,
@@ -85,7 +87,8 @@ impl Model for Module {
 impl Module {
     /// The module of these functions, in this order; none where two of them have one name and one number of arguments.
     ///
-    /// Names are hashed by `hashing`. Takes time and memory for each function and for each remote call in it.
+    /// Names are hashed by `hashing`. Takes time and memory for each function and for each remote call in it, and for the bytes
+    /// that tell it.
     ///
     /// # Errors
     ///

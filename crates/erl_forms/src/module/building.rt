@@ -107,7 +107,8 @@ impl ModuleBuilder {
         Ok(builder)
     }
 
-    /// The same with one function more, behind the others. Takes time and memory for each remote call in it.
+    /// The same with one function more, behind the others. Takes time and memory for each remote call in it, and for the bytes
+    /// that tell it.
     ///
     /// # Errors
     ///

@@ -1,8 +1,8 @@
 -- One byte, or 1 and those of the number.
-use Rattle.std.proofs.Common.{◌≡◌, ℕ, ◌+◌, ◌-◌, ◌<◌, List, [], ◌∷◌, ◌++◌, drop, sym, ap, ◌∙◌, refl, arith, rules, lit<, OnOk, append_assoc}
-use base.Stored.{Gv, gnil, gnum, gcons}
+use Rattle.std.proofs.Common.{[], ◌∷◌, ◌++◌, sym, ap, ◌∙◌}
+use base.Stored.{gnum}
 use Rattle.erl_forms.specs.ModuleBytes.{written}
-use Rattle.erl_forms.proofs.Written.{last_front, written-small, written-large, like}
+use Rattle.erl_forms.proofs.Written.{last_front, written-small, written-large}
 use Rattle.erl_forms.proofs.bytes.write_front.Goals as goal
 
 pub returns-then-n-lt128 : goal.returns-then-n-lt128

@@ -1,6 +1,6 @@
 -- One byte, or 127 and the digits.
-use Rattle.std.proofs.Common.{◌≡◌, ℕ, ◌+◌, ◌-◌, ◌<◌, List, [], ◌∷◌, ◌++◌, drop, sym, ap, ◌∙◌, refl, arith, rules, lit<, OnOk, append_assoc}
-use base.Stored.{Gv, gnil, gnum, gcons}
+use Rattle.std.proofs.Common.{◌≡◌, ◌++◌, refl, arith, rules, OnOk}
+use base.Stored.{gnum}
 use Rattle.erl_forms.specs.ModuleBytes.{written}
 use Rattle.erl_forms.proofs.Written.{little, large, on_ok}
 use Rattle.erl_forms.proofs.bytes.write_number.Goals as goal

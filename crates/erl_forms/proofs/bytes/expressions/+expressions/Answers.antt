@@ -1,6 +1,6 @@
 -- Each turn writes one item more, which is no higher than its row.
-use Rattle.std.proofs.Common.{◌≡◌, ℕ, ◌+◌, ◌-◌, ◌<◌, List, [], ◌∷◌, ◌++◌, drop, sym, ap, ◌∙◌, refl, arith, rules, lit<, OnOk, append_assoc}
-use base.Stored.{Gv, gnil, gnum, gcons}
+use Rattle.std.proofs.Common.{◌≡◌, ◌+◌, ◌<◌, [], ◌∷◌, ◌++◌, drop, sym, ap, ◌∙◌, arith, rules, lit<}
+use base.Stored.{gnum, gcons}
 use Rattle.erl_term.specs.Term.{tree}
 use Rattle.erl_term.specs.TreeCode.{tree_code}
 use Rattle.erl_forms.specs.ExpressionCode.{connective_number}

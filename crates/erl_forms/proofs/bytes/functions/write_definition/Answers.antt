@@ -1,11 +1,10 @@
 -- The kind, and the parts.
-use Rattle.std.proofs.Common.{◌≡◌, ℕ, ◌+◌, ◌-◌, ◌<◌, List, [], ◌∷◌, ◌++◌, drop, sym, ap, ◌∙◌, refl, arith, rules, lit<, OnOk, append_assoc}
-use base.Stored.{Gv, gnil, gnum, gcons}
+use Rattle.std.proofs.Common.{sym, ap, ◌∙◌, lit<}
+use base.Stored.{gnum, gcons}
 use Rattle.erl_forms.specs.ExpressionForms.{guards, clauses}
 use Rattle.erl_forms.specs.PatternCode.{pats_code}
 use Rattle.erl_forms.specs.PatternForms.{pats}
 use Rattle.erl_forms.specs.FormsCode.{clauses_code, definition_code, guards_code}
-use Rattle.erl_forms.specs.ModuleBytes.{written}
 use Rattle.erl_forms.proofs.Written.{both_is, front_is, guards-parts, last, like, pats-parts}
 use Rattle.erl_forms.proofs.bytes.functions.write_definition.Goals as goal
 

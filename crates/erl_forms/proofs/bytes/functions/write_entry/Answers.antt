@@ -1,9 +1,8 @@
 -- The name, the number of arguments, whether it is exported, and the definition.
-use Rattle.std.proofs.Common.{◌≡◌, ℕ, ◌+◌, ◌-◌, ◌<◌, List, [], ◌∷◌, ◌++◌, drop, sym, ap, ◌∙◌, refl, arith, rules, lit<, OnOk, append_assoc}
-use base.Stored.{Gv, gnil, gnum, gcons}
+use Rattle.std.proofs.Common.{sym, ap, ◌∙◌}
+use base.Stored.{gnum, gcons}
 use Rattle.erl_term.specs.TreeCode.{chars_code}
 use Rattle.erl_forms.specs.FormsCode.{definition_code, entry_code}
-use Rattle.erl_forms.specs.ModuleBytes.{written}
 use Rattle.erl_forms.specs.OperationCode.{flag}
 use Rattle.erl_forms.proofs.Written.{both_is, chars-parts, last, like}
 use Rattle.erl_forms.proofs.bytes.functions.write_entry.Goals as goal

@@ -1,8 +1,7 @@
 -- None is one byte.
-use Rattle.std.proofs.Common.{◌≡◌, ℕ, ◌+◌, ◌-◌, ◌<◌, List, [], ◌∷◌, ◌++◌, drop, sym, ap, ◌∙◌, refl, arith, rules, lit<, OnOk, append_assoc}
-use base.Stored.{Gv, gnil, gnum, gcons}
+use Rattle.std.proofs.Common.{sym, ap, ◌∙◌}
+use base.Stored.{gnil}
 use Rattle.erl_forms.specs.FormsCode.{vsn_code}
-use Rattle.erl_forms.specs.ModuleBytes.{written}
 use Rattle.erl_forms.proofs.Written.{written-nil, like}
 use Rattle.erl_forms.proofs.bytes.functions.write_vsn.Goals as goal
 

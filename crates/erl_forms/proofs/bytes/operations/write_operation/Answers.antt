@@ -1,6 +1,6 @@
 -- One byte, or those of a pair.
-use Rattle.std.proofs.Common.{◌≡◌, ℕ, ◌+◌, ◌-◌, ◌<◌, List, [], ◌∷◌, ◌++◌, drop, sym, ap, ◌∙◌, refl, arith, rules, lit<, OnOk, append_assoc}
-use base.Stored.{Gv, gnil, gnum, gcons}
+use Rattle.std.proofs.Common.{◌≡◌, ◌+◌, ◌<◌, [], ◌∷◌, ◌++◌, sym, ap, ◌∙◌, refl, arith, lit<}
+use base.Stored.{gnum, gcons}
 use Rattle.erl_term.specs.TreeCode.{chars_code}
 use Rattle.erl_forms.specs.ModuleBytes.{written}
 use Rattle.erl_forms.specs.OperationCode.{built_in_number, operation_code, operator_number}

@@ -1,6 +1,6 @@
 -- Each turn writes one pattern more, which is less deep than its row.
-use Rattle.std.proofs.Common.{◌≡◌, ℕ, ◌+◌, ◌-◌, ◌<◌, List, [], ◌∷◌, ◌++◌, drop, sym, ap, ◌∙◌, refl, arith, rules, lit<, OnOk, append_assoc}
-use base.Stored.{Gv, gnil, gnum, gcons}
+use Rattle.std.proofs.Common.{◌+◌, drop, sym, ap, ◌∙◌, rules, lit<}
+use base.Stored.{gnil, gnum, gcons}
 use Rattle.erl_term.specs.Term.{tree}
 use Rattle.erl_term.specs.TreeCode.{tree_code}
 use Rattle.erl_forms.specs.PatternCode.{pat_code, pats_code}

@@ -1,6 +1,6 @@
 -- Each turn writes one term more, which is less deep than its row.
-use Rattle.std.proofs.Common.{◌≡◌, ℕ, ◌+◌, ◌-◌, ◌<◌, List, [], ◌∷◌, ◌++◌, drop, sym, ap, ◌∙◌, refl, arith, rules, lit<, OnOk, append_assoc}
-use base.Stored.{Gv, gnil, gnum, gcons}
+use Rattle.std.proofs.Common.{◌+◌, drop, sym, ap, ◌∙◌, rules, lit<}
+use base.Stored.{gnum, gcons}
 use Rattle.erl_term.specs.Term.{tree, trees}
 use Rattle.erl_term.specs.TreeCode.{tree_code, trees_code, chars_code}
 use Rattle.erl_forms.specs.ModuleBytes.{written}

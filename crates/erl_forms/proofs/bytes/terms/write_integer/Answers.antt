@@ -1,11 +1,10 @@
 -- The sign is told by the kind.
-use Rattle.std.proofs.Common.{◌≡◌, ℕ, ◌+◌, ◌-◌, ◌<◌, List, [], ◌∷◌, ◌++◌, drop, sym, ap, ◌∙◌, refl, arith, rules, lit<, OnOk, append_assoc}
-use base.Stored.{Gv, gnil, gnum, gcons}
+use Rattle.std.proofs.Common.{◌-◌, ap, ◌∙◌, arith, rules, lit<}
+use base.Stored.{gnum, gcons}
 use Rattle.std.proofs.Common.{w64, unsigned_abs}
 use Rattle.std.proofs.lemmas.Int.{ints, to_z-of_z}
 use Rattle.erl_term.specs.Tree.{int}
 use Rattle.erl_term.specs.TreeCode.{tree_code}
-use Rattle.erl_forms.specs.ModuleBytes.{written}
 use Rattle.erl_forms.proofs.Written.{front_is, last, like, below_zero, from_zero}
 use Rattle.erl_forms.proofs.bytes.terms.write_integer.Goals as goal
 
