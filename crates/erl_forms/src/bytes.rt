@@ -36,6 +36,7 @@ pub(crate) fn write_number(n: u64, out: &mut Vec<u8>) -> Result<(), AllocError>
 }
 
 /// Appends a number's bytes where it is the first of two parts: one where it is below 128.
+#[inline(always)]
 pub(crate) fn write_front(n: u32, out: &mut Vec<u8>) -> Result<(), AllocError>
     ensures { OnOk result ((g : Gv) → written (gcons (gnum n) g) out.old.items ≡ written g out.new.items) }
 {
