@@ -118,5 +118,8 @@ fn is_capital(c: char) -> bool
 fn is_name_char(c: char) -> bool
     ensures { result ≡ kinds.is_name_char c }
 {
-    matches!(c, 'a'..='z' | 'A'..='Z' | '0'..='9' | '_' | '@') || is_small(c) || is_capital(c)
+    if matches!(c, 'a'..='z') {
+        return true;
+    }
+    matches!(c, 'A'..='Z' | '0'..='9' | '_' | '@') || is_small(c) || is_capital(c)
 }

@@ -48,9 +48,26 @@ impl RecentTexts {
             return SharedText::new(alloc, characters);
         };
         let place = sum_of(characters) & last;
-        if let Some(text) = self.copy_at(place, characters)? {
-            return Ok(text);
+        match self.copy_at(place, characters)? {
+            Some(text) => Ok(text),
+            None => self.made(alloc, place, characters),
         }
+    }
+
+    /// A new text of characters, which is kept at a place. Few texts are made in a long text, so this stands by itself.
+    ///
+    /// # Errors
+    ///
+    /// `AllocError` where memory is refused.
+    #[inline(never)]
+    fn made(
+        &mut self,
+        alloc: Global,
+        place: usize,
+        characters: &str,
+    ) -> Result<SharedText, AllocError>
+        ensures { IfOk result (λ it. it ≡ chars characters.now) }
+    {
         let text = SharedText::new(alloc, characters)?;
         self.keep(place, text.share()?)?;
         Ok(text)
@@ -90,11 +107,25 @@ fn places_for(bytes: usize) -> usize {
     }
 }
 
-/// A number that characters choose. Its last bits name their place.
+/// A number that characters choose. Its last bits name their place. Names of four bytes and more are told by how many bytes they
+/// have, the first of them and the last three, as most names in a text differ in one of these.
+#[inline(always)]
 fn sum_of(characters: &str) -> usize {
+    let bytes = characters.as_bytes();
+    match bytes {
+        [first, .., third, second, last] => {
+            sum_of_bytes(&[*first, *third, *second, *last]).wrapping_add(bytes.len())
+        }
+        _ => sum_of_bytes(bytes),
+    }
+}
+
+/// A number that bytes choose.
+#[inline(always)]
+fn sum_of_bytes(bytes: &[u8]) -> usize {
     let mut sum: usize = 0;
-    for byte in characters.as_bytes() {
-        sum = sum.wrapping_mul(31).wrapping_add(usize::from(*byte));
+    for byte in bytes {
+        sum = sum.wrapping_mul(59).wrapping_add(usize::from(*byte));
     }
     sum
 }
