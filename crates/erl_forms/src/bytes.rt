@@ -23,6 +23,7 @@ pub(crate) const PAIR: u8 = 1;
 pub(crate) const FRONT: u8 = 128;
 
 /// Appends a number's bytes: one where it is below 125, else nine.
+#[inline(always)]
 pub(crate) fn write_number(n: u64, out: &mut Vec<u8>) -> Result<(), AllocError>
     ensures { OnOk result (out.new.items ≡ written (gnum n) out.old.items) }
 {

@@ -62,6 +62,7 @@ fn note_expression(
 
 /// Notes those of expressions.
 #[cycle(calls)]
+#[inline(never)]
 fn note_row(alloc: Global, row: &[Expression], names: &mut Names) -> Result<(), AllocError>
     ensures { OnOk result (names.new.keys ≡ insert_all bytes_eq names.old.keys (called_in_row (exprs row.now))) }
 {

@@ -58,6 +58,7 @@ fn write_expression(expression: &Expression, out: &mut Vec<u8>) -> Result<(), Al
 
 /// Appends the bytes of expressions in a row.
 #[cycle(expressions)]
+#[inline(never)]
 fn write_row(row: &[Expression], out: &mut Vec<u8>) -> Result<(), AllocError>
     ensures { OnOk result (out.new.items ≡ written (exprs_code (exprs row.now)) out.old.items) }
 {

@@ -11,6 +11,7 @@ use std::alloc::AllocError;
 
 /// Appends a pattern's bytes.
 #[cycle(patterns)]
+#[inline(always)]
 pub(crate) fn write_pattern(pattern: &Pattern, out: &mut Vec<u8>) -> Result<(), AllocError>
     ensures { OnOk result (out.new.items ≡ written (pat_code (pat pattern.now)) out.old.items) }
 {
@@ -49,6 +50,7 @@ pub(crate) fn write_pattern(pattern: &Pattern, out: &mut Vec<u8>) -> Result<(), 
 
 /// Appends the bytes of patterns in a row.
 #[cycle(patterns)]
+#[inline(never)]
 pub(crate) fn write_patterns(row: &[Pattern], out: &mut Vec<u8>) -> Result<(), AllocError>
     ensures { OnOk result (out.new.items ≡ written (pats_code (pats row.now)) out.old.items) }
 {

@@ -66,8 +66,12 @@ impl Model for ModuleBuilder {
         × (b.bytes.items ≡ begun b.functions.items (1 ∷ [])) };
 }
 
+/// For how many bytes there is room for each function from the start, so that they are seldom moved. What is not needed is given
+/// back.
+const BYTES_A_FUNCTION: usize = 512;
+
 impl ModuleBuilder {
-    /// No functions, and room for so many. Names are hashed by `hashing`.
+    /// No functions, and room for so many and for the bytes that tell them. Names are hashed by `hashing`.
     ///
     /// # Errors
     ///
@@ -80,7 +84,8 @@ impl ModuleBuilder {
         ensures { IfOk result (λ it. it ≡ []) }
     {
         let functions = Vec::with_capacity(alloc, capacity)?;
-        let mut bytes = Vec::new(alloc);
+        let room = capacity.saturating_mul(BYTES_A_FUNCTION);
+        let mut bytes = Vec::with_capacity(alloc, room)?;
         bytes.push(PAIR)?;
         Ok(ModuleBuilder {
             functions,
