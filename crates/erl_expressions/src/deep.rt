@@ -205,6 +205,7 @@ impl DeepRow {
     }
 
     /// A row of one tree.
+    #[inline(always)]
     pub(crate) fn of(alloc: Global, only: Deep) -> Result<DeepRow, AllocError>
         ensures { IfOk result (λ row. row ≡ more only none) }
     {
@@ -215,6 +216,7 @@ impl DeepRow {
     }
 
     /// A row of two trees.
+    #[inline(always)]
     pub(crate) fn pair(alloc: Global, first: Deep, second: Deep) -> Result<DeepRow, AllocError>
         ensures { IfOk result (λ row. row ≡ more first (more second none)) }
     {

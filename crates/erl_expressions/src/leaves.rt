@@ -16,6 +16,7 @@ use values::Row;
 pub(crate) type LeafAhead<'a> = Option<(Leaf, &'a [Spot])>;
 
 /// The leaf that tokens begin with, where they begin with no call.
+#[inline(always)]
 #[tactic(auto, unfolding(crate::specs::Leaves::leaf_ahead))]
 pub(crate) fn leaf_ahead<'a>(alloc: Global, tokens: &'a [Spot]) -> Result<LeafAhead<'a>, AllocError>
     ensures { IfOk result (λ found. MatchOption found (leaf_in (terminals tokens.now) ≡ None)
@@ -46,6 +47,7 @@ fn atom_ahead<'a>(name: &Name, at: usize, rest: &'a [Spot]) -> Result<LeafAhead<
 }
 
 /// Strings that stand behind one another, the first of them given.
+#[inline(never)]
 #[tactic(auto, using(crate::proofs::Strings::strings_kept, crate::proofs::Strings::string_shorter, crate::proofs::Strings::more_strings, crate::proofs::Strings::no_string))]
 fn strings_ahead<'a>(
     alloc: Global,
@@ -78,6 +80,7 @@ fn string_ahead<'a>(tokens: &'a [Spot]) -> Option<(&'a Text, &'a [Spot])>
 }
 
 /// The leaf that stands behind a sign.
+#[inline(never)]
 fn leaf_behind<'a>(
     alloc: Global,
     mark: Mark,

@@ -119,6 +119,7 @@ fn row_of_many<'a>(
 
 /// Parts up to a closing bracket, which may be none.
 #[cycle(reading)]
+#[inline(always)]
 #[tactic(auto, unfolding(crate::specs::Reading::parts))]
 pub(crate) fn parts<'a>(
     alloc: Global,
@@ -261,6 +262,7 @@ fn tailed<'a>(
 }
 
 /// A node of these parts, where there is such a node, with the tokens behind it; what is refused stands at a byte.
+#[inline(always)]
 pub(super) fn made<'a>(
     role: Role,
     shape: Shape,
