@@ -107,8 +107,8 @@ fn places_for(bytes: usize) -> usize {
     }
 }
 
-/// A number that characters choose. Its last bits name their place. Names of four bytes and more are told by how many bytes they
-/// have, the first of them and the last three, as most names in a text differ in one of these.
+/// A number that characters choose. Its last bits name their place. Names of four bytes and more are told by how many they have,
+/// the first of them and the last three, as most names in a text differ in one of these.
 #[inline(always)]
 fn sum_of(characters: &str) -> usize {
     let bytes = characters.as_bytes();

@@ -66,8 +66,8 @@ impl Model for ModuleBuilder {
         × (b.bytes.items ≡ begun b.functions.items (1 ∷ [])) };
 }
 
-/// For how many bytes there is room for each function from the start, so that they are seldom moved. What is not needed is given
-/// back.
+/// How many bytes there is room for with each function from the start, so that they are seldom moved. What is not needed is
+/// given back.
 const BYTES_A_FUNCTION: usize = 512;
 
 impl ModuleBuilder {
