@@ -1,11 +1,13 @@
 // Callbacks of a gen_server: which one a message goes to, and what its value means.
-ghost use Rattle.std.specs.Prelude.{◌≡◌, ◌++◌, IfOk, MatchOption, None, Some, map, option_map};
+ghost use Rattle.std.specs.Prelude.{◌≡◌, ◌++◌, ℕ, IfOk, List, MatchOption, None, Some, map, option_map};
+ghost use Rattle.std.specs.Option.{option_copied};
 ghost use Rattle.erl_term.specs.Term.{tree, trees};
 ghost use Rattle.erl_eval.specs.Acts.{act_of};
 ghost use Rattle.erl_eval.specs.Jobs.{arguments_of, answer_of, bad_return_value, call_answer, callback_of, name_of, one_act, plain_answer, replied, served, unexported};
 ghost use Rattle.erl_steps.specs.Tags.{tag_of};
 ghost use Rattle.erl_machine.specs.Views.{answer_view, callback, outcome_of};
 ghost use Rattle.erl_steps.specs.Views.{end_of};
+ghost use Rattle.erl_eval.specs.State as results;
 ghost use Rattle.erl_eval.specs.State.{rest, server};
 
 use crate::evaluation::{Outcome, undefined};
@@ -31,13 +33,25 @@ pub enum Callback<'a> {
     Info(&'a Term),
 }
 
-/// What the value of a callback means.
+/// What the value of a callback means, as it stands in the value.
 #[derive(Drop)]
-struct Answer {
-    /// What is replied, if something is.
-    answered: Option<Term>,
-    /// What the process ends in, or where it rests.
-    end: End,
+enum Answer<'a> {
+    /// The process rests, and something may be replied.
+    Rests {
+        /// What is replied, if something is.
+        answered: Option<&'a Term>,
+        /// The state of the process.
+        state: &'a Term,
+    },
+    /// The process ends, and something may be replied.
+    Stops {
+        /// What is replied, if something is.
+        answered: Option<&'a Term>,
+        /// Why it ends.
+        reason: &'a Term,
+    },
+    /// The value is one that the callback must not give.
+    Bad,
 }
 
 /// Which callback a message goes to: `{'$gen_call',From,T}` is a call, `{'$gen_cast',T}` a cast, all else other messages.
@@ -111,23 +125,59 @@ impl Callback<'_> {
         }
     }
 
-    /// What the callback's value means.
-    fn answer(&self, alloc: Global, module_name: &Atom, value: &Term) -> Result<Answer, AllocError>
-        ensures { IfOk result (λ it. answer_view it ≡ answer_of module_name.now (callback self.now) (tree value.now)) }
+    /// What the callback's value means. Takes no memory.
+    fn answer<'a>(&self, value: &'a Term) -> Answer<'a>
+        ensures { (m : List ℕ) → answer_view m (tree value.now) result ≡ answer_of m (callback self.now) (tree value.now) }
     {
         match self {
-            Callback::Call { .. } => call_answer(alloc, module_name, value),
-            Callback::Cast(_) | Callback::Info(_) => plain_answer(alloc, module_name, value),
+            Callback::Call { .. } => call_answer(value),
+            Callback::Cast(_) | Callback::Info(_) => plain_answer(value),
         }
     }
 
-    /// The reply to whom it goes to, if there is one.
-    fn reply(&self, alloc: Global, answered: Option<Term>) -> Result<Option<Act>, AllocError>
-        ensures { IfOk result (λ it. one_act (option_map act_of it) ≡ replied (callback self.now) (option_map tree answered)) }
+    /// Acts, and behind them the reply to whom it goes to, if there is one.
+    fn reply(
+        &self,
+        alloc: Global,
+        acts: Row<Act>,
+        answered: Option<&Term>,
+    ) -> Result<Row<Act>, AllocError>
+        ensures { IfOk result (λ it. map act_of it ≡ map act_of acts ++ replied (callback self.now) (option_map tree (option_copied answered.entry))) }
     {
         match (self, answered) {
-            (Callback::Call { from, .. }, Some(term)) => reply_to(alloc, from, &term),
-            (_, _) => Ok(None),
+            (Callback::Call { from, .. }, Some(term)) => {
+                let reply = reply_to(alloc, from, term)?;
+                with_act(acts, reply)
+            }
+            (_, _) => Ok(acts),
+        }
+    }
+
+    /// What a callback gives by its value, behind what was done: its own reply is the last act.
+    fn serve_value(
+        &self,
+        alloc: Global,
+        module_name: &Atom,
+        acts: Row<Act>,
+        value: &Term,
+    ) -> Result<Outcome, AllocError>
+        ensures { IfOk result (λ it. outcome_of it ≡ served module_name.now (callback self.now) (map act_of acts) (results.value (tree value.now))) }
+    {
+        match self.answer(value) {
+            Answer::Rests { answered, state } => {
+                let acts = self.reply(alloc, acts, answered)?;
+                let end = rest_in(alloc, module_name, state)?;
+                Ok(Outcome { acts, end })
+            }
+            Answer::Stops { answered, reason } => {
+                let acts = self.reply(alloc, acts, answered)?;
+                let end = End::Exit(reason.copy(alloc)?);
+                Ok(Outcome { acts, end })
+            }
+            Answer::Bad => {
+                let end = bad_return_value(alloc, value)?;
+                Ok(Outcome { acts, end })
+            }
         }
     }
 
@@ -142,14 +192,7 @@ impl Callback<'_> {
     {
         let Outcome { acts, end } = outcome;
         match end {
-            End::Value(value) => {
-                let answer = self.answer(alloc, module_name, &value)?;
-                let reply = self.reply(alloc, answer.answered)?;
-                Ok(Outcome {
-                    acts: with_act(acts, reply)?,
-                    end: answer.end,
-                })
-            }
+            End::Value(value) => self.serve_value(alloc, module_name, acts, &value),
             end => Ok(Outcome { acts, end }),
         }
     }
@@ -180,99 +223,75 @@ fn rest_in(alloc: Global, module_name: &Atom, state: &Term) -> Result<End, Alloc
     }))
 }
 
-/// A value that a callback must not give.
-fn bad_return_value(alloc: Global, value: &Term) -> Result<Answer, AllocError>
-    ensures { IfOk result (λ it. answer_view it ≡ bad_return_value (tree value.now)) }
+/// The exit for a value that a callback must not give.
+#[inline(never)]
+fn bad_return_value(alloc: Global, value: &Term) -> Result<End, AllocError>
+    ensures { IfOk result (λ it. end_of it ≡ (bad_return_value (tree value.now)).ended) }
 {
     let mut pair = Vec::with_capacity(alloc, 2)?;
     pair.push(Term::Atom(Atom::word(alloc, "bad_return_value")?))?;
     pair.push(value.copy(alloc)?)?;
-    Ok(Answer {
-        answered: None,
-        end: End::Exit(Term::Tuple(Terms::new(alloc, pair)?)),
-    })
+    Ok(End::Exit(Term::Tuple(Terms::new(alloc, pair)?)))
 }
 
-/// What `{noreply,S}` means.
-fn no_reply(alloc: Global, module_name: &Atom, state: &Term) -> Result<Answer, AllocError>
-    ensures { IfOk result (λ it. answer_view it ≡ record { answered = None; ended = rest (server module_name.now (tree state.now)) }) }
-{
-    let end = rest_in(alloc, module_name, state)?;
-    Ok(Answer {
-        answered: None,
-        end,
-    })
-}
-
-/// What `{reply,R,S}` means.
-fn reply(
-    alloc: Global,
-    module_name: &Atom,
-    answered: &Term,
-    state: &Term,
-) -> Result<Answer, AllocError>
-    ensures { IfOk result (λ it. answer_view it ≡ record { answered = Some (tree answered.now); ended = rest (server module_name.now (tree state.now)) }) }
-{
-    let answered = answered.copy(alloc)?;
-    let end = rest_in(alloc, module_name, state)?;
-    Ok(Answer {
-        answered: Some(answered),
-        end,
-    })
-}
-
-/// What a value means that every callback may give: `{noreply,S}` or `{stop,Reason,S}`.
+/// What a value means that every callback may give: `{noreply,S}` or `{stop,Reason,S}`. Takes no memory.
 #[tactic(auto, using(crate::proofs::Tags::plain_one, crate::proofs::Tags::plain_two, crate::proofs::Tags::plain_else, crate::proofs::Tags::plain_untagged))]
-fn plain_answer(alloc: Global, module_name: &Atom, value: &Term) -> Result<Answer, AllocError>
-    ensures { IfOk result (λ it. answer_view it ≡ plain_answer module_name.now (tree value.now)) }
+fn plain_answer(value: &Term) -> Answer<'_>
+    ensures { (m : List ℕ) → answer_view m (tree value.now) result ≡ plain_answer m (tree value.now) }
 {
     let Some((word, rest)) = tag(value) else {
-        return bad_return_value(alloc, value);
+        return Answer::Bad;
     };
     if let Some((reason, _)) = two(rest) {
         if word.is("stop") {
-            return Ok(Answer {
+            return Answer::Stops {
                 answered: None,
-                end: End::Exit(reason.copy(alloc)?),
-            });
+                reason,
+            };
         }
-        return bad_return_value(alloc, value);
+        return Answer::Bad;
     }
     match one(rest) {
         Some(state) => {
             if word.is("noreply") {
-                return no_reply(alloc, module_name, state);
+                return Answer::Rests {
+                    answered: None,
+                    state,
+                };
             }
-            bad_return_value(alloc, value)
+            Answer::Bad
         }
-        None => bad_return_value(alloc, value),
+        None => Answer::Bad,
     }
 }
 
-/// What a value of `handle_call` means, which may also be `{reply,R,S}` or `{stop,Reason,R,S}`.
+/// What a value of `handle_call` means, which may also be `{reply,R,S}` or `{stop,Reason,R,S}`. Takes no memory.
 #[tactic(auto, using(crate::proofs::Tags::call_two, crate::proofs::Tags::call_three, crate::proofs::Tags::call_else, crate::proofs::Tags::call_untagged))]
-fn call_answer(alloc: Global, module_name: &Atom, value: &Term) -> Result<Answer, AllocError>
-    ensures { IfOk result (λ it. answer_view it ≡ call_answer module_name.now (tree value.now)) }
+fn call_answer(value: &Term) -> Answer<'_>
+    ensures { (m : List ℕ) → answer_view m (tree value.now) result ≡ call_answer m (tree value.now) }
 {
     let Some((word, rest)) = tag(value) else {
-        return plain_answer(alloc, module_name, value);
+        return plain_answer(value);
     };
     if let Some((reason, reply, _)) = three(rest) {
         if word.is("stop") {
-            return Ok(Answer {
-                answered: Some(reply.copy(alloc)?),
-                end: End::Exit(reason.copy(alloc)?),
-            });
+            return Answer::Stops {
+                answered: Some(reply),
+                reason,
+            };
         }
-        return bad_return_value(alloc, value);
+        return Answer::Bad;
     }
     match two(rest) {
         Some((answered, state)) => {
             if word.is("reply") {
-                return reply(alloc, module_name, answered, state);
+                return Answer::Rests {
+                    answered: Some(answered),
+                    state,
+                };
             }
-            plain_answer(alloc, module_name, value)
+            plain_answer(value)
         }
-        None => plain_answer(alloc, module_name, value),
+        None => plain_answer(value),
     }
 }

@@ -55,24 +55,18 @@ pub struct Ended {
     pub end: End,
 }
 
-/// Makes steps, to the end.
+/// Makes steps, to the end. What was done stands in the machine then.
 fn finish<'a>(
-    mut machine: Machine<'a>,
+    machine: &mut Machine<'a>,
     world: &World<'a>,
     control: Control<'a>,
-) -> Result<Ended, AllocError>
-    ensures { IfOk result (λ it. (calls : ℕ) × Comes (world_of world.now) (control_of control.entry) (machine_of machine.entry) (end_of it.end, record { bindings = []; calls = calls; acts = map act_of it.acts.items; startup = option_map startup_of it.startup })) }
+) -> Result<End, AllocError>
+    ensures { IfOk result (λ it. (calls : ℕ) × Comes (world_of world.now) (control_of control.entry) (machine_of machine.old) (end_of it, record { bindings = []; calls = calls; acts = map act_of machine.new.acts.items; startup = option_map startup_of machine.new.startup })) }
 {
     let mut next = control;
     loop {
         match next {
-            Control::End(end) => {
-                return Ok(Ended {
-                    acts: machine.acts,
-                    startup: machine.startup,
-                    end,
-                });
-            }
+            Control::End(end) => return Ok(end),
             next_step => next = machine.step(world, next_step)?,
         }
     }
@@ -89,7 +83,12 @@ pub fn call_outermost<'a>(
 {
     let mut machine = Machine::new(world.setting.alloc, callee.instance, false);
     let next = machine.enter(world, name, &callee.function.definition, arguments)?;
-    finish(machine, world, next)
+    let end = finish(&mut machine, world, next)?;
+    Ok(Ended {
+        acts: machine.acts,
+        startup: machine.startup,
+        end,
+    })
 }
 
 /// Evaluates a body in the outermost call to its end, where this is bound and so many calls were made.
@@ -105,7 +104,12 @@ pub fn run_outermost<'a>(
     let mut machine = Machine::new(world.setting.alloc, item, true);
     machine.bindings = bindings;
     machine.calls = calls;
-    finish(machine, world, Control::Run(body.as_slice()))
+    let end = finish(&mut machine, world, Control::Run(body.as_slice()))?;
+    Ok(Ended {
+        acts: machine.acts,
+        startup: machine.startup,
+        end,
+    })
 }
 
 /// Acts with the start of a process and its name, before the acts of what was started.

@@ -1,5 +1,5 @@
 // Jobs: a message that a process has taken, and what it gives.
-ghost use Rattle.std.specs.Prelude.{[], ◌≡◌, IfErr, IfOk, MatchOption, None, Some, map};
+ghost use Rattle.std.specs.Prelude.{[], ◌≡◌, IfOk, OnErr, MatchOption, None, Some, map};
 ghost use Rattle.std.specs.Option.{option_copied};
 ghost use Rattle.erl_term.specs.Term.{tree};
 ghost use Rattle.erl_term.specs.Tree.{count, more, none};
@@ -239,7 +239,7 @@ impl Job {
     }
 
     /// What stands in the place of a job that is lent out: no process's, with no code. Takes no memory.
-    pub fn blank(alloc: Global) -> Job
+    fn blank(alloc: Global) -> Job
         ensures { result.code ≡ [] }
     {
         Job {
@@ -255,19 +255,22 @@ impl Job {
         }
     }
 
-    /// Runs the job, as [`Job::run`] does, and copies nothing: the job itself is in what is done.
+    /// Runs the job, as [`Job::run`] does, and copies nothing: the job itself is in what is done, and a blank one stands in its
+    /// place until it is put back.
     ///
     /// # Errors
     ///
-    /// The job, where [`Job::run`] is refused memory.
-    pub fn run_whole(self, alloc: Global) -> Result<Done, Job>
-        ensures done { IfOk result (λ it. it.job ≡ self) }
-        ensures back { IfErr result (λ it. it ≡ self) }
+    /// As of [`Job::run`]. The job stands in its place then.
+    pub fn run_lent(&mut self, alloc: Global) -> Result<Done, AllocError>
+        ensures done { IfOk result (λ it. it.job ≡ self.old) }
+        ensures kept { OnErr result (self.new ≡ self.old) }
     {
-        match self.give(alloc) {
-            Ok(outcome) => Ok(Done { job: self, outcome }),
-            Err(_) => Err(self),
-        }
+        let given = self.give(alloc)?;
+        let job = std::mem::replace(self, Job::blank(alloc));
+        Ok(Done {
+            job,
+            outcome: given,
+        })
     }
 }
 

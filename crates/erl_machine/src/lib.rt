@@ -16,8 +16,8 @@
 //! # What no contract says
 //!
 //! That there is memory, and what a call costs: a step costs what it changes ([`erl_steps`]), and [`Job::run`] copies its job, where
-//! [`Job::run_whole`] copies nothing. `AllocError` is also the answer where
-//! there are more arguments or more nested calls than a `u32` counts.
+//! [`Job::run_lent`] copies nothing. What stands in the place of a job that is lent out, [`Job::run_lent`] doesn't say. `AllocError` is
+//! also the answer where there are more arguments or more nested calls than a `u32` counts.
 #![tactic(auto)]
 
 mod callbacks;

@@ -20,7 +20,6 @@ use process_ending::Reply;
 use process_table::ProcError;
 use shell_answers::{Fixed, write_committed};
 use std::alloc::Global;
-use std::mem;
 use undo_journal::Journal;
 use values::Row;
 
@@ -82,13 +81,9 @@ fn commit_kept(
     ensures told { IfOk result (λ fate. (s : ShellState) → s.timeline ≡ journal.old → s.sent ≡ joined sent.old.items
         → IsDone (Commits s kept.old fate) (with_parts journal.new (joined sent.new.items) s) out.old.items out.new.items) }
 {
-    let job = mem::replace(kept, Job::blank(alloc));
-    match job.run_whole(alloc) {
+    match kept.run_lent(alloc) {
         Ok(done) => commit_done(alloc, kept, done, journal, sent, out),
-        Err(job) => {
-            *kept = job;
-            tell_halt(halt_of_job(journal, kept), out)
-        }
+        Err(_) => tell_halt(halt_of_job(journal, kept), out),
     }
 }
 

@@ -4,7 +4,7 @@ use Rattle.erl_machine.proofs.Finishing.{at_end, not_ended, one_step, one_step_l
 use Rattle.erl_machine.proofs.evaluation.finish.Goals as goal
 
 pub returns-in-End : goal.returns-in-End
-returns-in-End c = at_end (world_of c.args.world.now) (control_of c.args.control) (machine_of c.args.machine) c.loop-next.machine
+returns-in-End c = at_end (world_of c.args.world.now) (control_of c.args.control) (machine_of c.args.machine.now) c.loop-next.machine
     c.loop-next.next c.in-End.end c.in-End.is c.loop-next.invariant
 
 pub loop-next-preserved : goal.loop-next-preserved
