@@ -98,12 +98,14 @@ impl Callback<'_> {
         let mut arguments = Vec::with_capacity(alloc, 3)?;
         match self {
             Callback::Call { from, term } => {
-                arguments.push(term.copy(alloc)?)?;
-                arguments.push(from.copy(alloc)?)?;
+                arguments.push_reserved(term.copy(alloc)?);
+                arguments.push_reserved(from.copy(alloc)?);
             }
-            Callback::Cast(term) | Callback::Info(term) => arguments.push(term.copy(alloc)?)?,
+            Callback::Cast(term) | Callback::Info(term) => arguments.push_reserved(term.copy(
+                alloc,
+            )?),
         }
-        arguments.push(state.copy(alloc)?)?;
+        arguments.push_reserved(state.copy(alloc)?);
         Ok(arguments)
     }
 
@@ -206,7 +208,7 @@ fn with_act(acts: Row<Act>, act: Option<Act>) -> Result<Row<Act>, AllocError>
         Some(act) => {
             let mut all = acts.into_vec();
             all.reserve_exact(1)?;
-            all.push(act)?;
+            all.push_reserved(act);
             Ok(Row::new(all))
         }
         None => Ok(acts),
