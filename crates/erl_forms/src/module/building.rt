@@ -68,7 +68,7 @@ impl Model for ModuleBuilder {
 
 /// How many bytes there is room for with each function from the start, so that they are seldom moved. What is not needed is
 /// given back.
-const BYTES_A_FUNCTION: usize = 512;
+const BYTES_A_FUNCTION: usize = 64;
 
 impl ModuleBuilder {
     /// No functions, and room for so many and for the bytes that tell them. Names are hashed by `hashing`.
