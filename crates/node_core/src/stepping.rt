@@ -54,6 +54,7 @@ impl Node {
 
 impl Node {
     /// Makes a step with one equal value more, and keeps the note of that.
+    #[inline(never)]
     fn step_aside(&mut self, event: &Event, n: u8) -> NotedStep
         ensures accepted { IfOk result (λ done. AcceptsWith (Steps self.old event.now) self.new n done.told.items done.note) }
         ensures reversible { IfOk result (λ done. Undoes done.trace self.old self.new) }
@@ -71,6 +72,7 @@ impl Node {
 
 impl Node {
     /// Makes a step that is told once, and answers by that.
+    #[inline(never)]
     fn step_once(&mut self, event: &Event) -> AnsweredStep
         ensures accepted { IfOk result (λ done. AcceptsOnce (Steps self.old event.now) self.new done.answer done.note) }
         ensures reversible { IfOk result (λ done. Undoes done.trace self.old self.new) }
@@ -130,6 +132,7 @@ impl Reversible for Node {
         }
     }
 
+    #[inline(always)]
     fn step_noted(&mut self, event: &Event, n: u8) -> NotedStep {
         match event {
             Event::Arrive { client, name, body } => {
