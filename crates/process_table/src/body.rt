@@ -73,23 +73,26 @@ impl Body {
 fn call_message(alloc: Global, number: i64, term: &Term) -> Result<Term, AllocError>
     ensures { IfOk result (λ it. it ≡ call_message number term.now) }
 {
+    let term = term.copy(alloc)?;
     let mut client = Vec::with_capacity(alloc, 2)?;
-    client.push(Term::Pid(0))?;
-    client.push(Term::Int(number))?;
+    client.push_reserved(Term::Pid(0));
+    client.push_reserved(Term::Int(number));
     let client = Term::Tuple(Terms::new(alloc, client)?);
     let mut parts = Vec::with_capacity(alloc, 3)?;
-    parts.push(Term::Atom(Atom::predefined(Predefined::GenCall)))?;
-    parts.push(client)?;
-    parts.push(term.copy(alloc)?)?;
+    parts.push_reserved(Term::Atom(Atom::predefined(Predefined::GenCall)));
+    parts.push_reserved(client);
+    parts.push_reserved(term);
     Ok(Term::Tuple(Terms::new(alloc, parts)?))
 }
 
 /// `{'$gen_cast',Term}`
+#[inline(never)]
 fn cast_message(alloc: Global, term: &Term) -> Result<Term, AllocError>
     ensures { IfOk result (λ it. it ≡ cast_message term.now) }
 {
+    let term = term.copy(alloc)?;
     let mut parts = Vec::with_capacity(alloc, 2)?;
-    parts.push(Term::Atom(Atom::predefined(Predefined::GenCast)))?;
-    parts.push(term.copy(alloc)?)?;
+    parts.push_reserved(Term::Atom(Atom::predefined(Predefined::GenCast)));
+    parts.push_reserved(term);
     Ok(Term::Tuple(Terms::new(alloc, parts)?))
 }

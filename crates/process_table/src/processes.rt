@@ -14,7 +14,6 @@ use erl_eval::Place;
 use erl_forms::Module;
 use erl_machine::{Instance, Job};
 use erl_term::{Atom, Term};
-use process::Code;
 use process_commit::rests_in;
 use process_ending::{
     EndedProcess, Reply, downs_of, end, kill_users, return_all, return_ended, told_by_kill, users,
@@ -281,6 +280,7 @@ impl Processes {
     ///
     /// In this order: `NoProc` where no process has the pid, `Suspended`, `Running`, `Idle` where it takes no message, `Memory`.
     /// The table is then as it was.
+    #[inline(always)]
     pub fn take(
         &mut self,
         modules: &Modules<Module>,
@@ -301,10 +301,7 @@ impl Processes {
             Ok(position) => position,
             Err(refusal) => return Err(refusal),
         };
-        let Ok(Some(job)) = job_for(self.alloc, modules, living, position) else {
-            return Err(ProcError::Memory);
-        };
-        let Ok(code) = Code::of(self.alloc, job.code.as_slice()) else {
+        let Ok(Some((job, code))) = job_for(self.alloc, modules, living, position) else {
             return Err(ProcError::Memory);
         };
         let Ok(others) = copies(self.alloc, &job, more) else {

@@ -1,5 +1,5 @@
 // What a process takes up with a message: the instance that it enters, and the code of its job.
-ghost use Rattle.std.specs.Prelude.{◌≡◌, IfOk, IfErr, MatchOption, None, Some, replicate, slice_get};
+ghost use Rattle.std.specs.Prelude.{◌≡◌, IfOk, IfErr, IfSome, MatchOption, None, Some, option_map, replicate, slice_get};
 ghost use Rattle.process.specs.Process.{can_take};
 ghost use Rattle.process_table.specs.Steps.{IsCode, IsCodeOf, entered, resting_refusal};
 ghost use Rattle.process_table.specs.Jobs.{IsJobFor};
@@ -10,12 +10,13 @@ use erl_eval::Place;
 use erl_forms::Module;
 use erl_machine::{Instance, Job};
 use job_code::job_code;
-use process::{Activity, Process};
+use process::{Activity, Code, Process};
 use process_store::Living;
 use std::alloc::{AllocError, Global};
 use values::{Duplicate, Row};
 
 /// The instance that a process enters with the message that it takes, if there is one.
+#[inline(always)]
 fn entered(
     alloc: Global,
     modules: &Modules<Module>,
@@ -40,6 +41,7 @@ fn entered(
 }
 
 /// The code of a job that enters an instance, or nothing, and the serial of that instance.
+#[inline(always)]
 fn code_from(
     alloc: Global,
     modules: &Modules<Module>,
@@ -58,6 +60,7 @@ fn code_from(
 }
 
 /// Why a process takes no message now, or the position of the one that it takes.
+#[inline(always)]
 pub(crate) fn next_of(process: &Process) -> Result<usize, ProcError>
     ensures next { IfOk result (λ position. can_take process.now ≡ Some position) }
     ensures refused { IfErr result (λ e. resting_refusal process.now.activity (can_take process.now) ≡ Some e) }
@@ -72,14 +75,16 @@ pub(crate) fn next_of(process: &Process) -> Result<usize, ProcError>
     }
 }
 
-/// The job that a process takes up with the message at a position.
+/// The job that a process takes up with the message at a position, and the code that the process runs it in.
+#[inline(always)]
 pub(crate) fn job_for(
     alloc: Global,
     modules: &Modules<Module>,
     living: &Living,
     position: usize,
-) -> Result<Option<Job>, AllocError>
-    ensures { IfOk result (λ it. IsJobFor modules.now living.now position it) }
+) -> Result<Option<(Job, Code)>, AllocError>
+    ensures job { IfOk result (λ it. IsJobFor modules.now living.now position (option_map (λ taken. taken.0) it)) }
+    ensures code { IfOk result (λ it. IfSome it (λ taken. taken.1 ≡ taken.0.code)) }
 {
     let process = &living.process;
     let Some(message) = process.message(position) else {
@@ -87,19 +92,22 @@ pub(crate) fn job_for(
     };
     let entered = entered(alloc, modules, process)?;
     let (entry_serial, code) = code_from(alloc, modules, entered)?;
+    let runs_in = Code::of(alloc, code.as_slice())?;
     let message = message.copy(alloc)?;
     let place = process.place().copy(alloc)?;
-    Ok(Some(Job {
+    let job = Job {
         pid: process.pid(),
         turn: process.turn(),
         place,
         entry_serial,
         message,
         code,
-    }))
+    };
+    Ok(Some((job, runs_in)))
 }
 
 /// So many equal values.
+#[inline(always)]
 pub(crate) fn copies<T: Duplicate>(alloc: Global, item: &T, n: usize) -> Result<Vec<T>, AllocError>
     ensures { IfOk result (λ it. it.items ≡ replicate n item.now) }
 {

@@ -72,7 +72,22 @@ impl Processes {
         Ok((replies, Undo::Exited(room.fill(exited))))
     }
 
+    /// The process of a job, which lives, ends by a value, once its acts are done.
+    #[inline(never)]
+    fn exit_normally(&mut self, pid: u64, acts: &[Act]) -> Result<(Vec<Reply>, Undo), AllocError>
+        requires { IsSome (living pid self.old) }
+        ensures exited { OnOk result (self.new ≡ exited pid acts.now self.old) }
+        ensures told { IfOk result (λ it. it.0.items ≡ exit_told pid normal acts.now self.old) }
+        ensures inverse { IfOk result (λ it. TakesBackEnds it.1 self.old self.new) }
+        ensures pieces { IfOk result (λ it. HoldsLost (held it.1 self.new) self.old self.new) }
+        ensures err { OnErr result (self.new ≡ self.old) }
+    {
+        let normal = normal(self.alloc)?;
+        self.exit(pid, acts, &normal)
+    }
+
     /// What a job that a process runs has done is done, and the process rests or ends.
+    #[inline(always)]
     fn conclude(
         &mut self,
         job: &Job,
@@ -92,10 +107,7 @@ impl Processes {
                 let (replies, rested) = commit_rest(&mut self.store, self.alloc, job, acts, place)?;
                 Ok((replies, Undo::Rested(rested)))
             }
-            End::Value(_) => {
-                let normal = normal(self.alloc)?;
-                self.exit(job.pid, acts, &normal)
-            }
+            End::Value(_) => self.exit_normally(job.pid, acts),
             End::Exit(reason) => self.exit(job.pid, acts, reason),
         }
     }
@@ -116,6 +128,7 @@ impl Processes {
     }
 
     /// What a job that a process runs has done is done, and the process rests or ends. What clients are told is handed out in one value.
+    #[inline(always)]
     fn conclude_once(
         &mut self,
         job: &Job,
@@ -136,6 +149,7 @@ impl Processes {
 
     /// What a job that a process runs has done is done, and the process rests or ends. What clients are told is handed out in `n` equal
     /// values.
+    #[inline(never)]
     fn conclude_telling(
         &mut self,
         job: &Job,
@@ -224,6 +238,7 @@ impl Processes {
     /// # Errors
     ///
     /// `AllocError` where memory is refused. The table is then as it was.
+    #[inline(always)]
     pub fn commit_once(&mut self, done: &Done) -> Result<(Vec<Reply>, Undo), AllocError>
         requires { IsCommitRefusal None done.now.job self.old }
         ensures committed { OnOk result (self.new ≡ committed done.now self.old) }

@@ -22,11 +22,11 @@ returns-clause-taken c =
     let lives : living pid t ≡ Some l = ap (living pid) (sym c.self.view_is) ∙ there in
     let job = c.in-Ok-Some.job in
     let position = c.in-Ok.position in
-    let code : List Instance = c.in-Ok-of.code in
-    let same : code ≡ job.code = c.in-Ok-of.ensures ∙ c.as_slice.ensures in
+    let code : List Instance = c.in-Ok-Some.code in
+    let same : code ≡ job.code = rw c.in-Ok-Some.field-0-is at c.in-Ok-Some.ensures.code in
     let is : c.run.new.self ≡ changed (run position job.entry_serial job.code) pid t = c.run.ensures.runs ∙ ap (changed (run position job.entry_serial code) pid) c.self.view_is ∙ ap (λ (x : List Instance). changed (run position job.entry_serial x) pid t) same in
     let now : living pid c.run.new.self ≡ option_map (run position job.entry_serial job.code) (Some l) = c.run.ensures.process ∙ ap (option_map (run position job.entry_serial code)) there ∙ ap (λ (x : List Instance). option_map (run position job.entry_serial x) (Some l)) same in
-    let told = rw c.in-Ok-Some.field-0-is at c.in-Ok-Some.ensures in
+    let told = rw c.in-Ok-Some.field-0-is at c.in-Ok-Some.ensures.job in
     record {
       job = job;
       told = rw add-one (ap (λ (others : List Job). job ∷ others) c.in-Ok-copies.ensures);
