@@ -1,6 +1,6 @@
 // Lines, read as requests.
 ghost use Rattle.std.specs.Bool.{OnFalse};
-ghost use Rattle.std.specs.Prelude.{◌≡◌, Some, false};
+ghost use Rattle.std.specs.Prelude.{◌≡◌, length, Some, false};
 ghost use Rattle.std.specs.Option.{option_map};
 ghost use Rattle.std.specs.Str.{bytes_eq};
 ghost use Rattle.shell_requests.specs.Reading.{meant, said, who_is};
@@ -27,7 +27,9 @@ macro_rules! shape_in {
 fn is_command(word: &str, command: &str) -> bool
     ensures { result ≡ bytes_eq word.now command.now }
 {
-    word.len() == command.len() && begin_alike(word, command) && word == command
+    word.len() == command.len()
+        && begin_alike(word, command)
+        && have_same_bytes(word.as_bytes(), command.as_bytes())
 }
 
 /// Whether two words begin with the same byte, or one has none.
@@ -38,6 +40,22 @@ fn begin_alike(word: &str, command: &str) -> bool
         ([first, ..], [other, ..]) => *first == *other,
         (_, _) => true,
     }
+}
+
+/// Whether two words of one length have the same bytes.
+#[inline(always)]
+fn have_same_bytes(word: &[u8], command: &[u8]) -> bool
+    requires { length word.now ≡ length command.now }
+    ensures { result ≡ bytes_eq word.now command.now }
+{
+    let mut place = 0;
+    while place < command.len() {
+        if word[place] != command[place] {
+            return false;
+        }
+        place += 1;
+    }
+    true
 }
 
 /// What follows the word of a command.
