@@ -33,6 +33,7 @@ impl Pending {
     }
 
     /// Answers the line that ends with these bytes. It is not copied where it begins with them too.
+    #[inline(always)]
     fn end_line<S: Session>(&mut self, session: &mut S, end: &[u8]) -> Result<(), AllocError>
         requires { has_newline end.now ≡ false }
         ensures ok { OnOk result ((start : S) (had output : List ℕ) → SoFar S.turn start had output session.old self.old
@@ -42,6 +43,17 @@ impl Pending {
         if self.line.is_empty() {
             return self.answers.hear(session, end);
         }
+        self.end_begun(session, end)
+    }
+
+    /// Answers the line that was begun, and ends with these bytes.
+    #[inline(never)]
+    fn end_begun<S: Session>(&mut self, session: &mut S, end: &[u8]) -> Result<(), AllocError>
+        requires { has_newline end.now ≡ false }
+        ensures ok { OnOk result ((start : S) (had output : List ℕ) → SoFar S.turn start had output session.old self.old
+            → SoFar S.turn start (had ++ (end.now ++ 10 ∷ [])) output session.new self.new) }
+        ensures err { OnErr result (Stays self.old.answers self.new.answers) }
+    {
         self.line.append(end);
         self.answers.hear(session, self.line.as_slice())?;
         self.line.clear();
@@ -92,12 +104,15 @@ impl Pending {
                 Ok(left) => left,
                 Err(AllocError) => return Err(self.answers.give_up(writer)),
             };
-            self.answers.write_many(writer)?;
+            if self.answers.are_many() {
+                self.answers.write(writer)?;
+            }
         }
         self.answers.write(writer)
     }
 
     /// Answers the rest behind the last newline, where there is one.
+    #[inline(never)]
     fn end_input<S: Session>(&mut self, session: &mut S) -> Result<(), AllocError>
         ensures ok { OnOk result ((start : S) (had output : List ℕ) → SoFar S.turn start had output session.old self.old
             → IsAnswered S.turn start (lines_of had) output session.new self.new.answers) }

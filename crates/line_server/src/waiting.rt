@@ -4,7 +4,7 @@ ghost use Rattle.std.specs.Io.KnownBytes.{Appends};
 ghost use Rattle.line_server.specs.declared.ended.Fault.TheVariants.{Memory};
 ghost use Rattle.line_server.specs.Lines.{heard};
 ghost use Rattle.line_server.specs.Session.{IsTurn};
-ghost use Rattle.line_server.specs.Progress.{Hears, Stays, Moves, TakesFront, IsOfWriting};
+ghost use Rattle.line_server.specs.Progress.{Hears, Stays, TakesFront, IsOfWriting};
 
 use crate::ended::Fault;
 use crate::line_start::LONGEST_LINE;
@@ -37,6 +37,7 @@ impl Waiting {
     }
 
     /// Has the session answer a line, or hear that it is too long.
+    #[inline(always)]
     pub(crate) fn hear<S: Session>(
         &mut self,
         session: &mut S,
@@ -51,6 +52,7 @@ impl Waiting {
     }
 
     /// Writes the answers.
+    #[inline(never)]
     pub(crate) fn write<W: Write>(&mut self, writer: &mut W) -> Result<(), Fault>
         ensures whole { OnOk result (Appends (W.contents writer.old) (W.contents writer.new) self.old.text.items) }
         ensures front { TakesFront (W.contents writer.old) (W.contents writer.new) self.old.text.items }
@@ -66,17 +68,10 @@ impl Waiting {
         Ok(())
     }
 
-    /// Writes the answers where many wait.
-    pub(crate) fn write_many<W: Write>(&mut self, writer: &mut W) -> Result<(), Fault>
-        ensures moved { OnOk result (Moves (W.contents writer.old) (W.contents writer.new) self.old.text.items self.new.text.items) }
-        ensures front { TakesFront (W.contents writer.old) (W.contents writer.new) self.old.text.items }
-        ensures err { IfErr result IsOfWriting }
-        ensures refused { self.new.is_refused ≡ self.old.is_refused }
-    {
-        if self.text.len() > MOST_WAITING {
-            return self.write(writer);
-        }
-        Ok(())
+    /// Whether many answers wait.
+    #[inline(always)]
+    pub(crate) fn are_many(&self) -> bool {
+        self.text.len() > MOST_WAITING
     }
 
     /// Writes what answers there are where no memory is left for more.
@@ -91,6 +86,7 @@ impl Waiting {
 }
 
 /// The session's answer to a line, appended to the text.
+#[inline(always)]
 fn answer<S: Session>(
     session: &mut S,
     line: &[u8],

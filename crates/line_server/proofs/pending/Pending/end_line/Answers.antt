@@ -1,13 +1,8 @@
 -- The session hears of the line what it would hear of all of it.
-use Rattle.std.proofs.Common.{◌∙◌}
-use Rattle.line_server.proofs.Steps.{OnOk-then, SoFar-ended_here, SoFar-ended_there}
+use Rattle.line_server.proofs.Steps.{OnOk-then, SoFar-ended_here}
 use Rattle.line_server.proofs.pending.Pending.end_line.Goals as goal
 
 pub returns-then-is_empty-clause-ok : goal.returns-then-is_empty-clause-ok
 returns-then-is_empty-clause-ok g c =
     let begun = c.is_empty.ensures.0 c.if-is_empty.true in
     OnOk-then c.hear.result _ _ c.hear.ensures.heard (λ hears start had output so. SoFar-ended_here g.S.Session.turn start had output c.args.end.now c.args.session.now c.hear.new.session c.args.self.now _ c.requires begun hears begun so)
-
-pub returns-clause-ok : goal.returns-clause-ok
-returns-clause-ok g c = λ start had output so.
-    SoFar-ended_there g.S.Session.turn start had output c.args.end.now c.as_slice.result.now c.args.session.now c.hear-2.new.session c.args.self.now _ c.requires (c.as_slice.ensures ∙ c.append.ensures) c.in_ok-hear.ensures.heard c.clear.ensures so
