@@ -4,7 +4,7 @@ ghost use Rattle.erl_term.specs.Text.{elements_text, text, utf8};
 ghost use Rattle.erl_term.specs.Tree.{list};
 ghost use Rattle.shell_answers.specs.Answers.{app_of, apps_of, line_of};
 
-use crate::bytes::{put, separator};
+use crate::bytes::{put, put_separator};
 use erl_term::{ToTerm, print, print_atom};
 use std::alloc::AllocError;
 use sys_protocol::{App, Apps};
@@ -26,7 +26,7 @@ fn put_apps(apps: &Apps, out: &mut Vec<u8>) -> Result<(), AllocError>
         let Some(app) = apps.app(place) else {
             unreachable!()
         };
-        put(separator(place == 0), out)?;
+        put_separator(place == 0, out)?;
         put_app(app, out)?;
     }
     Ok(())

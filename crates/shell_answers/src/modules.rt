@@ -4,7 +4,7 @@ ghost use Rattle.erl_term.specs.Text.{elements_text, text, utf8};
 ghost use Rattle.erl_term.specs.Tree.{list};
 ghost use Rattle.shell_answers.specs.Answers.{line_of, module_of, modules_of, serial_of};
 
-use crate::bytes::{put, put_number, separator};
+use crate::bytes::{put, put_number, put_separator};
 use code_server::{Instance, Modules, Slots};
 use erl_forms::Module;
 use erl_term::{Atom, print_atom};
@@ -27,7 +27,7 @@ fn put_entries(modules: &Modules<Module>, out: &mut Vec<u8>) -> Result<(), Alloc
         let Some((name, slots)) = modules.entry(place) else {
             unreachable!()
         };
-        put(separator(place == 0), out)?;
+        put_separator(place == 0, out)?;
         put_module(name, slots, out)?;
     }
     Ok(())

@@ -6,7 +6,7 @@ ghost use Rattle.erl_term.specs.Text.{elements_text, text, utf8};
 ghost use Rattle.erl_term.specs.Tree.{atom, int, list};
 ghost use Rattle.shell_answers.specs.Answers.{arrival_of, arrivals_of, committed, is_none, line_of, listed, pair, replied, replies_in, replies_of, rows_of, stopped_undo, undone_steps};
 
-use crate::bytes::{put, put_number, separator};
+use crate::bytes::{put, put_number, put_separator};
 use erl_term::{Atom, Term, print, print_atom};
 use node_core::Note;
 use process_ending::{Reply, ReplyBody};
@@ -15,6 +15,7 @@ use undo_journal::Report;
 use values::Row;
 
 /// Appends `{Word,Client,N,Term}`, whose front is given.
+#[inline(always)]
 fn put_told(front: &[u8], reply: &Reply, term: &Term, out: &mut Vec<u8>) -> Result<(), AllocError>
     ensures { OnOk result (out.new.items ≡ out.old.items ++ (front.now ++ (utf8 (text (int (pos reply.now.client)))
         ++ 44 ∷ (utf8 (text (int (pos reply.now.number))) ++ 44 ∷ (utf8 (text (tree term.now)) ++ 125 ∷ []))))) }
@@ -58,7 +59,7 @@ fn put_replies(replies: &[Reply], is_first: bool, out: &mut Vec<u8>) -> Result<b
 {
     let mut is_first = is_first;
     for reply in replies {
-        put(separator(is_first), out)?;
+        put_separator(is_first, out)?;
         put_reply(reply, out)?;
         is_first = false;
     }
@@ -110,7 +111,7 @@ fn put_next_arrival(
 {
     match arrival {
         Some(arrival) => {
-            put(separator(is_first), out)?;
+            put_separator(is_first, out)?;
             put_arrival(&arrival.0, &arrival.1, out)?;
             Ok(false)
         }

@@ -17,7 +17,7 @@ loop-place-preserved c =
     let new = c.put_module.new.out.items in
     let within : place < length all = omega (arith, c.len-place-end.ensures.len, c.loop-place-test.true) in
     let is : Some (c.in-Some.name.now, c.in-Some.slots.now) ≡ slice_get all place = sym (ap (λ o. option_map deref_pair o) c.in-Some.is) ∙ c.entry.ensures in
-    element (eqb place 0) (module_of (c.in-Some.name.now, c.in-Some.slots.now)) rest c.args.out.now.items out c.put.new.out.items new (utf8 (elements_text (modules_of all))) (c.loop-place.invariant ∙ ap (λ es. out ++ utf8 (listed (eqb place 0) (modules_of es))) (at_place all place (c.in-Some.name.now, c.in-Some.slots.now) within is)) (c.in_ok-put.ensures ∙ ap (λ l. out ++ l) c.separator.ensures) c.in_ok-put_module.ensures ∙ ap (λ b. new ++ utf8 (listed b rest)) (sym (not_first place))
+    element (eqb place 0) (module_of (c.in-Some.name.now, c.in-Some.slots.now)) rest c.args.out.now.items out c.put_separator.new.out.items new (utf8 (elements_text (modules_of all))) (c.loop-place.invariant ∙ ap (λ es. out ++ utf8 (listed (eqb place 0) (modules_of es))) (at_place all place (c.in-Some.name.now, c.in-Some.slots.now) within is)) c.in_ok-put_separator.ensures c.in_ok-put_module.ensures ∙ ap (λ b. new ++ utf8 (listed b rest)) (sym (not_first place))
 
 pub returns : goal.returns
 returns c =

@@ -16,7 +16,7 @@ returns-in_ok-put_arrival-in-Some-clause-written c =
     let old = c.args.out.now.items in
     let new = c.put_arrival.new.out.items in
     let whole = utf8 (listed first (more t none)) in
-    sym (element first t none old old c.put.new.out.items new whole refl (c.in_ok-put-in-Some.ensures ∙ ap (λ l. old ++ l) c.separator.ensures) c.in_ok-put_arrival-in-Some.ensures ∙ listed-none false new) ∙ ap (λ o. old ++ utf8 (listed first (arrival_of (option_copied o)))) (sym c.in-Some.is)
+    sym (element first t none old old c.put_separator.new.out.items new whole refl c.in_ok-put_separator-in-Some.ensures c.in_ok-put_arrival-in-Some.ensures ∙ listed-none false new) ∙ ap (λ o. old ++ utf8 (listed first (arrival_of (option_copied o)))) (sym c.in-Some.is)
 
 pub returns-in-None-clause-written : goal.returns-in-None-clause-written
 returns-in-None-clause-written c =

@@ -23,7 +23,7 @@ loop-reply-preserved c =
     let first = c.loop-reply.is_first in
     let here = from_here all place c.reply-item.result c.loop-reply-test.true c.reply-item.is in
     record {
-      written = element first (replied c.reply-item.result) (replies_in (drop (place + 1) all)) c.args.out.now.items out c.put.new.out.items c.put_reply.new.out.items (utf8 (listed c.args.is_first (replies_in all))) (c.loop-reply.invariant.written ∙ ap (λ rs. out ++ utf8 (listed first (replies_in rs))) here) (c.in_ok-put.ensures ∙ ap (λ l. out ++ l) c.separator.ensures) c.in_ok-put_reply.ensures;
+      written = element first (replied c.reply-item.result) (replies_in (drop (place + 1) all)) c.args.out.now.items out c.put_separator.new.out.items c.put_reply.new.out.items (utf8 (listed c.args.is_first (replies_in all))) (c.loop-reply.invariant.written ∙ ap (λ rs. out ++ utf8 (listed first (replies_in rs))) here) c.in_ok-put_separator.ensures c.in_ok-put_reply.ensures;
       first = c.loop-reply.invariant.first ∙ ap (λ rs. first && is_none (replies_in rs)) here ∙ and_false first;
     }
 
