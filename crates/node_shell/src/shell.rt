@@ -58,6 +58,7 @@ impl Session for Shell {
 
     ghost turn = { shell_turn };
 
+    #[inline(always)]
     fn line(&mut self, line: &[u8], out: &mut Vec<u8>) -> Result<Option<Fate>, AllocError> {
         self.answer.clear();
         let fate = self.held.obey(Some(line), &mut self.answer)?;
@@ -65,6 +66,7 @@ impl Session for Shell {
         Ok(fate)
     }
 
+    #[inline(never)]
     fn too_long(&mut self, out: &mut Vec<u8>) -> Result<Option<Fate>, AllocError> {
         self.answer.clear();
         let fate = self.held.obey(None, &mut self.answer)?;
