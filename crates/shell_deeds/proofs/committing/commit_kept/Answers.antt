@@ -1,4 +1,4 @@
--- The job is put back, whether it was run or not.
+-- The job is put back once its result is committed, and stands where it was where it was not run.
 use Rattle.std.proofs.Common.{◌≡◌, ◌∙◌, subst, sym}
 use Rattle.erl_machine.specs.declared.jobs.Job.{Job}
 use Rattle.shell_deeds.specs.Deeds.{Commits}
@@ -11,20 +11,20 @@ use Rattle.shell_deeds.proofs.Performing.{unrun}
 use Rattle.shell_deeds.proofs.committing.commit_kept.Goals as goal
 
 pub returns-in-Ok-clause-kept : goal.returns-in-Ok-clause-kept
-returns-in-Ok-clause-kept c = c.commit_done.ensures.kept ∙ c.in-Ok.ensures.done ∙ c.replace-job.ensures.value
+returns-in-Ok-clause-kept c = c.commit_done.ensures.kept ∙ c.in-Ok.ensures.done
 
 pub returns-in-Ok-clause-told : goal.returns-in-Ok-clause-told
 returns-in-Ok-clause-told c =
-    let is : c.in-Ok.done.job ≡ c.args.kept.now = c.in-Ok.ensures.done ∙ c.replace-job.ensures.value in
+    let is : c.in-Ok.done.job ≡ c.args.kept.now = c.in-Ok.ensures.done in
     IfOk-then c.commit_done.result _ _ c.commit_done.ensures.told (λ fate told s at sent.
     subst (λ (job : Job). IsDone (Commits s job fate) (with_parts c.commit_done.new.journal (joined c.commit_done.new.sent.items) s) c.args.out.now.items c.commit_done.new.out.items) is (told s at sent))
 
 pub returns-in-Err-clause-kept : goal.returns-in-Err-clause-kept
-returns-in-Err-clause-kept c = c.in-Err.ensures.back ∙ c.replace-job.ensures.value
+returns-in-Err-clause-kept c = c.in-Err.ensures.kept
 
 pub returns-in-Err-clause-told : goal.returns-in-Err-clause-told
 returns-in-Err-clause-told c =
-    let is : c.in-Err.job ≡ c.args.kept.now = c.in-Err.ensures.back ∙ c.replace-job.ensures.value in
+    let is : c.run_lent.new.self ≡ c.args.kept.now = c.in-Err.ensures.kept in
     let t = c.args.journal.now in
     let rs = joined c.args.sent.now.items in
     let out = c.tell_halt.new.out.items in
