@@ -1,11 +1,16 @@
 -- What comes of functions and bodies in the outermost call.
-use Rattle.std.specs.Prelude.{◌≡◌, ℕ, true, false, List, Option}
+use Rattle.std.specs.Prelude.{◌≡◌, ℕ, true, false, List, [], Option}
 use Rattle.erl_term.specs.Tree.{Tree, Trees}
 use Rattle.erl_forms.specs.declared.function.Function.{Function}
 use Rattle.erl_forms.specs.Expression.{Exprs}
 use Rattle.erl_eval.specs.State.{Instance, Act, Startup, all_acts, Result, World, State, with_bindings, with_calls}
 use Rattle.erl_eval.specs.Jobs.{Outcome, fresh, looped, outermost}
 use Rattle.erl_eval.specs.Evaluation.{Entered, Body}
+use Rattle.erl_steps.specs.Machine.{Machine}
+
+-- a machine that does nothing yet, in the outermost call of an instance
+abbrev pub unused : Instance → Machine
+unused i = record { activation = outermost i false; frames = []; state = fresh }
 
 -- what comes of a function that is called in the outermost call: the acts, the process that is started, and a result
 abbrev pub ComesOf : World → Instance → List ℕ → Function → Trees → List Act → Option Startup → Result → Type 0

@@ -188,11 +188,11 @@ impl Callback<'_> {
         &self,
         alloc: Global,
         module_name: &Atom,
-        outcome: Outcome,
+        acts: Row<Act>,
+        end: End,
     ) -> Result<Outcome, AllocError>
-        ensures { IfOk result (λ it. outcome_of it ≡ served module_name.now (callback self.now) (outcome_of outcome).acts (outcome_of outcome).ended) }
+        ensures { IfOk result (λ it. outcome_of it ≡ served module_name.now (callback self.now) (map act_of acts) (end_of end)) }
     {
-        let Outcome { acts, end } = outcome;
         match end {
             End::Value(value) => self.serve_value(alloc, module_name, acts, &value),
             end => Ok(Outcome { acts, end }),

@@ -5,7 +5,7 @@ ghost use Rattle.erl_eval.specs.Acts as told_as;
 ghost use Rattle.erl_eval.specs.Acts.{act_of};
 ghost use Rattle.erl_eval.specs.State.{all_acts, named_by};
 ghost use Rattle.erl_eval.specs.Jobs.{Evaluates, nowhere};
-ghost use Rattle.erl_machine.specs.Leading.{BodyComes, CallComes, ComesOf};
+ghost use Rattle.erl_machine.specs.Leading.{BodyComes, CallComes, ComesOf, unused};
 ghost use Rattle.erl_steps.specs.Leading.{Comes};
 ghost use Rattle.erl_machine.specs.Views.{outcome_of};
 ghost use Rattle.erl_steps.specs.Views.{control_of, end_of, instance, machine_of, startup_of, world_of};
@@ -72,8 +72,23 @@ fn finish<'a>(
     }
 }
 
+/// Calls a function of an instance in the outermost call, in a machine that does nothing yet, and evaluates it to its end. What was
+/// done stands in the machine then.
+pub fn call_in<'a>(
+    machine: &mut Machine<'a>,
+    world: &World<'a>,
+    name: &Atom,
+    callee: &Callee<'a>,
+    arguments: Vec<Term>,
+) -> Result<End, AllocError>
+    ensures { IfOk result (λ it. machine_of machine.old ≡ unused (instance callee.now.instance.now) → ComesOf (world_of world.now) (instance callee.now.instance.now) name.now callee.now.function.now (trees arguments.items) (map act_of machine.new.acts.items) (option_map startup_of machine.new.startup) (end_of it)) }
+{
+    let next = machine.enter(world, name, &callee.function.definition, arguments)?;
+    finish(machine, world, next)
+}
+
 /// Calls a function of an instance in the outermost call, and evaluates it to its end.
-pub fn call_outermost<'a>(
+fn call_outermost<'a>(
     world: &World<'a>,
     name: &Atom,
     callee: &Callee<'a>,
@@ -82,8 +97,7 @@ pub fn call_outermost<'a>(
     ensures { IfOk result (λ it. ComesOf (world_of world.now) (instance callee.now.instance.now) name.now callee.now.function.now (trees arguments.items) (map act_of it.acts.items) (option_map startup_of it.startup) (end_of it.end)) }
 {
     let mut machine = Machine::new(world.setting.alloc, callee.instance, false);
-    let next = machine.enter(world, name, &callee.function.definition, arguments)?;
-    let end = finish(&mut machine, world, next)?;
+    let end = call_in(&mut machine, world, name, callee, arguments)?;
     Ok(Ended {
         acts: machine.acts,
         startup: machine.startup,

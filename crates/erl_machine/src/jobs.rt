@@ -14,10 +14,10 @@ ghost use Rattle.erl_machine.specs.Views.{job_of, outcome_of};
 ghost use Rattle.erl_steps.specs.Views.{instance, world_of};
 
 use crate::callbacks::callback_of;
-use crate::evaluation::{Outcome, call_outermost, run_outermost, undefined};
+use crate::evaluation::{Outcome, call_in, run_outermost, undefined};
 use erl_eval::{Place, Setting, match_each, select};
 use erl_forms::{Clause, Definition, Expressions, Function};
-use erl_steps::{Callee, End, Instance, Mode, World, arity_of};
+use erl_steps::{Callee, End, Instance, Machine, Mode, World, arity_of};
 use erl_term::{Atom, Predefined, Term, Terms};
 use std::alloc::{AllocError, Global};
 use values::{Duplicate, Row, Same};
@@ -191,12 +191,9 @@ impl Job {
             instance: item,
             function,
         };
-        let ended = call_outermost(world, &name, &callee, arguments)?;
-        let outcome = Outcome {
-            acts: Row::new(ended.acts),
-            end: ended.end,
-        };
-        callback.serve(alloc, module_name, outcome)
+        let mut machine = Machine::new(alloc, item, false);
+        let end = call_in(&mut machine, world, &name, &callee, arguments)?;
+        callback.serve(alloc, module_name, Row::new(machine.acts), end)
     }
 
     /// What the job gives in the instance that is entered.

@@ -27,7 +27,7 @@ returns-in_default c = if_ok
 pub returns : goal.returns
 returns c = if_ok
     (λ it. outcome_of it ≡ served c.args.module_name.now (callback c.callback_of-callback.result) (map act_of c.new.result)
-    (end_of c.in_ok-ended.ended.end))
+    (end_of c.in_ok-end.end))
     (λ it. Handles (job_of c.args.self.now) c.args.module_name.now (tree c.args.state.now) (callback_of (tree c.args.self.now.message))
     (exported_of (name_of (callback_of (tree c.args.self.now.message))) (count (arguments_of (callback_of (tree c.args.self.now.message))
     (tree c.args.state.now))) c.args.item.now.«module») (instance c.args.item.now) (outcome_of it)) c.serve.result
@@ -35,7 +35,7 @@ returns c = if_ok
     (callback_of (tree c.args.self.now.message)) (callback c.callback_of-callback.result) (option_copied c.exported.result) c.name-name.result
     (trees c.in_ok-arguments.arguments.items) c.in_ok-arity.arity c.callback_of-callback.ensures c.name-name.ensures c.in_ok-arguments.ensures
     (c.in_ok-arity.ensures ∙ ap (λ ts. count (trees ts)) c.as_slice.ensures.value) c.exported.ensures
-    (world_of c.args.world.now) c.in-Some.function.now (map act_of c.in_ok-ended.ended.acts.items) (option_map startup_of c.in_ok-ended.ended.startup) (end_of c.in_ok-ended.ended.end) (outcome_of it) c.requires
-    (ap option_copied c.in-Some.is) c.in_ok-ended.ensures
-    (is ∙ ap (λ acts. served c.args.module_name.now (callback c.callback_of-callback.result) (map act_of acts) (end_of c.in_ok-ended.ended.end))
+    (world_of c.args.world.now) c.in-Some.function.now (map act_of c.call_in.new.machine.acts.items) (option_map startup_of c.call_in.new.machine.startup) (end_of c.in_ok-end.end) (outcome_of it) c.requires
+    (ap option_copied c.in-Some.is) (c.in_ok-end.ensures c.new-machine.ensures)
+    (is ∙ ap (λ acts. served c.args.module_name.now (callback c.callback_of-callback.result) (map act_of acts) (end_of c.in_ok-end.end))
     c.new.ensures)) c.serve.ensures
