@@ -1,5 +1,6 @@
 pub mod Ascii
 pub mod Conversions
+pub mod Stored
 pub mod Names
 pub mod Order
 pub mod OrderLaws

@@ -7,6 +7,7 @@ mod order;
 mod printing;
 mod round_trip;
 mod rows;
+mod storage;
 mod told;
 
 use crate::atom::Atom;
@@ -52,13 +53,26 @@ pub struct Terms {
 #[cycle(term)]
 #[derive(Drop)]
 struct Row {
-    items: Vec<Term>,
+    items: Stored,
     /// The greatest depth of the terms.
     depth: u64,
     /// The place of the last term that has that depth.
     last: usize,
     /// The sum of the terms' sizes, at most 2^64 - 1.
     size: u64,
+}
+
+/// Where the terms of a row stand. Most tuples have two terms or three: these stand in the row itself, which is one
+/// block of memory then.
+#[cycle(term)]
+#[derive(Drop)]
+enum Stored {
+    /// Two terms.
+    Two([Term; 2]),
+    /// Three terms.
+    Three([Term; 3]),
+    /// As many terms as there are.
+    Many(Vec<Term>),
 }
 
 impl Model for Terms {
@@ -70,19 +84,20 @@ impl Model for Terms {
     ghost coded = { trees_coded };
 
     ghost use Rattle.std.specs.Prelude.{drop};
+    ghost use Rattle.erl_term.specs.Stored.{listed};
     ghost use Rattle.erl_term.specs.Term.{trees};
     ghost use Rattle.erl_term.specs.Parts.{IsPart, hidden_depth};
 
-    ghost view = { λ a. trees (drop a.from a.row.value.items.items) };
+    ghost view = { λ a. trees (drop a.from (listed a.row.value.items)) };
 
-    ghost invariant = { λ a. IsPart a.row.value.items.items a.row.value.depth a.row.value.last a.row.value.size a.from a.hidden };
+    ghost invariant = { λ a. IsPart (listed a.row.value.items) a.row.value.depth a.row.value.last a.row.value.size a.from a.hidden };
 
     ghost size = { greatest_depth };
 
     ghost use Rattle.std.proofs.Common.{arith};
-    ghost use Rattle.erl_term.specs.TermFalls.{most_le-greatest_depth};
+    ghost use Rattle.erl_term.specs.TermFalls.{deep_le-greatest_depth};
 
-    ghost size_decreases = { λ a h. omega (arith, most_le-greatest_depth a.row.value.items.items, hidden_depth _ _ _ _ _ _ h) };
+    ghost size_decreases = { λ a h. omega (arith, deep_le-greatest_depth a.row.value.items, hidden_depth _ _ _ _ _ _ h) };
 }
 
 impl Term {

@@ -1,18 +1,16 @@
 // Rows of terms.
-ghost use Rattle.std.specs.Prelude.{◌≡◌, ◌+◌, ◌++◌, ◌-◌, ◌^◌, ◌<◌, ◌≤◌, ◌↔◌, min, IsTrue, IfOk, IfSome, length, drop};
+ghost use Rattle.std.specs.Prelude.{◌≡◌, ◌∷◌, [], ◌+◌, ◌++◌, ◌-◌, ◌^◌, ◌<◌, ◌≤◌, ◌↔◌, min, IsTrue, IfOk, IfSome, length, drop};
+ghost use Rattle.erl_term.specs.Stored.{listed};
 ghost use Rattle.erl_term.specs.Parts.{behind, IsTold};
 ghost use Rattle.erl_term.specs.Rows.{append_trees};
 ghost use Rattle.erl_term.specs.Term.{trees};
 ghost use Rattle.erl_term.specs.Tree.{none, count, greatest_depth, total_size};
 
 use super::told::{Told, told_of};
-use super::{Row, Term, Terms};
+use super::{Row, Stored, Term, Terms};
 use std::alloc::{AllocError, Global};
 use std::sync::Arc;
 use values::{Duplicate, copied_slice};
-
-/// How many terms are few: to move them costs less than to make the row.
-const FEW: usize = 64;
 
 impl Terms {
     /// The row of these terms, in no more room than they take.
@@ -23,7 +21,38 @@ impl Terms {
     pub fn new(alloc: Global, items: Vec<Term>) -> Result<Terms, AllocError>
         ensures { IfOk result (λ it. it ≡ trees items.items) }
     {
-        let items = fitted(alloc, items)?;
+        let items = Stored::of(alloc, items)?;
+        let told = told_of(items.as_slice());
+        row_of(alloc, items, told)
+    }
+
+    /// The row of two terms.
+    ///
+    /// # Errors
+    ///
+    /// `AllocError` where memory is refused.
+    pub fn of_two(alloc: Global, first: Term, second: Term) -> Result<Terms, AllocError>
+        ensures { IfOk result (λ it. it ≡ trees (first ∷ second ∷ [])) }
+    {
+        let items = Stored::Two([first, second]);
+        let told = told_of(items.as_slice());
+        row_of(alloc, items, told)
+    }
+
+    /// The row of three terms.
+    ///
+    /// # Errors
+    ///
+    /// `AllocError` where memory is refused.
+    pub fn of_three(
+        alloc: Global,
+        first: Term,
+        second: Term,
+        third: Term,
+    ) -> Result<Terms, AllocError>
+        ensures { IfOk result (λ it. it ≡ trees (first ∷ second ∷ third ∷ [])) }
+    {
+        let items = Stored::Three([first, second, third]);
         let told = told_of(items.as_slice());
         row_of(alloc, items, told)
     }
@@ -39,14 +68,14 @@ impl Terms {
     {
         let row: &Row = &back.row;
         let from = back.from as usize;
+        let back_terms = seen(row.items.as_slice(), from);
         let told = Told {
             depth: row.depth,
             last: row.last - from,
             size: row.size - u64::from(back.hidden),
         };
         let told = told_of(front).then(front.len(), told);
-        let back = seen(row.items.as_slice(), from);
-        row_of(alloc, copies(alloc, front, back)?, told)
+        row_of(alloc, Stored::Many(copies(alloc, front, back_terms)?), told)
     }
 
     /// The terms, in order: moved out where the row has this one owner, and copied where it has more.
@@ -57,11 +86,10 @@ impl Terms {
     pub fn into_vec(self, alloc: Global) -> Result<Vec<Term>, AllocError>
         ensures { IfOk result (λ items. trees items.items ≡ self) }
     {
-        let from = self.from as usize;
-        let Terms { row, .. } = self;
+        let Terms { row, from, .. } = self;
         match Arc::try_unwrap(row) {
-            Ok(row) => Ok(from_place(row.items, from)),
-            Err(row) => copied_slice(alloc, seen(row.items.as_slice(), from)),
+            Ok(row) => Ok(from_place(row.items.into_vec(alloc)?, from as usize)),
+            Err(row) => copied_slice(alloc, seen(row.items.as_slice(), from as usize)),
         }
     }
 
@@ -140,9 +168,9 @@ impl Duplicate for Terms {
 }
 
 /// The row of these terms, of which this is told.
-fn row_of(alloc: Global, items: Vec<Term>, told: Told) -> Result<Terms, AllocError>
-    requires { IsTold items.items told.depth told.last told.size }
-    ensures { IfOk result (λ it. it ≡ trees items.items) }
+fn row_of(alloc: Global, items: Stored, told: Told) -> Result<Terms, AllocError>
+    requires { IsTold (listed items) told.depth told.last told.size }
+    ensures { IfOk result (λ it. it ≡ trees (listed items)) }
 {
     let Told { depth, last, size } = told;
     if depth == u64::MAX {
@@ -182,21 +210,6 @@ fn push_copies(alloc: Global, items: &mut Vec<Term>, terms: &[Term]) -> Result<(
         items.push(term.copy(alloc)?)?;
     }
     Ok(())
-}
-
-/// The same terms, in no more room than they take. Few are moved to room of their own, so that the room that is left is
-/// as large as others ask for it.
-fn fitted(alloc: Global, mut items: Vec<Term>) -> Result<Vec<Term>, AllocError>
-    ensures { IfOk result (λ it. it.items ≡ items.items) }
-{
-    let len = items.len();
-    if len < items.capacity() && len <= FEW {
-        let mut few = Vec::with_capacity(alloc, len)?;
-        few.append(&mut items)?;
-        return Ok(few);
-    }
-    items.shrink_to_fit();
-    Ok(items)
 }
 
 /// The terms from a place on.

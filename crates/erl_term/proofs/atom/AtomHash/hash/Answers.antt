@@ -1,6 +1,5 @@
 -- The text's bytes are those of its characters.
 use Rattle.std.proofs.Common.{ap, ◌∙◌, sym, fold}
-use Rattle.std.specs.Str.{chars}
 use Rattle.std.specs.Hash as fed
 use Rattle.std.proofs.lemmas.Str.{encodes-chars}
 use Rattle.erl_term.specs.Text.{utf8}

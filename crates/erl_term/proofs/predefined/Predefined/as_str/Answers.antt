@@ -1,5 +1,5 @@
 -- The characters of a word are its bytes.
-use Rattle.std.proofs.Common.{◌≡◌, ap, sym, refl, ◌∙◌}
+use Rattle.std.proofs.Common.{ap, sym, refl, ◌∙◌}
 use Rattle.std.specs.Prelude.{codes}
 use Rattle.erl_term.specs.Names.{spelled}
 use Rattle.erl_term.proofs.Ascii.{chars_of-ascii}
