@@ -74,15 +74,9 @@ fn call_message(alloc: Global, number: i64, term: &Term) -> Result<Term, AllocEr
     ensures { IfOk result (λ it. it ≡ call_message number term.now) }
 {
     let term = term.copy(alloc)?;
-    let mut client = Vec::with_capacity(alloc, 2)?;
-    client.push_reserved(Term::Pid(0));
-    client.push_reserved(Term::Int(number));
-    let client = Term::Tuple(Terms::new(alloc, client)?);
-    let mut parts = Vec::with_capacity(alloc, 3)?;
-    parts.push_reserved(Term::Atom(Atom::predefined(Predefined::GenCall)));
-    parts.push_reserved(client);
-    parts.push_reserved(term);
-    Ok(Term::Tuple(Terms::new(alloc, parts)?))
+    let client = Term::Tuple(Terms::of_two(alloc, Term::Pid(0), Term::Int(number))?);
+    let tag = Term::Atom(Atom::predefined(Predefined::GenCall));
+    Ok(Term::Tuple(Terms::of_three(alloc, tag, client, term)?))
 }
 
 /// `{'$gen_cast',Term}`
@@ -91,8 +85,6 @@ fn cast_message(alloc: Global, term: &Term) -> Result<Term, AllocError>
     ensures { IfOk result (λ it. it ≡ cast_message term.now) }
 {
     let term = term.copy(alloc)?;
-    let mut parts = Vec::with_capacity(alloc, 2)?;
-    parts.push_reserved(Term::Atom(Atom::predefined(Predefined::GenCast)));
-    parts.push_reserved(term);
-    Ok(Term::Tuple(Terms::new(alloc, parts)?))
+    let tag = Term::Atom(Atom::predefined(Predefined::GenCast));
+    Ok(Term::Tuple(Terms::of_two(alloc, tag, term)?))
 }
