@@ -42,12 +42,13 @@ told_none items = record { depth_is = omega arith; last_has_it = omega arith; la
 
 -- A row that is seen whole
 
-pub whole_part : (items : List Term) (d last s : ℕ) → IsTold items d last s → d < 2 ^ 64 - 1 → IsPart items d last s 0 0
-whole_part items d last s told below = record {
+-- a place before the last that has the greatest depth serves as well
+pub earlier_part : (items : List Term) (d last s earlier : ℕ) → IsTold items d last s → d < 2 ^ 64 - 1 → earlier ≤ last → IsPart items d earlier s 0 0
+earlier_part items d last s earlier told below before = record {
   depth_is = omega (arith, told.depth_is, below);
-  last_has_it = omega (arith, told.last_has_it, below);
+  last_has_it = omega (arith, told.depth_is, told.last_has_it, below, drop_depth-later items earlier last before, drop_depth-later items 0 earlier (omega arith));
   depth_below = below;
-  last_within = told.last_within;
+  last_within = omega (arith, told.last_within, before);
   from_before = omega arith;
   hidden_within = omega arith;
   size_seen = omega (arith, told.size_is);

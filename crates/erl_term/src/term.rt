@@ -54,12 +54,12 @@ pub struct Terms {
 #[derive(Drop)]
 struct Row {
     items: Stored,
-    /// The greatest depth of the terms.
-    depth: u64,
-    /// The place of the last term that has that depth.
-    last: usize,
     /// The sum of the terms' sizes, at most 2^64 - 1.
     size: u64,
+    /// The greatest depth of the terms.
+    depth: u32,
+    /// The place of the last term that has that depth, or one before it.
+    last: u32,
 }
 
 /// Where the terms of a row stand. Most tuples have two terms or three: these stand in the row itself, which is one

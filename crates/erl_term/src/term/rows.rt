@@ -70,8 +70,8 @@ impl Terms {
         let from = back.from as usize;
         let back_terms = seen(row.items.as_slice(), from);
         let told = Told {
-            depth: row.depth,
-            last: row.last - from,
+            depth: u64::from(row.depth),
+            last: row.last as usize - from,
             size: row.size - u64::from(back.hidden),
         };
         let told = told_of(front).then(front.len(), told);
@@ -129,7 +129,7 @@ impl Terms {
         let Some((first, others)) = terms.split_first() else {
             return self.copy(alloc);
         };
-        let next = next_place(self.from, self.hidden, self.row.last, first.size());
+        let next = next_place(self.from, self.hidden, self.row.last as usize, first.size());
         match next {
             Some((from, hidden)) if self.total_size() < u64::MAX => {
                 let row = Arc::try_clone(&self.row)?;
@@ -143,7 +143,7 @@ impl Terms {
     pub(super) fn greatest_depth(&self) -> u64
         ensures { result ≡ min (greatest_depth self.now) (2 ^ 64 - 1) }
     {
-        self.row.depth
+        u64::from(self.row.depth)
     }
 
     /// The sum of the terms' sizes.
@@ -167,22 +167,30 @@ impl Duplicate for Terms {
     }
 }
 
-/// The row of these terms, of which this is told.
+/// The place, or the last that can be kept, if that is before it.
+fn place_before(place: usize) -> u32
+    ensures { result ≤ place }
+{
+    u32::try_from(place).unwrap_or(u32::MAX)
+}
+
+/// The row of these terms, of which this is told. No memory holds terms that are nested too deep for a row to tell it.
 fn row_of(alloc: Global, items: Stored, told: Told) -> Result<Terms, AllocError>
     requires { IsTold (listed items) told.depth told.last told.size }
     ensures { IfOk result (λ it. it ≡ trees (listed items)) }
 {
     let Told { depth, last, size } = told;
-    if depth == u64::MAX {
+    let Ok(depth) = u32::try_from(depth) else {
         return Err(AllocError);
-    }
+    };
+    let last = place_before(last);
     let row = Arc::new(
         alloc,
         Row {
             items,
+            size,
             depth,
             last,
-            size,
         },
     )?;
     Ok(Terms {

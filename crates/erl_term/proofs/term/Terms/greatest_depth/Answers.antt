@@ -6,4 +6,4 @@ use Rattle.erl_term.proofs.term.Terms.greatest_depth.Goals as goal
 
 pub returns : goal.returns
 returns c =
-    ap (λ r. r.depth) c.deref.ensures ∙ seen_depth _ _ _ _ _ _ c.self.invariant ∙ ap (λ ts. min (greatest_depth ts) (2 ^ 64 - 1)) c.self.view_is
+    c.from.ensures ∙ ap (λ r. r.depth) c.deref.ensures ∙ seen_depth _ _ _ _ _ _ c.self.invariant ∙ ap (λ ts. min (greatest_depth ts) (2 ^ 64 - 1)) c.self.view_is

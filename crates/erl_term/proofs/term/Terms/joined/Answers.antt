@@ -14,8 +14,9 @@ row_of-requires c =
     let front = c.args.front.now in
     let part = subst (λ r. IsPart (listed r.items) r.depth r.last r.size from c.back.inside.hidden) (sym c.deref-row.ensures) c.back.invariant in
     let behind = told_part (listed row.items) row.depth row.last row.size from c.back.inside.hidden part in
-    let hidden = subst (λ n. IsTold (drop from (listed row.items)) row.depth (row.last - from) (row.size - n)) (sym c.from.ensures) behind in
-    let told = c.then-told.ensures front (drop from (listed row.items)) refl c.told_of.ensures hidden in
+    let hidden = subst (λ n. IsTold (drop from (listed row.items)) row.depth (row.last - from) (row.size - n)) (sym c.from-2.ensures) behind in
+    let all_told = subst (λ d. IsTold (drop from (listed row.items)) d (row.last - from) (row.size - c.from-2.result)) (sym c.from.ensures) hidden in
+    let told = c.then-told.ensures front (drop from (listed row.items)) refl c.told_of.ensures all_told in
     let items : c.in_ok-copies.field-0.items ≡ front ++ drop from (listed row.items) = c.in_ok-copies.ensures ∙ ap (λ ys. front ++ ys) (c.seen-back_terms.ensures ∙ ap (λ ys. drop from ys) c.as_slice.ensures.value) in
     subst (λ it. IsTold it c.then-told.result.depth c.then-told.result.last c.then-told.result.size) (sym items) told
 
