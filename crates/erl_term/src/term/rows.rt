@@ -168,10 +168,15 @@ impl Duplicate for Terms {
 }
 
 /// The place, or the last that can be kept, if that is before it.
+#[inline(always)]
 fn place_before(place: usize) -> u32
     ensures { result ≤ place }
 {
-    u32::try_from(place).unwrap_or(u32::MAX)
+    if place < u32::MAX as usize {
+        place as u32
+    } else {
+        u32::MAX
+    }
 }
 
 /// The row of these terms, of which this is told. No memory holds terms that are nested too deep for a row to tell it.
@@ -180,17 +185,16 @@ fn row_of(alloc: Global, items: Stored, told: Told) -> Result<Terms, AllocError>
     ensures { IfOk result (λ it. it ≡ trees (listed items)) }
 {
     let Told { depth, last, size } = told;
-    let Ok(depth) = u32::try_from(depth) else {
+    if depth > u64::from(u32::MAX) {
         return Err(AllocError);
-    };
-    let last = place_before(last);
+    }
     let row = Arc::new(
         alloc,
         Row {
             items,
             size,
-            depth,
-            last,
+            depth: depth as u32,
+            last: place_before(last),
         },
     )?;
     Ok(Terms {
