@@ -17,7 +17,7 @@ use crate::callbacks::callback_of;
 use crate::evaluation::{Outcome, call_in, run_outermost, undefined};
 use erl_eval::{Place, Setting, match_each, select};
 use erl_forms::{Clause, Definition, Expressions, Function};
-use erl_steps::{Callee, End, Instance, Machine, Mode, World, arity_of};
+use erl_steps::{Callee, Code, End, Instance, Machine, Mode, World, arity_of};
 use erl_term::{Atom, Predefined, Term, Terms};
 use std::alloc::{AllocError, Global};
 use values::{Duplicate, Row, Same};
@@ -37,7 +37,7 @@ pub struct Job {
     pub message: Term,
     /// First the instance that is entered, if there is one, and then the current code of each module that the process can
     /// reach.
-    pub code: Row<Instance>,
+    pub code: Code,
 }
 
 /// What a message selects of a loop function.
@@ -248,7 +248,7 @@ impl Job {
             },
             entry_serial: 0,
             message: Term::Int(0),
-            code: Row::new(Vec::new(alloc)),
+            code: Code::none(alloc),
         }
     }
 

@@ -24,6 +24,6 @@ mod callbacks;
 mod evaluation;
 mod jobs;
 
-pub use erl_steps::{End, Instance, Mode, World};
+pub use erl_steps::{Code, End, Instance, Mode, World};
 pub use evaluation::{Outcome, evaluate};
 pub use jobs::{Done, Job, matches};

@@ -1,5 +1,5 @@
 // The modules that can be reached.
-ghost use Rattle.std.specs.Prelude.{◌≡◌, ◌++◌, List, slice_get, IfOk, OnOk, map};
+ghost use Rattle.std.specs.Prelude.{◌≡◌, ◌∷◌, ◌++◌, List, slice_get, IfOk, OnOk, map};
 ghost use Rattle.std.specs.Map.Iter.{deref_pair};
 ghost use Rattle.std.specs.Option.{option_map};
 ghost use Rattle.erl_eval.specs.State.{Instance as InstanceOf};
@@ -11,11 +11,11 @@ ghost use Rattle.job_code.specs.Places.{AreFound, AreFoundFrom, AreReachedPlaces
 
 use code_server::Modules;
 use erl_forms::Module;
-use erl_steps::Instance;
+use erl_steps::{Code, Instance};
 use erl_term::Atom;
 use std::alloc::{AllocError, Global};
 use std::collections::BTreeSet;
-use values::Duplicate;
+use values::{Duplicate, Row};
 
 /// What was found so far of the modules that can be reached, by their places in the table.
 #[derive(Drop)]
@@ -119,6 +119,24 @@ fn push_current(
     Ok(())
 }
 
+/// An instance, and behind it the current code of the modules at these places. Where there are none of them it takes no memory.
+fn code_of(
+    alloc: Global,
+    modules: &Modules<Module>,
+    entered: Instance,
+    places: &BTreeSet<usize>,
+) -> Result<Code, AllocError>
+    ensures { IfOk result (λ code. map instance code ≡ instance entered ∷ current_code modules.now.entries places.now.keys) }
+{
+    if places.is_empty() {
+        return Ok(Code::one(entered));
+    }
+    let mut code = Vec::with_capacity(alloc, places.len().saturating_add(1))?;
+    code.push(entered)?;
+    push_current(alloc, modules, places, &mut code)?;
+    Ok(Code::many(Row::new(code)))
+}
+
 /// The code of a job that is entered in an instance: this first, and then the current code of each module that can be
 /// reached from it, in the order of the table.
 ///
@@ -129,15 +147,13 @@ pub fn job_code(
     alloc: Global,
     modules: &Modules<Module>,
     entered: Instance,
-) -> Result<Vec<Instance>, AllocError>
-    ensures { IfOk result (λ code. IsJobCode modules.now (instance entered) (map instance code.items)) }
+) -> Result<Code, AllocError>
+    ensures { IfOk result (λ code. IsJobCode modules.now (instance entered) (map instance code)) }
 {
     let places = reached_places(alloc, modules, &entered.module)?;
     // The proof asks that names differ in the table, and `len` tells it.
     let _ = modules.len();
-    let mut code = Vec::with_capacity(alloc, places.len().saturating_add(1))?;
-    code.push(entered)?;
-    push_current(alloc, modules, &places, &mut code)?;
+    let code = code_of(alloc, modules, entered, &places)?;
     Ok(code)
 }
 

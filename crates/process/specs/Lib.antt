@@ -1,4 +1,3 @@
-pub mod Code
 pub mod Ended
 pub mod Kept
 pub mod Process

@@ -1,5 +1,5 @@
 // What a process does.
-use crate::code::Code;
+use erl_machine::Code;
 use erl_term::Term;
 
 /// What a process does. A suspended process doesn't run.

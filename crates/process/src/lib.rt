@@ -48,11 +48,10 @@
 #![tactic(auto)]
 
 mod activity;
-mod code;
 mod process;
 
 pub use activity::{Activity, Running};
-pub use code::Code;
+pub use erl_machine::Code;
 pub use process::{
     Did, Ended, NamedInstances, NamedRan, NamedRunning, Process, Ran, Told, Used,
     ended_processes_live, jobs_run_again,

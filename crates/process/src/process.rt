@@ -8,10 +8,9 @@ mod named_code;
 mod rerunning;
 
 use crate::activity::{Activity, Running};
-use crate::code::Code;
 pub use ending::{Did, Ended, NamedRunning, Told, ended_processes_live};
 use erl_eval::Place;
-use erl_machine::{Instance, Job, matches};
+use erl_machine::{Code, Instance, Job, matches};
 use erl_term::{Atom, Term};
 pub use named_code::NamedInstances;
 pub use rerunning::{NamedRan, Used, jobs_run_again};
@@ -311,7 +310,7 @@ impl Process {
         };
         let place = self.place.copy(alloc)?;
         let message = running.message.copy(alloc)?;
-        let code = running.code.row(alloc)?;
+        let code = running.code.copy(alloc)?;
         Ok(Some(Job {
             pid: self.pid,
             turn: self.turn,
@@ -333,7 +332,7 @@ impl Process {
                     && running.entry_serial == job.entry_serial
                     && running.message.same(&job.message)
                     && self.place.same(&job.place)
-                    && running.code.is(&job.code)
+                    && running.code.same(&job.code)
             }
             Activity::Idle | Activity::Suspended => false,
         }

@@ -8,12 +8,12 @@ use crate::error::ProcError;
 use code_server::Modules;
 use erl_eval::Place;
 use erl_forms::Module;
-use erl_machine::{Instance, Job};
+use erl_machine::{Code, Instance, Job};
 use job_code::job_code;
-use process::{Activity, Code, Process};
+use process::{Activity, Process};
 use process_store::Living;
 use std::alloc::{AllocError, Global};
-use values::{Duplicate, Row};
+use values::Duplicate;
 
 /// The instance that a process enters with the message that it takes, if there is one.
 #[inline(always)]
@@ -46,16 +46,16 @@ fn code_from(
     alloc: Global,
     modules: &Modules<Module>,
     entered: Option<Instance>,
-) -> Result<(u64, Row<Instance>), AllocError>
+) -> Result<(u64, Code), AllocError>
     ensures { IfOk result (λ it. IsCode modules.now entered it.0 it.1) }
 {
     match entered {
         Some(instance) => {
             let serial = instance.serial;
             let code = job_code(alloc, modules, instance)?;
-            Ok((serial, Row::new(code)))
+            Ok((serial, code))
         }
-        None => Ok((0, Row::new(Vec::new(alloc)))),
+        None => Ok((0, Code::none(alloc))),
     }
 }
 
@@ -92,7 +92,7 @@ pub(crate) fn job_for(
     };
     let entered = entered(alloc, modules, process)?;
     let (entry_serial, code) = code_from(alloc, modules, entered)?;
-    let runs_in = Code::of(alloc, code.as_slice())?;
+    let runs_in = code.copy(alloc)?;
     let message = message.copy(alloc)?;
     let place = process.place().copy(alloc)?;
     let job = Job {

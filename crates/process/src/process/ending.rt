@@ -8,11 +8,10 @@ ghost use Rattle.process.specs.Ended.{EndedProcessesLive, activity_by, code_foun
 use super::named_code::{NamedInstances, name_of};
 use super::{Process, first_of};
 use crate::activity::{Activity, Running};
-use crate::code::Code;
 use code_server::Modules;
 use erl_eval::Place;
 use erl_forms::Module;
-use erl_machine::Instance;
+use erl_machine::{Code, Instance};
 use erl_term::{Atom, Term};
 use job_code::{NamedInstance, instance_of, instances_of};
 use std::alloc::{AllocError, Global};
@@ -183,7 +182,7 @@ fn run_found(
 {
     match did {
         Did::Ran(ran) => code_in(alloc, modules, ran.code.as_slice()),
-        Did::Idle | Did::Suspended => Ok(Some(Code::many(Row::new(Vec::new(alloc))))),
+        Did::Idle | Did::Suspended => Ok(Some(Code::none(alloc))),
     }
 }
 

@@ -5,11 +5,10 @@ ghost use Rattle.process.specs.Rerun.{JobsRunAgain, ran_in, ran_with, runs_again
 use super::Ran;
 use super::ending::{NamedRunning, Told, code_in, place_found};
 use crate::activity::Running;
-use crate::code::Code;
 use code_server::Modules;
 use erl_eval::Place;
 use erl_forms::Module;
-use erl_machine::Instance;
+use erl_machine::{Code, Instance};
 use job_code::NamedInstance;
 use std::alloc::{AllocError, Global};
 

@@ -1,11 +1,11 @@
-// The code that a process runs in.
-ghost use Rattle.std.specs.Prelude.{◌≡◌, ◌↔◌, ◌∷◌, [], IfOk, IsTrue};
+// The code that a job runs in.
+ghost use Rattle.std.specs.Prelude.{◌≡◌, ◌∷◌, [], IfOk};
 
-use erl_machine::Instance;
+use crate::world::Instance;
 use std::alloc::{AllocError, Global};
 use std::marker::Model;
 use std::slice;
-use values::{Duplicate, Row, copied_slice, same_slices};
+use values::{Duplicate, Row, Same, copied_slice, same_slices};
 
 /// How code is held.
 #[derive(Drop)]
@@ -16,8 +16,8 @@ pub(crate) enum Held {
     Many(Row<Instance>),
 }
 
-/// The code that a process runs in: instances, in order, which contracts see as their list. One instance that is copied or found
-/// again takes no row.
+/// The code that a job runs in: instances, in order, which contracts see as their list. One instance, as most jobs run in, takes no
+/// memory of its own.
 #[derive(Drop)]
 pub struct Code {
     held: Held,
@@ -29,7 +29,7 @@ impl Model for Code {
     ghost use Rattle.erl_term.specs.contracts.term.Terms as terms;
     ghost use Rattle.erl_forms.specs.contracts.module.Module as modules;
     ghost use Rattle.erl_steps.specs.declared.world.Instance.{Instance};
-    ghost use Rattle.process.specs.Code.{held_instances};
+    ghost use Rattle.erl_steps.specs.Held.{held_instances};
 
     ghost Value = { List Instance };
 
@@ -39,9 +39,19 @@ impl Model for Code {
 }
 
 impl Code {
+    /// No instances. Takes no memory.
+    #[inline(always)]
+    pub fn none(alloc: Global) -> Code
+        ensures { result ≡ [] }
+    {
+        Code {
+            held: Held::Many(Row::new(Vec::new(alloc))),
+        }
+    }
+
     /// One instance. Takes no memory.
     #[inline(always)]
-    pub(crate) fn one(instance: Instance) -> Code
+    pub fn one(instance: Instance) -> Code
         ensures { result ≡ instance ∷ [] }
     {
         Code {
@@ -59,21 +69,6 @@ impl Code {
         }
     }
 
-    /// Code of instances equal to these. One takes no row.
-    ///
-    /// # Errors
-    ///
-    /// `AllocError` where memory is refused.
-    #[inline(always)]
-    pub fn of(alloc: Global, instances: &[Instance]) -> Result<Code, AllocError>
-        ensures { IfOk result (λ it. it ≡ instances.now) }
-    {
-        match instances {
-            [only] => Ok(Code::one(only.copy(alloc)?)),
-            _ => Ok(Code::many(Row::new(copied_slice(alloc, instances)?))),
-        }
-    }
-
     /// The instances, in order. Takes no memory.
     #[inline(always)]
     pub fn as_slice(&self) -> &[Instance]
@@ -84,23 +79,21 @@ impl Code {
             Held::Many(instances) => instances.as_slice(),
         }
     }
+}
 
-    /// A row of equal instances.
-    ///
-    /// # Errors
-    ///
-    /// `AllocError` where memory is refused.
-    pub(crate) fn row(&self, alloc: Global) -> Result<Row<Instance>, AllocError>
-        ensures { IfOk result (λ it. it ≡ self.now) }
-    {
-        Ok(Row::new(copied_slice(alloc, self.as_slice())?))
-    }
-
-    /// Whether a row has equal instances, as many and in one order. Takes no memory.
+impl Same for Code {
     #[inline(always)]
-    pub(crate) fn is(&self, row: &Row<Instance>) -> bool
-        ensures { IsTrue result ↔ (self.now ≡ row.now) }
-    {
-        same_slices(self.as_slice(), row.as_slice())
+    fn same(&self, other: &Code) -> bool {
+        same_slices(self.as_slice(), other.as_slice())
+    }
+}
+
+impl Duplicate for Code {
+    #[inline(always)]
+    fn copy(&self, alloc: Global) -> Result<Code, AllocError> {
+        match self.as_slice() {
+            [only] => Ok(Code::one(only.copy(alloc)?)),
+            several => Ok(Code::many(Row::new(copied_slice(alloc, several)?))),
+        }
     }
 }
