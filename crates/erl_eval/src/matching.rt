@@ -9,7 +9,6 @@ ghost use Rattle.erl_eval.specs.Matching.{matched, matched_each, matched_front, 
 use erl_forms::Pattern;
 use erl_term::{Term, Terms};
 use std::alloc::{AllocError, Global};
-use std::cmp::Ordering;
 use values::Duplicate;
 
 /// The term at a place of the bindings: of `base`, and of `fresh` behind it. Takes no memory.
@@ -39,7 +38,7 @@ fn match_variable(
     ensures { IfOk result (λ ok. matched (pattern.variable place) (tree term.now) (bindings base.now fresh.old.items) ≡ bound_if ok (bindings base.now fresh.new.items)) }
 {
     if let Some(value) = bound(base, fresh.as_slice(), place) {
-        return Ok(term.cmp(value) == Ordering::Equal);
+        return Ok(term == value);
     }
     if place == base.len() + fresh.len() {
         fresh.push(term.copy(alloc)?)?;
@@ -65,7 +64,7 @@ pub fn match_pattern(
     ensures { IfOk result (λ ok. matched (pat pattern.now) (tree term.now) (bindings base.now fresh.old.items) ≡ bound_if ok (bindings base.now fresh.new.items)) }
 {
     match (pattern, term) {
-        (Pattern::Literal(literal), _) => Ok(term.cmp(literal) == Ordering::Equal),
+        (Pattern::Literal(literal), _) => Ok(term == literal),
         (Pattern::Variable(place), _) => {
             match_variable(alloc, *place as usize, term, base, fresh)
         }
