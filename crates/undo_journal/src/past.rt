@@ -20,17 +20,6 @@ pub(crate) struct Entry<S, R, N> {
     pub(crate) node: Snapshot<S>,
 }
 
-/// Appends an entry where there is room for it, and so takes no memory.
-fn put<P>(past: &mut Vec<P>, entry: P)
-    requires { vec_len past.old < vec_capacity past.old }
-    ensures { past.new.items ≡ past.old.items ++ entry ∷ [] }
-{
-    match past.push(entry) {
-        Ok(()) => (),
-        Err(_) => unreachable!(),
-    }
-}
-
 /// Enters a step of a serial, after which the machine stands so, where there is room for it.
 pub(crate) fn enter<S: Reversible>(
     past: &mut Vec<Entry<S, S::Record, S::Note>>,
@@ -49,7 +38,7 @@ pub(crate) fn enter<S: Reversible>(
         note,
         node: Snapshot::of(state),
     };
-    put(past, entered);
+    past.push_reserved(entered);
 }
 
 /// The serial of the newest station, which is `floor`, the first one's, where there are no entries.
@@ -103,7 +92,7 @@ fn take_back<S: Reversible>(state: &mut S, past: &mut Vec<Entry<S, S::Record, S:
                 note,
                 node,
             };
-            put(past, entry);
+            past.push_reserved(entry);
             false
         }
     }
