@@ -1,3 +1,4 @@
+pub mod Alone
 pub mod Commuting
 pub mod Leaving
 pub mod OwnMessages

@@ -38,5 +38,5 @@ mod sends;
 pub use answers::{Answer, Closed, answer_all, answer_of, reopen_all};
 pub use closed_calls::ClosedCalls;
 pub use exiting::{Exited, commit_exit, revert_exit};
-pub use resting::{Rested, commit_rest, rests_in, revert_rest};
+pub use resting::{Rested, commit_rest, copied_place, rests_in, revert_rest};
 pub use sends::receiver_of;
