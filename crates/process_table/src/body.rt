@@ -54,6 +54,7 @@ impl Body {
     /// # Errors
     ///
     /// `AllocError` where memory is refused.
+    #[inline(always)]
     pub fn message(&self, alloc: Global) -> Result<Option<Term>, AllocError>
         ensures message { IfOk result (λ it. it ≡ message_of self.now) }
         ensures memory { OnErr result (is_some (message_of self.now) ≡ true) }
@@ -70,6 +71,7 @@ impl Body {
 }
 
 /// `{'$gen_call',{<0.0.0>,Number},Term}`
+#[inline(always)]
 fn call_message(alloc: Global, number: i64, term: &Term) -> Result<Term, AllocError>
     ensures { IfOk result (λ it. it ≡ call_message number term.now) }
 {

@@ -42,12 +42,14 @@
 
 mod body;
 mod error;
+mod made_call;
 mod processes;
 mod taking;
 mod undo;
 
 pub use body::Body;
 pub use error::ProcError;
+pub use made_call::MadeCall;
 pub use process_commit::{Closed, Exited, Rested};
 pub use process_ending::{EndedProcess, Reply, ReplyBody};
 pub use process_store::Living;

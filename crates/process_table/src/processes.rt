@@ -7,6 +7,7 @@ mod committing;
 
 use crate::body::Body;
 use crate::error::ProcError;
+use crate::made_call::MadeCall;
 use crate::taking::{copies, job_for, next_of};
 use crate::undo::Undo;
 use code_server::Modules;
@@ -197,7 +198,10 @@ impl Processes {
         };
         let call = body.call(client);
         match self.store.arrive(pid, message, call) {
-            Ok(()) => Ok(Undo::Arrived { pid, call }),
+            Ok(()) => Ok(Undo::Arrived {
+                pid,
+                call: MadeCall::of(call),
+            }),
             Err(_) => Err(ProcError::Memory),
         }
     }
@@ -232,7 +236,10 @@ impl Processes {
         }
         let call = body.call(client);
         match self.store.arrive(pid, message, call) {
-            Ok(()) => Ok(Undo::Arrived { pid, call }),
+            Ok(()) => Ok(Undo::Arrived {
+                pid,
+                call: MadeCall::of(call),
+            }),
             Err(_) => Err(ProcError::Memory),
         }
     }
@@ -507,7 +514,7 @@ impl Processes {
                 Ok(())
             }
             Undo::Arrived { pid, call } => {
-                self.store.unarrive(pid, call);
+                self.store.unarrive(pid, call.call());
                 Ok(())
             }
             Undo::Taken { pid, position } => match self.store.untake(pid, position) {

@@ -11,6 +11,7 @@ use erl_forms::Module;
 use erl_machine::{Code, Instance, Job};
 use job_code::job_code;
 use process::{Activity, Process};
+use process_commit::copied_place;
 use process_store::Living;
 use std::alloc::{AllocError, Global};
 use values::Duplicate;
@@ -94,7 +95,7 @@ pub(crate) fn job_for(
     let (entry_serial, code) = code_from(alloc, modules, entered)?;
     let runs_in = code.copy(alloc)?;
     let message = message.copy(alloc)?;
-    let place = process.place().copy(alloc)?;
+    let place = copied_place(alloc, process.place())?;
     let job = Job {
         pid: process.pid(),
         turn: process.turn(),

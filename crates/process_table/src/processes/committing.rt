@@ -4,6 +4,7 @@ ghost use Rattle.process_commit.specs.Commits.{IsRunning};
 ghost use Rattle.process_store.specs.Changes.{CanTurnAt};
 ghost use Rattle.process_store.specs.Table.{living};
 ghost use Rattle.process_commit.specs.Exits.{exit_told, exited};
+ghost use Rattle.erl_steps.specs.declared.machine.End.TheVariants.{Rest};
 ghost use Rattle.process_table.specs.Commit.{IsCommitRefusal, RefusesCommit, commit_told, committed, concluded, normal, told_by};
 ghost use Rattle.process_store.specs.Pieces.{HoldsLost};
 ghost use Rattle.process_told.specs.Telling.{IsReadyFor};
@@ -13,7 +14,7 @@ use super::Processes;
 use crate::error::ProcError;
 use crate::undo::Undo;
 use code_server::Modules;
-use erl_eval::Act;
+use erl_eval::{Act, Place};
 use erl_forms::Module;
 use erl_machine::{Done, End, Job};
 use erl_term::{Atom, Term};
@@ -87,7 +88,7 @@ impl Processes {
     }
 
     /// What a job that a process runs has done is done, and the process rests or ends.
-    #[inline(always)]
+    #[inline(never)]
     fn conclude(
         &mut self,
         job: &Job,
@@ -250,6 +251,37 @@ impl Processes {
     {
         let (job, outcome) = (done.job(), done.outcome());
         self.conclude(job, outcome.acts.as_slice(), &outcome.end)
+    }
+
+    /// The same as [`Processes::commit_once`] for a job whose process rests again at a place. What takes it back is an
+    /// [`Undo::Rested`].
+    ///
+    /// # Errors
+    ///
+    /// `AllocError` where memory is refused. The table is then as it was.
+    #[inline(always)]
+    pub fn rest_once(
+        &mut self,
+        done: &Done,
+        place: &Place,
+    ) -> Result<(Vec<Reply>, Boxed<Rested>), AllocError>
+        requires unrefused { IsCommitRefusal None done.now.job self.old }
+        requires rests { done.now.outcome.end ≡ Rest place.now }
+        ensures committed { OnOk result (self.new ≡ committed done.now self.old) }
+        ensures told { IfOk result (λ it. it.0.items ≡ commit_told done.now self.old) }
+        ensures inverse { IfOk result (λ it. TakesBackEnds (Undo.Rested it.1) self.old self.new) }
+        ensures ok { OnOk result (IsCommitRefusal None done.now.job self.old) }
+        ensures pieces { IfOk result (λ it. HoldsLost (held (Undo.Rested it.1) self.new) self.old self.new) }
+        ensures err { OnErr result (self.new ≡ self.old) }
+    {
+        let (job, outcome) = (done.job(), done.outcome());
+        commit_rest(
+            &mut self.store,
+            self.alloc,
+            job,
+            outcome.acts.as_slice(),
+            place,
+        )
     }
 
     /// The commit of a job whose process rests again is taken back.
