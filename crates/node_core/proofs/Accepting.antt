@@ -1,12 +1,17 @@
 -- What is accepted, and told as often as it is asked for.
-use Rattle.std.proofs.Common.{◌≡◌, ◌+◌, ℕ, zero, suc, List, ◌∷◌, add-one, map, replicate, Option, None, Some, Ok, Err, MatchOption, option_map, refl, sym, ap, subst, ◌∙◌}
+use Rattle.std.proofs.Common.{◌≡◌, ◌+◌, ℕ, zero, suc, List, [], ◌∷◌, add-one, map, replicate, Option, None, Some, Ok, Err, MatchOption, option_map, refl, sym, ap, subst, ◌∙◌}
+use Rattle.process_table.specs.Messages.{message_of}
+use Rattle.process_table.specs.Steps.{after_arrival, arrive_refusal}
+use Rattle.process_table.specs.declared.body.Body.{Body}
 use Rattle.process_table.specs.declared.error.ProcError.{ProcError}
 use Rattle.undo_journal.specs.Reversible.{Accepted, Accepts, AcceptsWith, told_of}
 use Rattle.undo_journal.specs.declared.reversible.Told.{Told}
-use Rattle.node_core.specs.Node.{NodeState}
-use Rattle.node_core.specs.Step.{Step, unless}
+use Rattle.node_core.specs.Node.{NodeState, with_processes}
+use Rattle.node_core.specs.Step.{Step, arrival_of, unless}
 use Rattle.node_core.specs.declared.event.Answer.{Answer}
+use Rattle.node_core.specs.declared.event.Answer.TheVariants as answer
 use Rattle.node_core.specs.declared.event.Event.{Event}
+use Rattle.node_core.specs.declared.event.Event.TheVariants as event
 use Rattle.node_core.specs.Note.{Note}
 use Rattle.node_core.specs.declared.event.Refusal.{Refusal}
 use Rattle.node_core.specs.declared.event.Refusal.TheVariants.{OfProcesses}
@@ -44,10 +49,18 @@ accepted_of n now e a new k told view step is tells = subst (λ m. Accepts (Step
 pub accepted_with : (n now : NodeState) (e : Event) (a : Accepted NodeState Answer Note) (new : NodeState) (k : ℕ) (told : List (Told Answer Note)) (note : Note) → n ≡ now → Step n e (Ok a) → new ≡ a.node → told ≡ replicate k (told_of a) → a.note ≡ note → AcceptsWith (Step now e) new k told note
 accepted_with n now e a new k told note view step is tells same = subst (λ m. AcceptsWith (Step m e) new k told note) view (a, step, sym is, tells, same)
 
--- What is accepted with a note is accepted without it.
-pub accepted_alone : (now : NodeState) (e other : Event) (new : NodeState) (k : ℕ) (told said : List (Told Answer Note)) (note : Note) → e ≡ other → said ≡ told → AcceptsWith (Step now e) new k told note → Accepts (Step now other) new k said
-accepted_alone now e other new k told said note same alike accepts =
-    subst (λ d. Accepts (Step now d) new k said) same (accepts.0, accepts.1, accepts.2, alike ∙ accepts.3)
+-- An arrival that is told some times is told so any other times.
+
+accepted_is : {E : Type 0} (o : Option E) (of : E → Refusal) (a b : Accepted NodeState Answer Note) → Ok a ≡ unless o of b → a ≡ b
+accepted_is None of a b is = cc
+accepted_is (Some e) of a b is = absurd cc
+
+pub arrival_accepted : (client : ℕ) (name : List ℕ) (body : Body) (now new : NodeState) (n k : ℕ) (told said : List (Told Answer Note)) (note : Note) → told ≡ replicate n (record { answer = answer.Unit; note = record { replies = []; arrival = arrival_of name (message_of body) } }) → AcceptsWith (Step now (event.Arrive client name body)) new k said note → Accepts (Step now (event.Arrive client name body)) new n told
+arrival_accepted client name body now new n k told said note tells accepts =
+    let (a, step, same, _, _) = accepts in
+    let b : Accepted NodeState Answer Note = record { node = with_processes (after_arrival client name body now.processes) now; answer = answer.Unit; note = record { replies = []; arrival = arrival_of name (message_of body) } } in
+    let is = accepted_is (arrive_refusal name body now.processes) OfProcesses a b step in
+    (a, step, same, tells ∙ ap (λ (x : Accepted NodeState Answer Note). replicate n (told_of x)) (sym is))
 
 -- Why an event is refused is told, or nothing stands against it.
 

@@ -171,12 +171,15 @@ impl Node {
         let Ok(told) = self.quiet(n) else {
             return Err(StepError::Memory);
         };
+        let Ok(room) = Reserved::new(self.alloc) else {
+            return Err(StepError::Memory);
+        };
         let Ok(undo) = self.modules.delete(name) else {
             unreachable!();
         };
         Ok(Stepped {
             told,
-            trace: Record::OfDeletion(undo),
+            trace: Record::OfDeletion(room.fill(undo)),
         })
     }
 

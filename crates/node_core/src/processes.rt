@@ -5,11 +5,14 @@ ghost use Rattle.process_table.specs.declared.error.ProcError.{ProcError};
 ghost use Rattle.app_table.specs.Applications.{all_ended};
 ghost use Rattle.app_table.specs.Undo.{undone as apps_before};
 ghost use Rattle.undo_journal.specs.Reversible.{Accepts, AcceptsOnce, AcceptsWith, Refuses};
+ghost use Rattle.process_table.specs.Steps.{arrive_refusal, take_refusal};
 ghost use Rattle.process_table.specs.Undo.{TakesBackEnds};
 ghost use Rattle.node_core.specs.Node.{IsKept, NodeState};
 ghost use Rattle.node_core.specs.Record.{AppsBack, Undoes};
 ghost use Rattle.node_core.specs.Step.{MayRunOut, Step as Steps, arrival_of, ended_by};
 ghost use Rattle.process_table.specs.Commit.{IsCommitRefusal};
+ghost use Rattle.erl_eval.specs.declared.acts.Place.{Place};
+ghost use Rattle.erl_steps.specs.declared.machine.End.TheVariants.{Rest};
 ghost use Rattle.node_core.specs.Errors.{error_of};
 ghost use Rattle.node_core.specs.declared.event.Answer.TheVariants as answer;
 ghost use Rattle.node_core.specs.declared.event.Event.TheVariants as event;
@@ -18,10 +21,10 @@ use crate::event::{Answer, Refusal};
 use crate::node::Node;
 use crate::note::Note;
 use crate::record::Record;
-use crate::telling::{reporting, reporting_nothing, room, tell_note, tell_replies, tell_taken};
+use crate::telling::{noted, reporting_nothing, room, tell, tell_replies, tell_taken};
 use erl_machine::{Done, End};
 use erl_term::{Atom, Term};
-use process_table::{Body, ProcError, Processes};
+use process_table::{Body, ProcError, Processes, Undo};
 use reserved_box::{Boxed, Reserved};
 use std::alloc::{AllocError, Global};
 use sys_protocol::Apps;
@@ -38,25 +41,28 @@ pub(crate) type NotedStep = Result<Noted<Answer, Note, Record>, StepError<Refusa
 pub(crate) type AnsweredStep = Result<Answered<Answer, Note, Record>, StepError<Refusal>>;
 
 /// That a message came for a process of a name. It shares what it is made of with the message.
+#[inline(always)]
 fn arrival_note(alloc: Global, name: &Atom, message: &Term) -> Result<Note, AllocError>
     ensures { IfOk result (λ it. it ≡ record { replies = []; arrival = arrival_of name.now (Some message.now) }) }
 {
     Ok(Note::of_arrival(name.copy(alloc)?, message.copy(alloc)?))
 }
 
-/// What an undo of an arrival reports, and what is told of the arrival, in `n` equal values.
+/// What is told of an arrival, in `n` equal values.
+#[inline(never)]
 fn arrival_told(
     alloc: Global,
     name: &Atom,
-    message: &Term,
+    body: &Body,
     n: usize,
-) -> Result<(Vec<Told<Answer, Note>>, Note), AllocError>
-    ensures told { IfOk result (λ it. it.0.items ≡ replicate n (record { answer = answer.Unit; note = record { replies = []; arrival = arrival_of name.now (Some message.now) } })) }
-    ensures note { IfOk result (λ it. it.1 ≡ record { replies = []; arrival = arrival_of name.now (Some message.now) }) }
+) -> Result<Vec<Told<Answer, Note>>, AllocError>
+    ensures { IfOk result (λ it. it.items ≡ replicate n (record { answer = answer.Unit; note = record { replies = []; arrival = arrival_of name.now (message_of body.now) } })) }
 {
-    let note = arrival_note(alloc, name, message)?;
-    let told = tell_note(alloc, &note, n)?;
-    Ok((told, note))
+    let note = match body.message(alloc)? {
+        Some(message) => arrival_note(alloc, name, &message)?,
+        None => reporting_nothing(alloc),
+    };
+    tell(alloc, Answer::Unit, note, n)
 }
 
 /// The child, if any, whose process ends for a reason has none, and is due or not.
@@ -151,48 +157,78 @@ fn error_of(refusal: Option<ProcError>) -> StepError<Refusal>
     }
 }
 
+/// Why an arrival isn't made: the refusal, or want of memory where there is none.
+#[inline(never)]
+fn arrival_failure(processes: &Processes, name: &Atom, body: &Body) -> StepError<Refusal>
+    ensures { result ≡ error_of (arrive_refusal name.now body.now processes.now) }
+{
+    error_of(processes.arrive_refusal(name, body))
+}
+
+/// Why a take isn't made: the refusal, or want of memory where there is none.
+#[inline(never)]
+fn take_failure(processes: &Processes, pid: u64) -> StepError<Refusal>
+    ensures { result ≡ error_of (take_refusal pid processes.now) }
+{
+    error_of(processes.take_refusal(pid))
+}
+
 impl Node {
-    /// A message of a client comes for the process of a name. It is made up once.
+    /// A message of a client comes for the process of a name, and is told to nobody but by its note. It is made up once.
     #[inline(never)]
-    pub(crate) fn arrive(&mut self, client: u64, name: &Atom, body: &Body, n: usize) -> NotedStep
-        ensures accepted { IfOk result (λ done. AcceptsWith (Steps self.old (event.Arrive client name.now body.now)) self.new n done.told.items done.note) }
-        ensures reversible { IfOk result (λ done. Undoes done.trace self.old self.new) }
+    pub(crate) fn arrive_noted(&mut self, client: u64, name: &Atom, body: &Body) -> NotedStep
+        ensures accepted { IfOk result (λ it. AcceptsWith (Steps self.old (event.Arrive client name.now body.now)) self.new 0 it.told.items it.note) }
+        ensures reversible { IfOk result (λ it. Undoes it.trace self.old self.new) }
         ensures refused { IfErr result (Refuses (Steps self.old (event.Arrive client name.now body.now)) (MayRunOut self.old (event.Arrive client name.now body.now))) }
         ensures err { OnErr result (self.new ≡ self.old) }
     {
         match body.message(self.alloc) {
-            Ok(Some(message)) => self.receive(client, name, body, message, n),
-            _ => Err(error_of(self.processes.arrive_refusal(name, body))),
+            Ok(Some(message)) => self.receive(client, name, body, message),
+            _ => Err(arrival_failure(&self.processes, name, body)),
         }
     }
 
     /// This message comes for the process of a name.
-    fn receive(
-        &mut self,
-        client: u64,
-        name: &Atom,
-        body: &Body,
-        message: Term,
-        n: usize,
-    ) -> NotedStep
+    #[inline(always)]
+    fn receive(&mut self, client: u64, name: &Atom, body: &Body, message: Term) -> NotedStep
         requires { message_of body.now ≡ Some message }
-        ensures accepted { IfOk result (λ done. AcceptsWith (Steps self.old (event.Arrive client name.now body.now)) self.new n done.told.items done.note) }
+        ensures accepted { IfOk result (λ it. AcceptsWith (Steps self.old (event.Arrive client name.now body.now)) self.new 0 it.told.items it.note) }
+        ensures reversible { IfOk result (λ it. Undoes it.trace self.old self.new) }
+        ensures refused { IfErr result (Refuses (Steps self.old (event.Arrive client name.now body.now)) (MayRunOut self.old (event.Arrive client name.now body.now))) }
+        ensures err { OnErr result (self.new ≡ self.old) }
+    {
+        let Ok(note) = arrival_note(self.alloc, name, &message) else {
+            return Err(arrival_failure(&self.processes, name, body));
+        };
+        let undo = match self.processes.arrive_made(client, name, body, message) {
+            Ok(undo) => undo,
+            Err(_) => return Err(arrival_failure(&self.processes, name, body)),
+        };
+        Ok(Noted {
+            told: Vec::new(self.alloc),
+            note,
+            trace: Record::OfProcesses(undo),
+        })
+    }
+
+    /// A message of a client comes for the process of a name.
+    #[inline(never)]
+    pub(crate) fn arrive(&mut self, client: u64, name: &Atom, body: &Body, n: usize) -> Step
+        ensures accepted { IfOk result (λ done. Accepts (Steps self.old (event.Arrive client name.now body.now)) self.new n done.told.items) }
         ensures reversible { IfOk result (λ done. Undoes done.trace self.old self.new) }
         ensures refused { IfErr result (Refuses (Steps self.old (event.Arrive client name.now body.now)) (MayRunOut self.old (event.Arrive client name.now body.now))) }
         ensures err { OnErr result (self.new ≡ self.old) }
     {
-        let Ok((told, note)) = arrival_told(self.alloc, name, &message, n) else {
-            return Err(error_of(self.processes.arrive_refusal(name, body)));
+        let Ok(told) = arrival_told(self.alloc, name, body, n) else {
+            return Err(arrival_failure(&self.processes, name, body));
         };
-        let undo = match self.processes.arrive_made(client, name, body, message) {
-            Ok(undo) => undo,
-            Err(_) => return Err(error_of(self.processes.arrive_refusal(name, body))),
-        };
-        Ok(Noted {
-            told,
-            note,
-            trace: Record::OfProcesses(undo),
-        })
+        match self.arrive_noted(client, name, body) {
+            Ok(noted) => Ok(Stepped {
+                told,
+                trace: noted.trace,
+            }),
+            Err(error) => Err(error),
+        }
     }
 
     /// A process takes its next message, and runs it.
@@ -228,7 +264,7 @@ impl Node {
     {
         let (job, _, undo) = match self.processes.take(&self.modules, pid, 0) {
             Ok(taken) => taken,
-            Err(_) => return Err(error_of(self.processes.take_refusal(pid))),
+            Err(_) => return Err(take_failure(&self.processes, pid)),
         };
         Ok(Answered {
             answer: Answer::Job(job),
@@ -237,9 +273,9 @@ impl Node {
         })
     }
 
-    /// What a job has done is done, and told to nobody but by its note.
+    /// What a job has done is done whose process ends, and told to nobody but by its note.
     #[inline(never)]
-    pub(crate) fn commit_noted(&mut self, done: &Done) -> NotedStep
+    pub(crate) fn commit_ending(&mut self, done: &Done) -> NotedStep
         ensures accepted { IfOk result (λ it. AcceptsWith (Steps self.old (event.Commit done.now)) self.new 0 it.told.items it.note) }
         ensures reversible { IfOk result (λ it. Undoes it.trace self.old self.new) }
         ensures refused { IfErr result (Refuses (Steps self.old (event.Commit done.now)) (MayRunOut self.old (event.Commit done.now))) }
@@ -250,16 +286,34 @@ impl Node {
             Err(error) => return Err(error),
         };
         match self.processes.commit_once(done) {
-            Ok((replies, undo)) => Ok(Noted {
-                told: Vec::new(self.alloc),
-                note: reporting(replies),
-                trace: record_of(undo, ended),
-            }),
+            Ok((replies, undo)) => Ok(noted(self.alloc, replies, record_of(undo, ended))),
             Err(_) => {
                 unend(&mut self.apps, ended);
                 Err(StepError::Memory)
             }
         }
+    }
+
+    /// What a job has done is done whose process rests, and told to nobody but by its note.
+    #[inline(never)]
+    pub(crate) fn commit_resting(&mut self, done: &Done) -> NotedStep
+        requires { (place : Place) × (done.now.outcome.end ≡ Rest place) }
+        ensures accepted { IfOk result (λ it. AcceptsWith (Steps self.old (event.Commit done.now)) self.new 0 it.told.items it.note) }
+        ensures reversible { IfOk result (λ it. Undoes it.trace self.old self.new) }
+        ensures refused { IfErr result (Refuses (Steps self.old (event.Commit done.now)) (MayRunOut self.old (event.Commit done.now))) }
+        ensures err { OnErr result (self.new ≡ self.old) }
+    {
+        let End::Rest(place) = &done.outcome().end else {
+            unreachable!()
+        };
+        if let Some(refusal) = self.processes.commit_refusal(done) {
+            return Err(StepError::Rule(Refusal::OfProcesses(refusal)));
+        }
+        let Ok((replies, rested)) = self.processes.rest_once(done, place) else {
+            return Err(StepError::Memory);
+        };
+        let trace = Record::OfProcesses(Undo::Rested(rested));
+        Ok(noted(self.alloc, replies, trace))
     }
 
     /// What a job has done is done.

@@ -12,5 +12,5 @@ pub enum Record {
     /// A module was loaded or purged, processes that lingered in it were killed, and with them children, if any.
     OfCode(Boxed<code_loading::Undo>, Option<Boxed<sys_protocol::Undo>>),
     /// A module was deleted.
-    OfDeletion(code_server::Undo<Module>),
+    OfDeletion(Boxed<code_server::Undo<Module>>),
 }

@@ -66,15 +66,19 @@ impl Node {
     }
 
     /// Takes back a delete.
-    pub(crate) fn revert_deletion(&mut self, undo: code_server::Undo<Module>) -> Result<(), Record>
+    pub(crate) fn revert_deletion(
+        &mut self,
+        undo: Boxed<code_server::Undo<Module>>,
+    ) -> Result<(), Record>
         requires { (before : NodeState) × Undoes (record_of.OfDeletion undo) before self.old }
         ensures ok { OnOk result ((before : NodeState) → Undoes (record_of.OfDeletion undo) before self.old → self.new ≡ before) }
         ensures err { OnErr result (self.new ≡ self.old) }
         ensures back { IfErr result (λ it. it ≡ record_of.OfDeletion undo) }
     {
+        let (undo, room) = undo.open();
         match self.modules.revert(undo) {
             Ok(()) => Ok(()),
-            Err(undo) => Err(Record::OfDeletion(undo)),
+            Err(undo) => Err(Record::OfDeletion(room.fill(undo))),
         }
     }
 }

@@ -1,6 +1,9 @@
 // Steps of the node, and what takes them back.
 ghost use Rattle.node_core.specs.Record.{Undoes};
 ghost use Rattle.std.specs.Prelude.{◌≡◌, IfErr, IfOk, OnErr, option_map};
+ghost use Rattle.std.specs.Bool.{OnTrue};
+ghost use Rattle.erl_eval.specs.declared.acts.Place.{Place};
+ghost use Rattle.erl_steps.specs.declared.machine.End.TheVariants.{Rest};
 ghost use Rattle.undo_journal.specs.Reversible.{AcceptsOnce, AcceptsWith, Refuses};
 ghost use Rattle.node_core.specs.Step.{MayRunOut, Step as Steps, soft_purge_refusal};
 ghost use Rattle.node_core.specs.declared.event.Refusal.TheVariants.{OfApps, OfModules, OfProcesses};
@@ -14,10 +17,22 @@ use crate::record::Record;
 use crate::telling::without_note;
 use code_loading::is_lingered_in;
 use code_server::CodeError;
+use erl_machine::{Done, End};
 use erl_term::Atom;
 use process_table::ProcError;
 use sys_protocol::SysError;
 use undo_journal::{Answered, Noted, Reversible, Stepped, Told};
+
+/// Whether the process of a job rests again.
+#[inline(always)]
+fn rests(done: &Done) -> bool
+    ensures { OnTrue result ((place : Place) × (done.now.outcome.end ≡ Rest place)) }
+{
+    match &done.outcome().end {
+        End::Rest(_) => true,
+        End::Value(_) | End::Exit(_) => false,
+    }
+}
 
 /// A refusal of the processes, if there is one.
 fn of_processes(refusal: Option<ProcError>) -> Option<Refusal>
@@ -115,10 +130,7 @@ impl Reversible for Node {
 
     fn step(&mut self, event: &Event, n: usize) -> Step {
         match event {
-            Event::Arrive { client, name, body } => {
-                let noted = self.arrive(*client, name, body, n)?;
-                Ok(without_note(noted))
-            }
+            Event::Arrive { client, name, body } => self.arrive(*client, name, body, n),
             Event::Take(pid) => {
                 let noted = self.take(*pid, n)?;
                 Ok(without_note(noted))
@@ -135,11 +147,12 @@ impl Reversible for Node {
     #[inline(always)]
     fn step_noted(&mut self, event: &Event, n: u8) -> NotedStep {
         match event {
-            Event::Arrive { client, name, body } => {
-                self.arrive(*client, name, body, usize::from(n))
+            Event::Arrive { client, name, body } if n == 0 => {
+                self.arrive_noted(*client, name, body)
             }
             Event::Take(pid) => self.take(*pid, usize::from(n)),
-            Event::Commit(done) if n == 0 => self.commit_noted(done),
+            Event::Commit(done) if n == 0 && rests(done) => self.commit_resting(done),
+            Event::Commit(done) if n == 0 => self.commit_ending(done),
             _ => self.step_aside(event, n),
         }
     }

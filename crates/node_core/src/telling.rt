@@ -61,20 +61,6 @@ pub(crate) fn tell(
     Ok(told)
 }
 
-/// What is told of an event whose answer says nothing, in `n` equal values. The note is copied for each.
-pub(crate) fn tell_note(
-    alloc: Global,
-    note: &Note,
-    n: usize,
-) -> Result<Vec<Told<Answer, Note>>, AllocError>
-    ensures { IfOk result (λ it. it.items ≡ replicate n (record { answer = answer.Unit; note = note.now })) }
-{
-    if n == 0 {
-        return Ok(Vec::new(alloc));
-    }
-    tell_copies(alloc, &Answer::Unit, note, n, 0)
-}
-
 /// That nothing was sent, and nothing came.
 pub(crate) fn reporting_nothing(alloc: Global) -> Note
     ensures { result ≡ record { replies = []; arrival = None } }
@@ -87,6 +73,24 @@ pub(crate) fn reporting(replies: Vec<Reply>) -> Note
     ensures { result ≡ record { replies = replies.items; arrival = None } }
 {
     Note::of_replies(Row::new(replies))
+}
+
+/// A step that is told to nobody but by its note: that these replies were sent.
+#[inline(always)]
+pub(crate) fn noted(
+    alloc: Global,
+    replies: Vec<Reply>,
+    trace: Record,
+) -> Noted<Answer, Note, Record>
+    ensures told { result.told.items ≡ [] }
+    ensures note { result.note ≡ record { replies = replies.items; arrival = None } }
+    ensures trace { result.trace ≡ trace }
+{
+    Noted {
+        told: Vec::new(alloc),
+        note: reporting(replies),
+        trace,
+    }
 }
 
 /// A step whose note is not kept.

@@ -1,5 +1,5 @@
 -- The message that was made arrives.
-use Rattle.std.proofs.Common.{◌≡◌, ◌∙◌, [], Option, Some, replicate, sym, subst, ap}
+use Rattle.std.proofs.Common.{◌≡◌, ◌∙◌, [], Option, Some, sym, subst, ap}
 use Rattle.erl_term.specs.declared.term.Term.{Term}
 use Rattle.code_loading.proofs.Stepping.{steps_keep_code}
 use Rattle.code_loading.specs.Consistent.{IsConsistent}
@@ -29,20 +29,19 @@ returns-clause-accepted c =
     let t = c.self.inside.processes in
     let apps = c.self.inside.apps in
     let n : NodeState = record { modules = m; processes = t; apps = apps } in
-    let k = c.args.n in
     let name = c.args.name.now in
     let body = c.args.body.now in
     let a : Accepted NodeState Answer Note = record { node = with_processes (after_arrival c.args.client name body t) n; answer = answer.Unit; note = record { replies = []; arrival = arrival_of name (message_of body) } } in
     let same : Some c.args.message ≡ message_of body = sym c.requires in
     let new : NodeState = record { modules = m; processes = c.arrive_made.new.self; apps = apps } in
-    accepted_with n c.args.self.now (event.Arrive c.args.client name body) a new k c.in-Ok.told.items c.in-Ok.note c.self.view_is (unless_none (arrive_refusal name body t) OfProcesses a c.in-Ok-arrive_made.ensures.ok) (ap (λ (u : Table). with_processes u n) c.in-Ok-arrive_made.ensures.arrived) (c.in-Ok.ensures.told ∙ ap (λ (o : Option Term). replicate k (record { answer = answer.Unit; note = record { replies = []; arrival = arrival_of name o } })) same) (sym (c.in-Ok.ensures.note ∙ ap (λ (o : Option Term). record { replies = []; arrival = arrival_of name o }) same))
+    accepted_with n c.args.self.now (event.Arrive c.args.client name body) a new 0 c.new.result.items c.in-Ok.note c.self.view_is (unless_none (arrive_refusal name body t) OfProcesses a c.in-Ok-arrive_made.ensures.ok) (ap (λ (u : Table). with_processes u n) c.in-Ok-arrive_made.ensures.arrived) c.new.ensures.items (sym (c.in-Ok.ensures ∙ ap (λ (o : Option Term). record { replies = []; arrival = arrival_of name o }) same))
 
 pub returns-in_default-clause-refused : goal.returns-in_default-clause-refused
 returns-in_default-clause-refused c =
     let n : NodeState = record { modules = c.self.inside.modules; processes = c.self.inside.processes; apps = c.self.inside.apps } in
-    arrival-refused c.args.client c.args.name.now c.args.body.now n c.args.self.now c.error_of.result c.self.view_is (c.error_of.ensures ∙ ap error_of c.arrive_refusal.ensures)
+    arrival-refused c.args.client c.args.name.now c.args.body.now n c.args.self.now c.arrival_failure.result c.self.view_is c.arrival_failure.ensures
 
 pub returns-in-Err-clause-refused : goal.returns-in-Err-clause-refused
 returns-in-Err-clause-refused c =
     let n : NodeState = record { modules = c.self.inside.modules; processes = c.self.inside.processes; apps = c.self.inside.apps } in
-    arrival-refused c.args.client c.args.name.now c.args.body.now n c.args.self.now c.error_of-in-Err.result c.self.view_is (c.error_of-in-Err.ensures ∙ ap error_of (c.arrive_refusal-in-Err.ensures ∙ ap (λ (t : Table). arrive_refusal c.args.name.now c.args.body.now t) c.in-Err.ensures.err))
+    arrival-refused c.args.client c.args.name.now c.args.body.now n c.args.self.now c.arrival_failure-in-Err.result c.self.view_is (c.arrival_failure-in-Err.ensures ∙ ap (λ (t : Table). error_of (arrive_refusal c.args.name.now c.args.body.now t)) c.in-Err.ensures.err)

@@ -41,4 +41,4 @@ returns-clause-accepted c =
 pub returns-in-Err-clause-refused : goal.returns-in-Err-clause-refused
 returns-in-Err-clause-refused c =
     let n : NodeState = record { modules = c.self.inside.modules; processes = c.self.inside.processes; apps = c.self.inside.apps } in
-    take-refused c.args.pid n c.args.self.now c.error_of.result c.self.view_is (c.error_of.ensures ∙ ap error_of (c.take_refusal.ensures ∙ ap (λ (t : Table). take_refusal c.args.pid t) c.in-Err.ensures.err))
+    take-refused c.args.pid n c.args.self.now c.take_failure.result c.self.view_is (c.take_failure.ensures ∙ ap (λ (t : Table). error_of (take_refusal c.args.pid t)) c.in-Err.ensures.err)

@@ -1,4 +1,4 @@
--- What the job has done is done, and noted.
+-- What the job has done is done, and noted: its process ends.
 use Rattle.std.proofs.Common.{◌≡◌, ◌∙◌, sym, subst, ap, refl}
 use Rattle.code_loading.proofs.Stepping.{steps_keep_code}
 use Rattle.code_loading.specs.Consistent.{IsConsistent}
@@ -13,7 +13,7 @@ use Rattle.node_core.specs.declared.event.Answer.{Answer}
 use Rattle.node_core.specs.declared.event.Answer.TheVariants as answer
 use Rattle.node_core.specs.declared.event.Event.TheVariants as event
 use Rattle.node_core.specs.Note.{Note}
-use Rattle.node_core.proofs.node.Node.commit_noted.Goals as goal
+use Rattle.node_core.proofs.node.Node.commit_ending.Goals as goal
 
 pub invariant_of-self-in-Ok-commit_once : goal.invariant_of-self-in-Ok-commit_once
 invariant_of-self-in-Ok-commit_once c =
@@ -29,7 +29,7 @@ returns-in-Ok-commit_once-clause-accepted c =
     let a : Accepted NodeState Answer Note = record { node = record { modules = m; processes = committed done t; apps = ended_by done.job.pid done.outcome.end apps }; answer = answer.Unit; note = reporting (commit_told done t) } in
     let new : NodeState = record { modules = m; processes = c.commit_once.new.self; apps = c.end_by.new.apps } in
     let is : new ≡ a.node = (λ i. record { modules = m; processes = c.in-Ok-commit_once.ensures.committed i; apps = c.in-Ok.ensures.ended i }) in
-    accepted_with n c.args.self.now (event.Commit done) a new 0 c.new.result.items c.reporting.result c.self.view_is (c.in-Ok-commit_once.ensures.ok.0, c.in-Ok-commit_once.ensures.ok.1, refl) is c.new.ensures.items (ap reporting (sym c.in-Ok-commit_once.ensures.told) ∙ sym c.reporting.ensures)
+    accepted_with n c.args.self.now (event.Commit done) a new 0 c.noted.result.told.items c.noted.result.note c.self.view_is (c.in-Ok-commit_once.ensures.ok.0, c.in-Ok-commit_once.ensures.ok.1, refl) is c.noted.ensures.told (ap reporting (sym c.in-Ok-commit_once.ensures.told) ∙ sym c.noted.ensures.note)
 
 pub returns-in-Err-clause-refused : goal.returns-in-Err-clause-refused
 returns-in-Err-clause-refused c =
