@@ -23,7 +23,7 @@ use Rattle.erl_eval.specs.declared.acts.Place.TheVariants.{Loop}
 use Rattle.shell_answers.specs.Answers.{activity_of, apps_of, arrival_of, arrivals_of, committed, line_of, listed, loaded, modules_of, process_of, replied_by, replies_in, replies_of, rows_of, stopped_undo, undone_steps, mark_at, called, job_of, pair, place_of, revived, told_as, triple}
 use Rattle.shell_answers.specs.Faults.{fault_of, kind_word, placed, source_fault, start_failed, term_fault}
 use Rattle.shell_answers.specs.Refusals.{app_failed}
-use Rattle.shell_answers.proofs.Pieces.{AreTuples, AreTuples-append, bytes, list-alone, list-bytes, tuple-alone, tuple-bytes}
+use Rattle.shell_answers.proofs.Pieces.{AreTuples, AreTuples-append, bytes, list-alone, list-bytes, pid-pieces, tuple-alone, tuple-bytes}
 
 -- Tuples of two and of three
 
@@ -53,6 +53,13 @@ pub job-line : (place n : ℕ) → codes "{job," ++ (bytes (int (pos place)) ++ 
 unfolding utf8 is_quoted_word encode
 job-line place n =
     sym (tuple-bytes (atom (codes "job")) (more (int (pos place)) (more (pid n) none)) (10 ∷ []))
+
+-- and where the pid stands in pieces
+pub job-pieces : (place n : ℕ) → codes "{job," ++ (bytes (int (pos place)) ++ (codes ",<0." ++ (bytes (int (pos n)) ++ codes ".0>}\n"))) ≡ line_of (job_of place n)
+job-pieces place n =
+    let number = bytes (int (pos n)) in
+    let apart : (codes "<0." ++ (number ++ codes ".0>")) ++ codes "}\n" ≡ codes "<0." ++ (number ++ codes ".0>}\n") = append_assoc (codes "<0.") (number ++ codes ".0>") (codes "}\n") ∙ ap (λ l. codes "<0." ++ l) (append_assoc number (codes ".0>") (codes "}\n")) in
+    ap (λ l. codes "{job," ++ (bytes (int (pos place)) ++ 44 ∷ l)) (sym apart ∙ ap (λ l. l ++ codes "}\n") (pid-pieces n)) ∙ job-line place n
 
 pub revived-line : (n : ℕ) → codes "{revived," ++ (bytes (pid n) ++ codes "}\n") ≡ line_of (revived n)
 unfolding utf8 is_quoted_word encode

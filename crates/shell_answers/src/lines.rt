@@ -34,14 +34,15 @@ pub fn write_called(number: u64, out: &mut Vec<u8>) -> Result<(), AllocError>
 }
 
 /// Appends `{job,J,Pid}`.
+#[inline(always)]
 pub fn write_job(place: u64, pid: u64, out: &mut Vec<u8>) -> Result<(), AllocError>
     ensures { OnOk result (out.new.items ≡ out.old.items ++ line_of (job_of place pid)) }
 {
     put(b"{job,", out)?;
     put_number(place, out)?;
-    put(b",", out)?;
-    put_pid(pid, out)?;
-    put(b"}\n", out)
+    put(b",<0.", out)?;
+    put_number(pid, out)?;
+    put(b".0>}\n", out)
 }
 
 /// Appends `{revived,Pid}`.
