@@ -33,10 +33,11 @@ impl RecentNames {
     }
 
     /// The name that a text spells, where it is kept. Takes no memory.
+    #[inline(always)]
     pub(crate) fn get(&self, text: &str) -> Option<&Atom>
         ensures { IfSome result (λ name. name.now ≡ chars text.now) }
     {
-        match self.kept.get(number_of(text) % PLACES) {
+        match self.kept.get(name_number(text) % PLACES) {
             Some(Some(name)) if spells(name, text) => Some(name),
             _ => None,
         }
@@ -48,7 +49,7 @@ impl RecentNames {
         if self.make_places().is_err() {
             return;
         }
-        if let Some(kept) = self.kept.get_mut(number_of(name.as_str()) % PLACES) {
+        if let Some(kept) = self.kept.get_mut(name_number(name.as_str()) % PLACES) {
             *kept = name.copy(alloc).ok();
         }
     }
@@ -184,4 +185,20 @@ fn number_of(text: &str) -> usize {
         number = number.wrapping_mul(31).wrapping_add(usize::from(*byte));
     }
     number
+}
+
+/// A number that a name chooses, by its length, its first byte and its last two. It costs the same for each name.
+fn name_number(name: &str) -> usize {
+    match name.as_bytes() {
+        [first, .., before, last] => {
+            let number = name
+                .len()
+                .wrapping_mul(31)
+                .wrapping_add(usize::from(*first));
+            let number = number.wrapping_mul(31).wrapping_add(usize::from(*before));
+            number.wrapping_mul(31).wrapping_add(usize::from(*last))
+        }
+        [first, ..] => usize::from(*first),
+        [] => 0,
+    }
 }
