@@ -7,7 +7,8 @@ ghost use Rattle.process_table.specs.Steps.{arrive_refusal, call_refusal};
 ghost use Rattle.shell_answers.specs.Answers.{line_of};
 ghost use Rattle.shell_deeds.specs.Deeds.{Arrives, Performs, arrival_answer, arrival_event, body_of, event_of_arrival, tried};
 ghost use Rattle.shell_deeds.specs.Done.{IsDone, Misreads, after_missed};
-ghost use Rattle.shell_deeds.specs.Halts.{HaltsBy, MayAllRunOut, RefusesAll, halt_answer, halt_by, halt_fate, refusal_of_call};
+ghost use Rattle.shell_deeds.specs.Halts.{HaltsBy, MayAllRunOut, RefusesAll, halt_answer, halt_by, halt_fate, missed_fate, refusal_of_call};
+ghost use Rattle.shell_deeds.specs.declared.stepping.Halt.{Halt};
 ghost use Rattle.shell_deeds.specs.State.{carried, next_number, node_of, stepped};
 ghost use Rattle.shell_deeds.specs.Stepping.{SendsNothing};
 ghost use Rattle.shell_deeds.specs.Terms.{IsRead, one};
@@ -39,8 +40,18 @@ impl Holdings {
             Ok(term) => self.arrive_term(kind, name, term, out),
             Err(Misread::NotOne) => say(Fixed::BadCommand, out),
             Err(Misread::Faulty(error)) => say_term_fault(error, out),
-            Err(Misread::NoMemory) => tell_missed(self.halt_of_arrival(kind, name), out),
+            Err(Misread::NoMemory) => self.tell_unread(kind, name, out),
         }
+    }
+
+    /// Tells what stands against an arrival whatever its term is, which was not read, or else want of memory.
+    #[inline(never)]
+    fn tell_unread(&self, kind: Arrival, name: Name<'_>, out: &mut Vec<u8>) -> Said
+        ensures { IfOk result (λ fate. (halt : Halt)
+            × HaltsBy (RefusesAll self.now (arrival_event self.now kind (chars name.entry.text.now))) (MayAllRunOut self.now (arrival_event self.now kind (chars name.entry.text.now))) halt self.now
+            × (fate ≡ missed_fate halt) × (out.new.items ≡ out.old.items ++ line_of (halt_answer halt))) }
+    {
+        tell_missed(self.halt_of_arrival(kind, name), out)
     }
 
     /// The term of a text, which is kept for the lines that follow.
@@ -62,11 +73,19 @@ impl Holdings {
             → IsDone (Arrives self.old kind (chars name.entry.text.now) text fate) self.new out.old.items out.new.items) }
     {
         let Ok(atom) = self.atom_of(name) else {
-            let halt = self.halt_of_arrival(kind, name);
-            return self.tell_kept_out(halt, kind, out);
+            return self.tell_unnamed(kind, name, out);
         };
+        self.arrive_named(kind, atom, term, out)
+    }
+
+    /// Has a term arrive for a name.
+    #[inline(always)]
+    fn arrive_named(&mut self, kind: Arrival, name: Atom, term: Term, out: &mut Vec<u8>) -> Said
+        ensures { IfOk result (λ fate. IsDone (Performs self.old (tried kind self.old) (event_of_arrival kind (next_number self.old) name term)
+            (λ a. carried (stepped a (tried kind self.old)) (event_of_arrival kind (next_number self.old) name term) (arrival_answer kind (next_number self.old))) fate) self.new out.old.items out.new.items) }
+    {
         let number = self.next_number();
-        self.arrive_by(&arrival_event(kind, number, atom, term), kind, number, out)
+        self.arrive_by(&arrival_event(kind, number, name, term), kind, number, out)
     }
 
     /// Has a term arrive by this event, and tells it.
@@ -113,6 +132,17 @@ impl Holdings {
         }
     }
 
+    /// Tells what stands against an arrival whatever its term is, or else want of memory. A call is counted, unless memory was refused.
+    #[inline(never)]
+    fn tell_unnamed(&mut self, kind: Arrival, name: Name<'_>, out: &mut Vec<u8>) -> Said
+        ensures { IfOk result (λ fate. (halt : Halt)
+            × HaltsBy (RefusesAll self.old (arrival_event self.old kind (chars name.entry.text.now))) (MayAllRunOut self.old (arrival_event self.old kind (chars name.entry.text.now))) halt self.old
+            × (fate ≡ halt_fate halt) × (self.new ≡ after_missed halt kind self.old) × (out.new.items ≡ out.old.items ++ line_of (halt_answer halt))) }
+    {
+        let halt = self.halt_of_arrival(kind, name);
+        self.tell_kept_out(halt, kind, out)
+    }
+
     /// Tells why it has not arrived. A call is counted, unless memory was refused.
     #[inline(never)]
     fn tell_kept_out(&mut self, halt: Halt, kind: Arrival, out: &mut Vec<u8>) -> Said
@@ -146,7 +176,6 @@ impl Holdings {
     }
 
     /// What stands against an arrival whatever its term is, or else want of memory.
-    #[inline(never)]
     fn halt_of_arrival(&self, kind: Arrival, name: Name<'_>) -> Halt
         ensures { HaltsBy (RefusesAll self.now (arrival_event self.now kind (chars name.entry.text.now))) (MayAllRunOut self.now (arrival_event self.now kind (chars name.entry.text.now))) result self.now }
     {

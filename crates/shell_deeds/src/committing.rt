@@ -5,7 +5,8 @@ ghost use Rattle.node_core.specs.Note.{Note};
 ghost use Rattle.node_core.specs.declared.event.Event.TheVariants as events;
 ghost use Rattle.shell_deeds.specs.Deeds.{Commits, CommitsKept, Performs, kept_job};
 ghost use Rattle.shell_deeds.specs.Done.{IsDone};
-ghost use Rattle.shell_deeds.specs.Halts.{HaltsBy, MayCommit, RefusesResult};
+ghost use Rattle.shell_deeds.specs.Halts.{Halts, HaltsBy, MayCommit, RefusesResult, halt_answer, halt_fate};
+ghost use Rattle.shell_deeds.specs.declared.stepping.Halt.{Halt};
 ghost use Rattle.shell_answers.specs.Answers.{committed, line_of};
 ghost use Rattle.shell_deeds.specs.State.{ShellState, carried, joined, stepped, with_parts};
 ghost use Rattle.undo_journal.specs.Timeline.{here};
@@ -83,7 +84,7 @@ fn commit_kept(
 {
     match kept.run_lent(alloc) {
         Ok(done) => commit_done(alloc, kept, done, journal, sent, out),
-        Err(_) => tell_halt(halt_of_job(journal, kept), out),
+        Err(_) => tell_unrun(journal, kept, out),
     }
 }
 
@@ -126,8 +127,16 @@ fn most_told(journal: &Journal<Node>, done: &Done) -> usize {
     }
 }
 
-/// What stands against the result of a job that is told without memory, or else want of it.
+/// Tells what stands against the result of a job that is told without memory, or else want of it.
 #[inline(never)]
+fn tell_unrun(journal: &Journal<Node>, job: &Job, out: &mut Vec<u8>) -> Said
+    ensures { IfOk result (λ fate. (halt : Halt) × ((s : ShellState) → s.timeline ≡ journal.now → HaltsBy (RefusesResult s job.now) (MayCommit s job.now) halt s)
+        × (fate ≡ halt_fate halt) × (out.new.items ≡ out.old.items ++ line_of (halt_answer halt))) }
+{
+    tell_halt(halt_of_job(journal, job), out)
+}
+
+/// What stands against the result of a job that is told without memory, or else want of it.
 fn halt_of_job(journal: &Journal<Node>, job: &Job) -> Halt
     ensures { (s : ShellState) → s.timeline ≡ journal.now → HaltsBy (RefusesResult s job.now) (MayCommit s job.now) result s }
 {
@@ -159,12 +168,21 @@ fn commit_by(
         (with_parts journal.new (joined sent.new.items) s) out.old.items out.new.items) }
 {
     if make_room(alloc, sent, more).is_err() {
-        return tell_halt(halt_of(journal, event), out);
+        return tell_without_room(journal, event, out);
     }
     match journal.perform(event, 0) {
         Ok(_) => tell_newest(alloc, journal, sent, out),
         Err(error) => tell_failed(error, out),
     }
+}
+
+/// Tells what stands against an event that is told without memory, or else want of it.
+#[inline(never)]
+fn tell_without_room(journal: &Journal<Node>, event: &Event, out: &mut Vec<u8>) -> Said
+    ensures { IfOk result (λ fate. (halt : Halt) × ((s : ShellState) → s.timeline ≡ journal.now → Halts halt s event.now)
+        × (fate ≡ halt_fate halt) × (out.new.items ≡ out.old.items ++ line_of (halt_answer halt))) }
+{
+    tell_halt(halt_of(journal, event), out)
 }
 
 /// The replies of a journal's newest step.

@@ -1,5 +1,5 @@
 -- The replies are sent and told, or it is told why there are none.
-use Rattle.std.proofs.Common.{◌≡◌, ◌+◌, ◌++◌, ◌∷◌, [], List, Some, ap, refl, subst, sym, ◌∙◌}
+use Rattle.std.proofs.Common.{◌≡◌, ◌+◌, ◌++◌, List, Some, ap, subst, sym, ◌∙◌}
 use Rattle.process_ending.specs.declared.told.Reply.{Reply}
 use Rattle.undo_journal.specs.Reversible.{Accepted}
 use Rattle.undo_journal.specs.Timeline.{Station, here}
@@ -20,12 +20,12 @@ pub returns-then-is_err : goal.returns-then-is_err
 returns-then-is_err c =
     let e = c.args.event.now in
     let text = c.args.out.now.items in
-    let out = c.tell_halt.new.out.items in
+    let out = c.tell_without_room.new.out.items in
     let t = c.args.journal.now in
     let rs = joined c.make_room.new.sent.items in
-    IfOk-then c.tell_halt.result _ _ c.tell_halt.ensures (λ fate told s at sent.
+    IfOk-then c.tell_without_room.result _ _ c.tell_without_room.ensures (λ fate told s at sent.
     subst (λ (u : ShellState). IsDone (Performs s s e (λ a. carried (stepped a s) e (committed a.note.replies)) fate) u text out) (sym (parts-same s t rs at (sent ∙ sym c.make_room.ensures)))
-    (halted s e (λ a. carried (stepped a s) e (committed a.note.replies)) c.halt_of.result fate text out (c.halt_of.ensures s at) told))
+    (halted s e (λ a. carried (stepped a s) e (committed a.note.replies)) told.0 fate text out (told.1 s at) (told.2, told.3)))
 
 pub returns-in-Ok : goal.returns-in-Ok
 returns-in-Ok c =

@@ -27,8 +27,9 @@ returns-in-Err-clause-told c =
     let is : c.run_lent.new.self ≡ c.args.kept.now = c.in-Err.ensures.kept in
     let t = c.args.journal.now in
     let rs = joined c.args.sent.now.items in
-    let out = c.tell_halt.new.out.items in
-    IfOk-then c.tell_halt.result _ _ c.tell_halt.ensures (λ fate told s at sent.
-    let halts : HaltsBy (RefusesResult s c.args.kept.now) (MayCommit s c.args.kept.now) c.halt_of_job.result s =
-    subst (λ (job : Job). HaltsBy (RefusesResult s job) (MayCommit s job) c.halt_of_job.result s) is (c.halt_of_job.ensures s at) in
-    subst (λ (u : ShellState). IsDone (Commits s c.args.kept.now fate) u c.args.out.now.items out) (sym (parts-same s t rs at sent)) (unrun s c.args.kept.now c.halt_of_job.result fate c.args.out.now.items out halts told))
+    let here = c.args.out.now.items in
+    let out = c.tell_unrun.new.out.items in
+    IfOk-then c.tell_unrun.result _ _ c.tell_unrun.ensures (λ fate told s at sent.
+    let halts : HaltsBy (RefusesResult s c.args.kept.now) (MayCommit s c.args.kept.now) told.0 s =
+    subst (λ (job : Job). HaltsBy (RefusesResult s job) (MayCommit s job) told.0 s) is (told.1 s at) in
+    subst (λ (u : ShellState). IsDone (Commits s c.args.kept.now fate) u here out) (sym (parts-same s t rs at sent)) (unrun s c.args.kept.now told.0 fate here out halts (told.2, told.3)))

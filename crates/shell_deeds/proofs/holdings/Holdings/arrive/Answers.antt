@@ -29,4 +29,6 @@ pub returns-in-Err-NoMemory : goal.returns-in-Err-NoMemory
 returns-in-Err-NoMemory c =
     let s = c.read_term.new.self in
     let name = chars c.args.name.text.now in
-    subst (λ (t : ShellState). IfOk c.tell_missed.result (λ fate. IsDone (Arrives t c.args.kind name c.args.text.now fate) s c.args.out.now.items c.tell_missed.new.out.items)) c.read_term.ensures.held (IfOk-then c.tell_missed.result _ _ c.tell_missed.ensures (λ fate told. done-as s c.args.out.now.items c.tell_missed.new.out.items (λ d does. unread fate d does) (missed s (arrival_event s c.args.kind name) c.halt_of_arrival.result fate c.args.out.now.items c.tell_missed.new.out.items c.halt_of_arrival.ensures told)))
+    let here = c.args.out.now.items in
+    let out = c.tell_unread.new.out.items in
+    subst (λ (t : ShellState). IfOk c.tell_unread.result (λ fate. IsDone (Arrives t c.args.kind name c.args.text.now fate) s here out)) c.read_term.ensures.held (IfOk-then c.tell_unread.result _ _ c.tell_unread.ensures (λ fate told. done-as s here out (λ d does. unread fate d does) (missed s (arrival_event s c.args.kind name) told.0 fate here out told.1 (told.2, told.3))))
