@@ -9,7 +9,7 @@ use Rattle.undo_journal.specs.declared.reversible.Told.{Told}
 use Rattle.undo_journal.specs.declared.error.JournalError.{JournalError}
 use Rattle.undo_journal.specs.declared.error.JournalError.TheVariants.{Step, DeadMark, SerialEnd, Memory}
 use Rattle.undo_journal.specs.Past.{Chained, station_of, stations, timeline_of, shortened}
-use Rattle.undo_journal.specs.Reversible.{Accepted, Accepts, AcceptsOnce, AcceptsWith, Refuses, told_of}
+use Rattle.undo_journal.specs.Reversible.{Accepted, Accepts, Refuses, told_of}
 use Rattle.undo_journal.specs.declared.reversible.StepError.{StepError}
 use Rattle.undo_journal.specs.declared.reversible.StepError.TheVariants as steps
 use Rattle.undo_journal.specs.Timeline.{Station, Timeline, newest, here, appended, kept_to, cut_to, cut_stations, notes_of, report_of, Rises, IsFront, IsOrdered}
@@ -50,24 +50,12 @@ replicate-popped (suc n) x (r ∷ rest) aside is =
     let others = replicate-popped n x rest aside cc in
     (rw (first, others.0) refl, others.1)
 
--- of what tells of a step, one value is set aside
-pub AcceptsWith-aside : {S A N F : Type 0} (IsRuled : Result (Accepted S A N) F → Type 0) (node : S) (n count : ℕ) (told rest : List (Told A N)) (aside : Told A N) → count ≡ n → Accepts IsRuled node (count + 1) told → told ≡ rest ++ aside ∷ [] → AcceptsWith IsRuled node n rest aside.note
-AcceptsWith-aside {S} {A} {N} {F} IsRuled node n count told rest aside same accepts is =
+-- The rule's step is performed: of the equal values that tell of it the newest is set aside, whose note is kept.
+pub Performs-aside : {S A N F : Type 0} (IsRuled : Result (Accepted S A N) F → Type 0) (node : S) (n count : ℕ) (told rest : List (Told A N)) (aside : Told A N) (old new : Timeline S N) → count ≡ n → Accepts IsRuled node (count + 1) told → told ≡ rest ++ aside ∷ [] → new ≡ appended old node aside.note → Performs IsRuled n old rest new
+Performs-aside {S} {A} {N} {F} IsRuled node n count told rest aside old new same accepts is now =
     let all = sym is ∙ accepts.3 ∙ ap (λ k. replicate (k + 1) (told_of accepts.0)) same ∙ ap (λ k. replicate k (told_of accepts.0)) (add-one n) in
     let parts = replicate-popped n (told_of accepts.0) rest aside all in
-    (accepts.0, accepts.1, accepts.2, parts.0, ap (λ (t : Told A N). t.note) (sym parts.1))
-
--- of what tells of a step once, that is the answer
-pub AcceptsOnce-of : {S A N F : Type 0} (IsRuled : Result (Accepted S A N) F → Type 0) (node : S) (told rest : List (Told A N)) (once : Told A N) (note : N) → AcceptsWith IsRuled node 1 told note → told ≡ rest ++ once ∷ [] → AcceptsOnce IsRuled node once.answer note
-AcceptsOnce-of {S} {A} {N} {F} IsRuled node told rest once note accepts is =
-    let parts = replicate-popped 0 (told_of accepts.0) rest once (sym is ∙ accepts.3) in
-    (accepts.0, accepts.1, accepts.2, ap (λ (t : Told A N). t.answer) (sym parts.1), accepts.4)
-
--- the rule's step is performed
-pub Performs-from : {S A N F : Type 0} (IsRuled : Result (Accepted S A N) F → Type 0) (node : S) (n : ℕ) (told : List (Told A N)) (note : N) (old new : Timeline S N) → AcceptsWith IsRuled node n told note → new ≡ appended old node note → Performs IsRuled n old told new
-Performs-from IsRuled node n told note old new accepts is =
-    let a = accepts.0 in
-    (a, accepts.1, is ∙ ap (λ s. appended old s note) (sym accepts.2) ∙ ap (λ k. appended old a.node k) (sym accepts.4), accepts.3)
+    (accepts.0, accepts.1, now ∙ ap (λ s. appended old s aside.note) (sym accepts.2) ∙ ap (λ (t : Told A N). appended old accepts.0.node t.note) (sym (sym parts.1)), parts.0)
 
 -- want of memory that changed nothing, in `perform`
 pub PerformFails-from_want : {S A N F : Type 0} (IsRuled : Result (Accepted S A N) F → Type 0) (MayRunOut : Type 0) (old : Timeline S N) (e : JournalError F N) → MayRunOut → IsOutOfMemoryAt (here old).serial e → PerformFails IsRuled MayRunOut old e

@@ -14,11 +14,6 @@ abbrev pub Performs : {S A N F : Type 0} → (Result (Accepted S A N) F → Type
 Performs {S} {A} {N} {F} IsRuled n old told new =
     (a : Accepted S A N) × IsRuled (Ok a) × (new ≡ appended old a.node a.note) × (told ≡ replicate n (told_of a))
 
--- the same, and this is its answer
-abbrev pub PerformsOnce : {S A N F : Type 0} → (Result (Accepted S A N) F → Type 0) → Timeline S N → A → Timeline S N → Type 0
-PerformsOnce {S} {A} {N} {F} IsRuled old answer new =
-    (a : Accepted S A N) × IsRuled (Ok a) × (new ≡ appended old a.node a.note) × (answer ≡ a.answer)
-
 -- want of memory that changed nothing, where the journal stands at this mark
 abbrev pub IsOutOfMemoryAt : {F N : Type 0} → ℕ → JournalError F N → Type 0
 IsOutOfMemoryAt at (Step refusal) = ⊥

@@ -21,16 +21,6 @@ abbrev pub Accepts : {S A N F : Type 0} → (Result (Accepted S A N) F → Type 
 Accepts {S} {A} {N} {F} IsRuled new n told =
     (a : Accepted S A N) × IsRuled (Ok a) × (a.node ≡ new) × (told ≡ replicate n (told_of a))
 
--- the same, with one value more, whose note is this one
-abbrev pub AcceptsWith : {S A N F : Type 0} → (Result (Accepted S A N) F → Type 0) → S → ℕ → List (Told A N) → N → Type 0
-AcceptsWith {S} {A} {N} {F} IsRuled new n told note =
-    (a : Accepted S A N) × IsRuled (Ok a) × (a.node ≡ new) × (told ≡ replicate n (told_of a)) × (a.note ≡ note)
-
--- the same, and what tells of it once is this answer and this note
-abbrev pub AcceptsOnce : {S A N F : Type 0} → (Result (Accepted S A N) F → Type 0) → S → A → N → Type 0
-AcceptsOnce {S} {A} {N} {F} IsRuled new answer note =
-    (a : Accepted S A N) × IsRuled (Ok a) × (a.node ≡ new) × (a.answer ≡ answer) × (a.note ≡ note)
-
 -- The step failed as the rule refuses, or for want of memory, where memory may run out: no refusal that is told without memory is
 -- hidden.
 abbrev pub Refuses : {S A N F : Type 0} → (Result (Accepted S A N) F → Type 0) → Type 0 → StepError F → Type 0

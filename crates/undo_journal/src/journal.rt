@@ -1,7 +1,7 @@
 // The journal.
 ghost use Rattle.std.specs.Prelude.{◌≡◌, ◌↔◌, ◌-◌, ◌^◌, [], length, Some, Err, IfOk, IfErr, IsTrue, OnOk, OnErr, replicate};
 ghost use Rattle.std.specs.Option.{option_copied};
-ghost use Rattle.undo_journal.specs.Journal.{FailsBy, Performs, PerformsOnce, PerformFails, UndoFails, IsOutOfMemoryAt};
+ghost use Rattle.undo_journal.specs.Journal.{FailsBy, Performs, PerformFails, UndoFails, IsOutOfMemoryAt};
 ghost use Rattle.undo_journal.specs.Timeline.{here, opened, cut_to, cut_stations, node_at, notes_of, report_of, IsFront, IsOrdered};
 
 use crate::error::JournalError;
@@ -9,7 +9,7 @@ use crate::past::{
     Entry, enter, keep_newest, kept_entries, newest_serial, reports_on, take_back_to,
 };
 use crate::report::Report;
-use crate::reversible::{Answered, Noted, Reversible, StepError, Told};
+use crate::reversible::{Reversible, StepError, Stepped, Told};
 use std::alloc::{AllocError, Global};
 use std::marker::Model;
 use std::snapshot::Snapshot;
@@ -84,16 +84,6 @@ impl<S: Reversible> Journal<S> {
         &self.state
     }
 
-    /// What the newest step has noted: nothing where the machine stands where the journal began. Takes no memory.
-    pub fn newest_note(&self) -> Option<&S::Note>
-        ensures { option_copied result ≡ (here self.now).note }
-    {
-        match self.past.as_slice().last() {
-            Some(entry) => Some(&entry.note),
-            None => self.first_note.as_ref(),
-        }
-    }
-
     /// Whether no serial is left for another step. Takes no memory.
     pub fn is_full(&self) -> bool
         ensures { IsTrue result ↔ (self.now.last ≡ 2 ^ 64 - 1) }
@@ -102,7 +92,8 @@ impl<S: Reversible> Journal<S> {
     }
 
     /// Performs an event, as the machine's rule says: appends its station under the next serial,
-    /// and tells `n` equal values of it. Amortized, it costs the machine's step and no more.
+    /// and tells `n` equal values of it. The machine tells one more, whose note the journal keeps.
+    /// Amortized, it costs the machine's step and no more.
     ///
     /// # Errors
     ///
@@ -128,50 +119,17 @@ impl<S: Reversible> Journal<S> {
         if self.past.reserve(1).is_err() {
             return Err(self.failure_without_memory(event));
         }
-        let Noted { told, note, trace } = match self.state.step_noted(event, n) {
-            Ok(noted) => noted,
+        let Stepped { mut told, trace } = match self.state.step(event, usize::from(n) + 1) {
+            Ok(stepped) => stepped,
             Err(error) => return Err(self.failure(error)),
         };
+        let Some(kept) = told.pop() else {
+            unreachable!()
+        };
+        let Told { answer: _, note } = kept;
         self.last += 1;
         enter(&mut self.past, self.last, trace, note, &self.state);
         Ok(told)
-    }
-
-    /// Performs an event, as [`Journal::perform`] does, and hands its answer out once. Its note is the newest
-    /// ([`Journal::newest_note`]).
-    ///
-    /// # Errors
-    ///
-    /// Those of [`Journal::perform`]. Each leaves the journal as it was.
-    pub fn perform_once(
-        &mut self,
-        event: &S::Event,
-    ) -> Result<S::Answer, JournalError<S::Refusal, S::Note>>
-        ensures performed { IfOk result
-            (λ answer. PerformsOnce (S.rule (here self.old).node event.now) self.old answer self.new) }
-        ensures refused { IfErr result
-            (PerformFails (S.rule (here self.old).node event.now)
-            (S.may_run_out (here self.old).node event.now) self.old) }
-        ensures serial_end { self.old.last ≡ 2 ^ 64 - 1 → result ≡ Err JournalError.SerialEnd }
-        ensures err { OnErr result (self.new ≡ self.old) }
-    {
-        if self.last == u64::MAX {
-            return Err(JournalError::SerialEnd);
-        }
-        if self.past.reserve(1).is_err() {
-            return Err(self.failure_without_memory(event));
-        }
-        let Answered {
-            answer,
-            note,
-            trace,
-        } = match self.state.step_answered(event) {
-            Ok(answered) => answered,
-            Err(error) => return Err(self.failure(error)),
-        };
-        self.last += 1;
-        enter(&mut self.past, self.last, trace, note, &self.state);
-        Ok(answer)
     }
 
     /// Undoes every step after the mark, and reports it `n` times: how many steps, and their notes,

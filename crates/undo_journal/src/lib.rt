@@ -16,12 +16,11 @@
 //!
 //! - [`Journal::perform`] appends the station that the rule gives, under the next serial, and tells n
 //!   equal values of it. Where it is refused, the timeline is as before, and want of memory hides no
-//!   refusal that is told without memory. [`Journal::perform_once`] does the same, and hands the answer out by itself.
+//!   refusal that is told without memory.
 //! - [`Journal::undo`] cuts exactly the stations after the mark's, and reports n times how many there
 //!   were and their notes, oldest first. An undo that finds no memory stands at a station at or after
 //!   the mark, names it, and reports what it cut; the same undo, called again, has the same end.
-//! - [`Journal::mark`] names the node where the machine stands, [`Journal::state`] lends it, and [`Journal::newest_note`] the note of
-//!   the newest step.
+//! - [`Journal::mark`] names the node where the machine stands, and [`Journal::state`] lends it.
 //! - [`replay`]: after any list of commands, want of memory among them, the timeline is where the
 //!   commands lead as they were carried out, and the node is the fold of the rule over the live steps.
 //! - [`commands_have_one_end`]: from a timeline commands lead to one timeline at most, with one list of
@@ -47,4 +46,4 @@ pub use error::JournalError;
 pub use history::{Command, Replayed, commands_have_one_end, marks_name_nodes, replay};
 pub use journal::{Journal, Mark};
 pub use report::Report;
-pub use reversible::{Answered, Noted, Reversible, StepError, Stepped, Told};
+pub use reversible::{Reversible, StepError, Stepped, Told};

@@ -1,6 +1,6 @@
 // A machine whose steps can be taken back.
-ghost use Rattle.std.specs.Prelude.{◌≡◌, ◌+◌, Result, Err, IfOk, IfErr, MatchOption, OnOk, OnErr};
-ghost use Rattle.undo_journal.specs.Reversible.{Accepted, Accepts, AcceptsOnce, AcceptsWith, Refuses};
+ghost use Rattle.std.specs.Prelude.{◌≡◌, Result, Err, IfOk, IfErr, MatchOption, OnOk, OnErr};
+ghost use Rattle.undo_journal.specs.Reversible.{Accepted, Accepts, Refuses};
 
 use values::Duplicate;
 
@@ -19,28 +19,6 @@ pub struct Told<A, N> {
 pub struct Stepped<A, N, R> {
     /// Equal values, as many as were asked for.
     pub told: Vec<Told<A, N>>,
-    /// The record by which [`Reversible::revert`] takes the step back.
-    pub trace: R,
-}
-
-/// What a machine hands out with an accepted step whose note is kept.
-#[derive(Drop)]
-pub struct Noted<A, N, R> {
-    /// Equal values, as many as were asked for.
-    pub told: Vec<Told<A, N>>,
-    /// The note, once more.
-    pub note: N,
-    /// The record by which [`Reversible::revert`] takes the step back.
-    pub trace: R,
-}
-
-/// What a machine hands out with an accepted step that is answered once, and whose note is kept.
-#[derive(Drop)]
-pub struct Answered<A, N, R> {
-    /// The answer to who asked for the step.
-    pub answer: A,
-    /// What an undo of the step has to report.
-    pub note: N,
     /// The record by which [`Reversible::revert`] takes the step back.
     pub trace: R,
 }
@@ -104,68 +82,6 @@ pub trait Reversible: Drop {
         ensures refused { IfErr result
             (Refuses (rule self.old event.now) (may_run_out self.old event.now)) }
         ensures err { OnErr result (self.new ≡ self.old) };
-
-    /// Makes one step, as [`Reversible::step`] does, and hands its note out once more, for who keeps it.
-    ///
-    /// By itself it makes the step with one equal value more, and keeps the note of that. A machine whose answers cost much
-    /// does better to copy the note alone.
-    ///
-    /// # Errors
-    ///
-    /// Those of a step.
-    fn step_noted(
-        &mut self,
-        event: &Self::Event,
-        n: u8,
-    ) -> Result<Noted<Self::Answer, Self::Note, Self::Record>, StepError<Self::Refusal>>
-        ensures accepted { IfOk result
-            (λ done. AcceptsWith (rule self.old event.now) self.new n done.told.items done.note) }
-        ensures reversible { IfOk result (λ done. undoes done.trace self.old self.new) }
-        ensures refused { IfErr result
-            (Refuses (rule self.old event.now) (may_run_out self.old event.now)) }
-        ensures err { OnErr result (self.new ≡ self.old) }
-    {
-        let Stepped { mut told, trace } = self.step(event, usize::from(n) + 1)?;
-        let Some(kept) = told.pop() else {
-            unreachable!()
-        };
-        let Told { answer: _, note } = kept;
-        Ok(Noted { told, note, trace })
-    }
-
-    /// Makes one step, as [`Reversible::step_noted`] does, and hands its answer out once.
-    ///
-    /// By itself it has one value of the step told. A machine that answers without a list of values does better.
-    ///
-    /// # Errors
-    ///
-    /// Those of a step.
-    fn step_answered(
-        &mut self,
-        event: &Self::Event,
-    ) -> Result<Answered<Self::Answer, Self::Note, Self::Record>, StepError<Self::Refusal>>
-        ensures accepted { IfOk result
-            (λ done. AcceptsOnce (rule self.old event.now) self.new done.answer done.note) }
-        ensures reversible { IfOk result (λ done. undoes done.trace self.old self.new) }
-        ensures refused { IfErr result
-            (Refuses (rule self.old event.now) (may_run_out self.old event.now)) }
-        ensures err { OnErr result (self.new ≡ self.old) }
-    {
-        let Noted {
-            mut told,
-            note,
-            trace,
-        } = self.step_noted(event, 1)?;
-        let Some(once) = told.pop() else {
-            unreachable!()
-        };
-        let Told { answer, note: _ } = once;
-        Ok(Answered {
-            answer,
-            note,
-            trace,
-        })
-    }
 
     /// Takes back the newest step, whose record this is: the machine stands right after that step.
     ///

@@ -3,10 +3,10 @@
 use Rattle.std.proofs.Common.{◌+◌, ◌∷◌, [], ◌++◌, subst, ap, sym, ◌∙◌}
 use Rattle.undo_journal.specs.Journal.{FailsBy, PerformFails}
 use Rattle.undo_journal.specs.Past.{timeline_of}
-use Rattle.undo_journal.specs.Reversible.{AcceptsWith, Refuses}
+use Rattle.undo_journal.specs.Reversible.{Accepts, Refuses}
 use Rattle.undo_journal.specs.Timeline.{here, appended}
 use Rattle.undo_journal.proofs.Chains.{state_of-timeline}
-use Rattle.undo_journal.proofs.Timelines.{kept-push, timeline_of-push, Performs-from, PerformFails-by}
+use Rattle.undo_journal.proofs.Timelines.{kept-push, timeline_of-push, Performs-aside, PerformFails-by}
 use Rattle.undo_journal.proofs.journal.Journal.perform.Goals as goal
 
 pub returns-then-is_err-clause-refused : goal.returns-then-is_err-clause-refused
@@ -29,7 +29,7 @@ invariant_of-self-2 g c =
     let j = c.self.inside in
     let entered = c.enter.ensures in
     let entry = entered.0 in
-    kept-push g.S.Reversible.undoes j.floor j.first.value j.first_note j.past.items c.enter.new.past.items j.last entry j.state c.step_noted.new.self entered.2 entered.5 (entered.1 ∙ ap (λ ps. ps ++ entry ∷ []) c.reserve.ensures.items) (subst (λ r. g.S.Reversible.undoes r j.state c.step_noted.new.self) (sym entered.3) c.in-Ok.ensures.reversible) c.self.invariant.0 c.self.invariant.1
+    kept-push g.S.Reversible.undoes j.floor j.first.value j.first_note j.past.items c.enter.new.past.items j.last entry j.state c.step.new.self entered.2 entered.5 (entered.1 ∙ ap (λ ps. ps ++ entry ∷ []) c.reserve.ensures.items) (subst (λ r. g.S.Reversible.undoes r j.state c.step.new.self) (sym entered.3) c.in-Ok.ensures.reversible) c.self.invariant.0 c.self.invariant.1
 
 pub returns-clause-performed : goal.returns-clause-performed
 returns-clause-performed g c =
@@ -39,5 +39,5 @@ returns-clause-performed g c =
     let entry = entered.0 in
     let items = entered.1 ∙ ap (λ ps. ps ++ entry ∷ []) c.reserve.ensures.items in
     let node = state_of-timeline g.S.Reversible.undoes j.floor j.first.value j.first_note j.past.items j.last j.state c.self.invariant.0 ∙ ap (λ u. (here u).node) c.self.view_is in
-    let new = ap (λ ps. timeline_of j.floor j.first.value j.first_note ps (j.last + 1)) items ∙ timeline_of-push j.floor j.first.value j.first_note j.past.items j.last entry entered.2 ∙ ap (λ u. appended u entry.node.value entry.note) c.self.view_is ∙ ap (λ s. appended t s entry.note) entered.5 ∙ ap (λ k. appended t c.step_noted.new.self k) entered.4 in
-    Performs-from (g.S.Reversible.rule (here t).node c.args.event.now) c.step_noted.new.self c.args.n c.in-Ok.noted.told.items c.in-Ok.noted.note t _ (subst (λ s. AcceptsWith (g.S.Reversible.rule s c.args.event.now) c.step_noted.new.self c.args.n c.in-Ok.noted.told.items c.in-Ok.noted.note) node c.in-Ok.ensures.accepted) new
+    let new = ap (λ ps. timeline_of j.floor j.first.value j.first_note ps (j.last + 1)) items ∙ timeline_of-push j.floor j.first.value j.first_note j.past.items j.last entry entered.2 ∙ ap (λ u. appended u entry.node.value entry.note) c.self.view_is ∙ ap (λ s. appended t s entry.note) entered.5 ∙ ap (λ k. appended t c.step.new.self k) entered.4 in
+    Performs-aside (g.S.Reversible.rule (here t).node c.args.event.now) c.step.new.self c.args.n c.from.result c.in-Ok.stepped.told.items c.pop.new.self.items c.in-Some.kept t _ c.from.ensures (subst (λ s. Accepts (g.S.Reversible.rule s c.args.event.now) c.step.new.self (c.from.result + 1) c.in-Ok.stepped.told.items) node c.in-Ok.ensures.accepted) c.in-Some.ensures.items new
