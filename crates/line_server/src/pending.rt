@@ -28,12 +28,11 @@ impl Pending {
     {
         Ok(Pending {
             line: LineStart::new(alloc)?,
-            answers: Waiting::new(alloc),
+            answers: Waiting::new(alloc)?,
         })
     }
 
     /// Answers the line that ends with these bytes. It is not copied where it begins with them too.
-    #[inline(always)]
     fn end_line<S: Session>(&mut self, session: &mut S, end: &[u8]) -> Result<(), AllocError>
         requires { has_newline end.now ≡ false }
         ensures ok { OnOk result ((start : S) (had output : List ℕ) → SoFar S.turn start had output session.old self.old
@@ -47,7 +46,6 @@ impl Pending {
     }
 
     /// Answers the line that was begun, and ends with these bytes.
-    #[inline(never)]
     fn end_begun<S: Session>(&mut self, session: &mut S, end: &[u8]) -> Result<(), AllocError>
         requires { has_newline end.now ≡ false }
         ensures ok { OnOk result ((start : S) (had output : List ℕ) → SoFar S.turn start had output session.old self.old
@@ -112,7 +110,6 @@ impl Pending {
     }
 
     /// Answers the rest behind the last newline, where there is one.
-    #[inline(never)]
     fn end_input<S: Session>(&mut self, session: &mut S) -> Result<(), AllocError>
         ensures ok { OnOk result ((start : S) (had output : List ℕ) → SoFar S.turn start had output session.old self.old
             → IsAnswered S.turn start (lines_of had) output session.new self.new.answers) }

@@ -16,6 +16,9 @@ use std::io::Write;
 /// How many bytes of answers may wait while more lines of a chunk are answered.
 const MOST_WAITING: usize = 65_536;
 
+/// For how many bytes of answers there is room from the start: for those that may wait, and an answer of 65,536 bytes behind them.
+const ROOM: usize = 2 * MOST_WAITING;
+
 /// Answers that are not yet written.
 #[derive(Drop)]
 pub(crate) struct Waiting {
@@ -25,19 +28,18 @@ pub(crate) struct Waiting {
 }
 
 impl Waiting {
-    /// No answers.
-    pub(crate) fn new(alloc: Global) -> Waiting
-        ensures text { result.text.items ≡ [] }
-        ensures unrefused { result.is_refused ≡ false }
+    /// No answers. There is room from the start, so that a session that is in want of memory goes on being answered.
+    pub(crate) fn new(alloc: Global) -> Result<Waiting, AllocError>
+        ensures text { IfOk result (λ answers. answers.text.items ≡ []) }
+        ensures unrefused { IfOk result (λ answers. answers.is_refused ≡ false) }
     {
-        Waiting {
-            text: Vec::new(alloc),
+        Ok(Waiting {
+            text: Vec::with_capacity(alloc, ROOM)?,
             is_refused: false,
-        }
+        })
     }
 
     /// Has the session answer a line, or hear that it is too long.
-    #[inline(always)]
     pub(crate) fn hear<S: Session>(
         &mut self,
         session: &mut S,
@@ -52,7 +54,6 @@ impl Waiting {
     }
 
     /// Writes the answers.
-    #[inline(never)]
     pub(crate) fn write<W: Write>(&mut self, writer: &mut W) -> Result<(), Fault>
         ensures whole { OnOk result (Appends (W.contents writer.old) (W.contents writer.new) self.old.text.items) }
         ensures front { TakesFront (W.contents writer.old) (W.contents writer.new) self.old.text.items }
@@ -69,7 +70,6 @@ impl Waiting {
     }
 
     /// Whether many answers wait.
-    #[inline(always)]
     pub(crate) fn are_many(&self) -> bool {
         self.text.len() > MOST_WAITING
     }
@@ -86,7 +86,6 @@ impl Waiting {
 }
 
 /// The session's answer to a line, appended to the text.
-#[inline(always)]
 fn answer<S: Session>(
     session: &mut S,
     line: &[u8],
