@@ -163,7 +163,7 @@ exited_fits modules pid mid after l told receivers closed can back fits = (
 
 -- What is told.
 
-last_is : (xs ys : List Term) (x reason : Term) → ys ≡ xs ++ x ∷ [] → All (λ r. r ≡ reason) ys → x ≡ reason
+pub last_is : (xs ys : List Term) (x reason : Term) → ys ≡ xs ++ x ∷ [] → All (λ r. r ≡ reason) ys → x ≡ reason
 last_is xs ys x reason is all =
     let long : length ys ≡ length xs + 1 = ap length is ∙ length_push xs x in
     sym (get_or_push xs x x (length xs) refl) ∙ ap (λ zs. get_or zs (length xs) x) (sym is) ∙ all (length xs) x (omega (arith, long))

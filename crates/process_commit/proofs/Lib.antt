@@ -1,4 +1,3 @@
-pub mod Alone
 pub mod Commuting
 pub mod Leaving
 pub mod OwnMessages

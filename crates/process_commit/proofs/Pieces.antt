@@ -1,5 +1,5 @@
 -- What a record of a commit holds is lost: the place and the message of a job, whose turn is over, or a process that has ended.
-use Rattle.std.proofs.Common.{◌≡◌, ℕ, ◌+◌, ◌-◌, Bool, true, false, cond, inl, inr, nat_eq, List, [], ◌∷◌, ◌++◌, Option, None, Some, option_map, refl, sym, ap, subst, ◌∙◌, arith}
+use Rattle.std.proofs.Common.{◌≡◌, ℕ, ◌+◌, ◌-◌, Bool, true, false, cond, inl, inr, List, [], ◌∷◌, ◌++◌, Option, None, Some, option_map, refl, sym, ap, subst, ◌∙◌, arith}
 use Rattle.std.proofs.lemmas.Bool.{eq-eqb}
 use Rattle.std.proofs.lemmas.Bool.Decides.{eqb_tells}
 use Rattle.std.proofs.lemmas.List.{append-nil}
@@ -11,7 +11,6 @@ use Rattle.erl_eval.specs.declared.acts.Place.{Place}
 use Rattle.erl_machine.specs.declared.jobs.Job.{Job}
 use Rattle.erl_steps.specs.declared.world.Instance.{Instance}
 use Rattle.job_code.specs.declared.named.NamedInstance.{NamedInstance}
-use Rattle.process.specs.Process.{ProcessState}
 use Rattle.process.specs.Rerun.{ran_with}
 use Rattle.process.specs.declared.process.Ran.{Ran}
 use Rattle.process_index.specs.declared.calls.Call.{Call}

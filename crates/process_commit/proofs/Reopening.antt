@@ -1,5 +1,5 @@
 -- Whether calls can be open again depends on who lives and on the open calls alone, and on nothing else of the processes.
-use Rattle.std.proofs.Common.{◌≡◌, ℕ, zero, suc, ◌+◌, Bool, true, false, cond, not, nat_lt, List, [], ◌∷◌, length, map, position, slice_get, Option, None, Some, IsSome, is_some, option_and_then, option_map, refl, sym, ap, subst, ◌∙◌}
+use Rattle.std.proofs.Common.{◌≡◌, ℕ, zero, suc, ◌+◌, Bool, false, cond, not, nat_lt, List, [], ◌∷◌, map, position, slice_get, Option, None, Some, IsSome, is_some, option_and_then, option_map, refl, sym, ap, subst, ◌∙◌}
 use Rattle.std.proofs.lemmas.List.{length-map}
 use Rattle.std.proofs.lemmas.Bool.{true≢false}
 use Rattle.std.proofs.lemmas.Option.{none-some}
@@ -15,7 +15,7 @@ use Rattle.process_commit.specs.declared.answers.Closed.{Closed}
 use Rattle.process_ending.specs.Ends.{Lives, ended_as, returned, with_returned}
 use Rattle.process_index.specs.Calls.{with_call}
 use Rattle.process_index.specs.declared.calls.Call.{Call}
-use Rattle.process_store.specs.Changes.{CanReopen, reopened, reopened_living}
+use Rattle.process_store.specs.Changes.{reopened, reopened_living}
 use Rattle.process_store.specs.Table.{Table, changed_slots, has_number, is_asked, is_open, living, living_at}
 use Rattle.process_store.specs.Vacating.{occupied, occupied_slots}
 use Rattle.process_store.specs.declared.living.Living.{Living}

@@ -1,9 +1,8 @@
 -- What takes messages and answers back, the last first.
-use Rattle.std.proofs.Common.{◌≡◌, ℕ, zero, suc, ◌-◌, ◌<◌, ◌≤◌, List, [], ◌∷◌, ◌++◌, length, drop, get_or, None, Some, refl, sym, ap, subst, ◌∙◌, arith}
-use Rattle.process_commit.specs.Acts.{answered, closed_at}
+use Rattle.std.proofs.Common.{◌≡◌, ℕ, zero, suc, ◌-◌, ◌<◌, ◌≤◌, List, [], ◌∷◌, ◌++◌, length, drop, get_or, None, refl, sym, ap, subst, ◌∙◌, arith}
 use Rattle.process_commit.specs.Parted.{AllReopen, all_reopened, all_unsent}
 use Rattle.process_commit.specs.declared.answers.Closed.{Closed}
-use Rattle.process_store.specs.Changes.{CanReopen, closed_in, owner_of, reopened}
+use Rattle.process_store.specs.Changes.{CanReopen, reopened}
 use Rattle.process_store.specs.Living.{unarrived}
 use Rattle.process_store.specs.Table.{Table, changed}
 
@@ -31,10 +30,6 @@ answered_fits cs c before after can back all = reopens_push cs c after can (subs
 
 pub answered_back : (cs : List Closed) (c : Closed) (before after : Table) → reopened c.pid c.call after ≡ before → all_reopened (cs ++ c ∷ []) after ≡ all_reopened cs before
 answered_back cs c before after back = reopened_push cs c after ∙ ap (all_reopened cs) back
-
--- a call that is open again is closed again
-pub reclosed : (c : Closed) (before after : Table) → owner_of c.call.number after ≡ Some (c.pid, c.call) → closed_in c.pid c.call after ≡ before → answered c.call.number after ≡ before
-reclosed c before after owner back = ap (λ o. closed_at o after) owner ∙ back
 
 -- the one before those that are open again can be
 reopens_at : (cs : List Closed) (k : ℕ) (d : Closed) (t : Table) → k < length cs → AllReopen cs t → CanReopen (get_or cs k d).pid (get_or cs k d).call (all_reopened (drop (suc k) cs) t)

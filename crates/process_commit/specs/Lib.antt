@@ -1,6 +1,5 @@
 pub mod Acts
 pub mod Commits
 pub mod Exits
-pub mod Kept
 pub mod Parted
 pub mod Pieces

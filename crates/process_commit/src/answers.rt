@@ -1,5 +1,5 @@
 // The replies that a job has given, each to the client of its call.
-ghost use Rattle.std.specs.Prelude.{◌≡◌, ◌+◌, ◌<◌, ◌≤◌, ◌++◌, [], IfOk, IfSome, OnErr, OnOk, option_to_list, vec_capacity, vec_len};
+ghost use Rattle.std.specs.Prelude.{◌≡◌, ◌+◌, ◌<◌, ◌≤◌, ◌++◌, [], IfOk, OnErr, OnOk, option_to_list, vec_capacity, vec_len};
 ghost use Rattle.process_commit.specs.Acts.{answered, reply_of};
 ghost use Rattle.process_commit.specs.Parted.{AllReopen, act_answers, all_answered, all_reclosed, all_reopened, answers_of, answers_told};
 ghost use Rattle.process_store.specs.Changes.{owner_of};
@@ -31,11 +31,7 @@ pub struct Closed {
 }
 
 /// The reply that an act gives, if it is one.
-///
-/// # Errors
-///
-/// `AllocError` where memory is refused.
-pub fn answer_of(alloc: Global, act: &Act) -> Result<Option<Answer>, AllocError>
+fn answer_of(alloc: Global, act: &Act) -> Result<Option<Answer>, AllocError>
     ensures { IfOk result (λ it. option_to_list it ≡ act_answers act.now) }
 {
     let Act::Reply { number, term } = act else {
@@ -48,7 +44,11 @@ pub fn answer_of(alloc: Global, act: &Act) -> Result<Option<Answer>, AllocError>
 }
 
 /// The replies among these acts, in order.
-pub(crate) fn answers_of(alloc: Global, acts: &[Act]) -> Result<Vec<Answer>, AllocError>
+///
+/// # Errors
+///
+/// `AllocError` where memory is refused.
+pub fn answers_of(alloc: Global, acts: &[Act]) -> Result<Vec<Answer>, AllocError>
     ensures { IfOk result (λ it. it.items ≡ answers_of acts.now) }
 {
     let mut answers = Vec::new(alloc);

@@ -1,7 +1,6 @@
 // A job is committed, and its process ends.
 ghost use Rattle.std.specs.Prelude.{◌≡◌, ◌+◌, ◌≤◌, ◌++◌, All, IfErr, IfOk, IfSome, IsSome, OnErr, OnOk, length, map, vec_capacity, vec_len};
 ghost use Rattle.erl_term.specs.declared.term.Term.{Term};
-ghost use Rattle.process_commit.specs.Acts.{acts_done};
 ghost use Rattle.process_commit.specs.Exits.{CanUnexit, ExitsBack, exit_told, exited, unexited};
 ghost use Rattle.process_ending.specs.Pieces.{held_by};
 ghost use Rattle.process_ending.specs.Told.{down};
@@ -10,8 +9,7 @@ ghost use Rattle.process_store.specs.Pieces.{HoldsLost};
 ghost use Rattle.process_store.specs.Table.{living};
 
 use crate::acting::{Acted, act_all};
-use crate::answers::reopen_all;
-use crate::closed_calls::ClosedCalls;
+use crate::answers::{Closed, reopen_all};
 use crate::resting::told_of;
 use crate::sends::unsend_all;
 use code_server::Modules;
@@ -32,11 +30,15 @@ pub struct Exited {
     /// Whom messages were sent to, in order.
     pub receivers: Row<u64>,
     /// The calls that were closed by replies, in order.
-    pub closed: ClosedCalls,
+    pub closed: Row<Closed>,
 }
 
 /// A reason, as often as the process of a pid, which lives, has open calls.
-fn reasons_for(
+///
+/// # Errors
+///
+/// `AllocError` where memory is refused.
+pub fn reasons_for(
     store: &ProcessStore,
     alloc: Global,
     pid: u64,

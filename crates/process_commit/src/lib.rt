@@ -10,6 +10,7 @@
 //!   nowhere where there is none; a reply closes the open call of its number, whosever it is.
 //! - What is handed out is what the rules tell clients, in order: the replies, and then, of a process that ends, its open calls
 //!   (`acts_told`, `exit_told`).
+//! - [`answers_of`] are the replies among acts, in order, and [`reasons_for`] is a reason, as often as a process has open calls.
 //! - Where memory is refused the processes are as they were, however much was done already.
 //! - The record of a commit gives the processes before, whole, where the instances that they used stand in the table of modules
 //!   (`RestsBack`, `ExitsBack`); an undo that is refused hands its record back, and leaves the processes as they were. The record names
@@ -30,13 +31,11 @@
 
 mod acting;
 mod answers;
-mod closed_calls;
 mod exiting;
 mod resting;
 mod sends;
 
-pub use answers::{Answer, Closed, answer_all, answer_of, reopen_all};
-pub use closed_calls::ClosedCalls;
-pub use exiting::{Exited, commit_exit, revert_exit};
-pub use resting::{Rested, commit_rest, copied_place, rests_in, revert_rest};
+pub use answers::{Answer, Closed, answer_all, answers_of, reopen_all};
+pub use exiting::{Exited, commit_exit, reasons_for, revert_exit};
+pub use resting::{Rested, commit_rest, rests_in, revert_rest};
 pub use sends::receiver_of;

@@ -1,10 +1,6 @@
 // A job is committed, and its process rests again.
-ghost use Rattle.std.specs.Prelude.{ℕ, ◌≡◌, ◌∷◌, [], IfErr, IfNone, IfOk, IfSome, IsSome, List, None, OnErr, OnOk, OnSome, Some};
-ghost use Rattle.std.specs.Bool.{OnTrue};
+ghost use Rattle.std.specs.Prelude.{◌≡◌, IfErr, IfNone, IfOk, IfSome, IsSome, OnErr, OnOk, OnSome, Some};
 ghost use Rattle.std.specs.Option.{option_copied};
-ghost use Rattle.erl_eval.specs.declared.acts.Act.TheVariants as act;
-ghost use Rattle.erl_eval.specs.declared.acts.Place.TheVariants as at;
-ghost use Rattle.erl_term.specs.declared.term.Term.{Term};
 ghost use Rattle.process.specs.Ended.{ended, ended_with};
 ghost use Rattle.process.specs.Rerun.{ran_in, runs_again};
 ghost use Rattle.process_commit.specs.Acts.{acts_told};
@@ -15,15 +11,13 @@ ghost use Rattle.process_store.specs.Changes.{CanTurnAt, HasTurned, unrest_livin
 ghost use Rattle.process_store.specs.Pieces.{HoldsLost};
 ghost use Rattle.process_store.specs.Table.{changed, living};
 
-use crate::acting::{Acted, act_in_order, only_reply, tell_reply};
-use crate::answers::reopen_all;
-use crate::closed_calls::ClosedCalls;
+use crate::acting::{Acted, act_all};
+use crate::answers::{Closed, reopen_all};
 use crate::sends::unsend_all;
 use code_server::Modules;
 use erl_eval::{Act, Place};
 use erl_forms::Module;
 use erl_machine::{Instance, Job};
-use erl_term::Term;
 use process::{NamedRan, Told, Used};
 use process_ending::Reply;
 use process_store::ProcessStore;
@@ -41,7 +35,7 @@ pub struct Rested {
     /// Whom messages were sent to, in order.
     pub receivers: Row<u64>,
     /// The calls that were closed, in order.
-    pub closed: ClosedCalls,
+    pub closed: Row<Closed>,
 }
 
 /// The instance of a loop function's place, among the code in which it came to rest; none of a callback module's.
@@ -49,7 +43,6 @@ pub struct Rested {
 /// # Errors
 ///
 /// `AllocError` where memory is refused.
-#[inline(always)]
 pub fn rests_in(
     alloc: Global,
     place: &Place,
@@ -74,7 +67,6 @@ fn loaded_as(serial: u64, code: &[Instance]) -> Option<&Instance>
 }
 
 /// What tells the instances that a process uses, which lives.
-#[inline(always)]
 pub(crate) fn told_of(store: &ProcessStore, alloc: Global, pid: u64) -> Result<Told, AllocError>
     requires { IsSome (living pid store.now) }
     ensures { IfOk result (λ told. IfSome (living pid store.now) (λ l. ended_with told.rests_in told.code l.process ≡ ended l.process)) }
@@ -85,81 +77,13 @@ pub(crate) fn told_of(store: &ProcessStore, alloc: Global, pid: u64) -> Result<T
     }
 }
 
-/// Whether a place is of a callback module.
-#[inline(always)]
-fn is_server(place: &Place) -> bool
-    ensures { OnTrue result ((name : List ℕ) × (state : Term) × (place.now ≡ at.Server name state)) }
-{
-    match place {
-        Place::Server { .. } => true,
-        Place::Loop { .. } => false,
-    }
-}
-
-/// A place equal to this. One of a callback module, as most are, is made without a call.
+/// Commits a job whose process rests again at a place: its acts are done, in order, and then it rests there, one turn on. What clients
+/// are told is handed out, and what takes this back, in memory of its own.
 ///
 /// # Errors
 ///
-/// `AllocError` where memory is refused.
-#[inline(always)]
-pub fn copied_place(alloc: Global, place: &Place) -> Result<Place, AllocError>
-    ensures { IfOk result (λ it. it ≡ place.now) }
-{
-    match place {
-        Place::Server { module, state } => Ok(Place::Server {
-            module: module.copy(alloc)?,
-            state: state.copy(alloc)?,
-        }),
-        Place::Loop { .. } => place.copy(alloc),
-    }
-}
-
-/// Commits a job that has given one reply, and nothing else, and whose process rests again in its callback module, as [`commit_rest`]
-/// does. All memory is asked for before the first change.
-#[inline(always)]
-fn rest_replying(
-    store: &mut ProcessStore,
-    alloc: Global,
-    job: &Job,
-    number: u64,
-    reply: &Term,
-    place: &Place,
-) -> Result<(Vec<Reply>, Boxed<Rested>), AllocError>
-    requires running { IsRunning job.now store.old }
-    requires turns { CanTurnAt job.now.pid store.old }
-    requires server { (name : List ℕ) × (state : Term) × (place.now ≡ at.Server name state) }
-    ensures rested { OnOk result (store.new ≡ rested_after job.now place.now (act.Reply number reply.now ∷ []) store.old) }
-    ensures told { IfOk result (λ it. it.0.items ≡ acts_told (act.Reply number reply.now ∷ []) store.old) }
-    ensures inverse { IfOk result (λ it. RestsBack it.1 store.old store.new) }
-    ensures pieces { IfOk result (λ it. HoldsLost (held_of it.1 store.new) store.old store.new) }
-    ensures err { OnErr result (store.new ≡ store.old) }
-{
-    let pid = job.pid;
-    let Place::Server { module, state } = place else {
-        unreachable!()
-    };
-    let next = store.next_at(pid, place, None)?;
-    // What is large comes last, so that little is dropped where memory is refused.
-    let room = Reserved::new(alloc)?;
-    let mut replies = Vec::with_capacity(alloc, 1)?;
-    let reply = reply.copy(alloc)?;
-    let told = told_of(store, alloc, pid)?;
-    let module = module.copy(alloc)?;
-    let state = state.copy(alloc)?;
-    let ran = store.rest_next(pid, Place::Server { module, state }, None, next);
-    let closed = tell_reply(store, alloc, &mut replies, number, reply);
-    let rested = room.fill(Rested {
-        pid,
-        ran: ran.named(told),
-        receivers: Row::new(Vec::new(alloc)),
-        closed,
-    });
-    Ok((replies, rested))
-}
-
-/// Commits a job that has done any number of acts, as [`commit_rest`] does.
-#[inline(never)]
-fn rest_acting(
+/// `AllocError` where memory is refused. The processes are then as they were.
+pub fn commit_rest(
     store: &mut ProcessStore,
     alloc: Global,
     job: &Job,
@@ -181,7 +105,7 @@ fn rest_acting(
     let at = place.copy(alloc)?;
     let next = store.next_at(pid, &at, rests_in.as_ref())?;
     let ran = store.rest_next(pid, at, rests_in, next);
-    match act_in_order(store, alloc, None, acts, 0) {
+    match act_all(store, alloc, None, acts, 0) {
         Ok(acted) => {
             let Acted {
                 replies,
@@ -203,43 +127,9 @@ fn rest_acting(
     }
 }
 
-/// Commits a job whose process rests again at a place: its acts are done, in order, and then it rests there, one turn on. What clients
-/// are told is handed out, and what takes this back, in memory of its own.
-///
-/// # Errors
-///
-/// `AllocError` where memory is refused. The processes are then as they were.
-#[inline(always)]
-pub fn commit_rest(
-    store: &mut ProcessStore,
-    alloc: Global,
-    job: &Job,
-    acts: &[Act],
-    place: &Place,
-) -> Result<(Vec<Reply>, Boxed<Rested>), AllocError>
-    requires running { IsRunning job.now store.old }
-    requires turns { CanTurnAt job.now.pid store.old }
-    ensures rested { OnOk result (store.new ≡ rested_after job.now place.now acts.now store.old) }
-    ensures told { IfOk result (λ it. it.0.items ≡ acts_told acts.now store.old) }
-    ensures inverse { IfOk result (λ it. RestsBack it.1 store.old store.new) }
-    ensures pieces { IfOk result (λ it. HoldsLost (held_of it.1 store.new) store.old store.new) }
-    ensures err { OnErr result (store.new ≡ store.old) }
-{
-    match only_reply(acts) {
-        Some((number, reply)) if is_server(place) => {
-            rest_replying(store, alloc, job, number, reply, place)
-        }
-        _ => {
-            let (replies, rested) = rest_acting(store, alloc, job, acts, place)?;
-            Ok((replies, rested))
-        }
-    }
-}
-
 /// Makes ready what takes the commit of a job back whose process rests again: the instances that the process used are handed out, as
 /// they stand in the table of modules, and the calls are open again; or nothing, where memory is refused, and where one of the
 /// instances is not in the table.
-#[inline(always)]
 fn open_again(
     store: &mut ProcessStore,
     alloc: Global,
@@ -264,7 +154,6 @@ fn open_again(
 }
 
 /// The messages go, and the process runs again what it ran, with these instances. Takes no memory.
-#[inline(always)]
 fn take_back(store: &mut ProcessStore, rested: Rested, used: Used)
     requires { HasTurned rested.pid (all_unsent rested.receivers store.old) }
     ensures { store.new ≡ changed (unrest_living (ran_in used.rests_in used.code rested.ran)) rested.pid (all_unsent rested.receivers store.old) }
