@@ -1,8 +1,7 @@
 -- Lemmas on names and lines.
-use Rattle.std.proofs.Common.{◌≡◌, ℕ, Bool, true, false, cond, leb, ltb, List, length, None, Some, is_some, refl, subst, ◌≤◌, arith}
-use Rattle.std.specs.Str.{IsUtf8, chars, is_utf8}
-use Rattle.std.proofs.lemmas.Str.{IsUtf8-from_is_utf8, encodes-chars, length-le-encodes}
-use Rattle.std.proofs.lemmas.Bool.{le-ltb}
+use Rattle.std.proofs.Common.{◌≡◌, ℕ, Bool, true, false, cond, leb, ltb, List, length, None, Some, is_some, refl, arith}
+use Rattle.std.specs.Str.{IsUtf8, is_utf8}
+use Rattle.std.proofs.lemmas.Str.{IsUtf8-from_is_utf8}
 use Rattle.std.proofs.lemmas.Bool.Decides.{nat_tests}
 
 -- a number of characters that is no more than 255 is not more
@@ -16,9 +15,3 @@ not_utf8 bs fails = by (is_utf8 bs) refl
     by : (b : Bool) → is_utf8 bs ≡ b → is_utf8 bs ≡ false
     by true e = absurd (fails (IsUtf8-from_is_utf8 bs e))
     by false e = e
-
--- a text of no more than 255 bytes has no more than 255 characters
-pub few_chars : (bs : List ℕ) → IsUtf8 bs → length bs ≤ 255 → ltb 255 (length (chars bs)) ≡ false
-few_chars bs text few =
-    let bound : length (chars bs) ≤ length bs = subst (λ t. length (chars bs) ≤ length t) (encodes-chars bs text) (length-le-encodes (chars bs)) in
-    le-ltb 255 (length (chars bs)) (omega arith)

@@ -1,5 +1,5 @@
 // Words that are names.
-ghost use Rattle.std.specs.Prelude.{◌≡◌, ◌≤◌, nat_lt, length, IfOk};
+ghost use Rattle.std.specs.Prelude.{◌≡◌, ◌≤◌, length, IfOk};
 ghost use Rattle.std.specs.Option.{option_map};
 ghost use Rattle.std.specs.Str.{chars};
 ghost use Rattle.shell_requests.specs.Request.{name_of};
@@ -22,7 +22,7 @@ impl<'a> Name<'a> {
     pub fn new(word: &'a str) -> Option<Name<'a>>
         ensures { option_map (λ name. chars name.text.now) result ≡ name_of word.now }
     {
-        if is_long(word) {
+        if count(word) > LONGEST_NAME {
             return None;
         }
         Some(Name { text: word })
@@ -40,7 +40,6 @@ impl<'a> Name<'a> {
     /// # Errors
     ///
     /// `AllocError` where memory is refused.
-    #[inline(never)]
     pub fn atom(self, alloc: Global) -> Result<Atom, AllocError>
         ensures { IfOk result (λ atom. atom ≡ chars self.entry.text.now) }
     {
@@ -52,16 +51,7 @@ impl<'a> Name<'a> {
     }
 }
 
-/// Whether a text has more characters than a name may have. Where it has no more bytes, they are not counted.
-#[inline(always)]
-fn is_long(text: &str) -> bool
-    ensures { result ≡ nat_lt 255 (length (chars text.now)) }
-{
-    text.len() > LONGEST_NAME && count(text) > LONGEST_NAME
-}
-
 /// How many characters a text has.
-#[inline(never)]
 fn count(text: &str) -> usize
     ensures { result ≡ length (chars text.now) }
 {

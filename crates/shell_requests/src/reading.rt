@@ -1,8 +1,6 @@
 // Lines, read as requests.
-ghost use Rattle.std.specs.Bool.{OnFalse};
-ghost use Rattle.std.specs.Prelude.{◌≡◌, length, Some, false};
+ghost use Rattle.std.specs.Prelude.{◌≡◌, Some};
 ghost use Rattle.std.specs.Option.{option_map};
-ghost use Rattle.std.specs.Str.{bytes_eq};
 ghost use Rattle.shell_requests.specs.Reading.{meant, said, who_is};
 ghost use Rattle.shell_requests.specs.Request.{process_of, request_by, request_of, shape_of, spoken};
 
@@ -16,46 +14,11 @@ use crate::words::{
 /// The shape of the first of these words that a word is, or none: a table, a command a line.
 macro_rules! shape_in {
     ($word:expr; $($command:literal => $shape:expr,)*) => {{
-        $(if is_command($word, $command) {
+        $(if $word == $command {
             return Some($shape);
         })*
         None
     }};
-}
-
-/// Whether a word is that of a command. The lengths and the first bytes tell most words apart.
-fn is_command(word: &str, command: &str) -> bool
-    ensures { result ≡ bytes_eq word.now command.now }
-{
-    word.len() == command.len()
-        && begin_alike(word, command)
-        && have_same_bytes(word.as_bytes(), command.as_bytes())
-}
-
-/// Whether two words begin with the same byte, or one has none.
-fn begin_alike(word: &str, command: &str) -> bool
-    ensures { OnFalse result (bytes_eq word.now command.now ≡ false) }
-{
-    match (word.as_bytes(), command.as_bytes()) {
-        ([first, ..], [other, ..]) => *first == *other,
-        (_, _) => true,
-    }
-}
-
-/// Whether two words of one length have the same bytes.
-#[inline(always)]
-fn have_same_bytes(word: &[u8], command: &[u8]) -> bool
-    requires { length word.now ≡ length command.now }
-    ensures { result ≡ bytes_eq word.now command.now }
-{
-    let mut place = 0;
-    while place < command.len() {
-        if word[place] != command[place] {
-            return false;
-        }
-        place += 1;
-    }
-    true
 }
 
 /// What follows the word of a command.

@@ -1,6 +1,6 @@
 // The words of a line.
 ghost use Rattle.std.specs.Prelude.{◌≡◌, ◌≢◌, ◌==◌, ◌↔◌, [], ◌∷◌, IsTrue, slice_index, IfSome, MatchOption};
-ghost use Rattle.std.specs.List.{list_all, position_or_len};
+ghost use Rattle.std.specs.List.{list_all};
 ghost use Rattle.std.specs.Option.{option_copied, option_map};
 ghost use Rattle.std.specs.Str.{all_ascii_digits};
 ghost use Rattle.shell_requests.specs.Words.{after_spaces, begins_comment, behind_word, is_digit, is_silent, number_of, only_word, two_words, with_rest, words_of};
@@ -30,7 +30,6 @@ fn begins_comment(line: &[u8]) -> bool
 }
 
 /// The first word of a text, and what follows it.
-#[inline(always)]
 pub fn next_word(text: &str) -> Option<(&str, &str)>
     ensures words { MatchOption result (words_of text.now ≡ [])
         (λ it. words_of text.now ≡ it.0.now ∷ words_of it.1.now) }
@@ -40,62 +39,36 @@ pub fn next_word(text: &str) -> Option<(&str, &str)>
     if text.is_empty() {
         return None;
     }
-    let end = word_end(text);
-    let behind = after_spaces(&text[end..]);
-    Some((&text[..end], behind))
-}
-
-/// Where the first space of a text stands, or its end where it has none.
-#[inline(always)]
-fn word_end(text: &str) -> usize
-    ensures { result ≡ position_or_len (λ b. b == 32) text.now }
-{
-    let bytes = text.as_bytes();
-    let mut end = 0;
-    while end < bytes.len() {
-        if bytes[end] == b' ' {
-            return end;
+    match text.split_once(' ') {
+        Some((word, rest)) => {
+            let behind = after_spaces(rest);
+            Some((word, behind))
         }
-        end += 1;
+        None => Some((text, "")),
     }
-    end
 }
 
 /// A text without the spaces that it begins with.
-#[inline(always)]
 fn after_spaces(text: &str) -> &str
     ensures is { result.now ≡ after_spaces text.now }
     ensures words { words_of result.now ≡ words_of text.now }
     ensures begins { slice_index result.now 0 ≢ 32 }
 {
     let mut rest = text;
-    while begins_with_space(rest) {
-        rest = &rest[1..];
+    while let Some(shorter) = rest.strip_prefix(' ') {
+        rest = shorter;
     }
     rest
 }
 
-/// Whether a text begins with a space.
-#[inline(always)]
-fn begins_with_space(text: &str) -> bool
-    ensures { IsTrue result ↔ (slice_index text.now 0 ≡ 32) }
-{
-    match text.as_bytes() {
-        [first, ..] => *first == b' ',
-        [] => false,
-    }
-}
-
 /// Whether a text has no word.
-#[inline(always)]
 pub fn has_no_word(text: &str) -> bool
     ensures { IsTrue result ↔ (words_of text.now ≡ []) }
 {
-    after_spaces(text).is_empty()
+    next_word(text).is_none()
 }
 
 /// The word of a text that has one and no other.
-#[inline(always)]
 pub fn one_word(text: &str) -> Option<&str>
     ensures { option_copied result ≡ only_word (words_of text.now) }
 {
@@ -106,7 +79,6 @@ pub fn one_word(text: &str) -> Option<&str>
 }
 
 /// The words of a text that has two and no other.
-#[inline(never)]
 pub fn pair_of_words(text: &str) -> Option<(&str, &str)>
     ensures { option_map (λ it. (it.0.now, it.1.now)) result ≡ two_words (words_of text.now) }
 {
@@ -118,7 +90,6 @@ pub fn pair_of_words(text: &str) -> Option<(&str, &str)>
 }
 
 /// The first word of a text, and what stands behind it, where something does.
-#[inline(always)]
 pub fn word_and_rest(text: &str) -> Option<(&str, &str)>
     ensures { option_map (λ it. (it.0.now, it.1.now)) result ≡ with_rest (words_of text.now) (behind_word text.now) }
 {
@@ -133,23 +104,12 @@ pub fn word_and_rest(text: &str) -> Option<(&str, &str)>
 pub fn number(word: &str) -> Option<u64>
     ensures { result ≡ number_of word.now }
 {
-    if begins_with_plus(word) {
+    if !has_digits_alone(word) {
         return None;
     }
     match word.parse::<u64>() {
         Ok(number) => Some(number),
         Err(_) => None,
-    }
-}
-
-/// Whether a word begins with a plus.
-#[inline(always)]
-fn begins_with_plus(word: &str) -> bool
-    ensures { IsTrue result ↔ (slice_index word.now 0 ≡ 43) }
-{
-    match word.as_bytes() {
-        [first, ..] => *first == b'+',
-        [] => false,
     }
 }
 

@@ -1,11 +1,15 @@
--- A space is one byte; where none is in front, the text stays.
-use Rattle.std.proofs.Common.{◌≡◌, ◌<◌, get_or, length, arith, rules}
-use Rattle.std.proofs.lemmas.Str.{IsCharBoundary-after_ascii}
-use Rattle.shell_requests.proofs.Spaces.{some_from_space}
+-- Where no space is stripped, none is in front.
+use Rattle.std.proofs.Common.{lit<, sym, ◌∙◌}
+use Rattle.std.proofs.lemmas.Str.Pattern.{strip_prefix_char}
+use Rattle.shell_requests.proofs.Spaces.{begins_without, unspaced}
 use Rattle.shell_requests.proofs.words.after_spaces.Goals as goal
 
-pub range_from-rest-requires : goal.range_from-rest-requires
-range_from-rest-requires c = λ some.
-    let space : get_or c.loop-rest.rest.now 0 0 ≡ 32 = search rules in
-    let begun : 0 < length c.loop-rest.rest.now = some_from_space c.loop-rest.rest.now space in
-    IsCharBoundary-after_ascii c.loop-rest.rest.now 0 c.loop-rest.invariant.0 begun (omega (arith, space))
+pub returns-clause-begins : goal.returns-clause-begins
+returns-clause-begins c =
+    let text = c.loop-shorter.rest.now in
+    begins_without text (rw c.in_default.is at (strip_prefix_char 32 text c.strip_prefix.result c.strip_prefix.ensures.cases (lit< tt)))
+
+pub returns-clause-is : goal.returns-clause-is
+returns-clause-is c =
+    let text = c.loop-shorter.rest.now in
+    sym (unspaced text (begins_without text (rw c.in_default.is at (strip_prefix_char 32 text c.strip_prefix.result c.strip_prefix.ensures.cases (lit< tt))))) ∙ c.loop-shorter.invariant.2
