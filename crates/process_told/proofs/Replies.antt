@@ -1,11 +1,12 @@
 -- Which of the replies that may be told is told next.
-use Rattle.std.proofs.Common.{◌≡◌, ℕ, ◌+◌, ◌-◌, ◌<◌, All, drop, get_or, replicate, take, Bool, true, false, cond, nat_eq, List, [], ◌∷◌, ◌++◌, length, map, slice_get, Option, None, Some, refl, sym, ap, subst, ◌∙◌, arith}
+use Rattle.std.proofs.Common.{◌≡◌, ℕ, ◌+◌, ◌-◌, ◌<◌, All, drop, get_or, replicate, take, true, false, cond, nat_eq, List, [], ◌∷◌, ◌++◌, length, map, slice_get, Option, None, Some, refl, sym, ap, subst, ◌∙◌, arith}
 use Rattle.std.proofs.lemmas.Bool.Decides.{nat_tests}
 use Rattle.std.proofs.lemmas.Grind.{common_steps}
-use Rattle.std.proofs.lemmas.List.{append_assoc, get_or_push, length-drop, length_push, replicate-append-replicate, take_all, take_more}
+use Rattle.std.proofs.lemmas.List.{append_assoc, length-drop, replicate-append-replicate, take_all, take_more}
 use Rattle.std.proofs.lemmas.List.Elements.{All-map}
 use Rattle.std.proofs.Math.Seq.{drop-append_seam}
 use Rattle.erl_term.specs.declared.term.Term.{Term}
+use Rattle.process_commit.proofs.Leaving.{last_is}
 use Rattle.process_commit.specs.Acts.{closed_at, reply_of}
 use Rattle.process_commit.specs.Parted.{answers_told}
 use Rattle.process_commit.specs.declared.answers.Answer.{Answer}
@@ -93,11 +94,6 @@ echo_next told before now all k m pushed is one =
     ap (λ ls. ls ++ replicate m told) pushed ∙ append_assoc before (told ∷ []) (replicate m told) ∙ ap (λ ls. before ++ ls) (replicate-append-replicate 1 m told) ∙ ap (λ n. before ++ replicate n told) (sym one) ∙ is
 
 -- One more call is told to be down.
-
-last_is : (xs ys : List Term) (x reason : Term) → ys ≡ xs ++ x ∷ [] → All (λ r. r ≡ reason) ys → x ≡ reason
-last_is xs ys x reason is all =
-    let long : length ys ≡ length xs + 1 = ap length is ∙ length_push xs x in
-    sym (get_or_push xs x x (length xs) refl) ∙ ap (λ zs. get_or zs (length xs) x) (sym is) ∙ all (length xs) x (omega (arith, long))
 
 pub down_next : (reasons rest : List Term) (before now start downs : List Reply) (i : ℕ) (d e : Reply) (x reason : Term) → i < length downs → e ≡ get_or downs i d → reasons ≡ rest ++ x ∷ [] → All (λ r. r ≡ reason) reasons → All (IsDown reason) downs → now ≡ before ++ record { client = e.client; number = e.number; body = told.Down x } ∷ [] → before ≡ start ++ take i downs → now ≡ start ++ take (i + 1) downs
 down_next reasons rest before now start downs i d e x reason within here popped all down pushed is =

@@ -12,7 +12,6 @@ use Rattle.process_commit.specs.Exits.{exit_told}
 use Rattle.process_commit.specs.Parted.{acts_sent, all_answered, answers_of, answers_told}
 use Rattle.process_commit.specs.declared.answers.Answer.{Answer}
 use Rattle.process_ending.specs.Told.{down, downs, killed}
-use Rattle.process_ending.specs.declared.told.Reply.{Reply}
 use Rattle.process_index.specs.declared.calls.Call.{Call}
 use Rattle.process_store.specs.declared.living.Living.{Living}
 use Rattle.process_store.specs.Table.{Table, living}

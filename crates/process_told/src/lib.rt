@@ -19,13 +19,11 @@
 //!
 //! # What no contract says
 //!
-//! That there is memory, and what a call costs: for each value that is asked for beyond one, a copy of each reply and of the reason for
-//! each open call, where copies of terms share. Nothing is copied where one value is asked for, but what tells which replies there are.
+//! That there is memory, and what a call costs: for each value that is asked for, a copy of each reply and of the reason for each
+//! open call, where copies of terms share.
 #![tactic(auto)]
 
-mod copies;
 mod ready;
 mod telling;
 
-pub use copies::Copies;
 pub use telling::Telling;

@@ -1,5 +1,5 @@
 // What clients are told, in several equal values.
-ghost use Rattle.std.specs.Prelude.{◌≡◌, ◌+◌, ◌≤◌, ◌++◌, ◌∷◌, ◌<◌, [], All, IfOk, List, ℕ, length, map, replicate, vec_capacity, vec_len};
+ghost use Rattle.std.specs.Prelude.{◌≡◌, ◌+◌, ◌≤◌, ◌++◌, ◌∷◌, [], All, IfOk, List, ℕ, length, map, replicate, vec_capacity, vec_len};
 ghost use Rattle.erl_term.specs.declared.term.Term.{Term};
 ghost use Rattle.process_commit.specs.Parted.{answers_told};
 ghost use Rattle.process_commit.specs.declared.answers.Answer.{Answer};
@@ -57,18 +57,6 @@ fn make_echo(alloc: Global, answers: &[Answer], reasons: &[Term]) -> Result<Echo
     Ok(Echo {
         answers,
         reasons,
-        replies,
-    })
-}
-
-/// These answers themselves, for which there is one place only, and room for what they tell.
-fn echo_of(alloc: Global, answers: Vec<Answer>) -> Result<Echo, AllocError>
-    ensures { IfOk result (IsEcho answers.items []) }
-{
-    let replies = Vec::with_capacity(alloc, answers.len())?;
-    Ok(Echo {
-        answers,
-        reasons: Vec::new(alloc),
         replies,
     })
 }
@@ -209,42 +197,6 @@ impl Telling {
             echoes,
             lists,
             count: n,
-        })
-    }
-
-    /// Makes ready to tell in one value at most, whatever it is: nothing is told once more.
-    ///
-    /// # Errors
-    ///
-    /// `AllocError` where memory is refused.
-    pub(crate) fn once(alloc: Global, n: usize) -> Result<Telling, AllocError>
-        requires { n < 2 }
-        ensures { IfOk result (λ it. (answers : List Answer) (reasons : List Term) → IsReady answers reasons n it) }
-    {
-        let lists = Vec::with_capacity(alloc, n)?;
-        Ok(Telling {
-            echoes: Vec::new(alloc),
-            lists,
-            count: n,
-        })
-    }
-
-    /// Makes ready to tell, in two values, what replies to these answers a step gives. The answers are not copied.
-    ///
-    /// # Errors
-    ///
-    /// `AllocError` where memory is refused.
-    pub(crate) fn twice(alloc: Global, answers: Vec<Answer>) -> Result<Telling, AllocError>
-        ensures { IfOk result (IsReady answers.items [] 2) }
-    {
-        let lists = Vec::with_capacity(alloc, 2)?;
-        let echo = echo_of(alloc, answers)?;
-        let mut echoes = Vec::with_capacity(alloc, 1)?;
-        echoes.push(echo)?;
-        Ok(Telling {
-            echoes,
-            lists,
-            count: 2,
         })
     }
 

@@ -1,5 +1,5 @@
 -- What was told next is the reply of this answer, or is not.
-use Rattle.std.proofs.Common.{◌≡◌, ◌++◌, List, None, Some, length, map, sym, ap, ◌∙◌}
+use Rattle.std.proofs.Common.{◌++◌, List, None, Some, length, map, sym, ap, ◌∙◌}
 use Rattle.process_commit.specs.Parted.{answers_told}
 use Rattle.process_ending.specs.Told.{down}
 use Rattle.process_ending.specs.declared.told.Reply.{Reply}

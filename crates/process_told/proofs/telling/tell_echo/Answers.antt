@@ -1,5 +1,5 @@
 -- The replies are told, and what is left of what was told says that calls are down.
-use Rattle.std.proofs.Common.{◌≡◌, ◌++◌, All, List, length, map, sym, ap, subst, ◌∙◌}
+use Rattle.std.proofs.Common.{◌≡◌, ◌++◌, All, List, length, map, sym, ap, subst}
 use Rattle.process_commit.specs.Parted.{answers_told}
 use Rattle.process_commit.specs.declared.answers.Answer.{Answer}
 use Rattle.process_ending.specs.Told.{down}

@@ -1,5 +1,5 @@
 -- Each so far has told it, and each that is left can.
-use Rattle.std.proofs.Common.{◌≡◌, ◌≤◌, ◌+◌, ◌++◌, All, List, replicate, vec_capacity, vec_len}
+use Rattle.std.proofs.Common.{◌≡◌, ◌+◌, ◌++◌, All, List, replicate, vec_capacity, vec_len}
 use Rattle.std.specs.Vec.Iter.{into_iter_items, into_iter_len}
 use Rattle.erl_term.specs.declared.term.Term.{Term}
 use Rattle.process_commit.specs.declared.answers.Answer.{Answer}

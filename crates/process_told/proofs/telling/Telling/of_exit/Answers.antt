@@ -5,7 +5,6 @@ use Rattle.process_commit.specs.Exits.{exit_told}
 use Rattle.process_commit.specs.declared.answers.Answer.{Answer}
 use Rattle.process_told.proofs.Told.{by_exit, if_ok}
 use Rattle.process_told.specs.Telling.{IsReady, IsReadyFor, IsToldBy}
-use Rattle.process_told.specs.declared.telling.Telling.{Telling}
 use Rattle.process_told.proofs.telling.Telling.of_exit.Goals as goal
 
 pub returns : goal.returns
