@@ -1,6 +1,5 @@
 pub mod Commit
 pub mod Jobs
-pub mod Made
 pub mod Messages
 pub mod Steps
 pub mod Undo

@@ -1,6 +1,5 @@
 // What arrives from outside, and the message that it comes as.
-ghost use Rattle.std.specs.Prelude.{◌≡◌, ◌<◌, ◌^◌, IfOk, OnErr, is_some, true, pos};
-ghost use Rattle.erl_term.specs.Term.{tree};
+ghost use Rattle.std.specs.Prelude.{◌≡◌, IfOk, OnErr, is_some, true};
 ghost use Rattle.process_table.specs.Messages.{call_message, cast_message, message_of};
 ghost use Rattle.process_table.specs.Steps.{call_of};
 
@@ -54,7 +53,6 @@ impl Body {
     /// # Errors
     ///
     /// `AllocError` where memory is refused.
-    #[inline(always)]
     pub fn message(&self, alloc: Global) -> Result<Option<Term>, AllocError>
         ensures message { IfOk result (λ it. it ≡ message_of self.now) }
         ensures memory { OnErr result (is_some (message_of self.now) ≡ true) }
@@ -71,7 +69,6 @@ impl Body {
 }
 
 /// `{'$gen_call',{<0.0.0>,Number},Term}`
-#[inline(always)]
 fn call_message(alloc: Global, number: i64, term: &Term) -> Result<Term, AllocError>
     ensures { IfOk result (λ it. it ≡ call_message number term.now) }
 {
@@ -82,7 +79,6 @@ fn call_message(alloc: Global, number: i64, term: &Term) -> Result<Term, AllocEr
 }
 
 /// `{'$gen_cast',Term}`
-#[inline(never)]
 fn cast_message(alloc: Global, term: &Term) -> Result<Term, AllocError>
     ensures { IfOk result (λ it. it ≡ cast_message term.now) }
 {

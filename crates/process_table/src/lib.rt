@@ -12,11 +12,11 @@
 //!   [`Processes::end`] give the table of the rules (`with_process`, `after_arrival`, `taken`, `suspend_living`, `resume_living`,
 //!   `vacated`), are refused by them, in their order, and change nothing where they are; `Memory` is told only where there is no
 //!   other refusal.
+//! - [`Processes::arrive`] hands the message that came out, and [`Processes::take`] the job (`message_of`, `Takes`), in as many
+//!   equal values as are asked for.
 //! - [`Processes::commit`] does what a job gave, its acts in order and then its end, and tells what clients are told of it, in as many
-//!   equal values as are asked for (`committed`, `commit_told`), just where the process of the job's pid runs an equal job, code included, and can be counted one turn on
-//!   (`RefusesCommit`). It takes a [`erl_machine::Done`], which nobody can make up. [`Processes::commit_unrefused`] does the same where
-//!   [`Processes::commit_refusal`] has told that nothing stands against it, and doesn't compare the job once more, and
-//!   [`Processes::commit_once`] does that and tells it once.
+//!   equal values as are asked for (`committed`, `commit_told`), just where the process of the job's pid runs an equal job, code
+//!   included, and can be counted one turn on (`RefusesCommit`). It takes a [`erl_machine::Done`], which nobody can make up.
 //! - [`Processes::kill_users`] takes each user of an instance out, and nobody else (`without_users` of
 //!   [`process_ending`]).
 //! - [`Processes::arrive_refusal`], [`Processes::take_refusal`] and [`Processes::commit_refusal`] tell without memory why a step would be
@@ -35,24 +35,22 @@
 //!
 //! # What no contract says
 //!
-//! That there is memory, and what a call costs: a step costs what its elementary change costs ([`process_store`]); a take copies the
-//! code of its job, which is shared, and no job but those that are asked for beside it; an end copies names of modules, and its undo looks for their instances. `runnable` walks over the
-//! slots, and evaluates nothing.
+//! That there is memory, and what a call costs: a step costs what its elementary change costs ([`process_store`]), and for each
+//! equal value that is asked for what a copy of the message, of the job or of what is told costs, where copies of terms and of code
+//! share; an end copies names of modules, and its undo looks for their instances. `runnable` walks over the slots, and evaluates
+//! nothing.
 #![tactic(auto)]
 
 mod body;
 mod error;
-mod made_call;
 mod processes;
 mod taking;
 mod undo;
 
 pub use body::Body;
 pub use error::ProcError;
-pub use made_call::MadeCall;
 pub use process_commit::{Closed, Exited, Rested};
 pub use process_ending::{EndedProcess, Reply, ReplyBody};
 pub use process_store::Living;
-pub use process_told::Copies;
 pub use processes::Processes;
 pub use undo::Undo;

@@ -1,5 +1,6 @@
 // The processes of a node.
-ghost use Rattle.std.specs.Prelude.{◌≡◌, ◌+◌, ◌∷◌, None, Some, IfOk, IfErr, OnOk, OnErr};
+ghost use Rattle.std.specs.Prelude.{◌≡◌, None, Some, IfOk, IfErr, OnOk, OnErr, replicate};
+ghost use Rattle.erl_term.specs.declared.term.Term.{Term};
 ghost use Rattle.std.specs.Option.{option_copied};
 
 mod batching;
@@ -7,8 +8,7 @@ mod committing;
 
 use crate::body::Body;
 use crate::error::ProcError;
-use crate::made_call::MadeCall;
-use crate::taking::{copies, job_for, next_of};
+use crate::taking::{equal_values, job_for, next_of};
 use crate::undo::Undo;
 use code_server::Modules;
 use erl_eval::Place;
@@ -171,17 +171,25 @@ impl Processes {
     }
 
     /// A message of a client comes for the process that is registered under a name, and goes last in its mailbox. A call is open
-    /// from then on, until it is answered or the process ends.
+    /// from then on, until it is answered or the process ends. The message that it comes as is handed out in `n` equal values,
+    /// which share what they are made of.
     ///
     /// # Errors
     ///
     /// In this order: `NoProc` where no process has the name, `DuplicateCall` where a call of this number is open, `CounterEnd`
     /// where the number is past `2^63 - 1`, `Memory`. The table is then as it was.
-    pub fn arrive(&mut self, client: u64, name: &Atom, body: &Body) -> Result<Undo, ProcError>
+    pub fn arrive(
+        &mut self,
+        client: u64,
+        name: &Atom,
+        body: &Body,
+        n: usize,
+    ) -> Result<(Vec<Term>, Undo), ProcError>
         ensures ok { OnOk result (arrive_refusal name.now body.now self.old ≡ None) }
         ensures arrived { OnOk result (self.new ≡ after_arrival client name.now body.now self.old) }
-        ensures inverse { IfOk result (λ undo. TakesBack undo self.old self.new) }
-        ensures pieces { IfOk result (λ undo. HoldsLost (held undo self.new) self.old self.new) }
+        ensures told { IfOk result (λ it. (m : Term) → message_of body.now ≡ Some m → it.0.items ≡ replicate n m) }
+        ensures inverse { IfOk result (λ it. TakesBack it.1 self.old self.new) }
+        ensures pieces { IfOk result (λ it. HoldsLost (held it.1 self.new) self.old self.new) }
         ensures refused { IfErr result (λ e. Tells e (arrive_refusal name.now body.now self.old)) }
         ensures err { OnErr result (self.new ≡ self.old) }
     {
@@ -191,57 +199,13 @@ impl Processes {
         if self.is_repeated(body) {
             return Err(ProcError::DuplicateCall);
         }
-        let message = match body.message(self.alloc) {
-            Ok(Some(message)) => message,
-            Ok(None) => return Err(ProcError::CounterEnd),
-            Err(_) => return Err(ProcError::Memory),
+        let Some(message) = body.message(self.alloc)? else {
+            return Err(ProcError::CounterEnd);
         };
+        let messages = equal_values(self.alloc, message.copy(self.alloc)?, n)?;
         let call = body.call(client);
-        match self.store.arrive(pid, message, call) {
-            Ok(()) => Ok(Undo::Arrived {
-                pid,
-                call: MadeCall::of(call),
-            }),
-            Err(_) => Err(ProcError::Memory),
-        }
-    }
-
-    /// The same as [`Processes::arrive`] where the message is there already that this comes as, so that it isn't made once more.
-    ///
-    /// # Errors
-    ///
-    /// In this order: `NoProc` where no process has the name, `DuplicateCall` where a call of this number is open, `Memory`. The table
-    /// is then as it was.
-    pub fn arrive_made(
-        &mut self,
-        client: u64,
-        name: &Atom,
-        body: &Body,
-        message: Term,
-    ) -> Result<Undo, ProcError>
-        requires { message_of body.now ≡ Some message }
-        ensures ok { OnOk result (arrive_refusal name.now body.now self.old ≡ None) }
-        ensures arrived { OnOk result (self.new ≡ after_arrival client name.now body.now self.old) }
-        ensures inverse { IfOk result (λ undo. TakesBack undo self.old self.new) }
-        ensures pieces { IfOk result (λ undo. HoldsLost (held undo self.new) self.old self.new) }
-        ensures refused { IfErr result (λ e. Tells e (arrive_refusal name.now body.now self.old)) }
-        ensures err { OnErr result (self.new ≡ self.old) }
-    {
-        let Some(pid) = self.pid_of(name) else {
-            return Err(ProcError::NoProc);
-        };
-        let repeated = self.is_repeated(body);
-        if repeated {
-            return Err(ProcError::DuplicateCall);
-        }
-        let call = body.call(client);
-        match self.store.arrive(pid, message, call) {
-            Ok(()) => Ok(Undo::Arrived {
-                pid,
-                call: MadeCall::of(call),
-            }),
-            Err(_) => Err(ProcError::Memory),
-        }
+        self.store.arrive(pid, message, call)?;
+        Ok((messages, Undo::Arrived { pid, call }))
     }
 
     /// The least pid above `after` of a process that could take a message now: it neither runs nor is suspended, and a message
@@ -280,24 +244,23 @@ impl Processes {
         }
     }
 
-    /// A process takes the first message that it takes where it rests, and runs it. The job is handed out: the message, and the code,
-    /// which is the instance that is entered and what it can reach; and so many equal jobs more.
+    /// A process takes the first message that it takes where it rests, and runs it. The job is handed out in `n` equal values:
+    /// the message, and the code, which is the instance that is entered and what it can reach.
     ///
     /// # Errors
     ///
     /// In this order: `NoProc` where no process has the pid, `Suspended`, `Running`, `Idle` where it takes no message, `Memory`.
     /// The table is then as it was.
-    #[inline(always)]
     pub fn take(
         &mut self,
         modules: &Modules<Module>,
         pid: u64,
-        more: usize,
-    ) -> Result<(Job, Vec<Job>, Undo), ProcError>
+        n: usize,
+    ) -> Result<(Vec<Job>, Undo), ProcError>
         ensures ok { OnOk result (take_refusal pid self.old ≡ None) }
-        ensures taken { IfOk result (λ it. Takes modules.now pid (more + 1) (it.0 ∷ it.1.items) self.old self.new) }
-        ensures inverse { IfOk result (λ it. TakesBack it.2 self.old self.new) }
-        ensures pieces { IfOk result (λ it. HoldsLost (held it.2 self.new) self.old self.new) }
+        ensures taken { IfOk result (λ it. Takes modules.now pid n it.0.items self.old self.new) }
+        ensures inverse { IfOk result (λ it. TakesBack it.1 self.old self.new) }
+        ensures pieces { IfOk result (λ it. HoldsLost (held it.1 self.new) self.old self.new) }
         ensures refused { IfErr result (λ e. Tells e (take_refusal pid self.old)) }
         ensures err { OnErr result (self.new ≡ self.old) }
     {
@@ -311,11 +274,12 @@ impl Processes {
         let Ok(Some((job, code))) = job_for(self.alloc, modules, living, position) else {
             return Err(ProcError::Memory);
         };
-        let Ok(others) = copies(self.alloc, &job, more) else {
+        let entry_serial = job.entry_serial;
+        let Ok(jobs) = equal_values(self.alloc, job, n) else {
             return Err(ProcError::Memory);
         };
-        self.store.run(pid, position, job.entry_serial, code);
-        Ok((job, others, Undo::Taken { pid, position }))
+        self.store.run(pid, position, entry_serial, code);
+        Ok((jobs, Undo::Taken { pid, position }))
     }
 
     /// The job that a process runs.
@@ -456,7 +420,6 @@ impl Processes {
     }
 
     /// A process that has ended lives again.
-    #[inline(never)]
     fn revert_end(
         &mut self,
         modules: &Modules<Module>,
@@ -476,7 +439,6 @@ impl Processes {
     }
 
     /// Processes that were killed live again.
-    #[inline(never)]
     fn revert_kill(
         &mut self,
         modules: &Modules<Module>,
@@ -514,7 +476,7 @@ impl Processes {
                 Ok(())
             }
             Undo::Arrived { pid, call } => {
-                self.store.unarrive(pid, call.call());
+                self.store.unarrive(pid, call);
                 Ok(())
             }
             Undo::Taken { pid, position } => match self.store.untake(pid, position) {

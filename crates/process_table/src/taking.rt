@@ -1,7 +1,7 @@
 // What a process takes up with a message: the instance that it enters, and the code of its job.
-ghost use Rattle.std.specs.Prelude.{◌≡◌, IfOk, IfErr, IfSome, MatchOption, None, Some, option_map, replicate, slice_get};
+ghost use Rattle.std.specs.Prelude.{◌≡◌, IfOk, IfErr, IfSome, Some, option_map, replicate};
 ghost use Rattle.process.specs.Process.{can_take};
-ghost use Rattle.process_table.specs.Steps.{IsCode, IsCodeOf, entered, resting_refusal};
+ghost use Rattle.process_table.specs.Steps.{IsCode, entered, resting_refusal};
 ghost use Rattle.process_table.specs.Jobs.{IsJobFor};
 
 use crate::error::ProcError;
@@ -11,13 +11,11 @@ use erl_forms::Module;
 use erl_machine::{Code, Instance, Job};
 use job_code::job_code;
 use process::{Activity, Process};
-use process_commit::copied_place;
 use process_store::Living;
 use std::alloc::{AllocError, Global};
 use values::Duplicate;
 
 /// The instance that a process enters with the message that it takes, if there is one.
-#[inline(always)]
 fn entered(
     alloc: Global,
     modules: &Modules<Module>,
@@ -42,7 +40,6 @@ fn entered(
 }
 
 /// The code of a job that enters an instance, or nothing, and the serial of that instance.
-#[inline(always)]
 fn code_from(
     alloc: Global,
     modules: &Modules<Module>,
@@ -61,7 +58,6 @@ fn code_from(
 }
 
 /// Why a process takes no message now, or the position of the one that it takes.
-#[inline(always)]
 pub(crate) fn next_of(process: &Process) -> Result<usize, ProcError>
     ensures next { IfOk result (λ position. can_take process.now ≡ Some position) }
     ensures refused { IfErr result (λ e. resting_refusal process.now.activity (can_take process.now) ≡ Some e) }
@@ -77,7 +73,6 @@ pub(crate) fn next_of(process: &Process) -> Result<usize, ProcError>
 }
 
 /// The job that a process takes up with the message at a position, and the code that the process runs it in.
-#[inline(always)]
 pub(crate) fn job_for(
     alloc: Global,
     modules: &Modules<Module>,
@@ -95,7 +90,7 @@ pub(crate) fn job_for(
     let (entry_serial, code) = code_from(alloc, modules, entered)?;
     let runs_in = code.copy(alloc)?;
     let message = message.copy(alloc)?;
-    let place = copied_place(alloc, process.place())?;
+    let place = process.place().copy(alloc)?;
     let job = Job {
         pid: process.pid(),
         turn: process.turn(),
@@ -107,14 +102,21 @@ pub(crate) fn job_for(
     Ok(Some((job, runs_in)))
 }
 
-/// So many equal values.
-#[inline(always)]
-pub(crate) fn copies<T: Duplicate>(alloc: Global, item: &T, n: usize) -> Result<Vec<T>, AllocError>
-    ensures { IfOk result (λ it. it.items ≡ replicate n item.now) }
+/// So many equal values, of which the last is the one that is given. It is dropped where there is to be none.
+pub(crate) fn equal_values<T: Duplicate>(
+    alloc: Global,
+    item: T,
+    n: usize,
+) -> Result<Vec<T>, AllocError>
+    ensures { IfOk result (λ it. it.items ≡ replicate n item) }
 {
-    let mut copied = Vec::with_capacity(alloc, n)?;
-    for _i in 0..n {
-        copied.push(item.copy(alloc)?)?;
+    let Some(copies) = n.checked_sub(1) else {
+        return Ok(Vec::new(alloc));
+    };
+    let mut values = Vec::with_capacity(alloc, n)?;
+    for _i in 0..copies {
+        values.push(item.copy(alloc)?)?;
     }
-    Ok(copied)
+    values.push(item)?;
+    Ok(values)
 }

@@ -1,8 +1,8 @@
 // What takes a step back.
-use crate::made_call::MadeCall;
 use process_batch::Batched;
 use process_commit::{Exited, Rested};
 use process_ending::EndedProcess;
+use process_index::Call;
 use reserved_box::Boxed;
 use values::Row;
 
@@ -17,7 +17,7 @@ pub enum Undo {
         /// The process.
         pid: u64,
         /// The call that it is, if it is one.
-        call: MadeCall,
+        call: Option<Call>,
     },
     /// A process has taken a message.
     Taken {

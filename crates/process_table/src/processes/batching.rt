@@ -83,35 +83,13 @@ impl Processes {
         }
     }
 
-    /// Finishes a batch: all of it stands, and its replies are given. What clients are told is handed out.
+    /// Finishes a batch: all of it stands, and its replies are given. What clients are told is handed out in `n` equal values,
+    /// for which there is memory before the batch stands.
     ///
     /// # Errors
     ///
     /// `AllocError` where memory is refused. The batch is then given up.
-    pub fn finish(&mut self, batch: Batch) -> Result<(Vec<Reply>, Undo), AllocError>
-        requires { AllFit batch.changes.items self.old }
-        ensures stands { OnOk result ((before after : Table) (told : List Told) → IsUnderWay batch.changes.items batch.answers.items before self.old after told → self.new ≡ after) }
-        ensures told { IfOk result (λ it. (before after : Table) (told : List Told) → IsUnderWay batch.changes.items batch.answers.items before self.old after told → it.0.items ≡ told) }
-        ensures inverse { IfOk result (λ it. (before : Table) → CanGiveUp batch.changes.items before self.old → TakesBack it.1 before self.new) }
-        ensures pieces { IfOk result (λ it. (before : Table) → HoldsLost (held it.1 self.new) before self.new) }
-        ensures err { OnErr result (self.new ≡ all_undone batch.changes.items self.old) }
-    {
-        let (batch, room) = self.room_to_finish(batch)?;
-        let (replies, batched) = finish(&mut self.store, self.alloc, batch)?;
-        Ok((replies, Undo::Batched(room.fill(batched))))
-    }
-
-    /// Finishes a batch as [`Processes::finish`] does. What clients are told is handed out in `n` equal values, for which there is memory
-    /// before the batch stands.
-    ///
-    /// # Errors
-    ///
-    /// `AllocError` where memory is refused. The batch is then given up.
-    pub fn finish_telling(
-        &mut self,
-        batch: Batch,
-        n: usize,
-    ) -> Result<(Vec<Row<Reply>>, Undo), AllocError>
+    pub fn finish(&mut self, batch: Batch, n: usize) -> Result<(Vec<Row<Reply>>, Undo), AllocError>
         requires { AllFit batch.changes.items self.old }
         ensures stands { OnOk result ((before after : Table) (told : List Told) → IsUnderWay batch.changes.items batch.answers.items before self.old after told → self.new ≡ after) }
         ensures told { IfOk result (λ it. (before after : Table) (told : List Told) → IsUnderWay batch.changes.items batch.answers.items before self.old after told → it.0.items ≡ replicate n told) }
@@ -126,7 +104,6 @@ impl Processes {
     }
 
     /// What was evaluated inside a step is taken back.
-    #[inline(never)]
     pub(super) fn revert_batched(&mut self, batched: Boxed<Batched>) -> Result<(), Undo>
         requires { CanUnbatch batched self.old }
         ensures ok { OnOk result (self.new ≡ unbatched batched self.old) }

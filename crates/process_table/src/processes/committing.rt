@@ -1,13 +1,12 @@
 // A job is committed.
-ghost use Rattle.std.specs.Prelude.{◌≡◌, ◌↔◌, ◌∷◌, [], IfErr, IfOk, IsSome, IsTrue, None, OnErr, OnOk, replicate};
-ghost use Rattle.process_commit.specs.Commits.{IsRunning};
+ghost use Rattle.std.specs.Prelude.{◌≡◌, ◌↔◌, IfErr, IfOk, IsSome, IsTrue, None, OnErr, OnOk, replicate};
+ghost use Rattle.process_commit.specs.Acts.{acts_told};
+ghost use Rattle.process_commit.specs.Commits.{IsRunning, rested_after};
 ghost use Rattle.process_store.specs.Changes.{CanTurnAt};
 ghost use Rattle.process_store.specs.Table.{living};
 ghost use Rattle.process_commit.specs.Exits.{exit_told, exited};
-ghost use Rattle.erl_steps.specs.declared.machine.End.TheVariants.{Rest};
 ghost use Rattle.process_table.specs.Commit.{IsCommitRefusal, RefusesCommit, commit_told, committed, concluded, normal, told_by};
 ghost use Rattle.process_store.specs.Pieces.{HoldsLost};
-ghost use Rattle.process_told.specs.Telling.{IsReadyFor};
 ghost use Rattle.process_table.specs.Undo.{Fits, IsKept, TakesBackEnds, held, undone};
 
 use super::Processes;
@@ -20,7 +19,7 @@ use erl_machine::{Done, End, Job};
 use erl_term::{Atom, Term};
 use process_commit::{Exited, Rested, commit_exit, commit_rest, revert_exit, revert_rest};
 use process_ending::Reply;
-use process_told::{Copies, Telling};
+use process_told::Telling;
 use reserved_box::{Boxed, Reserved};
 use std::alloc::{AllocError, Global};
 use values::Row;
@@ -53,125 +52,75 @@ impl Processes {
         }
     }
 
-    /// The process of a job, which lives, ends for a reason, once its acts are done.
-    #[inline(never)]
+    /// The acts of a job are done that its process runs, and the process rests again at a place. What clients are told is handed out
+    /// in `n` equal values.
+    fn rest(
+        &mut self,
+        job: &Job,
+        acts: &[Act],
+        place: &Place,
+        n: usize,
+    ) -> Result<(Vec<Row<Reply>>, Undo), AllocError>
+        requires running { IsRunning job.now self.old }
+        requires turns { CanTurnAt job.now.pid self.old }
+        ensures rested { OnOk result (self.new ≡ rested_after job.now place.now acts.now self.old) }
+        ensures told { IfOk result (λ it. it.0.items ≡ replicate n (acts_told acts.now self.old)) }
+        ensures inverse { IfOk result (λ it. TakesBackEnds it.1 self.old self.new) }
+        ensures pieces { IfOk result (λ it. HoldsLost (held it.1 self.new) self.old self.new) }
+        ensures err { OnErr result (self.new ≡ self.old) }
+    {
+        let telling = Telling::of_rest(self.alloc, acts, n)?;
+        let (replies, rested) = commit_rest(&mut self.store, self.alloc, job, acts, place)?;
+        Ok((telling.tell(replies), Undo::Rested(rested)))
+    }
+
+    /// The acts of a job are done, and its process, which lives, ends for a reason. What clients are told is handed out in `n`
+    /// equal values.
     fn exit(
         &mut self,
         pid: u64,
         acts: &[Act],
         reason: &Term,
-    ) -> Result<(Vec<Reply>, Undo), AllocError>
+        n: usize,
+    ) -> Result<(Vec<Row<Reply>>, Undo), AllocError>
         requires { IsSome (living pid self.old) }
         ensures exited { OnOk result (self.new ≡ exited pid acts.now self.old) }
-        ensures told { IfOk result (λ it. it.0.items ≡ exit_told pid reason.now acts.now self.old) }
+        ensures told { IfOk result (λ it. it.0.items ≡ replicate n (exit_told pid reason.now acts.now self.old)) }
         ensures inverse { IfOk result (λ it. TakesBackEnds it.1 self.old self.new) }
         ensures pieces { IfOk result (λ it. HoldsLost (held it.1 self.new) self.old self.new) }
         ensures err { OnErr result (self.new ≡ self.old) }
     {
+        let telling = Telling::of_exit(self.alloc, &self.store, pid, reason, acts, n)?;
         let room = Reserved::new(self.alloc)?;
         let (replies, exited) = commit_exit(&mut self.store, self.alloc, pid, acts, reason)?;
-        Ok((replies, Undo::Exited(room.fill(exited))))
+        Ok((telling.tell(replies), Undo::Exited(room.fill(exited))))
     }
 
-    /// The process of a job, which lives, ends by a value, once its acts are done.
-    #[inline(never)]
-    fn exit_normally(&mut self, pid: u64, acts: &[Act]) -> Result<(Vec<Reply>, Undo), AllocError>
-        requires { IsSome (living pid self.old) }
-        ensures exited { OnOk result (self.new ≡ exited pid acts.now self.old) }
-        ensures told { IfOk result (λ it. it.0.items ≡ exit_told pid normal acts.now self.old) }
-        ensures inverse { IfOk result (λ it. TakesBackEnds it.1 self.old self.new) }
-        ensures pieces { IfOk result (λ it. HoldsLost (held it.1 self.new) self.old self.new) }
-        ensures err { OnErr result (self.new ≡ self.old) }
-    {
-        let normal = normal(self.alloc)?;
-        self.exit(pid, acts, &normal)
-    }
-
-    /// What a job that a process runs has done is done, and the process rests or ends.
-    #[inline(never)]
+    /// What a job that a process runs has done is done, and the process rests or ends. What clients are told is handed out in `n` equal
+    /// values.
     fn conclude(
         &mut self,
         job: &Job,
         acts: &[Act],
         end: &End,
-    ) -> Result<(Vec<Reply>, Undo), AllocError>
+        n: usize,
+    ) -> Result<(Vec<Row<Reply>>, Undo), AllocError>
         requires running { IsRunning job.now self.old }
         requires turns { CanTurnAt job.now.pid self.old }
         ensures concluded { OnOk result (self.new ≡ concluded job.now acts.now end.now self.old) }
-        ensures told { IfOk result (λ it. it.0.items ≡ told_by job.now.pid acts.now end.now self.old) }
+        ensures told { IfOk result (λ it. it.0.items ≡ replicate n (told_by job.now.pid acts.now end.now self.old)) }
         ensures inverse { IfOk result (λ it. TakesBackEnds it.1 self.old self.new) }
         ensures pieces { IfOk result (λ it. HoldsLost (held it.1 self.new) self.old self.new) }
         ensures err { OnErr result (self.new ≡ self.old) }
     {
         match end {
-            End::Rest(place) => {
-                let (replies, rested) = commit_rest(&mut self.store, self.alloc, job, acts, place)?;
-                Ok((replies, Undo::Rested(rested)))
-            }
-            End::Value(_) => self.exit_normally(job.pid, acts),
-            End::Exit(reason) => self.exit(job.pid, acts, reason),
-        }
-    }
-
-    /// Makes ready to tell what the commit of a job tells, in `n` equal values.
-    fn telling(&self, pid: u64, acts: &[Act], end: &End, n: usize) -> Result<Telling, AllocError>
-        requires { IsSome (living pid self.now) }
-        ensures { IfOk result (IsReadyFor (told_by pid acts.now end.now self.now) n) }
-    {
-        match end {
-            End::Rest(_) => Telling::of_rest(self.alloc, acts, n),
+            End::Rest(place) => self.rest(job, acts, place, n),
             End::Value(_) => {
                 let normal = normal(self.alloc)?;
-                Telling::of_exit(self.alloc, &self.store, pid, &normal, acts, n)
+                self.exit(job.pid, acts, &normal, n)
             }
-            End::Exit(reason) => Telling::of_exit(self.alloc, &self.store, pid, reason, acts, n),
+            End::Exit(reason) => self.exit(job.pid, acts, reason, n),
         }
-    }
-
-    /// What a job that a process runs has done is done, and the process rests or ends. What clients are told is handed out in one value.
-    #[inline(always)]
-    fn conclude_once(
-        &mut self,
-        job: &Job,
-        acts: &[Act],
-        end: &End,
-    ) -> Result<(Copies, Undo), AllocError>
-        requires running { IsRunning job.now self.old }
-        requires turns { CanTurnAt job.now.pid self.old }
-        ensures concluded { OnOk result (self.new ≡ concluded job.now acts.now end.now self.old) }
-        ensures told { IfOk result (λ it. it.0 ≡ told_by job.now.pid acts.now end.now self.old ∷ []) }
-        ensures inverse { IfOk result (λ it. TakesBackEnds it.1 self.old self.new) }
-        ensures pieces { IfOk result (λ it. HoldsLost (held it.1 self.new) self.old self.new) }
-        ensures err { OnErr result (self.new ≡ self.old) }
-    {
-        let (replies, undo) = self.conclude(job, acts, end)?;
-        Ok((Copies::one(self.alloc, Row::new(replies)), undo))
-    }
-
-    /// What a job that a process runs has done is done, and the process rests or ends. What clients are told is handed out in `n` equal
-    /// values.
-    #[inline(never)]
-    fn conclude_telling(
-        &mut self,
-        job: &Job,
-        acts: &[Act],
-        end: &End,
-        n: usize,
-    ) -> Result<(Copies, Undo), AllocError>
-        requires running { IsRunning job.now self.old }
-        requires turns { CanTurnAt job.now.pid self.old }
-        ensures concluded { OnOk result (self.new ≡ concluded job.now acts.now end.now self.old) }
-        ensures told { IfOk result (λ it. it.0 ≡ replicate n (told_by job.now.pid acts.now end.now self.old)) }
-        ensures inverse { IfOk result (λ it. TakesBackEnds it.1 self.old self.new) }
-        ensures pieces { IfOk result (λ it. HoldsLost (held it.1 self.new) self.old self.new) }
-        ensures err { OnErr result (self.new ≡ self.old) }
-    {
-        if n == 1 {
-            return self.conclude_once(job, acts, end);
-        }
-        let telling = self.telling(job.pid, acts, end, n)?;
-        let (replies, undo) = self.conclude(job, acts, end)?;
-        Ok((Copies::of(telling.tell(replies)), undo))
     }
 
     /// Why the commit of what a job gave would be refused, but for want of memory. Takes no memory.
@@ -196,9 +145,9 @@ impl Processes {
     ///
     /// In this order: `Stale` where the process of the job's pid doesn't run an equal job, code included; `CounterEnd` where its turn
     /// is the last; `Memory`. The table is then as it was.
-    pub fn commit(&mut self, done: &Done, n: usize) -> Result<(Copies, Undo), ProcError>
+    pub fn commit(&mut self, done: &Done, n: usize) -> Result<(Vec<Row<Reply>>, Undo), ProcError>
         ensures committed { OnOk result (self.new ≡ committed done.now self.old) }
-        ensures told { IfOk result (λ it. it.0 ≡ replicate n (commit_told done.now self.old)) }
+        ensures told { IfOk result (λ it. it.0.items ≡ replicate n (commit_told done.now self.old)) }
         ensures inverse { IfOk result (λ it. TakesBackEnds it.1 self.old self.new) }
         ensures pieces { IfOk result (λ it. HoldsLost (held it.1 self.new) self.old self.new) }
         ensures ok { OnOk result (IsCommitRefusal None done.now.job self.old) }
@@ -208,80 +157,11 @@ impl Processes {
         if let Some(refusal) = self.commit_refusal(done) {
             return Err(refusal);
         }
-        match self.commit_unrefused(done, n) {
+        let (job, outcome) = (done.job(), done.outcome());
+        match self.conclude(job, outcome.acts.as_slice(), &outcome.end, n) {
             Ok(told) => Ok(told),
             Err(_) => Err(ProcError::Memory),
         }
-    }
-
-    /// Commits what a job gave where nothing stands against it, as [`Processes::commit_refusal`] has told: so the job isn't compared
-    /// once more with what its process runs. What clients are told is handed out in `n` equal values; [`Processes::commit_once`] hands
-    /// it out once.
-    ///
-    /// # Errors
-    ///
-    /// `AllocError` where memory is refused. The table is then as it was.
-    pub fn commit_unrefused(&mut self, done: &Done, n: usize) -> Result<(Copies, Undo), AllocError>
-        requires { IsCommitRefusal None done.now.job self.old }
-        ensures committed { OnOk result (self.new ≡ committed done.now self.old) }
-        ensures told { IfOk result (λ it. it.0 ≡ replicate n (commit_told done.now self.old)) }
-        ensures inverse { IfOk result (λ it. TakesBackEnds it.1 self.old self.new) }
-        ensures ok { OnOk result (IsCommitRefusal None done.now.job self.old) }
-        ensures pieces { IfOk result (λ it. HoldsLost (held it.1 self.new) self.old self.new) }
-        ensures err { OnErr result (self.new ≡ self.old) }
-    {
-        let (job, outcome) = (done.job(), done.outcome());
-        self.conclude_telling(job, outcome.acts.as_slice(), &outcome.end, n)
-    }
-
-    /// The same as [`Processes::commit_unrefused`], where what clients are told is handed out once.
-    ///
-    /// # Errors
-    ///
-    /// `AllocError` where memory is refused. The table is then as it was.
-    #[inline(always)]
-    pub fn commit_once(&mut self, done: &Done) -> Result<(Vec<Reply>, Undo), AllocError>
-        requires { IsCommitRefusal None done.now.job self.old }
-        ensures committed { OnOk result (self.new ≡ committed done.now self.old) }
-        ensures told { IfOk result (λ it. it.0.items ≡ commit_told done.now self.old) }
-        ensures inverse { IfOk result (λ it. TakesBackEnds it.1 self.old self.new) }
-        ensures ok { OnOk result (IsCommitRefusal None done.now.job self.old) }
-        ensures pieces { IfOk result (λ it. HoldsLost (held it.1 self.new) self.old self.new) }
-        ensures err { OnErr result (self.new ≡ self.old) }
-    {
-        let (job, outcome) = (done.job(), done.outcome());
-        self.conclude(job, outcome.acts.as_slice(), &outcome.end)
-    }
-
-    /// The same as [`Processes::commit_once`] for a job whose process rests again at a place. What takes it back is an
-    /// [`Undo::Rested`].
-    ///
-    /// # Errors
-    ///
-    /// `AllocError` where memory is refused. The table is then as it was.
-    #[inline(always)]
-    pub fn rest_once(
-        &mut self,
-        done: &Done,
-        place: &Place,
-    ) -> Result<(Vec<Reply>, Boxed<Rested>), AllocError>
-        requires unrefused { IsCommitRefusal None done.now.job self.old }
-        requires rests { done.now.outcome.end ≡ Rest place.now }
-        ensures committed { OnOk result (self.new ≡ committed done.now self.old) }
-        ensures told { IfOk result (λ it. it.0.items ≡ commit_told done.now self.old) }
-        ensures inverse { IfOk result (λ it. TakesBackEnds (Undo.Rested it.1) self.old self.new) }
-        ensures ok { OnOk result (IsCommitRefusal None done.now.job self.old) }
-        ensures pieces { IfOk result (λ it. HoldsLost (held (Undo.Rested it.1) self.new) self.old self.new) }
-        ensures err { OnErr result (self.new ≡ self.old) }
-    {
-        let (job, outcome) = (done.job(), done.outcome());
-        commit_rest(
-            &mut self.store,
-            self.alloc,
-            job,
-            outcome.acts.as_slice(),
-            place,
-        )
     }
 
     /// The commit of a job whose process rests again is taken back.
@@ -303,7 +183,6 @@ impl Processes {
     }
 
     /// The commit of a job whose process has ended is taken back.
-    #[inline(never)]
     pub(super) fn revert_exited(
         &mut self,
         modules: &Modules<Module>,

@@ -1,7 +1,6 @@
 -- The process runs its job, and the undo takes the message back.
-use Rattle.std.proofs.Common.{◌≡◌, ◌∷◌, List, Some, add-one, option_map, sym, ap, subst, ◌∙◌}
+use Rattle.std.proofs.Common.{◌≡◌, List, Some, option_map, sym, ap, subst, ◌∙◌}
 use Rattle.std.specs.Option.{option_copied}
-use Rattle.erl_machine.specs.declared.jobs.Job.{Job}
 use Rattle.erl_steps.specs.declared.world.Instance.{Instance}
 use Rattle.process_store.specs.declared.living.Living.{Living}
 use Rattle.process_store.specs.Living.{run, takes_next}
@@ -29,7 +28,7 @@ returns-clause-taken c =
     let told = rw c.in-Ok-Some.field-0-is at c.in-Ok-Some.ensures.job in
     record {
       job = job;
-      told = rw add-one (ap (λ (others : List Job). job ∷ others) c.in-Ok-copies.ensures);
+      told = c.in-Ok-equal_values.ensures;
       code = subst (λ o. IsCodeOf c.args.modules.now o job) (sym lives) told.4;
       table = taken_is t c.run.new.self (Some l) pid position job.entry_serial job.code lives c.in-Ok.ensures.next is;
       runs = job_is (living pid c.run.new.self) l position job now told.0 told.1 told.2 told.3;
