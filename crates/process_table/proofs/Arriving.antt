@@ -1,5 +1,5 @@
 -- A message arrives for the process of a name, which lives; a call that is not repeated is of a number that is not open.
-use Rattle.std.proofs.Common.{◌≡◌, ℕ, true, false, List, Option, None, Some, IfSome, IsSome, refl, sym, ap, subst, ◌∙◌, arith}
+use Rattle.std.proofs.Common.{◌≡◌, ℕ, zero, suc, true, false, List, ◌∷◌, map, replicate, Option, None, Some, IfSome, IsSome, refl, sym, ap, subst, ◌∙◌, arith}
 use Rattle.std.proofs.lemmas.Grind.{common_steps}
 use Rattle.std.proofs.lemmas.List.Quantifiers.{position-Some}
 use Rattle.process_index.specs.declared.calls.Call.{Call}
@@ -33,3 +33,11 @@ unasked_call client what t call is fresh =
       | body.Cast term ↦ λ e. tt
       | body.Info term ↦ λ e. tt
     ] fresh)
+
+-- equal values, each of which is there
+pub all_there : {A : Type 0} (xs : List A) (x : A) (o : Option A) (n : ℕ) → xs ≡ replicate n x → Some x ≡ o → map Some xs ≡ replicate n o
+all_there xs x o n are is = ap (map Some) are ∙ each_there x n ∙ ap (λ p. replicate n p) is
+  where
+    each_there : {A : Type 0} (x : A) (n : ℕ) → map Some (replicate n x) ≡ replicate n (Some x)
+    each_there x zero = refl
+    each_there x (suc n) = ap (λ ps. Some x ∷ ps) (each_there x n)

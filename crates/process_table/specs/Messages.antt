@@ -1,5 +1,5 @@
 -- The messages that arrivals from outside come as (gen_server(3); Erlang Reference Manual, Data Types).
-use Rattle.std.specs.Prelude.{◌^◌, nat_lt, if◌then◌else◌, pos, codes, Option, None, Some, ℤ}
+use Rattle.std.specs.Prelude.{ℕ, ◌^◌, nat_lt, if◌then◌else◌, pos, codes, List, Option, None, Some, ℤ}
 use Rattle.erl_term.specs.Tree.{atom, int, pid, tuple, more, none}
 use Rattle.erl_term.specs.Term.{tree}
 use Rattle.erl_term.specs.declared.term.Term.{Term}
@@ -21,3 +21,8 @@ abbrev pub message_of : Body → Option Term
 message_of (Call number t) = if nat_lt number (2 ^ 63) then Some (call_message (pos number) t) else None
 message_of (Cast t) = Some (cast_message t)
 message_of (Info t) = Some t
+
+-- what is told of an arrival: the name of the process that it is for, and the message, if there is one
+abbrev pub arrival_of : List ℕ → Option Term → Option (List ℕ × Term)
+arrival_of name None = None
+arrival_of name (Some message) = Some (name, message)

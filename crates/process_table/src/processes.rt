@@ -1,6 +1,5 @@
 // The processes of a node.
-ghost use Rattle.std.specs.Prelude.{◌≡◌, None, Some, IfOk, IfErr, OnOk, OnErr, replicate};
-ghost use Rattle.erl_term.specs.declared.term.Term.{Term};
+ghost use Rattle.std.specs.Prelude.{◌≡◌, None, Some, IfOk, IfErr, OnOk, OnErr, map, replicate};
 ghost use Rattle.std.specs.Option.{option_copied};
 
 mod batching;
@@ -47,7 +46,7 @@ impl Model for Processes {
 }
 
 impl Processes {
-    ghost use Rattle.process_table.specs.Messages.{message_of};
+    ghost use Rattle.process_table.specs.Messages.{arrival_of, message_of};
     ghost use Rattle.process_table.specs.Steps.{IsNextRunnable, Takes, Tells, after_arrival, arrive_refusal, is_repeated, is_runnable, missing, retake_refusal, start_refusal, take_refusal, with_process};
     ghost use Rattle.process_store.specs.Table.{changed, empty_table, is_open, living, next_pid, pid_of};
     ghost use Rattle.process_commit.specs.Commits.{job_at};
@@ -171,8 +170,8 @@ impl Processes {
     }
 
     /// A message of a client comes for the process that is registered under a name, and goes last in its mailbox. A call is open
-    /// from then on, until it is answered or the process ends. The message that it comes as is handed out in `n` equal values,
-    /// which share what they are made of.
+    /// from then on, until it is answered or the process ends. The name and the message are handed out in `n` equal values, which
+    /// share what they are made of.
     ///
     /// # Errors
     ///
@@ -184,10 +183,10 @@ impl Processes {
         name: &Atom,
         body: &Body,
         n: usize,
-    ) -> Result<(Vec<Term>, Undo), ProcError>
+    ) -> Result<(Vec<(Atom, Term)>, Undo), ProcError>
         ensures ok { OnOk result (arrive_refusal name.now body.now self.old ≡ None) }
         ensures arrived { OnOk result (self.new ≡ after_arrival client name.now body.now self.old) }
-        ensures told { IfOk result (λ it. (m : Term) → message_of body.now ≡ Some m → it.0.items ≡ replicate n m) }
+        ensures told { IfOk result (λ it. map Some it.0.items ≡ replicate n (arrival_of name.now (message_of body.now))) }
         ensures inverse { IfOk result (λ it. TakesBack it.1 self.old self.new) }
         ensures pieces { IfOk result (λ it. HoldsLost (held it.1 self.new) self.old self.new) }
         ensures refused { IfErr result (λ e. Tells e (arrive_refusal name.now body.now self.old)) }
@@ -202,10 +201,11 @@ impl Processes {
         let Some(message) = body.message(self.alloc)? else {
             return Err(ProcError::CounterEnd);
         };
-        let messages = equal_values(self.alloc, message.copy(self.alloc)?, n)?;
+        let arrival = (name.copy(self.alloc)?, message.copy(self.alloc)?);
+        let arrivals = equal_values(self.alloc, arrival, n)?;
         let call = body.call(client);
         self.store.arrive(pid, message, call)?;
-        Ok((messages, Undo::Arrived { pid, call }))
+        Ok((arrivals, Undo::Arrived { pid, call }))
     }
 
     /// The least pid above `after` of a process that could take a message now: it neither runs nor is suspended, and a message

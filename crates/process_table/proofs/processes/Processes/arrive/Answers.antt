@@ -1,7 +1,8 @@
 -- The process lives, and no call of the number is open; its message is the one that was made.
-use Rattle.std.proofs.Common.{◌≡◌, sym, subst, ◌∙◌, IfSome, IsSome, false}
+use Rattle.std.proofs.Common.{◌≡◌, ap, sym, subst, ◌∙◌, IfSome, IsSome, Some, false}
 use Rattle.process_store.specs.Table.{is_open, living}
-use Rattle.process_table.proofs.Arriving.{named_lives, unasked_call}
+use Rattle.process_table.proofs.Arriving.{all_there, named_lives, unasked_call}
+use Rattle.process_table.specs.Messages.{arrival_of, message_of}
 use Rattle.process_table.specs.Steps.{arrived_at}
 use Rattle.process_table.proofs.processes.Processes.arrive.Goals as goal
 
@@ -16,3 +17,11 @@ returns-clause-arrived c =
     let pid = sym c.in-Some.is ∙ c.pid_of.ensures in
     let message = sym c.in-Some-2.is ∙ c.in_ok-message.ensures.message in
     c.in_ok-arrive.ensures.ok ∙ (λ i. arrived_at (pid i) (message i) (c.call-call.ensures i) (c.self.view_is i))
+
+pub returns-clause-told : goal.returns-clause-told
+returns-clause-told c =
+    let name = c.args.name.now in
+    let message = sym c.in-Some-2.is ∙ c.in_ok-message.ensures.message in
+    let came = arrival_of name (message_of c.args.body.now) in
+    let is : Some (c.in_ok-copy.field-0, c.in_ok-copy-2.field-0) ≡ came = (λ i. Some (c.in_ok-copy.ensures i, c.in_ok-copy-2.ensures i)) ∙ ap (arrival_of name) message in
+    all_there c.in_ok-arrivals.arrivals.items (c.in_ok-copy.field-0, c.in_ok-copy-2.field-0) came c.args.n c.in_ok-arrivals.ensures is
