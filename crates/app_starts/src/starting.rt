@@ -158,7 +158,7 @@ pub fn supervise(
     let mut batch = Batch::new(alloc);
     match begin_supervision(processes, alloc, &mut batch, code, module) {
         Ok(children) => {
-            let (told, undo) = processes.finish_telling(batch, n)?;
+            let (told, undo) = processes.finish(batch, n)?;
             Ok(Supervised {
                 children,
                 told,

@@ -48,7 +48,7 @@ pub fn restart_child(
     let mut batch = Batch::new(alloc);
     match start_child(processes, alloc, &mut batch, code, child) {
         Ok(pid) => {
-            let (told, undo) = processes.finish_telling(batch, n)?;
+            let (told, undo) = processes.finish(batch, n)?;
             Ok(Restarted { pid, told, undo })
         }
         Err(error) => {
