@@ -20,7 +20,7 @@ use Rattle.process_ending.specs.declared.told.Reply.{Reply}
 use Rattle.process_store.specs.Changes.{CanTurnAt}
 use Rattle.process_store.specs.Table.{Table, living}
 use Rattle.process_table.specs.Commit.{RefusesCommit, commit_told, committed, normal}
-use Rattle.process_table.specs.Messages.{message_of}
+use Rattle.process_table.specs.Messages.{arrival_of, message_of}
 use Rattle.process_table.specs.Steps.{IsCodeOf, after_arrival, arrive_refusal, take_refusal, taken}
 use Rattle.process_table.specs.declared.body.Body.{Body}
 use Rattle.process_table.specs.declared.error.ProcError.{ProcError}
@@ -52,10 +52,6 @@ unless None of a = Ok a
 unless (Some e) of a = Err (of e)
 
 -- Arrive: a message of a client comes for the process of a name; it is reported.
-
-abbrev pub arrival_of : List ℕ → Option Term → Option (List ℕ × Term)
-arrival_of name None = None
-arrival_of name (Some message) = Some (name, message)
 
 abbrev pub arrived : ℕ → List ℕ → Body → NodeState → Outcome
 arrived client name body n = unless (arrive_refusal name body n.processes) OfProcesses (record {

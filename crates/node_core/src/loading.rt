@@ -65,7 +65,6 @@ fn end_lingering(
 
 impl Node {
     /// A module is loaded; where it has old code, that is purged first.
-    #[inline(never)]
     pub(crate) fn load(&mut self, code: &Module, n: usize) -> Step
         ensures accepted { IfOk result (λ done. Accepts (Steps self.old (event.Load code.now)) self.new n done.told.items) }
         ensures reversible { IfOk result (λ done. Undoes done.trace self.old self.new) }
@@ -113,7 +112,6 @@ impl Node {
     }
 
     /// A module's old code is purged, and those who linger in it are killed.
-    #[inline(never)]
     pub(crate) fn purge(&mut self, name: &Atom, n: usize) -> Step
         ensures accepted { IfOk result (λ done. Accepts (Steps self.old (event.Purge name.now)) self.new n done.told.items) }
         ensures reversible { IfOk result (λ done. Undoes done.trace self.old self.new) }
@@ -158,7 +156,6 @@ impl Node {
     }
 
     /// A module's current code becomes old.
-    #[inline(never)]
     pub(crate) fn delete(&mut self, name: &Atom, n: usize) -> Step
         ensures accepted { IfOk result (λ done. Accepts (Steps self.old (event.Delete name.now)) self.new n done.told.items) }
         ensures reversible { IfOk result (λ done. Undoes done.trace self.old self.new) }
@@ -184,7 +181,6 @@ impl Node {
     }
 
     /// A module's old code is purged, where nobody lingers in it.
-    #[inline(never)]
     pub(crate) fn soft_purge(&mut self, name: &Atom, n: usize) -> Step
         ensures accepted { IfOk result (λ done. Accepts (Steps self.old (event.SoftPurge name.now)) self.new n done.told.items) }
         ensures reversible { IfOk result (λ done. Undoes done.trace self.old self.new) }

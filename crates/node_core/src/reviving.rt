@@ -18,7 +18,6 @@ use undo_journal::{StepError, Stepped};
 
 impl Node {
     /// A child that is due starts again.
-    #[inline(never)]
     pub(crate) fn revive(&mut self, app: &Atom, id: &Term, n: usize) -> Step
         ensures accepted { IfOk result (λ done. Accepts (Steps self.old (event.Revive app.now id.now)) self.new n done.told.items) }
         ensures reversible { IfOk result (λ done. Undoes done.trace self.old self.new) }

@@ -1,10 +1,6 @@
 // Steps of the node, and what takes them back.
 ghost use Rattle.node_core.specs.Record.{Undoes};
-ghost use Rattle.std.specs.Prelude.{◌≡◌, IfErr, IfOk, OnErr, option_map};
-ghost use Rattle.std.specs.Bool.{OnTrue};
-ghost use Rattle.erl_eval.specs.declared.acts.Place.{Place};
-ghost use Rattle.erl_steps.specs.declared.machine.End.TheVariants.{Rest};
-ghost use Rattle.undo_journal.specs.Reversible.{AcceptsOnce, AcceptsWith, Refuses};
+ghost use Rattle.std.specs.Prelude.{◌≡◌, option_map};
 ghost use Rattle.node_core.specs.Step.{MayRunOut, Step as Steps, soft_purge_refusal};
 ghost use Rattle.node_core.specs.declared.event.Refusal.TheVariants.{OfApps, OfModules, OfProcesses};
 ghost use Rattle.node_core.specs.OneOutcome.{one_outcome_of};
@@ -12,27 +8,14 @@ ghost use Rattle.node_core.specs.OneOutcome.{one_outcome_of};
 use crate::event::{Answer, Event, Refusal};
 use crate::node::Node;
 use crate::note::Note;
-use crate::processes::{AnsweredStep, NotedStep, Step};
+use crate::processes::Step;
 use crate::record::Record;
-use crate::telling::without_note;
 use code_loading::is_lingered_in;
 use code_server::CodeError;
-use erl_machine::{Done, End};
 use erl_term::Atom;
 use process_table::ProcError;
 use sys_protocol::SysError;
-use undo_journal::{Answered, Noted, Reversible, Stepped, Told};
-
-/// Whether the process of a job rests again.
-#[inline(always)]
-fn rests(done: &Done) -> bool
-    ensures { OnTrue result ((place : Place) × (done.now.outcome.end ≡ Rest place)) }
-{
-    match &done.outcome().end {
-        End::Rest(_) => true,
-        End::Value(_) | End::Exit(_) => false,
-    }
-}
+use undo_journal::Reversible;
 
 /// A refusal of the processes, if there is one.
 fn of_processes(refusal: Option<ProcError>) -> Option<Refusal>
@@ -67,50 +50,6 @@ impl Node {
     }
 }
 
-impl Node {
-    /// Makes a step with one equal value more, and keeps the note of that.
-    #[inline(never)]
-    fn step_aside(&mut self, event: &Event, n: u8) -> NotedStep
-        ensures accepted { IfOk result (λ done. AcceptsWith (Steps self.old event.now) self.new n done.told.items done.note) }
-        ensures reversible { IfOk result (λ done. Undoes done.trace self.old self.new) }
-        ensures refused { IfErr result (Refuses (Steps self.old event.now) (MayRunOut self.old event.now)) }
-        ensures err { OnErr result (self.new ≡ self.old) }
-    {
-        let Stepped { mut told, trace } = self.step(event, usize::from(n) + 1)?;
-        let Some(kept) = told.pop() else {
-            unreachable!()
-        };
-        let Told { answer: _, note } = kept;
-        Ok(Noted { told, note, trace })
-    }
-}
-
-impl Node {
-    /// Makes a step that is told once, and answers by that.
-    #[inline(never)]
-    fn step_once(&mut self, event: &Event) -> AnsweredStep
-        ensures accepted { IfOk result (λ done. AcceptsOnce (Steps self.old event.now) self.new done.answer done.note) }
-        ensures reversible { IfOk result (λ done. Undoes done.trace self.old self.new) }
-        ensures refused { IfErr result (Refuses (Steps self.old event.now) (MayRunOut self.old event.now)) }
-        ensures err { OnErr result (self.new ≡ self.old) }
-    {
-        let Noted {
-            mut told,
-            note,
-            trace,
-        } = self.step_noted(event, 1)?;
-        let Some(once) = told.pop() else {
-            unreachable!()
-        };
-        let Told { answer, note: _ } = once;
-        Ok(Answered {
-            answer,
-            note,
-            trace,
-        })
-    }
-}
-
 impl Reversible for Node {
     type Event = Event;
 
@@ -131,36 +70,13 @@ impl Reversible for Node {
     fn step(&mut self, event: &Event, n: usize) -> Step {
         match event {
             Event::Arrive { client, name, body } => self.arrive(*client, name, body, n),
-            Event::Take(pid) => {
-                let noted = self.take(*pid, n)?;
-                Ok(without_note(noted))
-            }
+            Event::Take(pid) => self.take(*pid, n),
             Event::Commit(done) => self.commit(done, n),
             Event::Revive { app, id } => self.revive(app, id, n),
             Event::Load(code) => self.load(code, n),
             Event::Delete(name) => self.delete(name, n),
             Event::Purge(name) => self.purge(name, n),
             Event::SoftPurge(name) => self.soft_purge(name, n),
-        }
-    }
-
-    #[inline(always)]
-    fn step_noted(&mut self, event: &Event, n: u8) -> NotedStep {
-        match event {
-            Event::Arrive { client, name, body } if n == 0 => {
-                self.arrive_noted(*client, name, body)
-            }
-            Event::Take(pid) => self.take(*pid, usize::from(n)),
-            Event::Commit(done) if n == 0 && rests(done) => self.commit_resting(done),
-            Event::Commit(done) if n == 0 => self.commit_ending(done),
-            _ => self.step_aside(event, n),
-        }
-    }
-
-    fn step_answered(&mut self, event: &Event) -> AnsweredStep {
-        match event {
-            Event::Take(pid) => self.take_answered(*pid),
-            _ => self.step_once(event),
         }
     }
 

@@ -1,15 +1,14 @@
 // What is told of an event.
-ghost use Rattle.std.specs.Prelude.{◌≡◌, ◌+◌, ◌-◌, ◌≤◌, ◌++◌, ◌∷◌, [], IfOk, None, OnOk, length, map, replicate, vec_capacity, vec_len};
+ghost use Rattle.std.specs.Prelude.{◌≡◌, ◌≤◌, ◌++◌, ◌∷◌, [], IfOk, None, OnOk, Some, map, replicate, vec_capacity, vec_len};
 ghost use Rattle.node_core.specs.declared.event.Answer.TheVariants as answer;
 
 use crate::event::Answer;
 use crate::note::Note;
-use crate::record::Record;
 use erl_machine::Job;
+use erl_term::{Atom, Term};
 use process_ending::Reply;
-use process_table::Copies;
 use std::alloc::{AllocError, Global};
-use undo_journal::{Noted, Stepped, Told};
+use undo_journal::Told;
 use values::{Duplicate, Row};
 
 /// One of several equal values.
@@ -75,37 +74,6 @@ pub(crate) fn reporting(replies: Vec<Reply>) -> Note
     Note::of_replies(Row::new(replies))
 }
 
-/// A step that is told to nobody but by its note: that these replies were sent.
-#[inline(always)]
-pub(crate) fn noted(
-    alloc: Global,
-    replies: Vec<Reply>,
-    trace: Record,
-) -> Noted<Answer, Note, Record>
-    ensures told { result.told.items ≡ [] }
-    ensures note { result.note ≡ record { replies = replies.items; arrival = None } }
-    ensures trace { result.trace ≡ trace }
-{
-    Noted {
-        told: Vec::new(alloc),
-        note: reporting(replies),
-        trace,
-    }
-}
-
-/// A step whose note is not kept.
-pub(crate) fn without_note(noted: Noted<Answer, Note, Record>) -> Stepped<Answer, Note, Record>
-    ensures told { result.told.items ≡ noted.told.items }
-    ensures trace { result.trace ≡ noted.trace }
-{
-    let Noted {
-        told,
-        note: _,
-        trace,
-    } = noted;
-    Stepped { told, trace }
-}
-
 /// Room to tell of an event `n` times.
 pub(crate) fn room(alloc: Global, n: usize) -> Result<Vec<Told<Answer, Note>>, AllocError>
     ensures none { IfOk result (λ it. it.items ≡ []) }
@@ -114,87 +82,63 @@ pub(crate) fn room(alloc: Global, n: usize) -> Result<Vec<Told<Answer, Note>>, A
     Vec::with_capacity(alloc, n)
 }
 
-/// Tells that these replies were sent.
-fn sent(replies: Row<Reply>) -> Told<Answer, Note>
-    ensures { result ≡ record { answer = answer.Unit; note = record { replies = replies; arrival = None } } }
-{
-    Told {
-        answer: Answer::Unit,
-        note: Note::of_replies(replies),
-    }
-}
-
-/// Tells, as often as there is such a list, that these replies were sent. There is room for it.
-fn tell_others(told: Vec<Told<Answer, Note>>, lists: Vec<Row<Reply>>) -> Vec<Told<Answer, Note>>
-    requires room { vec_len told + vec_len lists ≤ vec_capacity told }
-    ensures { result.items ≡ told.items ++ map (λ replies. record { answer = answer.Unit; note = record { replies = replies; arrival = None } }) lists.items }
+/// Tells, as often as there is such an arrival, that this message came for the process of this name. There is room for it.
+pub(crate) fn tell_arrivals(
+    told: Vec<Told<Answer, Note>>,
+    arrivals: Vec<(Atom, Term)>,
+) -> Vec<Told<Answer, Note>>
+    requires none { told.items ≡ [] }
+    requires room { vec_len arrivals ≤ vec_capacity told }
+    ensures { result.items ≡ map (λ it. record { answer = answer.Unit; note = record { replies = []; arrival = Some it } }) arrivals.items }
 {
     let mut told = told;
-    for replies in lists {
-        told.push_reserved(sent(replies));
+    for arrival in arrivals {
+        let (name, message) = arrival;
+        told.push_reserved(Told {
+            answer: Answer::Unit,
+            note: Note::of_arrival(name, message),
+        });
     }
     told
 }
 
-/// Tells, as often as there is such a list, that these replies were sent. There is room for it.
-pub(crate) fn tell_replies(told: Vec<Told<Answer, Note>>, lists: Copies) -> Vec<Told<Answer, Note>>
-    requires none { told.items ≡ [] }
-    requires room { length lists ≤ vec_capacity told }
-    ensures { result.items ≡ map (λ replies. record { answer = answer.Unit; note = record { replies = replies; arrival = None } }) lists }
-{
-    let mut told = told;
-    let (first, others) = lists.into_parts();
-    if let Some(replies) = first {
-        told.push_reserved(sent(replies));
-    }
-    tell_others(told, others)
-}
-
-/// Tells that a job was taken.
-fn tell_job(alloc: Global, job: Job) -> Told<Answer, Note>
-    ensures { result ≡ record { answer = answer.Job job; note = record { replies = []; arrival = None } } }
-{
-    Told {
-        answer: Answer::Job(job),
-        note: reporting_nothing(alloc),
-    }
-}
-
 /// Tells, as often as there is such a job, that it was taken. There is room for it.
-fn tell_jobs(
+pub(crate) fn tell_jobs(
     told: Vec<Told<Answer, Note>>,
     alloc: Global,
     jobs: Vec<Job>,
 ) -> Vec<Told<Answer, Note>>
-    requires room { vec_len told + vec_len jobs ≤ vec_capacity told }
-    ensures { result.items ≡ told.items ++ map (λ job. record { answer = answer.Job job; note = record { replies = []; arrival = None } }) jobs.items }
+    requires none { told.items ≡ [] }
+    requires room { vec_len jobs ≤ vec_capacity told }
+    ensures { result.items ≡ map (λ job. record { answer = answer.Job job; note = record { replies = []; arrival = None } }) jobs.items }
 {
     let mut told = told;
     for job in jobs {
-        told.push_reserved(tell_job(alloc, job));
+        told.push_reserved(Told {
+            answer: Answer::Job(job),
+            note: reporting_nothing(alloc),
+        });
     }
     told
 }
 
-/// Tells `n` times that a job was taken, where there are as many more equal jobs as it takes beside this one. There is room for it.
-pub(crate) fn tell_taken(
+/// Tells, as often as there is such a list, that these replies were sent. There is room for it.
+pub(crate) fn tell_replies(
     told: Vec<Told<Answer, Note>>,
-    alloc: Global,
-    job: Job,
-    others: Vec<Job>,
-    n: usize,
+    lists: Vec<Row<Reply>>,
 ) -> Vec<Told<Answer, Note>>
     requires none { told.items ≡ [] }
-    requires others { others.items ≡ replicate (n - 1) job }
-    requires room { n ≤ vec_capacity told }
-    ensures { result.items ≡ replicate n (record { answer = answer.Job job; note = record { replies = []; arrival = None } }) }
+    requires room { vec_len lists ≤ vec_capacity told }
+    ensures { result.items ≡ map (λ replies. record { answer = answer.Unit; note = record { replies = replies; arrival = None } }) lists.items }
 {
-    if n == 0 {
-        return told;
-    }
     let mut told = told;
-    told.push_reserved(tell_job(alloc, job));
-    tell_jobs(told, alloc, others)
+    for sent in lists {
+        told.push_reserved(Told {
+            answer: Answer::Unit,
+            note: Note::of_replies(sent),
+        });
+    }
+    told
 }
 
 /// Tells, as often as there is such a list, that a child runs as the process of a pid, and that these replies were sent. There is room

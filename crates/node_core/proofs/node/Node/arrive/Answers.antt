@@ -1,15 +1,49 @@
--- A message arrives, and is told as often as it is asked for.
-use Rattle.std.proofs.Common.{[], sym, subst}
-use Rattle.node_core.proofs.Accepting.{arrival_accepted}
+-- The message arrives.
+use Rattle.std.proofs.Common.{◌≡◌, ◌∙◌, [], List, Option, ℕ, ap, subst, sym}
+use Rattle.erl_term.specs.declared.term.Term.{Term}
+use Rattle.code_loading.proofs.Stepping.{steps_keep_code}
+use Rattle.code_loading.specs.Consistent.{IsConsistent}
+use Rattle.process_store.specs.Table.{Table}
+use Rattle.process_table.specs.Messages.{arrival_of, message_of}
+use Rattle.process_table.specs.Steps.{after_arrival, arrive_refusal}
+use Rattle.undo_journal.specs.Reversible.{Accepted}
+use Rattle.undo_journal.specs.declared.reversible.Told.{Told}
+use Rattle.node_core.proofs.Accepting.{accepted_of, all_told, unless_none}
 use Rattle.node_core.proofs.Refusing.{arrival-refused}
-use Rattle.node_core.specs.Node.{NodeState}
+use Rattle.node_core.specs.Errors.{error_of}
+use Rattle.node_core.specs.Node.{NodeState, with_processes}
+use Rattle.node_core.specs.declared.event.Answer.{Answer}
+use Rattle.node_core.specs.declared.event.Answer.TheVariants as answer
+use Rattle.node_core.specs.declared.event.Event.TheVariants as event
+use Rattle.node_core.specs.Note.{Note}
+use Rattle.node_core.specs.declared.event.Refusal.TheVariants.{OfProcesses}
 use Rattle.node_core.proofs.node.Node.arrive.Goals as goal
 
-pub returns-in-Ok-arrive_noted-clause-accepted : goal.returns-in-Ok-arrive_noted-clause-accepted
-returns-in-Ok-arrive_noted-clause-accepted c =
-    arrival_accepted c.args.client c.args.name.now c.args.body.now c.args.self.now c.arrive_noted.new.self c.args.n 0 c.in-Ok.told.items c.in-Ok-arrive_noted.noted.told.items c.in-Ok-arrive_noted.noted.note c.in-Ok.ensures c.in-Ok-arrive_noted.ensures.accepted
+pub invariant_of-self-2 : goal.invariant_of-self-2
+invariant_of-self-2 c =
+    subst (λ (t : Table). IsConsistent c.self.inside.modules t) (sym c.in-Ok-arrive.ensures.arrived) (steps_keep_code.arrivals c.args.client c.args.name.now c.args.body.now c.self.inside.modules c.self.inside.processes c.self.invariant)
+
+pub returns-in-Ok-arrive-clause-accepted : goal.returns-in-Ok-arrive-clause-accepted
+returns-in-Ok-arrive-clause-accepted c =
+    let m = c.self.inside.modules in
+    let t = c.self.inside.processes in
+    let apps = c.self.inside.apps in
+    let n : NodeState = record { modules = m; processes = t; apps = apps } in
+    let k = c.args.n in
+    let name = c.args.name.now in
+    let body = c.args.body.now in
+    let came = arrival_of name (message_of body) in
+    let a : Accepted NodeState Answer Note = record { node = with_processes (after_arrival c.args.client name body t) n; answer = answer.Unit; note = record { replies = []; arrival = came } } in
+    let new : NodeState = record { modules = m; processes = c.arrive.new.self; apps = apps } in
+    let said : Option (List ℕ × Term) → Told Answer Note = λ o. record { answer = answer.Unit; note = record { replies = []; arrival = o } } in
+    accepted_of n c.args.self.now (event.Arrive c.args.client name body) a new k c.tell_arrivals.result.items c.self.view_is (unless_none (arrive_refusal name body t) OfProcesses a c.in-Ok-arrive.ensures.ok) (ap (λ (u : Table). with_processes u n) c.in-Ok-arrive.ensures.arrived) (c.tell_arrivals.ensures ∙ all_told said c.in-Ok-arrive.arrivals.items came k c.in-Ok-arrive.ensures.told)
 
 pub returns-in_default-clause-refused : goal.returns-in_default-clause-refused
 returns-in_default-clause-refused c =
     let n : NodeState = record { modules = c.self.inside.modules; processes = c.self.inside.processes; apps = c.self.inside.apps } in
-    arrival-refused c.args.client c.args.name.now c.args.body.now n c.args.self.now c.arrival_failure.result c.self.view_is c.arrival_failure.ensures
+    arrival-refused c.args.client c.args.name.now c.args.body.now n c.args.self.now c.error_of.result c.self.view_is (c.error_of.ensures ∙ ap error_of c.arrive_refusal.ensures)
+
+pub returns-in-Err-clause-refused : goal.returns-in-Err-clause-refused
+returns-in-Err-clause-refused c =
+    let n : NodeState = record { modules = c.self.inside.modules; processes = c.self.inside.processes; apps = c.self.inside.apps } in
+    arrival-refused c.args.client c.args.name.now c.args.body.now n c.args.self.now c.error_of-in-Err.result c.self.view_is (c.error_of-in-Err.ensures ∙ ap error_of (c.arrive_refusal-in-Err.ensures ∙ ap (λ (t : Table). arrive_refusal c.args.name.now c.args.body.now t) c.in-Err.ensures.err))

@@ -4,7 +4,7 @@ use Rattle.code_loading.proofs.Stepping.{steps_keep_code}
 use Rattle.code_loading.specs.Consistent.{IsConsistent}
 use Rattle.process_ending.specs.declared.told.Reply.{Reply}
 use Rattle.process_store.specs.Table.{Table}
-use Rattle.process_table.specs.Commit.{commit_told, committed}
+use Rattle.process_table.specs.Commit.{IsCommitRefusal, commit_told, committed}
 use Rattle.undo_journal.specs.Reversible.{Accepted}
 use Rattle.undo_journal.specs.declared.reversible.Told.{Told}
 use Rattle.node_core.proofs.Accepting.{accepted_of, each_of}
@@ -17,12 +17,12 @@ use Rattle.node_core.specs.declared.event.Event.TheVariants as event
 use Rattle.node_core.specs.Note.{Note}
 use Rattle.node_core.proofs.node.Node.commit.Goals as goal
 
-pub invariant_of-self-in-Ok-commit_unrefused : goal.invariant_of-self-in-Ok-commit_unrefused
-invariant_of-self-in-Ok-commit_unrefused c =
-    subst (λ (t : Table). IsConsistent c.self.inside.modules t) (sym c.in-Ok-commit_unrefused.ensures.committed) (steps_keep_code.commits c.args.done.now c.self.inside.modules c.self.inside.processes c.self.invariant c.in-Ok-commit_unrefused.ensures.ok.0)
+pub invariant_of-self-in-Ok-commit : goal.invariant_of-self-in-Ok-commit
+invariant_of-self-in-Ok-commit c =
+    subst (λ (t : Table). IsConsistent c.self.inside.modules t) (sym c.in-Ok-commit.ensures.committed) (steps_keep_code.commits c.args.done.now c.self.inside.modules c.self.inside.processes c.self.invariant c.in-Ok-commit.ensures.ok.0)
 
-pub returns-in-Ok-commit_unrefused-clause-accepted : goal.returns-in-Ok-commit_unrefused-clause-accepted
-returns-in-Ok-commit_unrefused-clause-accepted c =
+pub returns-in-Ok-commit-clause-accepted : goal.returns-in-Ok-commit-clause-accepted
+returns-in-Ok-commit-clause-accepted c =
     let m = c.self.inside.modules in
     let t = c.self.inside.processes in
     let apps = c.self.inside.apps in
@@ -30,18 +30,23 @@ returns-in-Ok-commit_unrefused-clause-accepted c =
     let k = c.args.n in
     let done = c.args.done.now in
     let a : Accepted NodeState Answer Note = record { node = record { modules = m; processes = committed done t; apps = ended_by done.job.pid done.outcome.end apps }; answer = answer.Unit; note = reporting (commit_told done t) } in
-    let new : NodeState = record { modules = m; processes = c.commit_unrefused.new.self; apps = c.end_by.new.apps } in
+    let new : NodeState = record { modules = m; processes = c.commit.new.self; apps = c.end_child.new.apps } in
     let said : List Reply → Told Answer Note = λ rs. record { answer = answer.Unit; note = record { replies = rs; arrival = None } } in
-    let is : new ≡ a.node = (λ i. record { modules = m; processes = c.in-Ok-commit_unrefused.ensures.committed i; apps = c.in-Ok-end_by.ensures.ended i }) in
-    accepted_of n c.args.self.now (event.Commit done) a new k c.tell_replies.result.items c.self.view_is (c.in-Ok-commit_unrefused.ensures.ok.0, c.in-Ok-commit_unrefused.ensures.ok.1, refl) is (c.tell_replies.ensures ∙ ap (map said) c.in-Ok-commit_unrefused.ensures.told ∙ each_of said (commit_told done t) k)
+    let is : new ≡ a.node = (λ i. record { modules = m; processes = c.in-Ok-commit.ensures.committed i; apps = c.in-Ok.ensures.ended i }) in
+    accepted_of n c.args.self.now (event.Commit done) a new k c.tell_replies.result.items c.self.view_is (c.in-Ok-commit.ensures.ok.0, c.in-Ok-commit.ensures.ok.1, refl) is (c.tell_replies.ensures ∙ ap (map said) c.in-Ok-commit.ensures.told ∙ each_of said (commit_told done t) k)
 
 pub returns-in_default-clause-refused : goal.returns-in_default-clause-refused
 returns-in_default-clause-refused c =
     let n : NodeState = record { modules = c.self.inside.modules; processes = c.self.inside.processes; apps = c.self.inside.apps } in
     commit-refused c.args.done.now n c.args.self.now c.error_of.result c.commit_refusal.result c.self.view_is c.commit_refusal.ensures c.error_of.ensures
 
+pub returns-in_default-2-clause-refused : goal.returns-in_default-2-clause-refused
+returns-in_default-2-clause-refused c =
+    let n : NodeState = record { modules = c.self.inside.modules; processes = c.self.inside.processes; apps = c.self.inside.apps } in
+    commit-refused c.args.done.now n c.args.self.now c.error_of.result c.commit_refusal.result c.self.view_is c.commit_refusal.ensures c.error_of.ensures
+
 pub returns-in-Err-clause-refused : goal.returns-in-Err-clause-refused
 returns-in-Err-clause-refused c =
     let n : NodeState = record { modules = c.self.inside.modules; processes = c.self.inside.processes; apps = c.self.inside.apps } in
-    let why = c.in-Err.ensures.refused in
-    commit-refused c.args.done.now n c.args.self.now c.in-Err.error why.0 c.self.view_is why.1 why.2
+    let stands = subst (λ (t : Table). IsCommitRefusal c.commit_refusal-in-Err.result c.args.done.now.job t) c.in-Err.ensures.err c.commit_refusal-in-Err.ensures in
+    commit-refused c.args.done.now n c.args.self.now c.error_of-in-Err.result c.commit_refusal-in-Err.result c.self.view_is stands c.error_of-in-Err.ensures

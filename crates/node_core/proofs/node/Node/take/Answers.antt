@@ -1,5 +1,5 @@
 -- The process runs its job in the code that it enters.
-use Rattle.std.proofs.Common.{◌∙◌, ◌-◌, [], None, replicate, sym, subst, ap, refl}
+use Rattle.std.proofs.Common.{◌∙◌, [], None, map, sym, subst, ap, refl}
 use Rattle.code_loading.proofs.Stepping.{steps_keep_code}
 use Rattle.code_loading.specs.Consistent.{IsConsistent}
 use Rattle.erl_machine.specs.declared.jobs.Job.{Job}
@@ -7,7 +7,7 @@ use Rattle.process_commit.specs.Commits.{job_at}
 use Rattle.process_store.specs.Table.{Table, living}
 use Rattle.undo_journal.specs.Reversible.{Accepted}
 use Rattle.undo_journal.specs.declared.reversible.Told.{Told}
-use Rattle.node_core.proofs.Accepting.{accepted_with, parted}
+use Rattle.node_core.proofs.Accepting.{accepted_of, each_of}
 use Rattle.process_table.specs.Steps.{take_refusal}
 use Rattle.node_core.proofs.Refusing.{take-refused}
 use Rattle.node_core.specs.Errors.{error_of}
@@ -24,14 +24,8 @@ invariant_of-self-2 c =
     let takes = c.in-Ok-take.ensures.taken in
     subst (λ (t : Table). IsConsistent c.self.inside.modules t) (sym takes.table) (steps_keep_code.takes c.args.pid takes.job c.self.inside.modules c.self.inside.processes c.self.invariant takes.code)
 
-pub tell_taken-requires-clause-others : goal.tell_taken-requires-clause-others
-tell_taken-requires-clause-others c =
-    let takes = c.in-Ok-take.ensures.taken in
-    let parts = parted c.in-Ok-take.taken.0 takes.job c.in-Ok-take.taken.1.items c.saturating_sub-more.result takes.told in
-    parts.1 ∙ ap (λ k. replicate k takes.job) c.saturating_sub-more.ensures ∙ ap (λ j. replicate (c.args.n - 1) j) (sym parts.0)
-
-pub returns-clause-accepted : goal.returns-clause-accepted
-returns-clause-accepted c =
+pub returns-in-Ok-take-clause-accepted : goal.returns-in-Ok-take-clause-accepted
+returns-in-Ok-take-clause-accepted c =
     let m = c.self.inside.modules in
     let t = c.self.inside.processes in
     let apps = c.self.inside.apps in
@@ -44,7 +38,7 @@ returns-clause-accepted c =
     let new : NodeState = record { modules = m; processes = c.take.new.self; apps = apps } in
     let said : Job → Told Answer Note = λ j. record { answer = answer.Job j; note = record { replies = []; arrival = None } } in
     let runs = ap (λ (u : Table). job_at (living pid u)) (sym takes.table) ∙ takes.runs in
-    accepted_with n c.args.self.now (event.Take pid) a new k c.tell_taken.result.items c.reporting_nothing.result c.self.view_is (job, c.in-Ok-take.ensures.ok, takes.code, runs, refl) (ap (λ (u : Table). with_processes u n) takes.table) (c.tell_taken.ensures ∙ ap (λ j. replicate k (said j)) (parted c.in-Ok-take.taken.0 job c.in-Ok-take.taken.1.items c.saturating_sub-more.result takes.told).0) (sym c.reporting_nothing.ensures)
+    accepted_of n c.args.self.now (event.Take pid) a new k c.tell_jobs.result.items c.self.view_is (job, c.in-Ok-take.ensures.ok, takes.code, runs, refl) (ap (λ (u : Table). with_processes u n) takes.table) (c.tell_jobs.ensures ∙ ap (map said) takes.told ∙ each_of said job k)
 
 pub returns-in_default-clause-refused : goal.returns-in_default-clause-refused
 returns-in_default-clause-refused c =

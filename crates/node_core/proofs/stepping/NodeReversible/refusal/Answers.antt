@@ -1,11 +1,11 @@
 -- An arrival is refused, or nothing stands against it.
 use Rattle.std.proofs.Common.{◌∙◌, [], Err, MatchOption, ap, option_map, sym, subst}
-use Rattle.process_table.specs.Messages.{message_of}
+use Rattle.process_table.specs.Messages.{arrival_of, message_of}
 use Rattle.process_table.specs.Steps.{after_arrival, arrive_refusal}
 use Rattle.undo_journal.specs.Reversible.{Accepted}
 use Rattle.node_core.proofs.Accepting.{refused_or_not}
 use Rattle.node_core.specs.Node.{NodeState, with_processes}
-use Rattle.node_core.specs.Step.{MayRunOut, Step, arrival_of}
+use Rattle.node_core.specs.Step.{MayRunOut, Step}
 use Rattle.node_core.specs.declared.event.Answer.{Answer}
 use Rattle.node_core.specs.declared.event.Answer.TheVariants as answer
 use Rattle.node_core.specs.declared.event.Event.{Event}
