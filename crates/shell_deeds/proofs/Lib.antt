@@ -1,5 +1,4 @@
 mod Deeds
 mod Finding
-mod Lending
 mod Performing
 mod Sources

@@ -33,7 +33,7 @@ use Rattle.shell_deeds.specs.Done.{IsDone, IsKept, after_missed, proc_fate}
 use Rattle.shell_deeds.specs.Halts.{Halts, HaltsBy, MayAllRunOut, MayCommit, RefusesAll, RefusesResult, halt_answer, halt_by, halt_fate, missed_fate, refusal_of_call}
 use Rattle.undo_journal.specs.declared.history.Command.TheVariants.{Perform}
 use Rattle.shell_deeds.specs.State.{Deed, IsFull, ShellState, node_of, stepped, with_job}
-use Rattle.shell_deeds.specs.Stepping.{IsStepped, SendsNothing}
+use Rattle.shell_deeds.specs.Stepping.{IsStepped}
 use Rattle.shell_deeds.specs.Terms.{IsNotOne}
 use Rattle.shell_deeds.specs.declared.fate.Fate.{Fate}
 use Rattle.shell_deeds.specs.declared.fate.Fate.TheVariants as fates
@@ -56,10 +56,6 @@ performed s new e done answer fate after text appended after_by text_by is does 
     let at : after ≡ (done a).after = told.1 ∙ (λ i. after_by (is.after i) (is.answer i)) ∙ ap (λ (d : Deed). d.after) (sym (does a)) in
     let text_at : appended ≡ text ++ (done a).text = told.2 ∙ (λ i. text ++ text_by (is.after i) (is.answer i)) ∙ ap (λ (d : Deed). text ++ d.text) (sym (does a)) in
     subst (λ f. IsDone (Performs s s e done f) after text appended) (sym told.0) (done a, accepted is.room a is.rule, at, text_at)
-
--- a take sends no replies
-pub take-is-quiet : (pid : ℕ) → SendsNothing (event.Take pid)
-take-is-quiet pid = λ n a is. ap (λ (x : Accepted NodeState Answer Note). x.note.replies) is.4
 
 -- and one that was accepted has its job kept
 pub taken-done : (s : ShellState) (pid : ℕ) (a : Accepted NodeState Answer Note) (fate : Option Fate) (new : ShellState) (text appended : List ℕ) → (IsFull s → ⊥) → Step (node_of s) (event.Take pid) (Ok a) → ((job : Job) → a.answer ≡ tells.Job job → (fate ≡ None) × (new ≡ with_job job (stepped a s)) × (appended ≡ text ++ line_of (job_of (length s.jobs + 1) pid))) → IsDone (Performs s s (event.Take pid) (λ b. took (stepped b s) pid b.answer) fate) new text appended

@@ -1,18 +1,10 @@
 -- Lemmas on what was read for a line, or not.
-use Rattle.std.proofs.Common.{◌≡◌, ◌≢◌, ◌⊎◌, ℕ, List, ◌++◌, Option, None, Some, Ok, refl, sym, ap, subst, ◌∙◌, inl, inr}
+use Rattle.std.proofs.Common.{◌≡◌, ◌≢◌, ◌⊎◌, ℕ, List, ◌++◌, Option, None, Some, refl, sym, ap, subst, ◌∙◌, inl, inr}
 use Rattle.erl_forms.specs.Module.{Forms}
 use Rattle.erl_parse.specs.Sources.{IsNoSource}
 use Rattle.erl_parse.specs.Telling.{Says}
 use Rattle.erl_parse.specs.declared.error.LangError.{LangError}
 use Rattle.erl_parse.specs.declared.error.LangError.TheVariants as lang
-use Rattle.erl_term.specs.declared.term.Term.{Term}
-use Rattle.process_table.specs.Steps.{arrive_refusal}
-use Rattle.process_table.specs.declared.error.ProcError.{ProcError}
-use Rattle.undo_journal.specs.Reversible.{Accepted}
-use Rattle.node_core.specs.Node.{NodeState}
-use Rattle.node_core.specs.Step.{unless}
-use Rattle.node_core.specs.declared.event.Refusal.TheVariants.{OfProcesses}
-use Rattle.node_core.specs.Note.{Note}
 use Rattle.node_core.specs.declared.event.Answer.{Answer}
 use Rattle.node_core.specs.declared.event.Event.{Event}
 use Rattle.node_core.specs.declared.event.Event.TheVariants as event
@@ -23,11 +15,11 @@ use Rattle.shell_answers.specs.declared.faults.SourceFault.{SourceFault}
 use Rattle.shell_answers.specs.declared.faults.SourceFault.TheVariants as source
 use Rattle.shell_requests.specs.declared.request.Arrival.{Arrival}
 use Rattle.shell_requests.specs.declared.request.Arrival.TheVariants as arrivals
-use Rattle.shell_deeds.specs.Deeds.{Loads, Misses, Performs, accepted, another, arrival_answer, body_of, event_of_arrival, missing, no_source, read, tried, unread}
+use Rattle.shell_deeds.specs.Deeds.{Loads, Misses, Performs, accepted, another, arrival_answer, missing, no_source, read, tried, unread}
 use Rattle.shell_deeds.specs.Done.{IsDone, IsSourced, Unsourced, not_loaded}
 use Rattle.shell_deeds.specs.Halts.{Halts, HaltsBy, MayAllRunOut, RefusesAll}
 use Rattle.shell_deeds.specs.State.{ShellState, carried, next_number, stepped}
-use Rattle.shell_deeds.specs.Stepping.{IsStepped, SendsNothing}
+use Rattle.shell_deeds.specs.Stepping.{IsStepped}
 use Rattle.shell_deeds.specs.declared.fate.Fate.{Fate}
 use Rattle.shell_deeds.specs.declared.loading.Unloaded.TheVariants.{Faulted}
 use Rattle.shell_deeds.specs.declared.stepping.Halt.{Halt}
@@ -86,14 +78,3 @@ pub arrived-done : (s new after : ShellState) (kind : Arrival) (e : Event) (numb
 arrived-done s new after kind e number answer fate text appended is same said =
     let a = is.accepted in
     subst (λ f. IsDone (Performs s (tried kind s) e (λ b. carried (stepped b (tried kind s)) e (arrival_answer kind (next_number s))) f) after text appended) (sym said.0) (_, accepted is.room a is.rule, said.1 ∙ ap (tried kind) is.after ∙ counted kind s a, said.2 ∙ ap (λ n. text ++ line_of (arrival_answer kind n)) same)
-
--- An arrival sends no replies.
-
-accepted_so : (o : Option ProcError) (a b : Accepted NodeState Answer Note) → Ok a ≡ unless o OfProcesses b → a ≡ b
-accepted_so None a b is = let same : a ≡ b = cc in same
-accepted_so (Some e) a b is = absurd (let never : ⊥ = cc in never)
-
-pub arrival-is-quiet : (kind : Arrival) (number : ℕ) (name : List ℕ) (t : Term) → SendsNothing (event_of_arrival kind number name t)
-arrival-is-quiet kind number name t = λ n a is.
-    let body = body_of kind number t in
-    ap (λ (x : Accepted NodeState Answer Note). x.note.replies) (accepted_so (arrive_refusal name body n.processes) a _ is)

@@ -42,10 +42,6 @@ node_of s = (here s.timeline).node
 abbrev pub with_timeline : NodeTimeline → ShellState → ShellState
 with_timeline t s = record { files = s.files; timeline = t; jobs = s.jobs; calls = s.calls; sent = s.sent }
 
--- where the journal stands elsewhere, and other replies were sent
-abbrev pub with_parts : NodeTimeline → List Reply → ShellState → ShellState
-with_parts t sent s = record { files = s.files; timeline = t; jobs = s.jobs; calls = s.calls; sent = sent }
-
 -- one job more is kept
 abbrev pub with_job : Job → ShellState → ShellState
 with_job job s = record { files = s.files; timeline = s.timeline; jobs = s.jobs ++ job ∷ []; calls = s.calls; sent = s.sent }

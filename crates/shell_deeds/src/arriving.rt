@@ -1,32 +1,29 @@
 // What arrives for processes.
-ghost use Rattle.std.specs.Prelude.{◌≡◌, ◌++◌, ℕ, List, IfOk, MatchResult, None};
+ghost use Rattle.std.specs.Prelude.{◌≡◌, ◌++◌, ℕ, List, IfOk, None};
 ghost use Rattle.std.specs.Str.{chars};
 ghost use Rattle.erl_term.specs.Term.{tree};
 ghost use Rattle.erl_term.specs.declared.term.Term.{Term};
 ghost use Rattle.process_table.specs.Steps.{arrive_refusal, call_refusal};
 ghost use Rattle.shell_answers.specs.Answers.{line_of};
 ghost use Rattle.shell_deeds.specs.Deeds.{Arrives, Performs, arrival_answer, arrival_event, body_of, event_of_arrival, tried};
-ghost use Rattle.shell_deeds.specs.Done.{IsDone, Misreads, after_missed};
-ghost use Rattle.shell_deeds.specs.Halts.{HaltsBy, MayAllRunOut, RefusesAll, halt_answer, halt_by, halt_fate, missed_fate, refusal_of_call};
+ghost use Rattle.shell_deeds.specs.Done.{IsDone, after_missed};
+ghost use Rattle.shell_deeds.specs.Halts.{HaltsBy, MayAllRunOut, RefusesAll, halt_answer, halt_fate, missed_fate, refusal_of_call};
 ghost use Rattle.shell_deeds.specs.declared.stepping.Halt.{Halt};
 ghost use Rattle.shell_deeds.specs.State.{carried, next_number, node_of, stepped};
-ghost use Rattle.shell_deeds.specs.Stepping.{SendsNothing};
 ghost use Rattle.shell_deeds.specs.Terms.{IsRead, one};
 
 use crate::holdings::Holdings;
 use crate::reading::{Misread, term_of};
-use crate::stepping::{Halt, halt_by};
+use crate::stepping::Halt;
 use crate::telling::{Said, say, say_term_fault, tell_halt, tell_missed};
 use erl_term::{Atom, Term};
-use node_core::{Event, Note, Refusal};
+use node_core::{Event, Refusal};
 use process_table::{Body, ProcError};
 use shell_answers::{Fixed, write_called};
 use shell_requests::{Arrival, Name};
-use undo_journal::JournalError;
 
 impl Holdings {
     /// Has the term of a text arrive for the process of a name.
-    #[inline(never)]
     pub(crate) fn arrive(
         &mut self,
         kind: Arrival,
@@ -36,7 +33,7 @@ impl Holdings {
     ) -> Said
         ensures { IfOk result (λ fate. IsDone (Arrives self.old kind (chars name.entry.text.now) text.now fate) self.new out.old.items out.new.items) }
     {
-        match self.read_term(text) {
+        match term_of(self.alloc, text) {
             Ok(term) => self.arrive_term(kind, name, term, out),
             Err(Misread::NotOne) => say(Fixed::BadCommand, out),
             Err(Misread::Faulty(error)) => say_term_fault(error, out),
@@ -45,7 +42,6 @@ impl Holdings {
     }
 
     /// Tells what stands against an arrival whatever its term is, which was not read, or else want of memory.
-    #[inline(never)]
     fn tell_unread(&self, kind: Arrival, name: Name<'_>, out: &mut Vec<u8>) -> Said
         ensures { IfOk result (λ fate. (halt : Halt)
             × HaltsBy (RefusesAll self.now (arrival_event self.now kind (chars name.entry.text.now))) (MayAllRunOut self.now (arrival_event self.now kind (chars name.entry.text.now))) halt self.now
@@ -54,50 +50,26 @@ impl Holdings {
         tell_missed(self.halt_of_arrival(kind, name), out)
     }
 
-    /// The term of a text, which is kept for the lines that follow.
-    fn read_term(&mut self, text: &str) -> Result<Term, Misread>
-        ensures read { MatchResult result (λ t. IsRead text.now (one (tree t))) (Misreads text.now) }
-        ensures held { self.new ≡ self.old }
-    {
-        if let Some(term) = self.recent.get(self.alloc, text) {
-            return Ok(term);
-        }
-        let term = term_of(self.alloc, text)?;
-        self.recent.keep(self.alloc, text, &term);
-        Ok(term)
-    }
-
     /// Has a term arrive.
     fn arrive_term(&mut self, kind: Arrival, name: Name<'_>, term: Term, out: &mut Vec<u8>) -> Said
         ensures { IfOk result (λ fate. (text : List ℕ) → IsRead text (one (tree term))
             → IsDone (Arrives self.old kind (chars name.entry.text.now) text fate) self.new out.old.items out.new.items) }
     {
-        let Ok(atom) = self.atom_of(name) else {
+        let Ok(atom) = name.atom(self.alloc) else {
             return self.tell_unnamed(kind, name, out);
         };
         self.arrive_named(kind, atom, term, out)
     }
 
     /// Has a term arrive for a name.
-    #[inline(always)]
     fn arrive_named(&mut self, kind: Arrival, name: Atom, term: Term, out: &mut Vec<u8>) -> Said
         ensures { IfOk result (λ fate. IsDone (Performs self.old (tried kind self.old) (event_of_arrival kind (next_number self.old) name term)
             (λ a. carried (stepped a (tried kind self.old)) (event_of_arrival kind (next_number self.old) name term) (arrival_answer kind (next_number self.old))) fate) self.new out.old.items out.new.items) }
     {
         let number = self.next_number();
-        self.arrive_by(&arrival_event(kind, number, name, term), kind, number, out)
-    }
-
-    /// Has a term arrive by this event, and tells it.
-    fn arrive_by(&mut self, event: &Event, kind: Arrival, number: u64, out: &mut Vec<u8>) -> Said
-        requires quiet { SendsNothing event.now }
-        requires numbered { number ≡ next_number self.old }
-        ensures { IfOk result (λ fate. IsDone (Performs self.old (tried kind self.old) event.now
-            (λ a. carried (stepped a (tried kind self.old)) event.now (arrival_answer kind (next_number self.old))) fate) self.new out.old.items out.new.items) }
-    {
-        match self.journal.perform(event, 0) {
+        match self.perform(arrival_event(kind, number, name, term)) {
             Ok(_) => self.tell_arrived(kind, number, out),
-            Err(error) => self.tell_failed_arrival(error, kind, out),
+            Err(halt) => self.tell_kept_out(halt, kind, out),
         }
     }
 
@@ -133,7 +105,6 @@ impl Holdings {
     }
 
     /// Tells what stands against an arrival whatever its term is, or else want of memory. A call is counted, unless memory was refused.
-    #[inline(never)]
     fn tell_unnamed(&mut self, kind: Arrival, name: Name<'_>, out: &mut Vec<u8>) -> Said
         ensures { IfOk result (λ fate. (halt : Halt)
             × HaltsBy (RefusesAll self.old (arrival_event self.old kind (chars name.entry.text.now))) (MayAllRunOut self.old (arrival_event self.old kind (chars name.entry.text.now))) halt self.old
@@ -144,25 +115,11 @@ impl Holdings {
     }
 
     /// Tells why it has not arrived. A call is counted, unless memory was refused.
-    #[inline(never)]
     fn tell_kept_out(&mut self, halt: Halt, kind: Arrival, out: &mut Vec<u8>) -> Said
         ensures { IfOk result (λ fate. (fate ≡ halt_fate halt) × (self.new ≡ after_missed halt kind self.old) × (out.new.items ≡ out.old.items ++ line_of (halt_answer halt))) }
     {
         self.count_unless_refused(&halt, kind);
         tell_halt(halt, out)
-    }
-
-    /// Tells why the journal performed no arrival. A call is counted, unless memory was refused.
-    #[inline(never)]
-    fn tell_failed_arrival(
-        &mut self,
-        error: JournalError<Refusal, Note>,
-        kind: Arrival,
-        out: &mut Vec<u8>,
-    ) -> Said
-        ensures { IfOk result (λ fate. (fate ≡ halt_fate (halt_by error)) × (self.new ≡ after_missed (halt_by error) kind self.old) × (out.new.items ≡ out.old.items ++ line_of (halt_answer (halt_by error)))) }
-    {
-        self.tell_kept_out(halt_by(error), kind, out)
     }
 
     /// One call more was tried, if it is a call, unless memory was refused.

@@ -18,15 +18,13 @@ use shell_requests::{Change, Name};
 
 impl Holdings {
     /// Deletes or purges a module's code.
-    #[inline(never)]
-    #[inline(never)]
     pub(crate) fn change(&mut self, kind: Change, name: Name<'_>, out: &mut Vec<u8>) -> Said
         ensures { IfOk result (λ fate. IsDone (Changes self.old kind (chars name.entry.text.now) fate) self.new out.old.items out.new.items) }
     {
         let Ok(atom) = name.atom(self.alloc) else {
             return tell_halt(self.halt_of_change(kind, name), out);
         };
-        match self.carry_out(change_event(kind, atom)) {
+        match self.perform(change_event(kind, atom)) {
             Ok(answer) => tell_truth(answer, out),
             Err(halt) => tell_halt(halt, out),
         }

@@ -1,7 +1,6 @@
 // What the shell holds from one line to the next.
 ghost use Rattle.std.specs.Prelude.{◌≡◌, ◌+◌, ◌↔◌, IfOk, IsTrue, OnErr, OnOk, length};
 
-use crate::recent::{RecentNames, RecentTerms};
 use erl_machine::Job;
 use node_core::Node;
 use process_ending::Reply;
@@ -25,10 +24,6 @@ pub struct Holdings {
     pub(crate) calls: u64,
     /// All replies, in one row, or in several where memory was refused to join them. Contracts see them as one list.
     pub(crate) sent: Vec<Row<Reply>>,
-    /// Names that lines had not long ago. Contracts don't see them.
-    pub(crate) names: RecentNames,
-    /// Terms that lines had not long ago. Contracts don't see them.
-    pub(crate) recent: RecentTerms,
 }
 
 impl Model for Holdings {
@@ -75,8 +70,6 @@ impl Holdings {
             jobs: Vec::new(alloc),
             calls: 0,
             sent: Vec::new(alloc),
-            names: RecentNames::new(alloc),
-            recent: RecentTerms::new(alloc),
         })
     }
 

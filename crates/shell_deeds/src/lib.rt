@@ -14,8 +14,6 @@
 //!
 //! That there is memory, and that it was refused where a line says so: a body that reads no term, or whose undos stop at once, meets the
 //! contract, and only its fates tell of it. What holds where there is no memory to write an answer: the line may have been obeyed then.
-//!
-//! That names and terms that lines have often are made once: [`Holdings`] keep some of them, at most 64 of each, and copies share them.
 #![tactic(auto)]
 
 mod arriving;
@@ -27,9 +25,7 @@ mod lines;
 mod loading;
 mod naming;
 mod reading;
-mod recent;
 mod reviving;
-mod sending;
 mod serving;
 mod stepping;
 mod telling;

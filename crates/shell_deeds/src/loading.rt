@@ -31,8 +31,6 @@ pub(crate) enum Unloaded {
 
 impl Holdings {
     /// Loads the module of the file at a path.
-    #[inline(never)]
-    #[inline(never)]
     pub(crate) fn load(&mut self, name: Name<'_>, path: &str, out: &mut Vec<u8>) -> Said
         ensures { IfOk result (λ fate. IsDone (Loads self.old (chars name.entry.text.now) path.now fate) self.new out.old.items out.new.items) }
     {
@@ -78,8 +76,8 @@ impl Holdings {
         let Ok(name) = code.name().copy(self.alloc) else {
             return tell_halt(self.halt_of_load(), out);
         };
-        match self.make(Event::Load(code)) {
-            Ok(()) => tell_loaded(&name, out),
+        match self.perform(Event::Load(code)) {
+            Ok(_) => tell_loaded(&name, out),
             Err(halt) => tell_halt(halt, out),
         }
     }

@@ -1,5 +1,5 @@
 // Names, looked for without memory.
-ghost use Rattle.std.specs.Prelude.{◌≡◌, IfOk, position};
+ghost use Rattle.std.specs.Prelude.{◌≡◌, position};
 ghost use Rattle.std.specs.Option.{option_copied};
 ghost use Rattle.std.specs.Str.{bytes_eq, chars};
 ghost use Rattle.process_store.specs.Table.{is_named, pid_of};
@@ -11,34 +11,12 @@ use crate::holdings::Holdings;
 use erl_term::Atom;
 use process_table::{Living, Processes};
 use shell_requests::{Name, Proc};
-use std::alloc::AllocError;
-use values::Duplicate;
 
 impl Holdings {
-    /// The atom of a name, which is kept for the lines that follow.
-    ///
-    /// # Errors
-    ///
-    /// `AllocError` where memory is refused.
-    pub(crate) fn atom_of(&mut self, name: Name<'_>) -> Result<Atom, AllocError>
-        ensures atom { IfOk result (λ atom. atom ≡ chars name.entry.text.now) }
-        ensures held { self.new ≡ self.old }
-    {
-        if let Some(atom) = self.names.get(name.as_str()) {
-            return atom.copy(self.alloc);
-        }
-        let atom = name.atom(self.alloc)?;
-        self.names.keep(self.alloc, &atom);
-        Ok(atom)
-    }
-
     /// The process that is registered under a name: found by key, or, where there is no memory for the key, by a walk over the processes.
     pub(crate) fn pid_of(&self, name: Name<'_>) -> Option<u64>
         ensures { result ≡ pid_of (chars name.entry.text.now) (node_of self.now).processes }
     {
-        if let Some(atom) = self.names.get(name.as_str()) {
-            return self.processes().pid_of(atom);
-        }
         match name.atom(self.alloc) {
             Ok(atom) => self.processes().pid_of(&atom),
             Err(_) => find_process(self.processes(), name.as_str()),

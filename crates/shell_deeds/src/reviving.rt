@@ -24,15 +24,13 @@ use sys_protocol::{App, Apps, Child, SysError};
 
 impl Holdings {
     /// Revives a child of an application, by its Id.
-    #[inline(never)]
-    #[inline(never)]
     pub(crate) fn revive(&mut self, app: Name<'_>, id: Name<'_>, out: &mut Vec<u8>) -> Said
         ensures { IfOk result (λ fate. IsDone (RevivesChild self.old (chars app.entry.text.now) (chars id.entry.text.now) fate) self.new out.old.items out.new.items) }
     {
         let Ok(event) = revive_event(self.alloc, app, id) else {
             return tell_halt(self.halt_of_revival(app, id), out);
         };
-        match self.carry_out(event) {
+        match self.perform(event) {
             Ok(answer) => tell_revived(answer, out),
             Err(halt) => tell_halt(halt, out),
         }

@@ -10,37 +10,32 @@ ghost use Rattle.shell_deeds.specs.Done.{IsDone, IsKept, proc_fate};
 ghost use Rattle.shell_requests.specs.declared.request.Service.TheVariants.{Retake, Show, Take};
 
 use crate::holdings::Holdings;
-use crate::telling::{Said, refuse, say, tell_failed};
+use crate::stepping::{halt_of, send, step};
+use crate::telling::{Said, refuse, say, tell_halt};
 use erl_machine::Job;
 use node_core::{Answer, Event};
 use process_table::ProcError;
 use shell_answers::{Fixed, proc_refusal, write_job, write_process};
+use undo_journal::Told;
 
 impl Holdings {
     /// Takes the next message of a process, and keeps the job.
-    #[inline(never)]
     pub(crate) fn take(&mut self, pid: u64, out: &mut Vec<u8>) -> Said
         ensures { IfOk result (λ fate. IsDone (ServesAs self.old Take (Some pid) fate) self.new out.old.items out.new.items) }
     {
-        self.take_by(&Event::Take(pid), pid, out)
-    }
-
-    /// Takes the next message of a process by this event, and keeps the job.
-    fn take_by(&mut self, taking: &Event, pid: u64, out: &mut Vec<u8>) -> Said
-        requires { taking.now ≡ event.Take pid }
-        ensures { IfOk result (λ fate. IsDone (ServesAs self.old Take (Some pid) fate) self.new out.old.items out.new.items) }
-    {
         if self.jobs.reserve(1).is_err() {
-            return self.tell_halt_of(taking, out);
+            return tell_halt(halt_of(&self.journal, &Event::Take(pid)), out);
         }
-        match self.journal.perform_once(taking) {
-            Ok(answer) => tell_taken(&mut self.jobs, pid, answer, out),
-            Err(error) => tell_failed(error, out),
+        match step(&mut self.journal, &mut self.sent, &Event::Take(pid)) {
+            Ok(Told { answer, note }) => {
+                send(&mut self.sent, note.into_replies(self.alloc));
+                tell_taken(&mut self.jobs, pid, answer, out)
+            }
+            Err(halt) => tell_halt(halt, out),
         }
     }
 
     /// Keeps the job that a process runs.
-    #[inline(never)]
     pub(crate) fn retake(&mut self, pid: u64, out: &mut Vec<u8>) -> Said
         ensures { IfOk result (λ fate. IsDone (ServesAs self.old Retake (Some pid) fate) self.new out.old.items out.new.items) }
     {
@@ -63,7 +58,6 @@ impl Holdings {
     }
 
     /// Tells what a process is.
-    #[inline(never)]
     pub(crate) fn show(&self, pid: u64, out: &mut Vec<u8>) -> Said
         ensures { IfOk result (λ fate. IsDone (ServesAs self.now Show (Some pid) fate) self.now out.old.items out.new.items) }
     {

@@ -1,19 +1,12 @@
 // Steps of the node.
 ghost use Rattle.std.specs.Prelude.{◌≡◌, ◌<◌, ◌++◌, ◌∷◌, [], IfErr, IfOk, OnErr, OnOk, length, vec_capacity, vec_len};
-ghost use Rattle.node_core.specs.declared.event.Answer.{Answer};
-ghost use Rattle.node_core.specs.Note.{Note};
-ghost use Rattle.undo_journal.specs.declared.reversible.Told.{Told};
-ghost use Rattle.shell_deeds.specs.Halts.{Halts, halt_answer, halt_by, halt_fate};
-ghost use Rattle.shell_deeds.specs.declared.stepping.Halt.{Halt};
-ghost use Rattle.shell_answers.specs.Answers.{line_of};
+ghost use Rattle.shell_deeds.specs.Halts.{Halts, halt_by};
 ghost use Rattle.shell_deeds.specs.State.{ShellState, joined};
-ghost use Rattle.shell_deeds.specs.Stepping.{IsStepped};
+ghost use Rattle.shell_deeds.specs.Stepping.{IsStepped, IsTold};
 
 use crate::holdings::Holdings;
-use crate::telling::{Said, tell_halt};
 use node_core::{Answer, Event, Node, Note, Refusal};
 use process_ending::Reply;
-use std::alloc::Global;
 use undo_journal::{Journal, JournalError, Reversible, Told};
 use values::Row;
 
@@ -29,74 +22,63 @@ pub(crate) enum Halt {
 }
 
 impl Holdings {
-    /// What stands against an event that is told without memory, or else want of it.
-    fn halt_of(&self, event: &Event) -> Halt
-        ensures { Halts result self.now event.now }
-    {
-        halt_of(&self.journal, event)
-    }
-
-    /// Tells what stands against an event that is told without memory, or else want of it.
-    #[inline(never)]
-    pub(crate) fn tell_halt_of(&self, event: &Event, out: &mut Vec<u8>) -> Said
-        ensures { IfOk result (λ fate. (halt : Halt) × Halts halt self.now event.now × (fate ≡ halt_fate halt) × (out.new.items ≡ out.old.items ++ line_of (halt_answer halt))) }
-    {
-        tell_halt(self.halt_of(event), out)
-    }
-
-    /// Performs an event, and sends its replies.
+    /// Performs an event, and sends its replies. Its answer is handed out.
     ///
     /// # Errors
     ///
     /// Why it was not performed. All is then as it was.
-    fn perform(&mut self, event: &Event) -> Result<Answer, Halt>
-        ensures stepped { IfOk result (λ answer. IsStepped answer self.old event.now self.new) }
-        ensures halted { IfErr result (λ halt. Halts halt self.old event.now) }
-        ensures err { OnErr result (self.new ≡ self.old) }
-    {
-        if self.sent.reserve(1).is_err() {
-            return Err(self.halt_of(event));
-        }
-        match self.journal.perform(event, 1) {
-            Ok(told) => Ok(send_told(self.alloc, &mut self.sent, told)),
-            Err(error) => Err(halt_by(error)),
-        }
-    }
-}
-
-impl Holdings {
-    /// Performs an event that nothing else needs, and sends its replies.
-    ///
-    /// # Errors
-    ///
-    /// Why it was not performed. All is then as it was.
-    pub(crate) fn carry_out(&mut self, event: Event) -> Result<Answer, Halt>
+    pub(crate) fn perform(&mut self, event: Event) -> Result<Answer, Halt>
         ensures stepped { IfOk result (λ answer. IsStepped answer self.old event self.new) }
         ensures halted { IfErr result (λ halt. Halts halt self.old event) }
         ensures err { OnErr result (self.new ≡ self.old) }
     {
-        self.perform(&event)
-    }
-
-    /// Performs an event whose answer nobody needs, and sends its replies.
-    ///
-    /// # Errors
-    ///
-    /// Why it was not performed. All is then as it was.
-    pub(crate) fn make(&mut self, event: Event) -> Result<(), Halt>
-        ensures stepped { OnOk result ((answer : Answer) × IsStepped answer self.old event self.new) }
-        ensures halted { IfErr result (λ halt. Halts halt self.old event) }
-        ensures err { OnErr result (self.new ≡ self.old) }
-    {
-        match self.carry_out(event) {
-            Ok(_) => Ok(()),
+        match step(&mut self.journal, &mut self.sent, &event) {
+            Ok(Told { answer, note }) => {
+                send(&mut self.sent, note.into_replies(self.alloc));
+                Ok(answer)
+            }
             Err(halt) => Err(halt),
         }
     }
 }
 
+/// Performs an event, and hands out what is told of it. There is room for a row of its replies then.
+///
+/// # Errors
+///
+/// Why it was not performed. All is then as it was.
+pub(crate) fn step(
+    journal: &mut Journal<Node>,
+    sent: &mut Vec<Row<Reply>>,
+    event: &Event,
+) -> Result<Told<Answer, Note>, Halt>
+    ensures told { IfOk result (λ told. (s : ShellState) → s.timeline ≡ journal.old → IsTold told s event.now journal.new) }
+    ensures halted { IfErr result (λ halt. (s : ShellState) → s.timeline ≡ journal.old → Halts halt s event.now) }
+    ensures err { OnErr result (journal.new ≡ journal.old) }
+    ensures sent { joined sent.new.items ≡ joined sent.old.items }
+    ensures room { OnOk result (vec_len sent.new < vec_capacity sent.new) }
+{
+    if sent.reserve(1).is_err() {
+        return Err(halt_of(journal, event));
+    }
+    match journal.perform(event, 1) {
+        Ok(told) => Ok(only_told(told)),
+        Err(error) => Err(halt_by(error)),
+    }
+}
+
+/// The only value that tells of an event.
+fn only_told(mut told: Vec<Told<Answer, Note>>) -> Told<Answer, Note>
+    requires { length told.items ≡ 1 }
+    ensures { told.items ≡ result ∷ [] }
+{
+    match told.pop() {
+        Some(only) => only,
+        None => unreachable!(),
+    }
+}
+
 /// What stands against an event that is told without memory, or else want of it.
-#[inline(never)]
 pub(crate) fn halt_of(journal: &Journal<Node>, event: &Event) -> Halt
     ensures { (s : ShellState) → s.timeline ≡ journal.now → Halts result s event.now }
 {
@@ -110,8 +92,7 @@ pub(crate) fn halt_of(journal: &Journal<Node>, event: &Event) -> Halt
 }
 
 /// Why an event was not performed, by the journal's error. No event has a dead mark.
-#[inline(never)]
-pub(crate) fn halt_by(error: JournalError<Refusal, Note>) -> Halt
+fn halt_by(error: JournalError<Refusal, Note>) -> Halt
     ensures { result ≡ halt_by error }
 {
     match error {
@@ -144,20 +125,5 @@ pub(crate) fn send(sent: &mut Vec<Row<Reply>>, replies: Row<Reply>)
     join_last(sent, &mut replies);
     if !replies.as_slice().is_empty() {
         sent.push_reserved(Row::new(replies));
-    }
-}
-
-/// Sends the replies of what is told once, for whose row there is room, and hands the answer out.
-fn send_told(alloc: Global, sent: &mut Vec<Row<Reply>>, mut told: Vec<Told<Answer, Note>>) -> Answer
-    requires room { vec_len sent.old < vec_capacity sent.old }
-    requires once { length told.items ≡ 1 }
-    ensures { (it : Told Answer Note) → told.items ≡ it ∷ [] → (result ≡ it.answer) × (joined sent.new.items ≡ joined sent.old.items ++ it.note.replies) }
-{
-    match told.pop() {
-        Some(Told { answer, note }) => {
-            send(sent, note.into_replies(alloc));
-            answer
-        }
-        None => unreachable!(),
     }
 }

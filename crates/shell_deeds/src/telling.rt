@@ -5,15 +5,14 @@ ghost use Rattle.shell_answers.specs.Faults.{source_fault, term_fault};
 ghost use Rattle.shell_answers.specs.Refusals.{refusal_of};
 ghost use Rattle.shell_answers.specs.declared.fixed.Fixed.TheVariants.{Memory};
 ghost use Rattle.shell_deeds.specs.declared.fate.Fate.TheVariants.{Refused};
-ghost use Rattle.shell_deeds.specs.Halts.{halt_answer, halt_by, halt_fate, missed_fate};
+ghost use Rattle.shell_deeds.specs.Halts.{halt_answer, halt_fate, missed_fate};
 
 use crate::fate::Fate;
-use crate::stepping::{Halt, halt_by};
+use crate::stepping::Halt;
 use erl_scan::ReadError;
-use node_core::{Note, Refusal};
+use node_core::Refusal;
 use shell_answers::{Fixed, SourceFault, write_refusal, write_source_fault, write_term_fault};
 use std::alloc::AllocError;
-use undo_journal::JournalError;
 
 /// What an answer ends with: what became of the line, or no memory to write the answer.
 pub(crate) type Said = Result<Option<Fate>, AllocError>;
@@ -51,7 +50,6 @@ pub(crate) fn refuse(out: &mut Vec<u8>) -> Said
 }
 
 /// Appends why an event was not performed.
-#[inline(never)]
 pub(crate) fn tell_halt(halt: Halt, out: &mut Vec<u8>) -> Said
     ensures { IfOk result (λ fate. (fate ≡ halt_fate halt) × (out.new.items ≡ out.old.items ++ line_of (halt_answer halt))) }
 {
@@ -60,14 +58,6 @@ pub(crate) fn tell_halt(halt: Halt, out: &mut Vec<u8>) -> Said
         Halt::Refused(why) => say_refusal(why, out),
         Halt::Memory => refuse(out),
     }
-}
-
-/// Appends why the journal performed no event.
-#[inline(never)]
-pub(crate) fn tell_failed(error: JournalError<Refusal, Note>, out: &mut Vec<u8>) -> Said
-    ensures { IfOk result (λ fate. (fate ≡ halt_fate (halt_by error)) × (out.new.items ≡ out.old.items ++ line_of (halt_answer (halt_by error)))) }
-{
-    tell_halt(halt_by(error), out)
 }
 
 /// Appends why an event is refused.

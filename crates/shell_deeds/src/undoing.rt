@@ -23,8 +23,6 @@ type Undone = Result<Vec<Report<Note>>, JournalError<Refusal, Note>>;
 
 impl Holdings {
     /// Tells what is asked.
-    #[inline(never)]
-    #[inline(never)]
     pub(crate) fn tell(&self, question: Question, out: &mut Vec<u8>) -> Said
         ensures { IfOk result (λ fate. (fate ≡ None) × (out.new.items ≡ out.old.items ++ line_of (told self.now question))) }
     {
@@ -45,8 +43,6 @@ impl Holdings {
     }
 
     /// Undoes every step after a mark, and tells what was undone.
-    #[inline(never)]
-    #[inline(never)]
     pub(crate) fn undo(&mut self, mark: Mark, out: &mut Vec<u8>) -> Said
         ensures { IfOk result (λ fate. IsDone (Undoes self.old mark fate) self.new out.old.items out.new.items) }
     {

@@ -1,34 +1,32 @@
 -- The term of the text arrives, or it is told what stands against it.
-use Rattle.std.proofs.Common.{IfOk, refl, subst, sym}
+use Rattle.std.proofs.Common.{refl, subst, sym}
 use Rattle.std.specs.Str.{chars}
 use Rattle.shell_deeds.proofs.Deeds.{IfOk-then}
 use Rattle.shell_deeds.proofs.Performing.{done-as, missed}
 use Rattle.shell_deeds.specs.Deeds.{Arrives, arrival_event, no_text, several, unread}
 use Rattle.shell_deeds.specs.Done.{IsDone, Misreads}
-use Rattle.shell_deeds.specs.State.{ShellState}
 use Rattle.shell_deeds.proofs.holdings.Holdings.arrive.Goals as goal
 
 pub returns-in-Ok : goal.returns-in-Ok
 returns-in-Ok c =
-    let name = chars c.args.name.text.now in
-    subst (λ (t : ShellState). IfOk c.arrive_term.result (λ fate. IsDone (Arrives t c.args.kind name c.args.text.now fate) c.arrive_term.new.self c.args.out.now.items c.arrive_term.new.out.items)) c.read_term.ensures.held (IfOk-then c.arrive_term.result _ _ c.arrive_term.ensures (λ fate done. done c.args.text.now c.in-Ok.ensures.read))
+    IfOk-then c.arrive_term.result _ _ c.arrive_term.ensures (λ fate done. done c.args.text.now c.in-Ok.ensures)
 
 pub returns-in-Err-NotOne : goal.returns-in-Err-NotOne
 returns-in-Err-NotOne c =
-    let s = c.read_term.new.self in
+    let s = c.args.self.now in
     let name = chars c.args.name.text.now in
-    subst (λ (t : ShellState). IfOk c.say.result (λ fate. IsDone (Arrives t c.args.kind name c.args.text.now fate) s c.args.out.now.items c.say.new.out.items)) c.read_term.ensures.held (IfOk-then c.say.result _ _ c.say.ensures (λ fate told. subst (λ f. IsDone (Arrives s c.args.kind name c.args.text.now f) s c.args.out.now.items c.say.new.out.items) (sym told.0) (_, several (subst (Misreads c.args.text.now) c.in-Err-NotOne.field-0-is c.in-Err-NotOne.ensures.read), refl, told.1)))
+    IfOk-then c.say.result _ _ c.say.ensures (λ fate told. subst (λ f. IsDone (Arrives s c.args.kind name c.args.text.now f) s c.args.out.now.items c.say.new.out.items) (sym told.0) (_, several (subst (Misreads c.args.text.now) c.in-Err-NotOne.field-0-is c.in-Err-NotOne.ensures), refl, told.1))
 
 pub returns-in-Err-Faulty : goal.returns-in-Err-Faulty
 returns-in-Err-Faulty c =
-    let s = c.read_term.new.self in
+    let s = c.args.self.now in
     let name = chars c.args.name.text.now in
-    subst (λ (t : ShellState). IfOk c.say_term_fault.result (λ fate. IsDone (Arrives t c.args.kind name c.args.text.now fate) s c.args.out.now.items c.say_term_fault.new.out.items)) c.read_term.ensures.held (IfOk-then c.say_term_fault.result _ _ c.say_term_fault.ensures (λ fate told. subst (λ f. IsDone (Arrives s c.args.kind name c.args.text.now f) s c.args.out.now.items c.say_term_fault.new.out.items) (sym told.0) (_, no_text c.in-Err-Faulty.error.kind c.in-Err-Faulty.error.at (subst (Misreads c.args.text.now) c.in-Err-Faulty.field-0-is c.in-Err-Faulty.ensures.read), refl, told.1)))
+    IfOk-then c.say_term_fault.result _ _ c.say_term_fault.ensures (λ fate told. subst (λ f. IsDone (Arrives s c.args.kind name c.args.text.now f) s c.args.out.now.items c.say_term_fault.new.out.items) (sym told.0) (_, no_text c.in-Err-Faulty.error.kind c.in-Err-Faulty.error.at (subst (Misreads c.args.text.now) c.in-Err-Faulty.field-0-is c.in-Err-Faulty.ensures), refl, told.1))
 
 pub returns-in-Err-NoMemory : goal.returns-in-Err-NoMemory
 returns-in-Err-NoMemory c =
-    let s = c.read_term.new.self in
+    let s = c.args.self.now in
     let name = chars c.args.name.text.now in
     let here = c.args.out.now.items in
     let out = c.tell_unread.new.out.items in
-    subst (λ (t : ShellState). IfOk c.tell_unread.result (λ fate. IsDone (Arrives t c.args.kind name c.args.text.now fate) s here out)) c.read_term.ensures.held (IfOk-then c.tell_unread.result _ _ c.tell_unread.ensures (λ fate told. done-as s here out (λ d does. unread fate d does) (missed s (arrival_event s c.args.kind name) told.0 fate here out told.1 (told.2, told.3))))
+    IfOk-then c.tell_unread.result _ _ c.tell_unread.ensures (λ fate told. done-as s here out (λ d does. unread fate d does) (missed s (arrival_event s c.args.kind name) told.0 fate here out told.1 (told.2, told.3)))

@@ -1,24 +1,33 @@
--- The event is the arrival's, and its number the next.
-use Rattle.std.proofs.Common.{◌≡◌, ap, subst, sym, ◌∙◌}
+-- It has arrived under the next number, or it is told why it has not.
+use Rattle.std.proofs.Common.{◌≡◌, ap, subst, ◌∙◌}
 use Rattle.node_core.specs.declared.event.Event.{Event}
 use Rattle.shell_deeds.proofs.Deeds.{IfOk-then}
-use Rattle.shell_deeds.proofs.Sources.{arrival-is-quiet}
-use Rattle.shell_deeds.specs.Stepping.{SendsNothing}
+use Rattle.shell_deeds.proofs.Performing.{kept_out}
+use Rattle.shell_deeds.proofs.Sources.{arrived-done}
 use Rattle.shell_deeds.specs.Deeds.{Performs, arrival_answer, event_of_arrival, tried}
-use Rattle.shell_deeds.specs.Done.{IsDone}
-use Rattle.shell_deeds.specs.State.{carried, next_number, stepped}
+use Rattle.shell_deeds.specs.Done.{IsDone, after_missed}
+use Rattle.shell_deeds.specs.State.{ShellState, carried, next_number, stepped}
 use Rattle.shell_deeds.proofs.holdings.Holdings.arrive_named.Goals as goal
 
-pub arrive_by-requires-clause-quiet : goal.arrive_by-requires-clause-quiet
-arrive_by-requires-clause-quiet c =
-    subst SendsNothing (sym c.arrival_event.ensures) (arrival-is-quiet c.args.kind c.next_number-number.result c.args.name c.args.term)
-
-pub returns : goal.returns
-returns c =
+pub returns-in-Ok : goal.returns-in-Ok
+returns-in-Ok c =
     let s = c.args.self.now in
     let kind = c.args.kind in
-    let new = c.arrive_by.new.self in
-    let out = c.arrive_by.new.out.items in
     let here = c.args.out.now.items in
-    let same : c.arrival_event.result ≡ event_of_arrival kind (next_number s) c.args.name c.args.term = c.arrival_event.ensures ∙ ap (λ n. event_of_arrival kind n c.args.name c.args.term) c.next_number-number.ensures in
-    IfOk-then c.arrive_by.result _ _ c.arrive_by.ensures (λ fate done. subst (λ (e : Event). IsDone (Performs s (tried kind s) e (λ a. carried (stepped a (tried kind s)) e (arrival_answer kind (next_number s))) fate) new here out) same done)
+    let out = c.tell_arrived.new.out.items in
+    let new = c.tell_arrived.new.self in
+    let e = c.arrival_event.result in
+    let number = c.next_number-number.ensures in
+    let same : e ≡ event_of_arrival kind (next_number s) c.args.name c.args.term = c.arrival_event.ensures ∙ ap (λ n. event_of_arrival kind n c.args.name c.args.term) number in
+    IfOk-then c.tell_arrived.result _ _ c.tell_arrived.ensures (λ fate told. subst (λ (x : Event). IsDone (Performs s (tried kind s) x (λ a. carried (stepped a (tried kind s)) x (arrival_answer kind (next_number s))) fate) new here out) same (arrived-done s c.perform.new.self new kind e c.next_number-number.result c.in-Ok.field-0 fate here out c.in-Ok.ensures.stepped number told))
+
+pub returns-in-Err : goal.returns-in-Err
+returns-in-Err c =
+    let s = c.args.self.now in
+    let kind = c.args.kind in
+    let here = c.args.out.now.items in
+    let out = c.tell_kept_out.new.out.items in
+    let new = c.tell_kept_out.new.self in
+    let e = c.arrival_event.result in
+    let same : e ≡ event_of_arrival kind (next_number s) c.args.name c.args.term = c.arrival_event.ensures ∙ ap (λ n. event_of_arrival kind n c.args.name c.args.term) c.next_number-number.ensures in
+    IfOk-then c.tell_kept_out.result _ _ c.tell_kept_out.ensures (λ fate told. subst (λ (x : Event). IsDone (Performs s (tried kind s) x (λ a. carried (stepped a (tried kind s)) x (arrival_answer kind (next_number s))) fate) new here out) same (kept_out s new kind e (λ a. carried (stepped a (tried kind s)) e (arrival_answer kind (next_number s))) c.in-Err.halt fate here out c.in-Err.ensures.halted (told.0, subst (λ (u : ShellState). new ≡ after_missed c.in-Err.halt kind u) c.in-Err.ensures.err told.1, told.2)))

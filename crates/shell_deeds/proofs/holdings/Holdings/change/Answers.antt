@@ -16,16 +16,16 @@ returns-in_default c =
     let e = change_event c.args.kind (chars c.args.name.text.now) in
     IfOk-then c.tell_halt.result _ _ c.tell_halt.ensures (λ fate told. halted s e (λ a. carried (stepped a s) e (truth_in a.answer)) c.halt_of_change.result fate c.args.out.now.items c.tell_halt.new.out.items c.halt_of_change.ensures told)
 
-pub returns-in-Ok-carry_out : goal.returns-in-Ok-carry_out
-returns-in-Ok-carry_out c =
+pub returns-in-Ok-perform : goal.returns-in-Ok-perform
+returns-in-Ok-perform c =
     let s = c.args.self.now in
     let e = c.change_event.result in
     let is = c.change_event.ensures ∙ ap (change_event c.args.kind) c.in-Ok.ensures in
-    subst (λ (x : Event). IfOk c.tell_truth.result (λ fate. IsDone (Performs s s x (λ a. carried (stepped a s) x (truth_in a.answer)) fate) c.carry_out.new.self c.args.out.now.items c.tell_truth.new.out.items)) is (IfOk-then c.tell_truth.result _ _ c.tell_truth.ensures (λ fate told. performed s c.carry_out.new.self e (λ a. carried (stepped a s) e (truth_in a.answer)) c.in-Ok-carry_out.answer fate c.carry_out.new.self c.args.out.now.items c.tell_truth.new.out.items (λ after a. after) (λ after a. line_of (truth_in a)) c.in-Ok-carry_out.ensures.stepped (λ a. refl) (told.0, refl, told.1)))
+    subst (λ (x : Event). IfOk c.tell_truth.result (λ fate. IsDone (Performs s s x (λ a. carried (stepped a s) x (truth_in a.answer)) fate) c.perform.new.self c.args.out.now.items c.tell_truth.new.out.items)) is (IfOk-then c.tell_truth.result _ _ c.tell_truth.ensures (λ fate told. performed s c.perform.new.self e (λ a. carried (stepped a s) e (truth_in a.answer)) c.in-Ok-perform.answer fate c.perform.new.self c.args.out.now.items c.tell_truth.new.out.items (λ after a. after) (λ after a. line_of (truth_in a)) c.in-Ok-perform.ensures.stepped (λ a. refl) (told.0, refl, told.1)))
 
 pub returns-in-Err : goal.returns-in-Err
 returns-in-Err c =
     let s = c.args.self.now in
     let e = c.change_event.result in
     let is = c.change_event.ensures ∙ ap (change_event c.args.kind) c.in-Ok.ensures in
-    subst (λ (x : Event). IfOk c.tell_halt-in-Err.result (λ fate. IsDone (Performs s s x (λ a. carried (stepped a s) x (truth_in a.answer)) fate) c.carry_out.new.self c.args.out.now.items c.tell_halt-in-Err.new.out.items)) is (IfOk-then c.tell_halt-in-Err.result _ _ c.tell_halt-in-Err.ensures (λ fate told. subst (λ (u : ShellState). IsDone (Performs s s e (λ a. carried (stepped a s) e (truth_in a.answer)) fate) u c.args.out.now.items c.tell_halt-in-Err.new.out.items) (sym c.in-Err.ensures.err) (halted s e (λ a. carried (stepped a s) e (truth_in a.answer)) c.in-Err.halt fate c.args.out.now.items c.tell_halt-in-Err.new.out.items c.in-Err.ensures.halted told)))
+    subst (λ (x : Event). IfOk c.tell_halt-in-Err.result (λ fate. IsDone (Performs s s x (λ a. carried (stepped a s) x (truth_in a.answer)) fate) c.perform.new.self c.args.out.now.items c.tell_halt-in-Err.new.out.items)) is (IfOk-then c.tell_halt-in-Err.result _ _ c.tell_halt-in-Err.ensures (λ fate told. subst (λ (u : ShellState). IsDone (Performs s s e (λ a. carried (stepped a s) e (truth_in a.answer)) fate) u c.args.out.now.items c.tell_halt-in-Err.new.out.items) (sym c.in-Err.ensures.err) (halted s e (λ a. carried (stepped a s) e (truth_in a.answer)) c.in-Err.halt fate c.args.out.now.items c.tell_halt-in-Err.new.out.items c.in-Err.ensures.halted told)))

@@ -16,13 +16,13 @@ returns-in_default c =
     let m = c.args.code in
     IfOk-then c.tell_halt.result _ _ c.tell_halt.ensures (λ fate told. halted s (event.Load m) (λ a. carried (stepped a s) (event.Load m) (loaded m.name)) c.halt_of_load.result fate c.args.out.now.items c.tell_halt.new.out.items (halts-at s event.Load c.halt_of_load.result c.halt_of_load.ensures m) told)
 
-pub returns-in-Ok-make : goal.returns-in-Ok-make
-returns-in-Ok-make c =
+pub returns-in-Ok-perform : goal.returns-in-Ok-perform
+returns-in-Ok-perform c =
     let s = c.args.self.now in
     let m = c.args.code in
     let text = c.args.out.now.items in
     let same = ap (λ n. text ++ line_of (loaded n)) (c.in-Ok.ensures ∙ c.name.ensures) in
-    IfOk-then c.tell_loaded.result _ _ c.tell_loaded.ensures (λ fate told. performed s c.make.new.self (event.Load m) (λ a. carried (stepped a s) (event.Load m) (loaded m.name)) c.in-Ok-make.ensures.stepped.0 fate c.make.new.self text c.tell_loaded.new.out.items (λ after a. after) (λ after a. line_of (loaded m.name)) c.in-Ok-make.ensures.stepped.1 (λ a. refl) (told.0, refl, told.1 ∙ same))
+    IfOk-then c.tell_loaded.result _ _ c.tell_loaded.ensures (λ fate told. performed s c.perform.new.self (event.Load m) (λ a. carried (stepped a s) (event.Load m) (loaded m.name)) c.in-Ok-perform.field-0 fate c.perform.new.self text c.tell_loaded.new.out.items (λ after a. after) (λ after a. line_of (loaded m.name)) c.in-Ok-perform.ensures.stepped (λ a. refl) (told.0, refl, told.1 ∙ same))
 
 pub returns : goal.returns
 returns c =

@@ -1,0 +1,40 @@
+-- The replies are told and sent, or it is told why there are none.
+use Rattle.std.proofs.Common.{◌≡◌, ◌++◌, List, IfOk, None, ap, refl, subst, sym, ◌∙◌}
+use Rattle.process_ending.specs.declared.told.Reply.{Reply}
+use Rattle.undo_journal.specs.declared.reversible.Told.{Told}
+use Rattle.node_core.specs.declared.event.Answer.{Answer}
+use Rattle.node_core.specs.declared.event.Event.TheVariants as event
+use Rattle.node_core.specs.Note.{Note}
+use Rattle.shell_answers.specs.Answers.{committed, line_of}
+use Rattle.shell_deeds.specs.Deeds.{Commits, accepted, ran}
+use Rattle.shell_deeds.specs.Done.{IsDone}
+use Rattle.shell_deeds.specs.State.{ShellState, carried, joined, stepped}
+use Rattle.shell_deeds.proofs.Deeds.{IfOk-then}
+use Rattle.shell_deeds.proofs.Performing.{done-as, halted}
+use Rattle.shell_deeds.proofs.holdings.Holdings.commit_done.Goals as goal
+
+pub returns-in-Ok : goal.returns-in-Ok
+returns-in-Ok c =
+    let h = c.self.inside in
+    let done = c.args.done in
+    let here = c.args.out.now.items in
+    let out = c.write_committed.new.out.items in
+    let s : ShellState = record { files = h.files; timeline = h.journal; jobs = h.jobs.items; calls = h.calls; sent = joined h.sent.items } in
+    let it = c.in-Ok.ensures.told s refl in
+    let a = it.accepted in
+    let note = ap (λ (t : Told Answer Note). t.note.replies) it.is in
+    let new : ShellState = record { files = h.files; timeline = c.step.new.journal; jobs = h.jobs.items; calls = h.calls; sent = joined c.send.new.sent.items } in
+    let sent = c.send.ensures ∙ ap (λ (rs : List Reply). rs ++ c.into_replies.result) c.step.ensures.sent ∙ ap (λ (rs : List Reply). joined h.sent.items ++ rs) (c.into_replies.ensures ∙ note) in
+    let text = c.in_ok-write_committed.ensures ∙ ap (λ (rs : List Reply). here ++ line_of (committed rs)) (c.replies.ensures ∙ note) in
+    subst (λ (t : ShellState). IsDone (Commits t done.job None) new here out) c.self.view_is (carried (stepped a s) (event.Commit done) (committed a.note.replies), ran done None _ refl (accepted it.room a it.rule), (λ i. record { files = h.files; timeline = it.after i; jobs = h.jobs.items; calls = h.calls; sent = sent i }), text)
+
+pub returns-in-Err : goal.returns-in-Err
+returns-in-Err c =
+    let h = c.self.inside in
+    let done = c.args.done in
+    let here = c.args.out.now.items in
+    let out = c.tell_halt.new.out.items in
+    let s : ShellState = record { files = h.files; timeline = h.journal; jobs = h.jobs.items; calls = h.calls; sent = joined h.sent.items } in
+    let new : ShellState = record { files = h.files; timeline = c.step.new.journal; jobs = h.jobs.items; calls = h.calls; sent = joined c.step.new.sent.items } in
+    let same : new ≡ s = (λ i. record { files = h.files; timeline = c.in-Err.ensures.err i; jobs = h.jobs.items; calls = h.calls; sent = c.step.ensures.sent i }) in
+    subst (λ (t : ShellState). IfOk c.tell_halt.result (λ fate. IsDone (Commits t done.job fate) new here out)) c.self.view_is (IfOk-then c.tell_halt.result _ _ c.tell_halt.ensures (λ fate told. subst (λ (u : ShellState). IsDone (Commits s done.job fate) u here out) (sym same) (done-as s here out (λ d does. ran done fate d refl does) (halted s (event.Commit done) (λ a. carried (stepped a s) (event.Commit done) (committed a.note.replies)) c.in-Err.halt fate here out (c.in-Err.ensures.halted s refl) told))))
