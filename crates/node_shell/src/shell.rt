@@ -11,7 +11,11 @@ use std::alloc::{AllocError, Global};
 use std::hash::RandomState;
 use std::marker::Model;
 
-/// What answers lines: what it holds, and room to write an answer in.
+/// How many bytes of an answer need no memory.
+const ROOM: usize = 65_536;
+
+/// What answers lines: what it holds, and room to write an answer in, which is there from the start: so a shell that is in want of memory
+/// goes on answering.
 #[derive(Drop)]
 pub struct Shell {
     held: Holdings,
@@ -46,10 +50,8 @@ impl Shell {
         ensures { IfOk result (λ shell. shell ≡ opened_shell files node) }
     {
         let held = Holdings::new(alloc, hashing, files, node)?;
-        Ok(Shell {
-            held,
-            answer: Vec::new(alloc),
-        })
+        let answer = Vec::with_capacity(alloc, ROOM)?;
+        Ok(Shell { held, answer })
     }
 }
 
@@ -58,7 +60,6 @@ impl Session for Shell {
 
     ghost turn = { shell_turn };
 
-    #[inline(always)]
     fn line(&mut self, line: &[u8], out: &mut Vec<u8>) -> Result<Option<Fate>, AllocError> {
         self.answer.clear();
         let fate = self.held.obey(Some(line), &mut self.answer)?;
@@ -66,7 +67,6 @@ impl Session for Shell {
         Ok(fate)
     }
 
-    #[inline(never)]
     fn too_long(&mut self, out: &mut Vec<u8>) -> Result<Option<Fate>, AllocError> {
         self.answer.clear();
         let fate = self.held.obey(None, &mut self.answer)?;
