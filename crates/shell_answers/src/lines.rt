@@ -34,7 +34,6 @@ pub fn write_called(number: u64, out: &mut Vec<u8>) -> Result<(), AllocError>
 }
 
 /// Appends `{job,J,Pid}`.
-#[inline(always)]
 pub fn write_job(place: u64, pid: u64, out: &mut Vec<u8>) -> Result<(), AllocError>
     ensures { OnOk result (out.new.items ≡ out.old.items ++ line_of (job_of place pid)) }
 {

@@ -15,7 +15,6 @@ use undo_journal::Report;
 use values::Row;
 
 /// Appends `{Word,Client,N,Term}`, whose front is given.
-#[inline(always)]
 fn put_told(front: &[u8], reply: &Reply, term: &Term, out: &mut Vec<u8>) -> Result<(), AllocError>
     ensures { OnOk result (out.new.items ≡ out.old.items ++ (front.now ++ (utf8 (text (int (pos reply.now.client)))
         ++ 44 ∷ (utf8 (text (int (pos reply.now.number))) ++ 44 ∷ (utf8 (text (tree term.now)) ++ 125 ∷ []))))) }
