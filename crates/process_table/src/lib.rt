@@ -12,8 +12,8 @@
 //!   [`Processes::end`] give the table of the rules (`with_process`, `after_arrival`, `taken`, `suspend_living`, `resume_living`,
 //!   `vacated`), are refused by them, in their order, and change nothing where they are; `Memory` is told only where there is no
 //!   other refusal.
-//! - [`Processes::arrive`] hands the message that came out, and [`Processes::take`] the job (`message_of`, `Takes`), in as many
-//!   equal values as are asked for.
+//! - [`Processes::arrive`] hands out the name and the message that came, and [`Processes::take`] the job (`arrival_of`, `Takes`), in as
+//!   many equal values as are asked for.
 //! - [`Processes::commit`] does what a job gave, its acts in order and then its end, and tells what clients are told of it, in as many
 //!   equal values as are asked for (`committed`, `commit_told`), just where the process of the job's pid runs an equal job, code
 //!   included, and can be counted one turn on (`RefusesCommit`). It takes a [`erl_machine::Done`], which nobody can make up.
