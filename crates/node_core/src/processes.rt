@@ -107,13 +107,14 @@ impl Node {
         let Ok(told) = room(self.alloc, n) else {
             return Err(error_of(self.processes.arrive_refusal(name, body)));
         };
-        match self.processes.arrive(client, name, body, n) {
-            Ok((arrivals, undo)) => Ok(Stepped {
-                told: tell_arrivals(told, arrivals),
-                trace: Record::OfProcesses(undo),
-            }),
-            Err(_) => Err(error_of(self.processes.arrive_refusal(name, body))),
-        }
+        let (arrivals, undo) = match self.processes.arrive(client, name, body, n) {
+            Ok(arrived) => arrived,
+            Err(_) => return Err(error_of(self.processes.arrive_refusal(name, body))),
+        };
+        Ok(Stepped {
+            told: tell_arrivals(told, arrivals),
+            trace: Record::OfProcesses(undo),
+        })
     }
 
     /// A process takes its next message, and runs it.
@@ -126,13 +127,14 @@ impl Node {
         let Ok(told) = room(self.alloc, n) else {
             return Err(error_of(self.processes.take_refusal(pid)));
         };
-        match self.processes.take(&self.modules, pid, n) {
-            Ok((jobs, undo)) => Ok(Stepped {
-                told: tell_jobs(told, self.alloc, jobs),
-                trace: Record::OfProcesses(undo),
-            }),
-            Err(_) => Err(error_of(self.processes.take_refusal(pid))),
-        }
+        let (jobs, undo) = match self.processes.take(&self.modules, pid, n) {
+            Ok(taken) => taken,
+            Err(_) => return Err(error_of(self.processes.take_refusal(pid))),
+        };
+        Ok(Stepped {
+            told: tell_jobs(told, self.alloc, jobs),
+            trace: Record::OfProcesses(undo),
+        })
     }
 
     /// What a job has done is done. A child whose process ends with it ends first, and lives again where the commit isn't made.

@@ -1,5 +1,5 @@
 -- The message arrives.
-use Rattle.std.proofs.Common.{◌≡◌, ◌∙◌, [], List, Option, ℕ, ap, subst, sym}
+use Rattle.std.proofs.Common.{◌∙◌, [], List, Option, ℕ, ap, subst, sym}
 use Rattle.erl_term.specs.declared.term.Term.{Term}
 use Rattle.code_loading.proofs.Stepping.{steps_keep_code}
 use Rattle.code_loading.specs.Consistent.{IsConsistent}
@@ -23,8 +23,8 @@ pub invariant_of-self-2 : goal.invariant_of-self-2
 invariant_of-self-2 c =
     subst (λ (t : Table). IsConsistent c.self.inside.modules t) (sym c.in-Ok-arrive.ensures.arrived) (steps_keep_code.arrivals c.args.client c.args.name.now c.args.body.now c.self.inside.modules c.self.inside.processes c.self.invariant)
 
-pub returns-in-Ok-arrive-clause-accepted : goal.returns-in-Ok-arrive-clause-accepted
-returns-in-Ok-arrive-clause-accepted c =
+pub returns-clause-accepted : goal.returns-clause-accepted
+returns-clause-accepted c =
     let m = c.self.inside.modules in
     let t = c.self.inside.processes in
     let apps = c.self.inside.apps in
@@ -36,7 +36,7 @@ returns-in-Ok-arrive-clause-accepted c =
     let a : Accepted NodeState Answer Note = record { node = with_processes (after_arrival c.args.client name body t) n; answer = answer.Unit; note = record { replies = []; arrival = came } } in
     let new : NodeState = record { modules = m; processes = c.arrive.new.self; apps = apps } in
     let said : Option (List ℕ × Term) → Told Answer Note = λ o. record { answer = answer.Unit; note = record { replies = []; arrival = o } } in
-    accepted_of n c.args.self.now (event.Arrive c.args.client name body) a new k c.tell_arrivals.result.items c.self.view_is (unless_none (arrive_refusal name body t) OfProcesses a c.in-Ok-arrive.ensures.ok) (ap (λ (u : Table). with_processes u n) c.in-Ok-arrive.ensures.arrived) (c.tell_arrivals.ensures ∙ all_told said c.in-Ok-arrive.arrivals.items came k c.in-Ok-arrive.ensures.told)
+    accepted_of n c.args.self.now (event.Arrive c.args.client name body) a new k c.tell_arrivals.result.items c.self.view_is (unless_none (arrive_refusal name body t) OfProcesses a c.in-Ok-arrive.ensures.ok) (ap (λ (u : Table). with_processes u n) c.in-Ok-arrive.ensures.arrived) (c.tell_arrivals.ensures ∙ all_told said c.in-Ok-arrive.arrived.0.items came k c.in-Ok-arrive.ensures.told)
 
 pub returns-in_default-clause-refused : goal.returns-in_default-clause-refused
 returns-in_default-clause-refused c =

@@ -32,7 +32,7 @@ returns-in-Ok-commit-clause-accepted c =
     let a : Accepted NodeState Answer Note = record { node = record { modules = m; processes = committed done t; apps = ended_by done.job.pid done.outcome.end apps }; answer = answer.Unit; note = reporting (commit_told done t) } in
     let new : NodeState = record { modules = m; processes = c.commit.new.self; apps = c.end_child.new.apps } in
     let said : List Reply → Told Answer Note = λ rs. record { answer = answer.Unit; note = record { replies = rs; arrival = None } } in
-    let is : new ≡ a.node = (λ i. record { modules = m; processes = c.in-Ok-commit.ensures.committed i; apps = c.in-Ok.ensures.ended i }) in
+    let is : new ≡ a.node = (λ i. record { modules = m; processes = c.in-Ok-commit.ensures.committed i; apps = c.in-Ok-end_child.ensures.ended i }) in
     accepted_of n c.args.self.now (event.Commit done) a new k c.tell_replies.result.items c.self.view_is (c.in-Ok-commit.ensures.ok.0, c.in-Ok-commit.ensures.ok.1, refl) is (c.tell_replies.ensures ∙ ap (map said) c.in-Ok-commit.ensures.told ∙ each_of said (commit_told done t) k)
 
 pub returns-in_default-clause-refused : goal.returns-in_default-clause-refused
@@ -40,10 +40,10 @@ returns-in_default-clause-refused c =
     let n : NodeState = record { modules = c.self.inside.modules; processes = c.self.inside.processes; apps = c.self.inside.apps } in
     commit-refused c.args.done.now n c.args.self.now c.error_of.result c.commit_refusal.result c.self.view_is c.commit_refusal.ensures c.error_of.ensures
 
-pub returns-in_default-2-clause-refused : goal.returns-in_default-2-clause-refused
-returns-in_default-2-clause-refused c =
+pub returns-in_default-end_child-clause-refused : goal.returns-in_default-end_child-clause-refused
+returns-in_default-end_child-clause-refused c =
     let n : NodeState = record { modules = c.self.inside.modules; processes = c.self.inside.processes; apps = c.self.inside.apps } in
-    commit-refused c.args.done.now n c.args.self.now c.error_of.result c.commit_refusal.result c.self.view_is c.commit_refusal.ensures c.error_of.ensures
+    commit-refused c.args.done.now n c.args.self.now c.error_of-in_default-end_child.result c.commit_refusal-in_default-end_child.result c.self.view_is c.commit_refusal-in_default-end_child.ensures c.error_of-in_default-end_child.ensures
 
 pub returns-in-Err-clause-refused : goal.returns-in-Err-clause-refused
 returns-in-Err-clause-refused c =

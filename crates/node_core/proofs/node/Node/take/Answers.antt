@@ -24,8 +24,8 @@ invariant_of-self-2 c =
     let takes = c.in-Ok-take.ensures.taken in
     subst (λ (t : Table). IsConsistent c.self.inside.modules t) (sym takes.table) (steps_keep_code.takes c.args.pid takes.job c.self.inside.modules c.self.inside.processes c.self.invariant takes.code)
 
-pub returns-in-Ok-take-clause-accepted : goal.returns-in-Ok-take-clause-accepted
-returns-in-Ok-take-clause-accepted c =
+pub returns-clause-accepted : goal.returns-clause-accepted
+returns-clause-accepted c =
     let m = c.self.inside.modules in
     let t = c.self.inside.processes in
     let apps = c.self.inside.apps in
