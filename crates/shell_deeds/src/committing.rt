@@ -18,10 +18,11 @@ impl Holdings {
     pub(crate) fn commit(&mut self, number: u64, out: &mut Vec<u8>) -> Said
         ensures { IfOk result (λ fate. IsDone (CommitsKept self.old (kept_job number self.old.jobs) fate) self.new out.old.items out.new.items) }
     {
+        let alloc = self.alloc;
         let Some(job) = self.kept_job(number) else {
             return say(Fixed::NoJob, out);
         };
-        match job.run(self.alloc) {
+        match job.run(alloc) {
             Ok(done) => self.commit_done(done, out),
             Err(_) => tell_halt(self.halt_of_job(job), out),
         }

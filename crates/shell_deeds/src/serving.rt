@@ -27,7 +27,8 @@ impl Holdings {
             return tell_halt(halt_of(&self.journal, &Event::Take(pid)), out);
         }
         match step(&mut self.journal, &mut self.sent, &Event::Take(pid)) {
-            Ok(Told { answer, note }) => {
+            Ok(told) => {
+                let Told { answer, note } = told;
                 send(&mut self.sent, note.into_replies(self.alloc));
                 tell_taken(&mut self.jobs, pid, answer, out)
             }

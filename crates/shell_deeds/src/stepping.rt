@@ -33,7 +33,8 @@ impl Holdings {
         ensures err { OnErr result (self.new ≡ self.old) }
     {
         match step(&mut self.journal, &mut self.sent, &event) {
-            Ok(Told { answer, note }) => {
+            Ok(told) => {
+                let Told { answer, note } = told;
                 send(&mut self.sent, note.into_replies(self.alloc));
                 Ok(answer)
             }

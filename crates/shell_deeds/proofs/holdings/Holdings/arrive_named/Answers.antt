@@ -21,8 +21,8 @@ returns-in-Ok c =
     let same : e ≡ event_of_arrival kind (next_number s) c.args.name c.args.term = c.arrival_event.ensures ∙ ap (λ n. event_of_arrival kind n c.args.name c.args.term) number in
     IfOk-then c.tell_arrived.result _ _ c.tell_arrived.ensures (λ fate told. subst (λ (x : Event). IsDone (Performs s (tried kind s) x (λ a. carried (stepped a (tried kind s)) x (arrival_answer kind (next_number s))) fate) new here out) same (arrived-done s c.perform.new.self new kind e c.next_number-number.result c.in-Ok.field-0 fate here out c.in-Ok.ensures.stepped number told))
 
-pub returns-in-Err : goal.returns-in-Err
-returns-in-Err c =
+pub returns : goal.returns
+returns c =
     let s = c.args.self.now in
     let kind = c.args.kind in
     let here = c.args.out.now.items in

@@ -1,5 +1,5 @@
 -- The result of the job that is kept is committed; or none is kept, or it was not run.
-use Rattle.std.proofs.Common.{◌≡◌, IfOk, None, Option, Some, refl, subst, sym, ◌∙◌, ap}
+use Rattle.std.proofs.Common.{◌≡◌, None, Option, Some, refl, subst, sym, ◌∙◌, ap}
 use Rattle.std.specs.Option.{option_copied}
 use Rattle.erl_machine.specs.declared.jobs.Job.{Job}
 use Rattle.shell_answers.specs.Answers.{fixed}

@@ -25,11 +25,11 @@ returns-in-Ok c =
     let note = ap (λ (t : Told Answer Note). t.note.replies) it.is in
     let new : ShellState = record { files = h.files; timeline = c.step.new.journal; jobs = h.jobs.items; calls = h.calls; sent = joined c.send.new.sent.items } in
     let sent = c.send.ensures ∙ ap (λ (rs : List Reply). rs ++ c.into_replies.result) c.step.ensures.sent ∙ ap (λ (rs : List Reply). joined h.sent.items ++ rs) (c.into_replies.ensures ∙ note) in
-    let text = c.in_ok-write_committed.ensures ∙ ap (λ (rs : List Reply). here ++ line_of (committed rs)) (c.replies.ensures ∙ note) in
+    let text = c.in_ok-write_committed-in-Ok.ensures ∙ ap (λ (rs : List Reply). here ++ line_of (committed rs)) (c.replies.ensures ∙ note) in
     subst (λ (t : ShellState). IsDone (Commits t done.job None) new here out) c.self.view_is (carried (stepped a s) (event.Commit done) (committed a.note.replies), ran done None _ refl (accepted it.room a it.rule), (λ i. record { files = h.files; timeline = it.after i; jobs = h.jobs.items; calls = h.calls; sent = sent i }), text)
 
-pub returns-in-Err : goal.returns-in-Err
-returns-in-Err c =
+pub returns : goal.returns
+returns c =
     let h = c.self.inside in
     let done = c.args.done in
     let here = c.args.out.now.items in

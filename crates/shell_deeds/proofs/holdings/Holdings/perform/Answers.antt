@@ -1,5 +1,5 @@
 -- The journal has one station more, and the replies of what it tells are sent.
-use Rattle.std.proofs.Common.{◌≡◌, ◌++◌, List, ap, refl, subst, sym, ◌∙◌}
+use Rattle.std.proofs.Common.{◌++◌, List, ap, refl, subst, ◌∙◌}
 use Rattle.process_ending.specs.declared.told.Reply.{Reply}
 use Rattle.undo_journal.specs.declared.reversible.Told.{Told}
 use Rattle.node_core.specs.Note.{Note}
@@ -16,7 +16,7 @@ returns-in-Ok-clause-stepped c =
     let it = c.in-Ok.ensures.told s refl in
     let replies = c.into_replies.ensures ∙ ap (λ (t : Told Answer Note). t.note.replies) it.is in
     let sent = c.send.ensures ∙ ap (λ (rs : List Reply). rs ++ c.into_replies.result) c.step.ensures.sent ∙ ap (λ (rs : List Reply). joined h.sent.items ++ rs) replies in
-    subst (λ (t : ShellState). IsStepped c.in-Ok.answer t c.args.event (record { files = h.files; timeline = c.step.new.journal; jobs = h.jobs.items; calls = h.calls; sent = joined c.send.new.sent.items })) c.self.view_is (record {
+    subst (λ (t : ShellState). IsStepped c.in-Ok.told.answer t c.args.event (record { files = h.files; timeline = c.step.new.journal; jobs = h.jobs.items; calls = h.calls; sent = joined c.send.new.sent.items })) c.self.view_is (record {
       room = it.room;
       accepted = it.accepted;
       rule = it.rule;
@@ -24,8 +24,8 @@ returns-in-Ok-clause-stepped c =
       after = (λ i. record { files = h.files; timeline = it.after i; jobs = h.jobs.items; calls = h.calls; sent = sent i });
     })
 
-pub returns-in-Err-clause-halted : goal.returns-in-Err-clause-halted
-returns-in-Err-clause-halted c =
+pub returns-clause-halted : goal.returns-clause-halted
+returns-clause-halted c =
     let h = c.self.inside in
     let s : ShellState = record { files = h.files; timeline = h.journal; jobs = h.jobs.items; calls = h.calls; sent = joined h.sent.items } in
     subst (λ (t : ShellState). Halts c.in-Err.halt t c.args.event) c.self.view_is (c.in-Err.ensures.halted s refl)

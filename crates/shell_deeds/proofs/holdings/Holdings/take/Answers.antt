@@ -44,8 +44,8 @@ returns-in-Ok c =
       said.2 ∙ ap (λ (js : List Job). here ++ line_of (job_of (length js + 1) pid)) c.reserve.ensures.items,
     ))))
 
-pub returns-in-Err : goal.returns-in-Err
-returns-in-Err c =
+pub returns : goal.returns
+returns c =
     let pid = c.args.pid in
     let h = c.self.inside in
     let here = c.args.out.now.items in
