@@ -1,17 +1,23 @@
 // Results of jobs that are kept.
-ghost use Rattle.std.specs.Prelude.{◌≡◌, IfOk};
+ghost use Rattle.std.specs.Prelude.{◌≡◌, ◌<◌, ◌++◌, IfOk, None, vec_capacity, vec_len};
 ghost use Rattle.std.specs.Option.{option_copied};
+ghost use Rattle.shell_answers.specs.Answers.{committed, line_of};
 ghost use Rattle.shell_deeds.specs.Deeds.{Commits, CommitsKept, kept_job};
 ghost use Rattle.shell_deeds.specs.Done.{IsDone};
 ghost use Rattle.shell_deeds.specs.Halts.{HaltsBy, MayCommit, RefusesResult};
+ghost use Rattle.shell_deeds.specs.State.{joined};
 
 use crate::holdings::Holdings;
-use crate::stepping::{Halt, send, step};
+use crate::stepping::{Halt, send_told, step};
 use crate::telling::{Said, say, tell_halt};
 use erl_machine::{Done, Job};
-use node_core::{Event, Refusal};
+use node_core::{Answer, Event, Note, Refusal};
+use process_ending::Reply;
 use process_table::ProcError;
 use shell_answers::{Fixed, write_committed};
+use std::alloc::Global;
+use undo_journal::Told;
+use values::Row;
 
 impl Holdings {
     /// Commits the result of so many a job that is kept, and tells the replies.
@@ -41,11 +47,7 @@ impl Holdings {
         ensures { IfOk result (λ fate. IsDone (Commits self.old done.job fate) self.new out.old.items out.new.items) }
     {
         match step(&mut self.journal, &mut self.sent, &Event::Commit(done)) {
-            Ok(told) => {
-                write_committed(told.note.replies(), out)?;
-                send(&mut self.sent, told.note.into_replies(self.alloc));
-                Ok(None)
-            }
+            Ok(told) => tell_committed(self.alloc, &mut self.sent, told, out),
             Err(halt) => tell_halt(halt, out),
         }
     }
@@ -67,4 +69,20 @@ impl Holdings {
             _ => Halt::Refused(Refusal::OfProcesses(ProcError::Stale)),
         }
     }
+}
+
+/// Tells and sends the replies of a commit, for whose row there is room.
+fn tell_committed(
+    alloc: Global,
+    sent: &mut Vec<Row<Reply>>,
+    told: Told<Answer, Note>,
+    out: &mut Vec<u8>,
+) -> Said
+    requires { vec_len sent.old < vec_capacity sent.old }
+    ensures { IfOk result (λ fate. (fate ≡ None) × (joined sent.new.items ≡ joined sent.old.items ++ told.note.replies)
+        × (out.new.items ≡ out.old.items ++ line_of (committed told.note.replies))) }
+{
+    write_committed(told.note.replies(), out)?;
+    send_told(alloc, sent, told);
+    Ok(None)
 }

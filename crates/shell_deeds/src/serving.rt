@@ -10,13 +10,12 @@ ghost use Rattle.shell_deeds.specs.Done.{IsDone, IsKept, proc_fate};
 ghost use Rattle.shell_requests.specs.declared.request.Service.TheVariants.{Retake, Show, Take};
 
 use crate::holdings::Holdings;
-use crate::stepping::{halt_of, send, step};
+use crate::stepping::{halt_of, send_told, step};
 use crate::telling::{Said, refuse, say, tell_halt};
 use erl_machine::Job;
 use node_core::{Answer, Event};
 use process_table::ProcError;
 use shell_answers::{Fixed, proc_refusal, write_job, write_process};
-use undo_journal::Told;
 
 impl Holdings {
     /// Takes the next message of a process, and keeps the job.
@@ -28,8 +27,7 @@ impl Holdings {
         }
         match step(&mut self.journal, &mut self.sent, &Event::Take(pid)) {
             Ok(told) => {
-                let Told { answer, note } = told;
-                send(&mut self.sent, note.into_replies(self.alloc));
+                let answer = send_told(self.alloc, &mut self.sent, told);
                 tell_taken(&mut self.jobs, pid, answer, out)
             }
             Err(halt) => tell_halt(halt, out),

@@ -7,6 +7,7 @@ ghost use Rattle.shell_deeds.specs.Stepping.{IsStepped, IsTold};
 use crate::holdings::Holdings;
 use node_core::{Answer, Event, Node, Note, Refusal};
 use process_ending::Reply;
+use std::alloc::Global;
 use undo_journal::{Journal, JournalError, Reversible, Told};
 use values::Row;
 
@@ -33,11 +34,7 @@ impl Holdings {
         ensures err { OnErr result (self.new ≡ self.old) }
     {
         match step(&mut self.journal, &mut self.sent, &event) {
-            Ok(told) => {
-                let Told { answer, note } = told;
-                send(&mut self.sent, note.into_replies(self.alloc));
-                Ok(answer)
-            }
+            Ok(told) => Ok(send_told(self.alloc, &mut self.sent, told)),
             Err(halt) => Err(halt),
         }
     }
@@ -118,7 +115,7 @@ fn join_last(sent: &mut Vec<Row<Reply>>, replies: &mut Vec<Reply>)
 }
 
 /// Sends replies, for whose row there is room: they join the last row, or are one where they can't. There is no row of none.
-pub(crate) fn send(sent: &mut Vec<Row<Reply>>, replies: Row<Reply>)
+fn send(sent: &mut Vec<Row<Reply>>, replies: Row<Reply>)
     requires { vec_len sent.old < vec_capacity sent.old }
     ensures { joined sent.new.items ≡ joined sent.old.items ++ replies }
 {
@@ -127,4 +124,19 @@ pub(crate) fn send(sent: &mut Vec<Row<Reply>>, replies: Row<Reply>)
     if !replies.as_slice().is_empty() {
         sent.push_reserved(Row::new(replies));
     }
+}
+
+/// Sends the replies of what tells of an event, for whose row there is room, and hands the answer out.
+pub(crate) fn send_told(
+    alloc: Global,
+    sent: &mut Vec<Row<Reply>>,
+    told: Told<Answer, Note>,
+) -> Answer
+    requires { vec_len sent.old < vec_capacity sent.old }
+    ensures answer { result ≡ told.answer }
+    ensures sent { joined sent.new.items ≡ joined sent.old.items ++ told.note.replies }
+{
+    let Told { answer, note } = told;
+    send(sent, note.into_replies(alloc));
+    answer
 }

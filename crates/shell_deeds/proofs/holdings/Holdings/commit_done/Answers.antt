@@ -18,15 +18,15 @@ returns-in-Ok c =
     let h = c.self.inside in
     let done = c.args.done in
     let here = c.args.out.now.items in
-    let out = c.write_committed.new.out.items in
+    let out = c.tell_committed.new.out.items in
     let s : ShellState = record { files = h.files; timeline = h.journal; jobs = h.jobs.items; calls = h.calls; sent = joined h.sent.items } in
     let it = c.in-Ok.ensures.told s refl in
     let a = it.accepted in
-    let note = ap (λ (t : Told Answer Note). t.note.replies) it.is in
-    let new : ShellState = record { files = h.files; timeline = c.step.new.journal; jobs = h.jobs.items; calls = h.calls; sent = joined c.send.new.sent.items } in
-    let sent = c.send.ensures ∙ ap (λ (rs : List Reply). rs ++ c.into_replies.result) c.step.ensures.sent ∙ ap (λ (rs : List Reply). joined h.sent.items ++ rs) (c.into_replies.ensures ∙ note) in
-    let text = c.in_ok-write_committed-in-Ok.ensures ∙ ap (λ (rs : List Reply). here ++ line_of (committed rs)) (c.replies.ensures ∙ note) in
-    subst (λ (t : ShellState). IsDone (Commits t done.job None) new here out) c.self.view_is (carried (stepped a s) (event.Commit done) (committed a.note.replies), ran done None _ refl (accepted it.room a it.rule), (λ i. record { files = h.files; timeline = it.after i; jobs = h.jobs.items; calls = h.calls; sent = sent i }), text)
+    let new : ShellState = record { files = h.files; timeline = c.step.new.journal; jobs = h.jobs.items; calls = h.calls; sent = joined c.tell_committed.new.sent.items } in
+    subst (λ (t : ShellState). IfOk c.tell_committed.result (λ fate. IsDone (Commits t done.job fate) new here out)) c.self.view_is (IfOk-then c.tell_committed.result _ _ c.tell_committed.ensures (λ fate said.
+    let sent = said.1 ∙ ap (λ (t : Told Answer Note). joined c.step.new.sent.items ++ t.note.replies) it.is ∙ ap (λ (rs : List Reply). rs ++ a.note.replies) c.step.ensures.sent in
+    let text = said.2 ∙ ap (λ (t : Told Answer Note). here ++ line_of (committed t.note.replies)) it.is in
+    subst (λ f. IsDone (Commits s done.job f) new here out) (sym said.0) (carried (stepped a s) (event.Commit done) (committed a.note.replies), ran done None _ refl (accepted it.room a it.rule), (λ i. record { files = h.files; timeline = it.after i; jobs = h.jobs.items; calls = h.calls; sent = sent i }), text)))
 
 pub returns : goal.returns
 returns c =

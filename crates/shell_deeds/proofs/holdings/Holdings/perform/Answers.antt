@@ -14,13 +14,12 @@ returns-in-Ok-clause-stepped c =
     let h = c.self.inside in
     let s : ShellState = record { files = h.files; timeline = h.journal; jobs = h.jobs.items; calls = h.calls; sent = joined h.sent.items } in
     let it = c.in-Ok.ensures.told s refl in
-    let replies = c.into_replies.ensures ∙ ap (λ (t : Told Answer Note). t.note.replies) it.is in
-    let sent = c.send.ensures ∙ ap (λ (rs : List Reply). rs ++ c.into_replies.result) c.step.ensures.sent ∙ ap (λ (rs : List Reply). joined h.sent.items ++ rs) replies in
-    subst (λ (t : ShellState). IsStepped c.in-Ok.told.answer t c.args.event (record { files = h.files; timeline = c.step.new.journal; jobs = h.jobs.items; calls = h.calls; sent = joined c.send.new.sent.items })) c.self.view_is (record {
+    let sent = c.send_told.ensures.sent ∙ ap (λ (t : Told Answer Note). joined c.step.new.sent.items ++ t.note.replies) it.is ∙ ap (λ (rs : List Reply). rs ++ it.accepted.note.replies) c.step.ensures.sent in
+    subst (λ (t : ShellState). IsStepped c.send_told.result t c.args.event (record { files = h.files; timeline = c.step.new.journal; jobs = h.jobs.items; calls = h.calls; sent = joined c.send_told.new.sent.items })) c.self.view_is (record {
       room = it.room;
       accepted = it.accepted;
       rule = it.rule;
-      answer = ap (λ (t : Told Answer Note). t.answer) it.is;
+      answer = c.send_told.ensures.answer ∙ ap (λ (t : Told Answer Note). t.answer) it.is;
       after = (λ i. record { files = h.files; timeline = it.after i; jobs = h.jobs.items; calls = h.calls; sent = sent i });
     })
 

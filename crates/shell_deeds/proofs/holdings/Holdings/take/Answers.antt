@@ -33,11 +33,10 @@ returns-in-Ok c =
     let out = c.tell_taken.new.out.items in
     let s : ShellState = record { files = h.files; timeline = h.journal; jobs = h.jobs.items; calls = h.calls; sent = joined h.sent.items } in
     let it = c.in-Ok.ensures.told s refl in
-    let new : ShellState = record { files = h.files; timeline = c.step.new.journal; jobs = c.tell_taken.new.jobs.items; calls = h.calls; sent = joined c.send.new.sent.items } in
-    let replies = c.into_replies.ensures ∙ ap (λ (t : Told Answer Note). t.note.replies) it.is in
-    let sent = c.send.ensures ∙ ap (λ (rs : List Reply). rs ++ c.into_replies.result) c.step.ensures.sent ∙ ap (λ (rs : List Reply). joined h.sent.items ++ rs) replies in
+    let new : ShellState = record { files = h.files; timeline = c.step.new.journal; jobs = c.tell_taken.new.jobs.items; calls = h.calls; sent = joined c.send_told-answer.new.sent.items } in
+    let sent = c.send_told-answer.ensures.sent ∙ ap (λ (t : Told Answer Note). joined c.step.new.sent.items ++ t.note.replies) it.is ∙ ap (λ (rs : List Reply). rs ++ it.accepted.note.replies) c.step.ensures.sent in
     subst (λ (t : ShellState). IfOk c.tell_taken.result (λ fate. IsDone (Performs t t (event.Take pid) (λ b. took (stepped b t) pid b.answer) fate) new here out)) c.self.view_is (IfOk-then c.tell_taken.result _ _ c.tell_taken.ensures (λ fate told. taken-done s pid it.accepted fate new here out it.room it.rule (λ job is.
-    let said = told job (ap (λ (t : Told Answer Note). t.answer) it.is ∙ is) in
+    let said = told job (c.send_told-answer.ensures.answer ∙ ap (λ (t : Told Answer Note). t.answer) it.is ∙ is) in
     let jobs = said.1 ∙ ap (λ (js : List Job). js ++ job ∷ []) c.reserve.ensures.items in (
       said.0,
       (λ i. record { files = h.files; timeline = it.after i; jobs = jobs i; calls = h.calls; sent = sent i }),
