@@ -3,5 +3,4 @@ pub mod Keys
 pub mod ModuleBytes
 pub mod Noting
 pub mod PatternRows
-pub mod Seeking
 pub mod Written

@@ -27,9 +27,9 @@
 //! call in it, and one look at each part besides, which it writes down: a module keeps the bytes that tell all that it is, one
 //! for each ASCII character of a name, one for a small number, nine for a number over 124, and one to three for each other
 //! part, in no more room than they take. What is asked of a module takes no memory, and time that does not grow with the
-//! module: up to eight functions are compared in turn, and more are looked up by hashes with keys that nobody outside knows. A
-//! copy of a module costs a count, and a copy of anything else its size. Two modules are compared by their bytes, many at a
-//! time, also where a module is compared with its own copy; comparing anything else is linear.
+//! module: functions are looked up by hashes with keys that nobody outside knows. A copy of a module costs a count, and a copy
+//! of anything else its size. Two modules are compared by their bytes, many at a time, also where a module is compared with
+//! its own copy; comparing anything else is linear.
 //!
 //! [`Module::new`], comparing or copying what a module is made of, and dropping recurse as deep as the patterns and
 //! expressions are nested, which [`Module::depth`] tells, and then as deep as a literal's term, which it does not count. Who

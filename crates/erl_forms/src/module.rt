@@ -1,7 +1,7 @@
 // Modules.
 ghost use Rattle.std.specs.Prelude.{◌≡◌, ◌-◌, ◌^◌, min, is_some, IfOk, MatchOption};
 ghost use Rattle.std.specs.List.{IsDistinct};
-ghost use Rattle.std.specs.Map.{keys_of, lookup};
+ghost use Rattle.std.specs.Map.{keys_of};
 ghost use Rattle.std.specs.Option.{option_copied};
 ghost use Rattle.erl_forms.specs.Module.{key_eq, function_of, exported_of, functions_depth, called_in_functions, AreNamesOf};
 
@@ -12,7 +12,7 @@ use crate::function::Function;
 use crate::name_and_arity::NameAndArity;
 pub use building::ModuleBuilder;
 use erl_term::{Atom, Term};
-use indexmap::{Equivalent, IndexMap};
+use indexmap::IndexMap;
 use std::alloc::{AllocError, Global};
 use std::hash::RandomState;
 use std::marker::Model;
@@ -21,9 +21,6 @@ use values::{Duplicate, Same};
 
 /// Functions by their names and numbers of arguments, in the order of the source.
 type Functions = IndexMap<(Atom, u32), Function, RandomState>;
-
-/// So many functions are compared in turn, which takes less time than to hash a name.
-const FEW: usize = 8;
 
 /// A module of Erlang as its source says (Erlang Reference Manual, Modules). Its copies share it.
 ///
@@ -126,9 +123,6 @@ impl Module {
     pub fn function(&self, name: &Atom, arity: u32) -> Option<&Function>
         ensures { option_copied result ≡ function_of name.now arity self.now }
     {
-        if self.parts.functions.len() <= FEW {
-            return among_few(&self.parts.functions, name, arity);
-        }
         self.parts.functions.get(NameAndArity { name, arity })
     }
 
@@ -196,18 +190,4 @@ fn by_name(
         }
     }
     Ok(Some(table))
-}
-
-/// The function of a name and a number of arguments, sought from the first to the last.
-fn among_few<'a>(functions: &'a Functions, name: &Atom, arity: u32) -> Option<&'a Function>
-    ensures { option_copied result ≡ lookup (key_eq (name.now, arity)) functions.now.entries }
-{
-    let asked = NameAndArity { name, arity };
-    for place in 0..functions.len() {
-        let (key, function) = functions.get_index(place)?;
-        if asked.equivalent(key) {
-            return Some(function);
-        }
-    }
-    None
 }
