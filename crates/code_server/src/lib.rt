@@ -14,9 +14,8 @@
 //!
 //! # What a look-up costs
 //!
-//! A name is compared with each name of the table where there are at most eight modules, which takes less time than to hash
-//! it. In a greater table it is found by key, in a time that does not grow with the table; names are hashed by keys that
-//! nobody outside knows. [`Modules::find`] walks over the table.
+//! A module is found by key, in a time that does not grow with the table; names are hashed by keys that nobody outside knows.
+//! [`Modules::find`] walks over the table.
 //!
 //! # What is proved
 //!

@@ -8,8 +8,7 @@ ghost use Rattle.std.specs.Option.{option_map, option_copied};
 
 use crate::error::CodeError;
 use crate::places::{
-    FEW, SlotChange, add, change_at, has_current, move_back, place_among, put_back, stack_last,
-    take_out,
+    SlotChange, add, change_at, has_current, move_back, put_back, stack_last, take_out,
 };
 use crate::undo::Undo;
 use erl_term::Atom;
@@ -95,30 +94,21 @@ impl<C: Drop> Modules<C> {
         self.table.get_index(place)
     }
 
-    /// Where a module stands in the table, counted from 0: sought among a few modules, and else found by key. Takes no memory.
+    /// Where a module stands in the table, counted from 0, found by key. Takes no memory.
     pub fn place(&self, name: &Atom) -> Option<usize>
         ensures { result ≡ place_of name.now self.now.entries }
     {
-        if self.len() <= FEW {
-            return place_among(&self.table, name);
-        }
         self.table.get_index_of(name)
     }
 
-    /// A module's instances, found as its place is.
+    /// A module's instances, found by key.
     fn slots(&self, name: &Atom) -> Option<&Slots<C>>
         ensures { option_copied result ≡ slots_of name.now self.now }
     {
-        match self.place(name) {
-            Some(place) => match self.entry(place) {
-                Some((_, slots)) => Some(slots),
-                None => None,
-            },
-            None => None,
-        }
+        self.table.get(name)
     }
 
-    /// A module's current code, found as its place is. Takes no memory.
+    /// A module's current code, found by key. Takes no memory.
     pub fn current(&self, name: &Atom) -> Option<&Instance<C>>
         ensures { option_copied result ≡ current_of name.now self.now }
     {
@@ -128,7 +118,7 @@ impl<C: Drop> Modules<C> {
         }
     }
 
-    /// A module's old code, found as its place is. Takes no memory.
+    /// A module's old code, found by key. Takes no memory.
     pub fn old(&self, name: &Atom) -> Option<&Instance<C>>
         ensures { option_copied result ≡ old_of name.now self.now }
     {

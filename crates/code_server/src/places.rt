@@ -1,9 +1,9 @@
-// Where a module stands among a few, and reads and writes of the map at a place, which say exactly what its entries are then.
+// Reads and writes of the map at a place, which say exactly what its entries are then.
 ghost use Rattle.std.specs.Prelude.{◌≡◌, ◌-◌, ◌<◌, ◌≤◌, ◌++◌, [], ◌∷◌, None, Some, is_some, length, insert, remove, take, slice_get, option_and_then, option_map, IfErr, OnOk, OnErr};
 ghost use Rattle.std.specs.Map.{lookup};
 ghost use Rattle.std.specs.Str.{bytes_eq};
 ghost use Rattle.indexmap.specs.IndexMap.{move_index};
-ghost use Rattle.code_server.specs.Modules.{place_of, with_slots, stacked};
+ghost use Rattle.code_server.specs.Modules.{with_slots, stacked};
 ghost use Rattle.code_server.specs.Places.{changed_slots, current_at, former_at, gone_slot};
 ghost use Rattle.code_server.specs.Undo.{moved_back, moved_last};
 
@@ -12,25 +12,7 @@ use crate::modules::{ByName, Instance, Slots};
 use erl_term::Atom;
 use std::alloc::Global;
 use std::mem;
-use values::{Duplicate, Same};
-
-/// So many names are compared in turn, which takes less time than to hash one.
-pub(crate) const FEW: usize = 8;
-
-/// Where a module stands, sought from the first to the last. It stands by itself, so that what calls it stays small.
-#[inline(never)]
-pub(crate) fn place_among<C>(table: &ByName<C>, name: &Atom) -> Option<usize>
-    ensures { result ≡ place_of name.now table.now.entries }
-{
-    let mut place = 0;
-    for other in table.keys() {
-        if name.same(other) {
-            return Some(place);
-        }
-        place += 1;
-    }
-    None
-}
+use values::Duplicate;
 
 /// Whether the module at a place has current code.
 pub(crate) fn has_current<C>(table: &ByName<C>, place: usize) -> bool
