@@ -32,11 +32,10 @@
 //!
 //! # What no contract says
 //!
-//! That there is memory, and what a call costs. A variable is compared with the eight that were bound first at its place;
-//! those behind them, and functions, are looked up by hashes with keys that nobody outside knows. Each part of a module is
-//! looked at once; what an expression binds is looked for once more in each body, block, subject of a `case` and side of
-//! `andalso` or `orelse` that it stands in, so at most as often as it is nested. Recursion goes as deep as the trees are
-//! nested: who reads a module from outside bounds that.
+//! That there is memory, and what a call costs. Variables and functions are looked up by hashes with keys that nobody outside
+//! knows. Each part of a module is looked at once; what an expression binds is looked for once more in each body, block,
+//! subject of a `case` and side of `andalso` or `orelse` that it stands in, so at most as often as it is nested. Recursion goes
+//! as deep as the trees are nested: who reads a module from outside bounds that.
 //!
 //! Which of two faults at one place is told is not said either: in a tree that was read from a source there are none.
 #![tactic(auto)]

@@ -1,6 +1,5 @@
 // The variables that are bound at a place.
-ghost use Rattle.std.specs.Prelude.{◌≡◌, ℕ, List, [], ◌++◌, ◌≤◌, ◌^◌, length, position, take, IfOk, OnOk};
-ghost use Rattle.std.specs.List.{list_any, position_or_len};
+ghost use Rattle.std.specs.Prelude.{◌≡◌, ℕ, List, [], length, take, IfOk, OnOk};
 ghost use Rattle.std.specs.Str.{bytes_eq, chars};
 ghost use Rattle.std.specs.Hash as fed;
 ghost use Rattle.std.specs.Cmp.{partial_equiv_from_equiv};
@@ -15,9 +14,6 @@ use indexmap::IndexSet;
 use std::alloc::{AllocError, Global};
 use std::hash::{Hash, Hasher, RandomState};
 use std::marker::Model;
-
-/// How many names are few: to compare a name with each of them costs less than to hash it.
-const FEW: usize = 8;
 
 /// The name of a variable, borrowed from its tree, seen by contracts as its code points.
 #[derive(Drop)]
@@ -75,30 +71,24 @@ impl Hash for VariableName<'_> {
 /// see their names.
 #[derive(Drop)]
 pub struct Scope<'a> {
-    /// The first names, few of them: they are looked up by comparing.
-    few: Vec<VariableName<'a>>,
-    /// The names behind those, which are looked up by their hashes.
-    others: IndexSet<VariableName<'a>, RandomState>,
+    names: IndexSet<VariableName<'a>, RandomState>,
 }
 
 impl<'a> Model for Scope<'a> {
-    ghost use Rattle.std.specs.Prelude.{ℕ, List, ◌++◌, ◌≤◌, length};
+    ghost use Rattle.std.specs.Prelude.{ℕ, List};
 
     ghost Value = { List (List ℕ) };
 
-    ghost view = { λ s. s.few.items ++ s.others.keys };
-
-    ghost invariant = { λ s. length s.few.items ≤ 8 };
+    ghost view = { λ s. s.names.keys };
 }
 
 impl<'a> Scope<'a> {
-    /// Nothing is bound. Names behind the first eight are hashed by `hashing`. Takes no memory.
+    /// Nothing is bound. Names are hashed by `hashing`. Takes no memory.
     pub fn new(alloc: Global, hashing: RandomState) -> Scope<'a>
         ensures { result ≡ [] }
     {
         Scope {
-            few: Vec::new(alloc),
-            others: IndexSet::with_hasher(alloc, hashing),
+            names: IndexSet::with_hasher(alloc, hashing),
         }
     }
 
@@ -106,21 +96,16 @@ impl<'a> Scope<'a> {
     pub fn has(&self, name: &'a SharedText) -> bool
         ensures { result ≡ is_bound self.now name.now }
     {
-        let name = VariableName::of(name);
-        match place_among(self.few.as_slice(), &name) {
-            Some(_) => true,
-            None => is_in(&self.others, &name),
-        }
+        self.names.contains(&VariableName::of(name))
     }
 
     /// The place of a variable: how many were bound before it; of one that is not bound, how many are bound. Takes no memory.
     pub fn place(&self, name: &'a SharedText) -> usize
         ensures { result ≡ place_of self.now name.now }
     {
-        let name = VariableName::of(name);
-        match place_among(self.few.as_slice(), &name) {
+        match self.names.get_index_of(&VariableName::of(name)) {
             Some(place) => place,
-            None => self.few.as_slice().len() + place_in(&self.others, &name),
+            None => self.names.len(),
         }
     }
 
@@ -133,63 +118,21 @@ impl<'a> Scope<'a> {
         ensures bound { OnOk result (self.new ≡ with_name self.old name.now) }
         ensures place { IfOk result (λ place. place ≡ place_of self.old name.now) }
     {
-        let name = VariableName::of(name);
-        match place_among(self.few.as_slice(), &name) {
-            Some(place) => return Ok(place),
-            None => {}
-        }
-        let before = self.few.as_slice().len();
-        let behind = self.others.len();
-        if before < FEW && behind == 0 {
-            self.few.push(name)?;
-            return Ok(before);
-        }
-        let (place, _) = self.others.insert_full(name)?;
-        Ok(before + place)
+        let (place, _) = self.names.insert_full(VariableName::of(name))?;
+        Ok(place)
     }
 
     /// How many variables are bound. Takes no memory.
     pub fn len(&self) -> usize
         ensures { result ≡ length self.now }
     {
-        self.few.len() + self.others.len()
+        self.names.len()
     }
 
     /// Keeps the variables that were bound first, so many of them. Takes no memory.
     pub fn keep_first(&mut self, len: usize)
         ensures { self.new ≡ take len self.old }
     {
-        let before = self.few.as_slice().len();
-        self.few.truncate(len);
-        self.others.truncate(len.saturating_sub(before));
+        self.names.truncate(len);
     }
-}
-
-/// The place of a name among others, if it is there.
-fn place_among(names: &[VariableName], name: &VariableName) -> Option<usize>
-    ensures { result ≡ position (bytes_eq name.now) names.now }
-{
-    names.iter().position(|other| name == other)
-}
-
-/// The place of a name among others, by its hash; behind all where it is not there.
-fn place_in(names: &IndexSet<VariableName, RandomState>, name: &VariableName) -> usize
-    ensures place { result ≡ position_or_len (bytes_eq name.now) names.now.keys }
-    ensures small { result ≤ 2 ^ 63 }
-{
-    let len = names.len();
-    if len == 0 {
-        return 0;
-    }
-    match names.get_index_of(name) {
-        Some(place) => place,
-        None => len,
-    }
-}
-
-/// Whether a name is among others, by its hash.
-fn is_in(names: &IndexSet<VariableName, RandomState>, name: &VariableName) -> bool
-    ensures { result ≡ list_any (bytes_eq name.now) names.now.keys }
-{
-    !names.is_empty() && names.contains(name)
 }
