@@ -11,7 +11,6 @@ ghost use Rattle.erl_term.specs.Ascii.{is_ascii_text};
 ghost use Rattle.erl_term.specs.Names.{spelled};
 ghost use Rattle.erl_term.specs.Text.{utf8};
 
-use crate::equal_texts::same_text;
 use crate::predefined::{Name, Predefined};
 use std::alloc::{AllocError, Global};
 use std::hash::{Hash, Hasher};
@@ -150,24 +149,12 @@ impl Duplicate for Atom {
 }
 
 impl Same for Atom {
-    #[inline(always)]
     fn same(&self, other: &Atom) -> bool {
         match (&self.name, &other.name) {
             (Name::Known(one), Name::Known(another)) => *one == *another,
-            (Name::Shared(one), Name::Shared(another)) => {
-                same_text(ArcStr::as_str(one), ArcStr::as_str(another))
-            }
-            (_, _) => same_spelled(self, other),
+            (_, _) => self.as_str() == other.as_str(),
         }
     }
-}
-
-/// Whether two atoms are equal, however they are kept. It stands by itself, so that what is compared more often stays small.
-#[inline(never)]
-fn same_spelled(one: &Atom, other: &Atom) -> bool
-    ensures { IsTrue result ↔ (one.now ≡ other.now) }
-{
-    same_text(one.as_str(), other.as_str())
 }
 
 impl PartialEq for Atom {

@@ -43,7 +43,6 @@
 mod accessors;
 mod atom;
 mod conversions;
-mod equal_texts;
 mod predefined;
 mod printing;
 mod term;
