@@ -3,6 +3,7 @@ pub mod Bounds
 pub mod EqualTexts
 pub mod Parts
 pub mod Accessing
+pub mod Appending
 pub mod Rows
 pub mod Texts
 pub mod Written

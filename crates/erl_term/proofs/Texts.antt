@@ -1,14 +1,14 @@
 -- Lemmas on the texts of terms, and on their bytes.
-use Rattle.std.proofs.Common.{true≢false, ◌≡◌, ℕ, ℤ, ◌+◌, ◌/◌, ◌%◌, ◌^◌, ◌<◌, ◌≤◌, Bool, true, false, not, ◌&&◌, ◌||◌, cond, nat_le, List, [], ◌∷◌, ◌++◌, length, get_or, take, length-take, subst, ◌⊎◌, inl, inr, codes, Result, Ok, Err, Option, Some, None, OnOk, is_ok, option_map, append_assoc, sym, ap, ◌∙◌, refl, arith}
+use Rattle.std.proofs.Common.{true≢false, ◌≡◌, ℕ, ℤ, ◌+◌, ◌/◌, ◌%◌, ◌^◌, ◌<◌, ◌≤◌, Bool, true, false, not, ◌&&◌, ◌||◌, nat_le, List, [], ◌∷◌, ◌++◌, length, get_or, take, subst, ◌⊎◌, inl, inr, codes, Option, Some, None, option_map, append_assoc, sym, ap, ◌∙◌, refl, arith}
 use Rattle.std.specs.Option.{option_and_then, option_to_list}
 use Rattle.std.specs.List.{list_all, list_any, flat_map}
 use Rattle.std.specs.Str.{IsUtf8, IsAscii, chars, bytes_eq}
-use Rattle.std.specs.Fmt.{decimal, signed_decimal, digits, digit_glyph}
+use Rattle.std.specs.Fmt.{decimal, signed_decimal}
 use Rattle.std.proofs.lemmas.List.{append-nil, take_more, flat_map_more}
 use Rattle.std.proofs.lemmas.List.Concat.{flat_map-append}
 use Rattle.std.proofs.lemmas.Str.{encodes-append, encodes-IsAscii, encodes-chars, IsAscii-append}
 use Rattle.std.proofs.lemmas.Str.Ascii.{IsAscii-nil, IsAscii-cons}
-use Rattle.std.proofs.lemmas.Fmt.{IsAscii-decimal, IsAscii-signed, hex_one_digit, hex_two_digits}
+use Rattle.std.proofs.lemmas.Fmt.{IsAscii-decimal, IsAscii-signed}
 use Rattle.std.proofs.lemmas.Bool.{cond-true, cond-false}
 use Rattle.std.proofs.lemmas.Slice.Eq.{bytes_eq-Decides}
 use Rattle.std.proofs.lemmas.Bool.Decides.{nat_tests, leb_tells}
@@ -45,26 +45,13 @@ pub utf8-chars : (bs : List ℕ) → IsUtf8 bs → utf8 (chars bs) ≡ bs
 unfolding utf8
 utf8-chars bs whole = encodes-chars bs whole
 
--- What calls append
+pub utf8-byte : (c : ℕ) → c < 128 → utf8 (c ∷ []) ≡ c ∷ []
+utf8-byte c small = utf8-ascii (c ∷ []) (IsAscii-cons c [] small IsAscii-nil)
 
--- the bytes that a last call appends, where they are those of a text
-pub pushes : {T E : Type 0} (r : Result T E) (new old bs ds cs : List ℕ) → new ≡ cond (is_ok r) (old ++ bs) old → old ++ bs ≡ ds ++ utf8 cs → OnOk r (new ≡ ds ++ utf8 cs)
-pushes (Ok x) new old bs ds cs h e = h ∙ e
-pushes (Err x) new old bs ds cs h e = tt
+pub utf8-cons-byte : (c : ℕ) (cs : List ℕ) → c < 128 → utf8 (c ∷ cs) ≡ c ∷ utf8 cs
+utf8-cons-byte c cs small = utf8-append (c ∷ []) cs ∙ ap (λ bs. bs ++ utf8 cs) (utf8-byte c small)
 
 -- Numbers
-
-glyph-digit : (n : ℕ) → digit_glyph false n ≡ hex_digit n
-glyph-digit n = grind (arith, nat_tests)
-
-pub hex-digits : (n : ℕ) → n < 256 → digits 16 false n ≡ hex n
-hex-digits n small =
-    elim (leb_tells n 15) [
-      | inl below ↦
-          hex_one_digit false n (omega (arith, below.1)) ∙ ap (λ d. d ∷ []) (glyph-digit n) ∙ sym (cond-true (nat_le n 15) (hex_digit n ∷ []) (hex_digit (n / 16) ∷ hex_digit (n % 16) ∷ []) below.0)
-      | inr above ↦
-          hex_two_digits false n (omega (arith, above.1)) small ∙ ap (λ d. d ∷ digit_glyph false (n % 16) ∷ []) (glyph-digit (n / 16)) ∙ ap (λ d. hex_digit (n / 16) ∷ d ∷ []) (glyph-digit (n % 16)) ∙ sym (cond-false (nat_le n 15) (hex_digit n ∷ []) (hex_digit (n / 16) ∷ hex_digit (n % 16) ∷ []) above.0)
-    ]
 
 hex_digit-ascii : (n : ℕ) → n < 16 → hex_digit n < 128
 hex_digit-ascii n small = grind (arith, nat_tests)
@@ -106,23 +93,24 @@ pub quoted-plain : (c : ℕ) → (c ≡ 39 → ⊥) → (c ≡ 92 → ⊥) → 3
 quoted-plain c other neither above nor = grind (arith, nat_tests)
 
 -- the bytes of each kind of quoted character
-pub escaped-bytes : (c : ℕ) (old mid : List ℕ) → (c ≡ 39) ⊎ (c ≡ 92) → mid ≡ old ++ encode 92 → mid ++ encode c ≡ old ++ utf8 (quoted_char c)
-escaped-bytes c old mid either is =
-    ap (λ bs. bs ++ encode c) is ∙ append_assoc old (encode 92) (encode c) ∙ ap (λ bs. old ++ (encode 92 ++ bs)) (sym (utf8-one c)) ∙ ap (λ bs. old ++ bs) (sym (utf8-cons 92 (c ∷ []))) ∙ ap (λ cs. old ++ utf8 cs) (sym (quoted-escaped c either))
+pub escaped-bytes : (c : ℕ) → (c ≡ 39) ⊎ (c ≡ 92) → utf8 (quoted_char c) ≡ 92 ∷ c ∷ []
+escaped-bytes c either =
+    let small : c < 128 = elim either [ inl is ↦ omega (arith, is) | inr is ↦ omega (arith, is) ] in
+    ap utf8 (quoted-escaped c either) ∙ utf8-ascii (92 ∷ c ∷ []) (IsAscii-cons 92 (c ∷ []) (omega arith) (IsAscii-cons c [] small IsAscii-nil))
 
-pub plain-bytes : (c : ℕ) → (c ≡ 39 → ⊥) → (c ≡ 92 → ⊥) → 32 ≤ c → (c ≡ 127 → ⊥) → utf8 (quoted_char c) ≡ encode c
-plain-bytes c other neither above nor = ap utf8 (quoted-plain c other neither above nor) ∙ utf8-one c
+pub plain-bytes : (c : ℕ) → (c ≡ 39 → ⊥) → (c ≡ 92 → ⊥) → 32 ≤ c → (c ≡ 127 → ⊥) → utf8 (c ∷ []) ≡ utf8 (quoted_char c)
+plain-bytes c other neither above nor = ap utf8 (sym (quoted-plain c other neither above nor))
 
-pub control-bytes : (c : ℕ) → (c ≡ 39 → ⊥) → (c ≡ 92 → ⊥) → (c < 32) ⊎ (c ≡ 127) → utf8 (quoted_char c) ≡ codes "\\x{" ++ (digits 16 false c ++ 125 ∷ [])
+pub control-bytes : (c : ℕ) → (c ≡ 39 → ⊥) → (c ≡ 92 → ⊥) → (c < 32) ⊎ (c ≡ 127) → utf8 (quoted_char c) ≡ codes "\\x{" ++ (hex c ++ 125 ∷ [])
 control-bytes c other neither either =
     let small : c < 128 = elim either [ inl below ↦ omega (arith, below) | inr is ↦ omega (arith, is) ] in
     let ascii : IsAscii (codes "\\x{" ++ (hex c ++ 125 ∷ [])) = IsAscii-append (codes "\\x{") (hex c ++ 125 ∷ []) (ascii-three 92 120 123 (omega arith) (omega arith) (omega arith)) (IsAscii-append (hex c) (125 ∷ []) (hex-ascii c (omega arith)) (IsAscii-cons 125 [] (omega arith) IsAscii-nil)) in
-    ap utf8 (quoted-control c other neither either) ∙ utf8-ascii (codes "\\x{" ++ (hex c ++ 125 ∷ [])) ascii ∙ ap (λ cs. codes "\\x{" ++ (cs ++ 125 ∷ [])) (sym (hex-digits c (omega arith)))
+    ap utf8 (quoted-control c other neither either) ∙ utf8-ascii (codes "\\x{" ++ (hex c ++ 125 ∷ [])) ascii
 
 -- one character more between quotes
-pub quoted-more : (out old new cs : List ℕ) (c : ℕ) → out ≡ old ++ utf8 (flat_map quoted_char cs) → new ≡ out ++ utf8 (quoted_char c) → new ≡ old ++ utf8 (flat_map quoted_char (cs ++ c ∷ []))
-quoted-more out old new cs c so_far here =
-    here ∙ ap (λ bs. bs ++ utf8 (quoted_char c)) so_far ∙ append_assoc old (utf8 (flat_map quoted_char cs)) (utf8 (quoted_char c)) ∙ ap (λ bs. old ++ bs) (sym (utf8-append (flat_map quoted_char cs) (quoted_char c))) ∙ ap (λ ds. old ++ utf8 ds) (flat_map_more quoted_char [] cs c)
+pub quoted-more : (cs : List ℕ) (c : ℕ) → utf8 (flat_map quoted_char cs) ++ utf8 (quoted_char c) ≡ utf8 (flat_map quoted_char (cs ++ c ∷ []))
+quoted-more cs c =
+    sym (utf8-append (flat_map quoted_char cs) (quoted_char c)) ∙ ap utf8 (flat_map_more quoted_char [] cs c)
 
 name_char-ascii : (c : ℕ) → is_name_char c ≡ true → c < 128
 name_char-ascii c is = grind (arith, nat_tests)
@@ -166,18 +154,14 @@ other-unquoted bs other = word-alike quoted_words bs quoted_words-alike other
 
 -- Elements
 
+pub no-elements : (ts : List Term) → length ts ≡ 0 → elements_text (trees ts) ≡ []
+no-elements [] is = refl
+no-elements (t ∷ ts) is = absurd (omega (arith, is))
+
 pub others-push : (ts : List Term) (t : Term) → others_text (trees (ts ++ t ∷ [])) ≡ others_text (trees ts) ++ 44 ∷ text (tree t)
 others-push [] t = ap (λ cs. 44 ∷ cs) (append-nil (text (tree t)))
 others-push (u ∷ us) t =
     ap (λ cs. 44 ∷ (text (tree u) ++ cs)) (others-push us t) ∙ ap (λ cs. 44 ∷ cs) (sym (append_assoc (text (tree u)) (others_text (trees us)) (44 ∷ text (tree t))))
-
-pub elements-one : (t : Term) → elements_text (trees (t ∷ [])) ≡ text (tree t)
-elements-one t = append-nil (text (tree t))
-
-pub elements-push : (ts : List Term) (t : Term) → 0 < length ts → elements_text (trees (ts ++ t ∷ [])) ≡ elements_text (trees ts) ++ 44 ∷ text (tree t)
-elements-push [] t some = absurd (omega arith)
-elements-push (u ∷ us) t some =
-    ap (λ cs. text (tree u) ++ cs) (others-push us t) ∙ sym (append_assoc (text (tree u)) (others_text (trees us)) (44 ∷ text (tree t)))
 
 -- Strings
 
@@ -226,30 +210,21 @@ chars-push (u ∷ us) t =
     ap (λ cs. option_to_list (printable_char (tree u)) ++ cs) (chars-push us t) ∙ sym (append_assoc (option_to_list (printable_char (tree u))) (printable_chars (trees us)) (option_to_list (printable_char (tree t))))
 
 -- the characters of the terms so far, and of the next
-pub chars-more : (items : List Term) (i : ℕ) (t : Term) (old out new : List ℕ) → i < length items → t ≡ get_or items i t → out ≡ old ++ utf8 (flat_map string_char (printable_chars (trees (take i items)))) → new ≡ out ++ utf8 (flat_map string_char (option_to_list (printable_char (tree t)))) → new ≡ old ++ utf8 (flat_map string_char (printable_chars (trees (take (i + 1) items))))
-chars-more items i t old out new within is so_far here =
+pub chars-more : (items : List Term) (i : ℕ) (t : Term) → i < length items → t ≡ get_or items i t → utf8 (flat_map string_char (printable_chars (trees (take i items)))) ++ utf8 (flat_map string_char (option_to_list (printable_char (tree t)))) ≡ utf8 (flat_map string_char (printable_chars (trees (take (i + 1) items))))
+chars-more items i t within is =
     let cs = printable_chars (trees (take i items)) in
     let ds = option_to_list (printable_char (tree t)) in
-    here ∙ ap (λ bs. bs ++ utf8 (flat_map string_char ds)) so_far ∙ append_assoc old (utf8 (flat_map string_char cs)) (utf8 (flat_map string_char ds)) ∙ ap (λ bs. old ++ bs) (sym (utf8-append (flat_map string_char cs) (flat_map string_char ds))) ∙ ap (λ es. old ++ utf8 es) (sym (flat_map-append string_char cs ds)) ∙ ap (λ es. old ++ utf8 (flat_map string_char es)) (sym (chars-push (take i items) t)) ∙ ap (λ ts. old ++ utf8 (flat_map string_char (printable_chars (trees ts)))) (sym (take_here items i t within is))
+    sym (utf8-append (flat_map string_char cs) (flat_map string_char ds)) ∙ ap utf8 (sym (flat_map-append string_char cs ds)) ∙ ap (λ es. utf8 (flat_map string_char es)) (sym (chars-push (take i items) t)) ∙ ap (λ ts. utf8 (flat_map string_char (printable_chars (trees ts)))) (sym (take_here items i t within is))
 
--- the first element's text
-pub elements-first : (items : List Term) (i : ℕ) (t : Term) (old out new : List ℕ) → i < length items → t ≡ get_or items i t → i ≡ 0 → out ≡ old ++ utf8 (elements_text (trees (take i items))) → new ≡ out ++ utf8 (text (tree t)) → new ≡ old ++ utf8 (elements_text (trees (take (i + 1) items)))
-elements-first items i t old out new within is first so_far here =
-    let nothing : out ≡ old = so_far ∙ ap (λ k. old ++ utf8 (elements_text (trees (take k items)))) first ∙ ap (λ bs. old ++ bs) utf8-nil ∙ append-nil old in
-    let one : take (i + 1) items ≡ t ∷ [] = take_here items i t within is ∙ ap (λ k. take k items ++ t ∷ []) first in
-    here ∙ ap (λ bs. bs ++ utf8 (text (tree t))) nothing ∙ ap (λ cs. old ++ utf8 cs) (sym (elements-one t)) ∙ ap (λ ts. old ++ utf8 (elements_text (trees ts))) (sym one)
-
--- and each further one's, behind a comma
-pub elements-further : (items : List Term) (i : ℕ) (t : Term) (old out mid new : List ℕ) → i < length items → t ≡ get_or items i t → 0 < i → out ≡ old ++ utf8 (elements_text (trees (take i items))) → mid ≡ out ++ encode 44 → new ≡ mid ++ utf8 (text (tree t)) → new ≡ old ++ utf8 (elements_text (trees (take (i + 1) items)))
-elements-further items i t old out mid new within is further so_far comma here =
-    let es = elements_text (trees (take i items)) in
-    let some : 0 < length (take i items) = simp length-take (omega arith) in
-    here ∙ ap (λ bs. bs ++ utf8 (text (tree t))) comma ∙ append_assoc out (encode 44) (utf8 (text (tree t))) ∙ ap (λ bs. out ++ bs) (sym (utf8-cons 44 (text (tree t)))) ∙ ap (λ bs. bs ++ utf8 (44 ∷ text (tree t))) so_far ∙ append_assoc old (utf8 es) (utf8 (44 ∷ text (tree t))) ∙ ap (λ bs. old ++ bs) (sym (utf8-append es (44 ∷ text (tree t)))) ∙ ap (λ cs. old ++ utf8 cs) (sym (elements-push (take i items) t some)) ∙ ap (λ ts. old ++ utf8 (elements_text (trees ts))) (sym (take_here items i t within is))
+-- the texts of the terms so far, each behind a comma, and of the next
+pub others-more : (items : List Term) (i : ℕ) (t : Term) → i < length items → t ≡ get_or items i t → utf8 (others_text (trees (take i items))) ++ utf8 (44 ∷ text (tree t)) ≡ utf8 (others_text (trees (take (i + 1) items)))
+others-more items i t within is =
+    sym (utf8-append (others_text (trees (take i items))) (44 ∷ text (tree t))) ∙ ap utf8 (sym (others-push (take i items) t)) ∙ ap (λ ts. utf8 (others_text (trees ts))) (sym (take_here items i t within is))
 
 -- a text between two characters
-pub between-bytes : (a b : ℕ) (old first mid cs : List ℕ) → first ≡ old ++ encode a → mid ≡ first ++ utf8 cs → mid ++ encode b ≡ old ++ utf8 (a ∷ (cs ++ b ∷ []))
-between-bytes a b old first mid cs opened filled =
-    ap (λ bs. bs ++ encode b) (filled ∙ ap (λ bs. bs ++ utf8 cs) opened ∙ append_assoc old (encode a) (utf8 cs)) ∙ append_assoc old (encode a ++ utf8 cs) (encode b) ∙ ap (λ bs. old ++ bs) (append_assoc (encode a) (utf8 cs) (encode b)) ∙ ap (λ bs. old ++ (encode a ++ (utf8 cs ++ bs))) (sym (utf8-one b)) ∙ ap (λ bs. old ++ (encode a ++ bs)) (sym (utf8-append cs (b ∷ []))) ∙ ap (λ bs. old ++ bs) (sym (utf8-cons a (cs ++ b ∷ [])))
+pub between-bytes : (a b : ℕ) (cs : List ℕ) → a < 128 → b < 128 → ((a ∷ []) ++ utf8 cs) ++ (b ∷ []) ≡ utf8 (a ∷ (cs ++ b ∷ []))
+between-bytes a b cs first last =
+    ap (λ bs. a ∷ (utf8 cs ++ bs)) (sym (utf8-byte b last)) ∙ ap (λ bs. a ∷ bs) (sym (utf8-append cs (b ∷ []))) ∙ sym (utf8-cons-byte a (cs ++ b ∷ []) first)
 
 -- Atoms, whole
 
@@ -272,22 +247,21 @@ string-escaped c either =
 string-plain : (c : ℕ) → (c ≡ 34 → ⊥) → (c ≡ 92 → ⊥) → string_char c ≡ c ∷ []
 string-plain c other neither = grind (arith, nat_tests)
 
-pub string-escaped-bytes : (c : ℕ) (old mid : List ℕ) → (c ≡ 34) ⊎ (c ≡ 92) → mid ≡ old ++ encode 92 → mid ++ encode c ≡ old ++ utf8 (string_char c)
-string-escaped-bytes c old mid either is =
-    ap (λ bs. bs ++ encode c) is ∙ append_assoc old (encode 92) (encode c) ∙ ap (λ bs. old ++ (encode 92 ++ bs)) (sym (utf8-one c)) ∙ ap (λ bs. old ++ bs) (sym (utf8-cons 92 (c ∷ []))) ∙ ap (λ cs. old ++ utf8 cs) (sym (string-escaped c either))
+pub string-escaped-bytes : (c : ℕ) → (c ≡ 34) ⊎ (c ≡ 92) → utf8 (string_char c) ≡ 92 ∷ c ∷ []
+string-escaped-bytes c either =
+    let small : c < 128 = elim either [ inl is ↦ omega (arith, is) | inr is ↦ omega (arith, is) ] in
+    ap utf8 (string-escaped c either) ∙ utf8-ascii (92 ∷ c ∷ []) (IsAscii-cons 92 (c ∷ []) (omega arith) (IsAscii-cons c [] small IsAscii-nil))
 
-pub string-plain-bytes : (c : ℕ) (old mid : List ℕ) → (c ≡ 34 → ⊥) → (c ≡ 92 → ⊥) → mid ≡ old → mid ++ encode c ≡ old ++ utf8 (string_char c)
-string-plain-bytes c old mid other neither is =
-    ap (λ bs. bs ++ encode c) is ∙ ap (λ bs. old ++ bs) (sym (utf8-one c)) ∙ ap (λ cs. old ++ utf8 cs) (sym (string-plain c other neither))
+pub string-plain-bytes : (c : ℕ) → (c ≡ 34 → ⊥) → (c ≡ 92 → ⊥) → utf8 (c ∷ []) ≡ utf8 (string_char c)
+string-plain-bytes c other neither = ap utf8 (sym (string-plain c other neither))
 
 -- what a term adds to a string: its character, or nothing
-pub char-added : (o : Option ℕ) (c : ℕ) (out new : List ℕ) → o ≡ Some c → new ≡ out ++ utf8 (string_char c) → new ≡ out ++ utf8 (flat_map string_char (option_to_list o))
-char-added o c out new is here =
-    here ∙ ap (λ cs. out ++ utf8 cs) (sym (append-nil (string_char c))) ∙ ap (λ p. out ++ utf8 (flat_map string_char (option_to_list p))) (sym is)
+pub char-added : (o : Option ℕ) (c : ℕ) → o ≡ Some c → utf8 (string_char c) ≡ utf8 (flat_map string_char (option_to_list o))
+char-added o c is =
+    ap utf8 (sym (append-nil (string_char c))) ∙ ap (λ p. utf8 (flat_map string_char (option_to_list p))) (sym is)
 
-pub none-added : (o : Option ℕ) (out new : List ℕ) → o ≡ None → new ≡ out → new ≡ out ++ utf8 (flat_map string_char (option_to_list o))
-none-added o out new is here =
-    here ∙ sym (append-nil out) ∙ ap (λ bs. out ++ bs) (sym utf8-nil) ∙ ap (λ p. out ++ utf8 (flat_map string_char (option_to_list p))) (sym is)
+pub none-added : (o : Option ℕ) → o ≡ None → [] ≡ utf8 (flat_map string_char (option_to_list o))
+none-added o is = sym utf8-nil ∙ ap (λ p. utf8 (flat_map string_char (option_to_list p))) (sym is)
 
 -- where nothing is written yet
 pub nothing-yet : (old : List ℕ) → old ≡ old ++ utf8 []

@@ -7,6 +7,7 @@ pub mod OrderLaws
 pub mod Parts
 pub mod RoundTrip
 pub mod Accessors
+pub mod Appending
 pub mod Rows
 pub mod Strings
 pub mod Term

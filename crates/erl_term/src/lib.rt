@@ -32,8 +32,9 @@
 //! last of a row's deepest terms, or past more than can be counted ([`Terms::rest`]), which copies what is left, each
 //! term by sharing. A row is made in the time of its own terms: [`Terms::joined`] asks those in front for depth and size, and
 //! shares those behind them one by one. A predefined atom takes neither time nor memory. Comparing, ordering and printing
-//! are linear in the terms; `print` builds the text before it appends it. So a `rest` that never shares and a row that keeps
-//! room that it does not need would be proved too; `bench/terms/measure` sees them.
+//! are linear in the terms; [`print`] and [`print_atom`] take no memory but the output's, and none where that has room. So a
+//! `rest` that never shares and a row that keeps room that it does not need would be proved too; `bench/terms/measure` sees
+//! them.
 //!
 //! Comparing, ordering, printing and dropping recurse as deep as the term and no deeper: a caller that takes terms from
 //! outside bounds their depth first. On a stack of 8 MB the tests copy, compare, order, measure, print and drop a term of

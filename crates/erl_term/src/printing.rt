@@ -1,14 +1,16 @@
 // The text of terms.
-ghost use Rattle.std.specs.Prelude.{◌≡◌, ◌++◌, ◌∷◌, [], codes, OnOk, OnErr, string_bytes};
+ghost use Rattle.std.specs.Prelude.{◌≡◌, ◌<◌, ◌++◌, ◌∷◌, [], codes, OnOk, OnErr};
 ghost use Rattle.std.specs.Str.{chars};
 ghost use Rattle.std.specs.Fmt.{decimal, signed_decimal};
 ghost use Rattle.std.specs.List.{flat_map, list_all};
 ghost use Rattle.erl_term.specs.Term.{tree};
-ghost use Rattle.erl_term.specs.Text.{utf8, text, atom_text, begins_lower, is_lower, is_name_char, is_plain, is_quoted_word, quoted_char};
+ghost use Rattle.erl_term.specs.Appending.{Appends};
+ghost use Rattle.erl_term.specs.Text.{utf8, text, atom_text, begins_lower, hex, hex_digit, is_lower, is_name_char, is_plain, is_quoted_word, quoted_char};
 ghost use Rattle.erl_term.specs.Strings.{is_like_word};
 
 use crate::atom::Atom;
 use crate::term::Term;
+use itoa::Buffer;
 use std::alloc::AllocError;
 
 /// The words that no atom is printed as without quotes: those that are reserved, and `else` and `maybe`,
@@ -21,7 +23,7 @@ const QUOTED_WORDS: [&str; 29] = [
 
 /// Appends the term's text, in UTF-8, by Erlang's syntax (Erlang Reference Manual, Data Types): integers in
 /// decimal, atoms in quotes where they need them, process identifiers as `<0.N.0>`, lists of printable
-/// characters as strings, and no blanks.
+/// characters as strings, and no blanks. Takes no memory but the output's.
 ///
 /// # Errors
 ///
@@ -30,13 +32,17 @@ pub fn print(term: &Term, out: &mut Vec<u8>) -> Result<(), AllocError>
     ensures printed { OnOk result (out.new.items ≡ out.old.items ++ utf8 (text (tree term.now))) }
     ensures err { OnErr result (out.new.items ≡ out.old.items) }
 {
-    let mut text = String::new(*out.allocator());
-    term.append_text(&mut text)?;
-    out.extend_from_slice(text.as_bytes())
+    let start = out.as_slice().len();
+    match term.append_text(out) {
+        Ok(()) => Ok(()),
+        Err(refused) => {
+            out.truncate(start);
+            Err(refused)
+        }
+    }
 }
 
-/// Appends the text of an atom, as [`print`] does. An atom that needs no quotes takes no memory but the
-/// output's.
+/// Appends the text of an atom, as [`print`] does.
 ///
 /// # Errors
 ///
@@ -45,45 +51,65 @@ pub fn print_atom(name: &Atom, out: &mut Vec<u8>) -> Result<(), AllocError>
     ensures printed { OnOk result (out.new.items ≡ out.old.items ++ utf8 (atom_text name.now)) }
     ensures err { OnErr result (out.new.items ≡ out.old.items) }
 {
-    let word = name.as_str();
-    if is_plain(word) {
-        return out.extend_from_slice(word.as_bytes());
+    let start = out.as_slice().len();
+    match append_atom(name.as_str(), out) {
+        Ok(()) => Ok(()),
+        Err(refused) => {
+            out.truncate(start);
+            Err(refused)
+        }
     }
-    let mut quoted = String::new(*out.allocator());
-    append_atom(word, &mut quoted)?;
-    out.extend_from_slice(quoted.as_bytes())
+}
+
+/// Appends bytes.
+pub(crate) fn put(bytes: &[u8], out: &mut Vec<u8>) -> Result<(), AllocError>
+    ensures { Appends result bytes.now out.old.items out.new.items }
+{
+    out.extend_from_slice(bytes)
+}
+
+/// Appends a character.
+pub(crate) fn put_char(c: char, out: &mut Vec<u8>) -> Result<(), AllocError>
+    ensures { Appends result (utf8 (c ∷ [])) out.old.items out.new.items }
+{
+    let mut bytes = [0; 4];
+    put(c.encode_utf8(&mut bytes).as_bytes(), out)
 }
 
 /// Appends a number in decimal.
-pub(crate) fn append_integer(n: i64, out: &mut String) -> Result<(), AllocError>
-    ensures { OnOk result (string_bytes out.new ≡ string_bytes out.old ++ utf8 (signed_decimal n)) }
+pub(crate) fn append_integer(n: i64, out: &mut Vec<u8>) -> Result<(), AllocError>
+    ensures { Appends result (utf8 (signed_decimal n)) out.old.items out.new.items }
 {
-    write!(out, "{n}")
+    let mut digits = Buffer::new();
+    put(digits.format(n).as_bytes(), out)
 }
 
 /// Appends a process identifier.
-pub(crate) fn append_pid(n: u64, out: &mut String) -> Result<(), AllocError>
-    ensures { OnOk result (string_bytes out.new ≡ string_bytes out.old ++ utf8 (codes "<0." ++ (decimal n ++ codes ".0>"))) }
+pub(crate) fn append_pid(n: u64, out: &mut Vec<u8>) -> Result<(), AllocError>
+    ensures { Appends result (utf8 (codes "<0." ++ (decimal n ++ codes ".0>"))) out.old.items out.new.items }
 {
-    write!(out, "<0.{n}.0>")
+    let mut digits = Buffer::new();
+    put(b"<0.", out)?;
+    put(digits.format(n).as_bytes(), out)?;
+    put(b".0>", out)
 }
 
 /// Appends the atom of these characters.
-pub(crate) fn append_atom(name: &str, out: &mut String) -> Result<(), AllocError>
-    ensures { OnOk result (string_bytes out.new ≡ string_bytes out.old ++ utf8 (atom_text (chars name.now))) }
+pub(crate) fn append_atom(name: &str, out: &mut Vec<u8>) -> Result<(), AllocError>
+    ensures { Appends result (utf8 (atom_text (chars name.now))) out.old.items out.new.items }
 {
     if is_plain(name) {
-        out.push_str(name)
+        put(name.as_bytes(), out)
     } else {
-        out.push('\'')?;
+        put(b"'", out)?;
         append_quoted(name, out)?;
-        out.push('\'')
+        put(b"'", out)
     }
 }
 
 /// Appends characters as they stand between single quotes.
-fn append_quoted(name: &str, out: &mut String) -> Result<(), AllocError>
-    ensures { OnOk result (string_bytes out.new ≡ string_bytes out.old ++ utf8 (flat_map quoted_char (chars name.now))) }
+fn append_quoted(name: &str, out: &mut Vec<u8>) -> Result<(), AllocError>
+    ensures { Appends result (utf8 (flat_map quoted_char (chars name.now))) out.old.items out.new.items }
 {
     for c in name.chars() {
         append_quoted_char(c, out)?;
@@ -92,18 +118,36 @@ fn append_quoted(name: &str, out: &mut String) -> Result<(), AllocError>
 }
 
 /// Appends a character as it stands between single quotes.
-fn append_quoted_char(c: char, out: &mut String) -> Result<(), AllocError>
-    ensures { OnOk result (string_bytes out.new ≡ string_bytes out.old ++ utf8 (quoted_char c)) }
+fn append_quoted_char(c: char, out: &mut Vec<u8>) -> Result<(), AllocError>
+    ensures { Appends result (utf8 (quoted_char c)) out.old.items out.new.items }
 {
     if c == '\'' || c == '\\' {
-        out.push('\\')?;
-        out.push(c)
+        put(&[b'\\', c as u8], out)
     } else if c < ' ' || c == '\u{7f}' {
-        let code = u32::from(c);
-        write!(out, "\\x{{{code:x}}}")
+        append_control(c as u8, out)
     } else {
-        out.push(c)
+        put_char(c, out)
     }
+}
+
+/// Appends a control character in hexadecimal.
+fn append_control(c: u8, out: &mut Vec<u8>) -> Result<(), AllocError>
+    requires { c < 128 }
+    ensures { Appends result (codes "\\x{" ++ (hex c ++ 125 ∷ [])) out.old.items out.new.items }
+{
+    let last = hex_digit(c % 16);
+    if c < 16 {
+        return put(&[b'\\', b'x', b'{', last, b'}'], out);
+    }
+    put(&[b'\\', b'x', b'{', hex_digit(c / 16), last, b'}'], out)
+}
+
+/// One hexadecimal digit, in lower case.
+fn hex_digit(n: u8) -> u8
+    requires { n < 16 }
+    ensures { result ≡ hex_digit n }
+{
+    if n <= 9 { b'0' + n } else { b'a' + (n - 10) }
 }
 
 /// Whether the atom of these characters stands without quotes.

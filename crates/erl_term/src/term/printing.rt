@@ -1,20 +1,21 @@
 // The text of terms with elements.
-ghost use Rattle.std.specs.Prelude.{◌≡◌, ◌++◌, OnOk, string_bytes};
+ghost use Rattle.std.specs.Prelude.{◌≡◌, ◌∷◌};
 ghost use Rattle.std.specs.List.{flat_map};
 ghost use Rattle.erl_term.specs.Term.{tree, trees};
 ghost use Rattle.erl_term.specs.Tree.{int, tuple, list};
-ghost use Rattle.erl_term.specs.Text.{utf8, text, elements_text, printable_char, printable, string_char};
+ghost use Rattle.erl_term.specs.Appending.{Appends};
+ghost use Rattle.erl_term.specs.Text.{utf8, text, elements_text, others_text, printable_char, printable, string_char};
 ghost use Rattle.erl_term.specs.Strings.{printable_chars, has_chars};
 
 use super::{Term, Terms};
-use crate::printing::{append_atom, append_integer, append_pid};
+use crate::printing::{append_atom, append_integer, append_pid, put, put_char};
 use std::alloc::AllocError;
 
 impl Term {
     /// Appends the term's text.
     #[cycle(print)]
-    pub(crate) fn append_text(&self, out: &mut String) -> Result<(), AllocError>
-        ensures { OnOk result (string_bytes out.new ≡ string_bytes out.old ++ utf8 (text (tree self.now))) }
+    pub(crate) fn append_text(&self, out: &mut Vec<u8>) -> Result<(), AllocError>
+        ensures { Appends result (utf8 (text (tree self.now))) out.old.items out.new.items }
     {
         match self {
             Term::Int(n) => append_integer(*n, out),
@@ -50,44 +51,62 @@ fn printable_integer(n: i64) -> Option<u8>
 impl Terms {
     /// Appends the tuple of the terms.
     #[cycle(print)]
-    fn append_as_tuple(&self, out: &mut String) -> Result<(), AllocError>
-        ensures { OnOk result (string_bytes out.new ≡ string_bytes out.old ++ utf8 (text (tuple self.now))) }
+    fn append_as_tuple(&self, out: &mut Vec<u8>) -> Result<(), AllocError>
+        ensures { Appends result (utf8 (text (tuple self.now))) out.old.items out.new.items }
     {
-        out.push('{')?;
+        put(b"{", out)?;
         append_elements(self.as_slice(), out)?;
-        out.push('}')
+        put(b"}", out)
     }
 
     /// Appends the list of the terms.
     #[cycle(print)]
-    fn append_as_list(&self, out: &mut String) -> Result<(), AllocError>
-        ensures { OnOk result (string_bytes out.new ≡ string_bytes out.old ++ utf8 (text (list self.now))) }
+    fn append_as_list(&self, out: &mut Vec<u8>) -> Result<(), AllocError>
+        ensures { Appends result (utf8 (text (list self.now))) out.old.items out.new.items }
     {
         let terms = self.as_slice();
         if is_string(terms) {
-            out.push('"')?;
+            put(b"\"", out)?;
             append_chars(terms, out)?;
-            out.push('"')
+            put(b"\"", out)
         } else {
-            out.push('[')?;
+            put(b"[", out)?;
             append_elements(terms, out)?;
-            out.push(']')
+            put(b"]", out)
         }
     }
 }
 
 /// Appends the terms' texts, with commas between them.
 #[cycle(print)]
-fn append_elements(terms: &[Term], out: &mut String) -> Result<(), AllocError>
-    ensures { OnOk result (string_bytes out.new ≡ string_bytes out.old ++ utf8 (elements_text (trees terms.now))) }
+fn append_elements(terms: &[Term], out: &mut Vec<u8>) -> Result<(), AllocError>
+    ensures { Appends result (utf8 (elements_text (trees terms.now))) out.old.items out.new.items }
 {
-    for (i, term) in terms.iter().enumerate() {
-        if i > 0 {
-            out.push(',')?;
-        }
-        term.append_text(out)?;
+    let Some((first, others)) = terms.split_first() else {
+        return Ok(());
+    };
+    first.append_text(out)?;
+    append_others(others, out)
+}
+
+/// Appends the terms' texts, each behind a comma.
+#[cycle(print)]
+fn append_others(terms: &[Term], out: &mut Vec<u8>) -> Result<(), AllocError>
+    ensures { Appends result (utf8 (others_text (trees terms.now))) out.old.items out.new.items }
+{
+    for term in terms {
+        append_other(term, out)?;
     }
     Ok(())
+}
+
+/// Appends a term's text behind a comma.
+#[cycle(print)]
+fn append_other(term: &Term, out: &mut Vec<u8>) -> Result<(), AllocError>
+    ensures { Appends result (utf8 (44 ∷ text (tree term.now))) out.old.items out.new.items }
+{
+    put(b",", out)?;
+    term.append_text(out)
 }
 
 /// Whether there are terms, and each is an integer from 32 to 126.
@@ -103,8 +122,8 @@ fn is_string(terms: &[Term]) -> bool
 }
 
 /// Appends the characters of those terms that are integers from 32 to 126, as they stand between double quotes.
-fn append_chars(terms: &[Term], out: &mut String) -> Result<(), AllocError>
-    ensures { OnOk result (string_bytes out.new ≡ string_bytes out.old ++ utf8 (flat_map string_char (printable_chars (trees terms.now)))) }
+fn append_chars(terms: &[Term], out: &mut Vec<u8>) -> Result<(), AllocError>
+    ensures { Appends result (utf8 (flat_map string_char (printable_chars (trees terms.now)))) out.old.items out.new.items }
 {
     for term in terms {
         if let Some(c) = term.printable_char() {
@@ -115,11 +134,12 @@ fn append_chars(terms: &[Term], out: &mut String) -> Result<(), AllocError>
 }
 
 /// Appends a character as it stands between double quotes.
-fn append_string_char(c: u8, out: &mut String) -> Result<(), AllocError>
-    ensures { OnOk result (string_bytes out.new ≡ string_bytes out.old ++ utf8 (string_char c)) }
+fn append_string_char(c: u8, out: &mut Vec<u8>) -> Result<(), AllocError>
+    ensures { Appends result (utf8 (string_char c)) out.old.items out.new.items }
 {
     if c == b'"' || c == b'\\' {
-        out.push('\\')?;
+        put(&[b'\\', c], out)
+    } else {
+        put_char(char::from(c), out)
     }
-    out.push(char::from(c))
 }

@@ -1,9 +1,8 @@
 -- What is written so far is the text of the characters so far.
-use Rattle.std.proofs.Common.{◌≡◌, ◌++◌, string_bytes}
+use Rattle.std.proofs.Common.{◌≡◌, ◌++◌}
 use Rattle.std.specs.List.{flat_map}
 use Rattle.erl_term.specs.Text.{utf8, quoted_char}
 use Rattle.erl_term.proofs.printing.append_quoted.Given as goal
 
 abbrev pub invariant-loop-c : goal.invariant-loop-c
-invariant-loop-c l =
-    string_bytes l.out ≡ string_bytes l.initial.out ++ utf8 (flat_map quoted_char l.yielded)
+invariant-loop-c l = l.out.items ≡ l.initial.out.items ++ utf8 (flat_map quoted_char l.yielded)

@@ -1,25 +1,17 @@
 -- A backslash first, where the character needs it.
-use Rattle.std.proofs.Common.{◌≡◌, ◌++◌, ◌⊎◌, inl, inr, string_bytes, ap, ◌∙◌}
-use lib.Utf8.{encode}
+use Rattle.std.proofs.Common.{◌≡◌, [], ◌∷◌, ◌⊎◌, inl, inr, ap, sym, ◌∙◌}
 use Rattle.erl_term.specs.Text.{utf8, string_char}
-use Rattle.erl_term.proofs.Texts.{pushes, string-escaped-bytes, string-plain-bytes}
+use Rattle.erl_term.proofs.Appending.{renamed}
+use Rattle.erl_term.proofs.Texts.{string-escaped-bytes, string-plain-bytes}
 use Rattle.erl_term.proofs.term.printing.append_string_char.Goals as goal
-use Rattle.erl_term.proofs.term.printing.append_string_char.Goals.{then-c-eq34+in_ok-push, then-c-eq34-via-then-c-eq34, then-c-eq34-via-else-c-eq34+then-c-eq92, else-c-eq34+else-c-eq92}
 
-pub returns : goal.returns
-returns c =
+pub returns-then-c-eq92 : goal.returns-then-c-eq92
+returns-then-c-eq92 c =
     let ch = c.args.c in
-    let old = string_bytes c.args.out.now in
-    let mid = string_bytes c.if-c-eq34.out in
-    let whole : mid ++ encode ch ≡ old ++ utf8 (string_char ch) = elim c.if-c-eq34.branch [
-      | then-c-eq34+in_ok-push w ↦
-          let either : (ch ≡ 34) ⊎ (ch ≡ 92) = elim w.then-c-eq34.branch [
-            | then-c-eq34-via-then-c-eq34 v ↦ inl v.if-c-eq34.true
-            | then-c-eq34-via-else-c-eq34+then-c-eq92 v ↦ inr v.if-c-eq92.true
-          ] in
-          string-escaped-bytes ch old mid either (ap string_bytes w.out-is ∙ w.in_ok-push.ensures.bytes)
-      | else-c-eq34+else-c-eq92 w ↦
-          string-plain-bytes ch old mid w.if-c-eq34.false w.if-c-eq92.false (ap string_bytes w.out-is)
-    ] in
-    let pushed : mid ++ encode c.from.result ≡ old ++ utf8 (string_char ch) = ap (λ d. mid ++ encode d) c.from.ensures ∙ whole in
-    pushes c.push-2.result (string_bytes c.push-2.new.self) mid (encode c.from.result) old (string_char ch) c.push-2.ensures.bytes pushed
+    let either : (ch ≡ 34) ⊎ (ch ≡ 92) = elim c.if-c-eq92.either [ inl is ↦ inl is | inr is ↦ inr is.1 ] in
+    renamed c.put.result c.args.out.now.items c.put.new.out.items (92 ∷ ch ∷ []) (utf8 (string_char ch)) c.put.ensures (sym (string-escaped-bytes ch either))
+
+pub returns-else-c-eq92 : goal.returns-else-c-eq92
+returns-else-c-eq92 c =
+    let ch = c.args.c in
+    renamed c.put_char.result c.args.out.now.items c.put_char.new.out.items (utf8 (c.from.result ∷ [])) (utf8 (string_char ch)) c.put_char.ensures (ap (λ d. utf8 (d ∷ [])) c.from.ensures ∙ string-plain-bytes ch c.if-c-eq92.false.0 c.if-c-eq92.false.1)
