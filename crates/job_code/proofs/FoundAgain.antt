@@ -4,7 +4,7 @@ use Rattle.std.specs.Option.{option_or}
 use Rattle.std.proofs.lemmas.Bool.{eq-eqb, eqb-true}
 use Rattle.std.proofs.lemmas.List.Elements.{All-cons, All-head, All-nil, All-tail}
 use Rattle.std.proofs.lemmas.List.Sums.{get_or-le-sum_by}
-use Rattle.std.proofs.lemmas.Option.{get_or_from_slice_get, none-some, same_Some}
+use Rattle.std.proofs.lemmas.Option.{get_or_from_slice_get}
 use Rattle.erl_forms.specs.Module.{Forms}
 use Rattle.erl_eval.specs.State.{Instance}
 use Rattle.code_server.specs.Modules.{Entry, IsSound, Table, current_of, in_entry, in_entries, in_slot, old_of}
@@ -12,8 +12,7 @@ use Rattle.code_server.specs.declared.modules.Instance as loaded
 use Rattle.code_server.proofs.Changes.{current_of-slots, old_of-slots}
 use Rattle.code_server.proofs.Standing.{Stands-place}
 use Rattle.job_code.specs.JobCode.{AreReached, none, reached, without_code, not_reached, job_code, instance_of}
-use Rattle.job_code.specs.Named.{AreFoundAgain, JobCodeStands, StandsIn, as_current, as_old, all_found, and_others, found, if_serial, loaded_with, named_instance}
-use Rattle.job_code.specs.Places.{named_current, named_current_at}
+use Rattle.job_code.specs.Named.{AreFoundAgain, JobCodeStands, StandsIn, as_current, as_old, all_found, and_others, found, if_serial, named_instance}
 use Rattle.job_code.proofs.Standing.{current-at_place, place-of_entry, placed}
 
 -- What a loop found so far, before what it finds of the others.
@@ -78,32 +77,3 @@ job_code_stands t entered _ sound stands (job_code {reached = code} are) =
     current : (j : ℕ) (entry : Entry Forms) → slice_get t.entries j ≡ Some entry → current_of entry.0 t ≡ entry.1.current
     current j entry at =
         current-at_place entry.0 t j (place-of_entry t.entries j entry sound.distinct at) ∙ ap (option_and_then (λ e. e.1.current)) at
-
--- What stands at a place is found by its name and its serial.
-
-named_in : (entry : Entry Forms) (o : Option (loaded.Instance Forms)) (name : List ℕ) (i : loaded.Instance Forms) → entry.1.current ≡ o → option_map {U = List ℕ × loaded.Instance Forms} (λ j. (entry.0, j)) o ≡ Some (name, i) → (entry.0 ≡ name) × (entry.1.current ≡ Some i)
-named_in entry None name i is at =
-    let there : List ℕ × loaded.Instance Forms = (name, i) in
-    absurd (none-some there at)
-named_in entry (Some j) name i is at =
-    let here : List ℕ × loaded.Instance Forms = (entry.0, j) in
-    let there : List ℕ × loaded.Instance Forms = (name, i) in
-    let same : here ≡ there = same_Some here there at in
-    (ap (λ e. e.0) same, is ∙ ap (λ e. Some e.1) same)
-
-current_by : (t : Table Forms) (place : ℕ) (o : Option (Entry Forms)) (name : List ℕ) (i : loaded.Instance Forms) → IsSound t → slice_get t.entries place ≡ o → option_and_then named_current o ≡ Some (name, i) → current_of name t ≡ Some i
-current_by t place None name i sound at is =
-    let there : List ℕ × loaded.Instance Forms = (name, i) in
-    absurd (none-some there is)
-current_by t place (Some entry) name i sound at is =
-    let parts = named_in entry entry.1.current name i refl is in
-    ap (λ n. current_of n t) (sym parts.0)
-    ∙ current-at_place entry.0 t place (place-of_entry t.entries place entry sound.distinct at)
-    ∙ ap (option_and_then (λ e. e.1.current)) at
-    ∙ parts.1
-
-pub told_at : (t : Table Forms) (place : ℕ) (name told : List ℕ) (i : loaded.Instance Forms) (serial : ℕ) → IsSound t → named_current_at t.entries place ≡ Some (name, i) → name ≡ told → i.serial ≡ serial → loaded_with told serial t ≡ Some i
-told_at t place name told i serial sound is same serials =
-    let at : current_of told t ≡ Some i = ap (λ n. current_of n t) (sym same) ∙ current_by t place (slice_get t.entries place) name i sound refl is in
-    ap (λ n. loaded_with told n t) (sym serials)
-    ∙ ap (λ o. option_or o (if_serial i.serial (old_of told t))) (ap (if_serial i.serial) at ∙ if_same i)

@@ -20,8 +20,7 @@
 //! That there is memory; that `AllocError` is told only where it was refused; and what a call costs. [`job_code`] looks
 //! each remote module of each instance that is reached up once, by key, and puts its place into an ordered set. So it costs
 //! what is reached, however many modules there are besides; and it takes memory for the places that are reached, and for
-//! the code. [`instances_of`] looks for each serial among the current code of the first eight modules, and else looks the name
-//! up, once or twice.
+//! the code. [`instances_of`] looks each name up, by key, once or twice.
 #![tactic(auto)]
 
 mod named;

@@ -1,11 +1,9 @@
 // Instances that are told by names and serials.
-ghost use Rattle.std.specs.Prelude.{◌≡◌, IfOk, IfSome, Some, map};
+ghost use Rattle.std.specs.Prelude.{◌≡◌, IfOk, map};
 ghost use Rattle.std.specs.Option.{option_copied, option_map};
 ghost use Rattle.erl_steps.specs.Views.{instance};
-ghost use Rattle.code_server.specs.Modules.{IsSound};
 ghost use Rattle.job_code.specs.Named.{AreFoundAgain, JobCodeStands, all_found, found, loaded_with, named_instance};
 
-use crate::reached::current_at;
 use code_server::Modules;
 use erl_forms::Module;
 use erl_steps::Instance;
@@ -55,50 +53,8 @@ pub fn named_of(alloc: Global, instances: &[Instance]) -> Result<Vec<NamedInstan
     Ok(named)
 }
 
-/// How many modules are looked at before a name is hashed: to compare a serial with each of theirs costs less.
-const FEW: usize = 8;
-
-/// The current code of the module at a place, where that is the instance that is told.
-#[inline(always)]
-fn told_at<'a>(
-    modules: &'a Modules<Module>,
-    place: usize,
-    told: &NamedInstance,
-) -> Option<&'a code_server::Instance<Module>>
-    requires { IsSound modules.now }
-    ensures { IfSome (option_copied result) (λ i. loaded_with told.now.name told.now.serial modules.now ≡ Some i) }
-{
-    match current_at(modules, place) {
-        Some((name, current)) => {
-            if current.serial == told.serial && name.same(&told.name) {
-                return Some(current);
-            }
-            None
-        }
-        None => None,
-    }
-}
-
-/// The current code of one of the first few modules, where that is the instance that is told.
-#[inline(always)]
-fn told_first<'a>(
-    modules: &'a Modules<Module>,
-    told: &NamedInstance,
-) -> Option<&'a code_server::Instance<Module>>
-    ensures { IfSome (option_copied result) (λ i. loaded_with told.now.name told.now.serial modules.now ≡ Some i) }
-{
-    let few = modules.len().min(FEW);
-    for place in 0..few {
-        match told_at(modules, place, told) {
-            Some(current) => return Some(current),
-            None => {}
-        }
-    }
-    None
-}
-
-/// The current or the old code of a module, whichever has the serial, by its name.
-fn loaded_by_name<'a>(
+/// The current or the old code of a module, whichever has the serial.
+fn loaded<'a>(
     modules: &'a Modules<Module>,
     told: &NamedInstance,
 ) -> Option<&'a code_server::Instance<Module>>
@@ -115,26 +71,11 @@ fn loaded_by_name<'a>(
     }
 }
 
-/// The current or the old code of a module, whichever has the serial.
-#[inline(always)]
-fn loaded<'a>(
-    modules: &'a Modules<Module>,
-    told: &NamedInstance,
-) -> Option<&'a code_server::Instance<Module>>
-    ensures { option_copied result ≡ loaded_with told.now.name told.now.serial modules.now }
-{
-    match told_first(modules, told) {
-        Some(current) => Some(current),
-        None => loaded_by_name(modules, told),
-    }
-}
-
 /// The instance that a name and a serial tell, current or old; none where it is not in the table.
 ///
 /// # Errors
 ///
 /// `AllocError` where memory is refused.
-#[inline(always)]
 pub fn instance_of(
     alloc: Global,
     modules: &Modules<Module>,
