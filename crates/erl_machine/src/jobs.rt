@@ -1,5 +1,5 @@
 // Jobs: a message that a process has taken, and what it gives.
-ghost use Rattle.std.specs.Prelude.{[], ◌≡◌, IfOk, OnErr, MatchOption, None, Some, map};
+ghost use Rattle.std.specs.Prelude.{◌≡◌, IfOk, MatchOption, None, Some, map};
 ghost use Rattle.std.specs.Option.{option_copied};
 ghost use Rattle.erl_term.specs.Term.{tree};
 ghost use Rattle.erl_term.specs.Tree.{count, more, none};
@@ -17,7 +17,7 @@ use crate::callbacks::callback_of;
 use crate::evaluation::{Outcome, call_in, run_outermost, undefined};
 use erl_eval::{Place, Setting, match_each, select};
 use erl_forms::{Clause, Definition, Expressions, Function};
-use erl_steps::{Callee, Code, End, Instance, Machine, Mode, World, arity_of};
+use erl_steps::{Callee, End, Instance, Machine, Mode, World, arity_of};
 use erl_term::{Atom, Predefined, Term, Terms};
 use std::alloc::{AllocError, Global};
 use values::{Duplicate, Row, Same};
@@ -37,7 +37,7 @@ pub struct Job {
     pub message: Term,
     /// First the instance that is entered, if there is one, and then the current code of each module that the process can
     /// reach.
-    pub code: Code,
+    pub code: Row<Instance>,
 }
 
 /// What a message selects of a loop function.
@@ -234,41 +234,6 @@ impl Job {
         let job = self.copy(alloc)?;
         Ok(Done { job, outcome })
     }
-
-    /// What stands in the place of a job that is lent out: no process's, with no code. Takes no memory.
-    fn blank(alloc: Global) -> Job
-        ensures { result.code ≡ [] }
-    {
-        Job {
-            pid: 0,
-            turn: 0,
-            place: Place::Server {
-                module: Atom::predefined(Predefined::Normal),
-                state: Term::Int(0),
-            },
-            entry_serial: 0,
-            message: Term::Int(0),
-            code: Code::none(alloc),
-        }
-    }
-
-    /// Runs the job, as [`Job::run`] does, and copies nothing: the job itself is in what is done, and a blank one stands in its
-    /// place until it is put back.
-    ///
-    /// # Errors
-    ///
-    /// As of [`Job::run`]. The job stands in its place then.
-    pub fn run_lent(&mut self, alloc: Global) -> Result<Done, AllocError>
-        ensures done { IfOk result (λ it. it.job ≡ self.old) }
-        ensures kept { OnErr result (self.new ≡ self.old) }
-    {
-        let given = self.give(alloc)?;
-        let job = std::mem::replace(self, Job::blank(alloc));
-        Ok(Done {
-            job,
-            outcome: given,
-        })
-    }
 }
 
 /// A job that was run, and what it gave. Nobody can make one up.
@@ -285,14 +250,6 @@ impl Done {
         ensures { result.now ≡ self.now.job }
     {
         &self.job
-    }
-
-    /// The job, for who keeps it. Takes no memory.
-    pub fn into_job(self) -> Job
-        ensures { result ≡ self.job }
-    {
-        let Done { job, outcome: _ } = self;
-        job
     }
 
     /// What it gave. Takes no memory.

@@ -15,15 +15,14 @@
 //!
 //! # What no contract says
 //!
-//! That there is memory, and what a call costs: a step costs what it changes ([`erl_steps`]), and [`Job::run`] copies its job, where
-//! [`Job::run_lent`] copies nothing. What stands in the place of a job that is lent out, [`Job::run_lent`] doesn't say. `AllocError` is
-//! also the answer where there are more arguments or more nested calls than a `u32` counts.
+//! That there is memory, and what a call costs: a step costs what it changes ([`erl_steps`]), and [`Job::run`] copies its job.
+//! `AllocError` is also the answer where there are more arguments or more nested calls than a `u32` counts.
 #![tactic(auto)]
 
 mod callbacks;
 mod evaluation;
 mod jobs;
 
-pub use erl_steps::{Code, End, Instance, Mode, World};
+pub use erl_steps::{End, Instance, Mode, World};
 pub use evaluation::{Outcome, evaluate};
 pub use jobs::{Done, Job, matches};

@@ -1,4 +1,3 @@
-pub mod Held
 pub mod Laws
 pub mod Leading
 pub mod Machine

@@ -13,7 +13,7 @@
 //! rules, then, something comes of each call from outside and of each job ([`each_evaluation_has_an_outcome`]), and by a law of
 //! [`erl_eval`] one thing alone.
 //!
-//! [`Instance`], [`Code`] and [`End`] are compared and copied by value; a copy shares its terms and its module.
+//! [`Instance`] and [`End`] are compared and copied by value; a copy shares its terms and its module.
 //!
 //! # What no contract says
 //!
@@ -24,7 +24,6 @@
 //! more arguments or more nested calls than a `u32` counts.
 #![tactic(auto)]
 
-mod code;
 mod machine;
 mod stack;
 mod starts;
@@ -35,7 +34,6 @@ mod world;
 ghost use Rattle.erl_steps.specs.Laws.{StepsKeepToTheRules, StepsLeaveLess};
 ghost use Rattle.erl_steps.specs.Outcomes.{EachCallHasAnOutcome, EachJobHasAnOutcome};
 
-pub use code::Code;
 pub use machine::{Control, End, Machine, Startup};
 pub use stack::{Activation, Frame, Stack, Starter};
 pub use steps::arity_of;

@@ -9,7 +9,7 @@
 use crate::code::{arguments, instance, instances, term};
 use crate::told::told;
 use erl_eval::Place;
-use erl_machine::{Code, Instance, Job, Mode, World, evaluate, matches};
+use erl_machine::{Instance, Job, Mode, World, evaluate, matches};
 use erl_term::{Atom, Term, Terms};
 use std::alloc::Global;
 use std::process::Abort;
@@ -122,7 +122,7 @@ pub fn job(alloc: Global, code: &[Instance], text: &str) -> Result<Job, Fail> {
         place: place(alloc, &module, resting)?,
         entry_serial,
         message: message(alloc, message_text)?,
-        code: Code::many(Row::new(copied_slice(alloc, code)?)),
+        code: Row::new(copied_slice(alloc, code)?),
     })
 }
 

@@ -11,7 +11,7 @@ ghost use Rattle.job_code.specs.Places.{AreFound, AreFoundFrom, AreReachedPlaces
 
 use code_server::Modules;
 use erl_forms::Module;
-use erl_steps::{Code, Instance};
+use erl_steps::Instance;
 use erl_term::Atom;
 use std::alloc::{AllocError, Global};
 use std::collections::BTreeSet;
@@ -64,7 +64,7 @@ impl Found {
 }
 
 /// The name of the module at a place, with its current code.
-pub(crate) fn current_at(
+fn current_at(
     modules: &Modules<Module>,
     place: usize,
 ) -> Option<(&Atom, &code_server::Instance<Module>)>
@@ -119,22 +119,19 @@ fn push_current(
     Ok(())
 }
 
-/// An instance, and behind it the current code of the modules at these places. Where there are none of them it takes no memory.
+/// An instance, and behind it the current code of the modules at these places.
 fn code_of(
     alloc: Global,
     modules: &Modules<Module>,
     entered: Instance,
     places: &BTreeSet<usize>,
-) -> Result<Code, AllocError>
+) -> Result<Row<Instance>, AllocError>
     ensures { IfOk result (λ code. map instance code ≡ instance entered ∷ current_code modules.now.entries places.now.keys) }
 {
-    if places.is_empty() {
-        return Ok(Code::one(entered));
-    }
     let mut code = Vec::with_capacity(alloc, places.len().saturating_add(1))?;
     code.push(entered)?;
     push_current(alloc, modules, places, &mut code)?;
-    Ok(Code::many(Row::new(code)))
+    Ok(Row::new(code))
 }
 
 /// The code of a job that is entered in an instance: this first, and then the current code of each module that can be
@@ -147,7 +144,7 @@ pub fn job_code(
     alloc: Global,
     modules: &Modules<Module>,
     entered: Instance,
-) -> Result<Code, AllocError>
+) -> Result<Row<Instance>, AllocError>
     ensures { IfOk result (λ code. IsJobCode modules.now (instance entered) (map instance code)) }
 {
     let places = reached_places(alloc, modules, &entered.module)?;
