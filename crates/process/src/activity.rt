@@ -1,6 +1,7 @@
 // What a process does.
-use erl_machine::Code;
+use erl_machine::Instance;
 use erl_term::Term;
+use values::Row;
 
 /// What a process does. A suspended process doesn't run.
 #[derive(Drop)]
@@ -22,5 +23,5 @@ pub struct Running {
     pub message: Term,
     /// First the instance that is entered, if there is one, and then the current code of each module that the process can
     /// reach.
-    pub code: Code,
+    pub code: Row<Instance>,
 }

@@ -39,8 +39,7 @@
 //! most one `receive`, on the message that comes, and none where the process runs or has a message already that it takes.
 //! Resting again looks at the mailbox from its front up to the first message that is taken, and at all of it where none is.
 //! Taking a message and putting it back move the messages on its shorter side; nothing else looks at the mailbox. To make a
-//! job copies a place and a message, whose rows are shared, and the row of its code, whose modules are shared. Code that is copied
-//! ([`Code::of`]) or found again in the table takes no row where it is one instance ([`Code`]).
+//! job copies a place and a message, whose rows are shared, and the row of its code, whose modules are shared.
 //! Ending moves the mailbox, and takes memory for names and serials alone. A process that lives again looks at its mailbox as
 //! one that rests again does, unless it ran: nothing here says that the code that is found is the code that it had.
 //!
@@ -51,7 +50,6 @@ mod activity;
 mod process;
 
 pub use activity::{Activity, Running};
-pub use erl_machine::Code;
 pub use process::{
     Did, Ended, NamedInstances, NamedRan, NamedRunning, Process, Ran, Told, Used,
     ended_processes_live, jobs_run_again,

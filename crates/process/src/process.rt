@@ -10,7 +10,7 @@ mod rerunning;
 use crate::activity::{Activity, Running};
 pub use ending::{Did, Ended, NamedRunning, Told, ended_processes_live};
 use erl_eval::Place;
-use erl_machine::{Code, Instance, Job, matches};
+use erl_machine::{Instance, Job, matches};
 use erl_term::{Atom, Term};
 pub use named_code::NamedInstances;
 pub use rerunning::{NamedRan, Used, jobs_run_again};
@@ -18,7 +18,7 @@ use std::alloc::{AllocError, Global};
 use std::collections::VecDeque;
 use std::marker::Model;
 use std::mem;
-use values::{Duplicate, Same};
+use values::{Duplicate, Row, Same};
 
 /// A process.
 #[derive(Drop)]
@@ -242,7 +242,7 @@ impl Process {
     }
 
     /// The message at a position is taken: the process runs it, in this code. Takes no memory.
-    pub fn take(&mut self, position: usize, entry_serial: u64, code: Code)
+    pub fn take(&mut self, position: usize, entry_serial: u64, code: Row<Instance>)
         ensures { self.new ≡ run_at position entry_serial code self.old }
     {
         if let Some(message) = self.mailbox.remove(position) {

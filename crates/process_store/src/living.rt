@@ -4,10 +4,12 @@ ghost use Rattle.process.specs.Process.{awaited, untaken};
 ghost use Rattle.process_index.specs.Calls.{has};
 ghost use Rattle.process_store.specs.Living.{arrived, run, unarrived, untook};
 
+use erl_machine::Instance;
 use erl_term::Term;
-use process::{Code, Process};
+use process::Process;
 use process_index::{Call, Calls};
 use std::alloc::{AllocError, Global};
+use values::Row;
 
 /// A process that lives, and the calls that are open to it.
 #[derive(Drop)]
@@ -54,7 +56,7 @@ impl Living {
     }
 
     /// The message at a position is taken, and runs.
-    pub(crate) fn run(&mut self, position: usize, entry_serial: u64, code: Code)
+    pub(crate) fn run(&mut self, position: usize, entry_serial: u64, code: Row<Instance>)
         ensures { self.new ≡ run position entry_serial code self.old }
     {
         self.process.take(position, entry_serial, code);

@@ -7,10 +7,11 @@ ghost use Rattle.process_store.specs.Table.{changed_slots, living_at};
 ghost use Rattle.process_store.specs.Inverses.{WasTaken};
 
 use crate::living::Living;
+use erl_machine::Instance;
 use erl_term::Term;
-use process::Code;
 use process_index::Call;
 use std::alloc::{AllocError, Global};
+use values::Row;
 
 /// The process of a pid, where it lives.
 pub(crate) fn living(slots: &[Option<Living>], pid: u64) -> Option<&Living>
@@ -81,7 +82,7 @@ pub(crate) fn unarrive_at(slots: &mut Vec<Option<Living>>, pid: u64, call: Optio
 }
 
 /// The message at a position of the process in a slot is taken, and runs.
-fn run_in(slot: &mut Option<Living>, position: usize, entry_serial: u64, code: Code)
+fn run_in(slot: &mut Option<Living>, position: usize, entry_serial: u64, code: Row<Instance>)
     ensures { slot.new ≡ option_map (run position entry_serial code) slot.old }
 {
     if let Some(living) = slot {
@@ -96,7 +97,7 @@ pub(crate) fn run_at(
     pid: u64,
     position: usize,
     entry_serial: u64,
-    code: Code,
+    code: Row<Instance>,
 )
     ensures { slots.new.items ≡ changed_slots (run position entry_serial code) pid slots.old.items }
 {

@@ -12,12 +12,12 @@ use crate::places::{arrive_at, living, run_at, unarrive_at, untake_at};
 use erl_eval::Place;
 use erl_machine::Instance;
 use erl_term::{Atom, Term};
-use process::{Code, Process};
+use process::Process;
 use process_index::{Call, CallIndex, Calls, NameIndex, Owner};
 use std::alloc::{AllocError, Global};
 use std::hash::RandomState;
 use std::marker::Model;
-use values::Duplicate;
+use values::{Duplicate, Row};
 
 /// The processes of a node, by pid.
 #[derive(Drop)]
@@ -237,7 +237,7 @@ impl ProcessStore {
     }
 
     /// A process takes the message at the position of the next that it takes, and runs it, in this code. Takes no memory.
-    pub fn run(&mut self, pid: u64, position: usize, entry_serial: u64, code: Code)
+    pub fn run(&mut self, pid: u64, position: usize, entry_serial: u64, code: Row<Instance>)
         requires { takes_next (living pid self.old) ≡ Some position }
         ensures runs { self.new ≡ changed (run position entry_serial code) pid self.old }
         ensures process { living pid self.new ≡ option_map (run position entry_serial code) (living pid self.old) }

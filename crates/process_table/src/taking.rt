@@ -8,12 +8,12 @@ use crate::error::ProcError;
 use code_server::Modules;
 use erl_eval::Place;
 use erl_forms::Module;
-use erl_machine::{Code, Instance, Job};
+use erl_machine::{Instance, Job};
 use job_code::job_code;
 use process::{Activity, Process};
 use process_store::Living;
 use std::alloc::{AllocError, Global};
-use values::Duplicate;
+use values::{Duplicate, Row};
 
 /// The instance that a process enters with the message that it takes, if there is one.
 fn entered(
@@ -44,7 +44,7 @@ fn code_from(
     alloc: Global,
     modules: &Modules<Module>,
     entered: Option<Instance>,
-) -> Result<(u64, Code), AllocError>
+) -> Result<(u64, Row<Instance>), AllocError>
     ensures { IfOk result (λ it. IsCode modules.now entered it.0 it.1) }
 {
     match entered {
@@ -53,7 +53,7 @@ fn code_from(
             let code = job_code(alloc, modules, instance)?;
             Ok((serial, code))
         }
-        None => Ok((0, Code::none(alloc))),
+        None => Ok((0, Row::new(Vec::new(alloc)))),
     }
 }
 
@@ -78,7 +78,7 @@ pub(crate) fn job_for(
     modules: &Modules<Module>,
     living: &Living,
     position: usize,
-) -> Result<Option<(Job, Code)>, AllocError>
+) -> Result<Option<(Job, Row<Instance>)>, AllocError>
     ensures job { IfOk result (λ it. IsJobFor modules.now living.now position (option_map (λ taken. taken.0) it)) }
     ensures code { IfOk result (λ it. IfSome it (λ taken. taken.1 ≡ taken.0.code)) }
 {

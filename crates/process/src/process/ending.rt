@@ -1,5 +1,5 @@
 // A process that was taken out whole, and one that is made of it again.
-ghost use Rattle.std.specs.Prelude.{◌≡◌, ◌∷◌, [], IfErr, IfOk, IfSome, Some, map};
+ghost use Rattle.std.specs.Prelude.{◌≡◌, IfErr, IfOk, IfSome, Some, map};
 ghost use Rattle.std.specs.Option.{option_copied, option_map};
 ghost use Rattle.job_code.specs.Named.{all_found};
 ghost use Rattle.process.specs.Process.{awaited};
@@ -11,7 +11,7 @@ use crate::activity::{Activity, Running};
 use code_server::Modules;
 use erl_eval::Place;
 use erl_forms::Module;
-use erl_machine::{Code, Instance};
+use erl_machine::Instance;
 use erl_term::{Atom, Term};
 use job_code::{NamedInstance, instance_of, instances_of};
 use std::alloc::{AllocError, Global};
@@ -81,7 +81,7 @@ struct Found {
     /// The instance of its place.
     rests_in: Option<Instance>,
     /// The code that it runs in.
-    code: Code,
+    code: Row<Instance>,
     /// The position of the message that it takes next.
     next: Option<usize>,
 }
@@ -129,46 +129,17 @@ pub(super) fn place_found(
     }
 }
 
-/// The code of one name and serial, in the table; none where it is not there.
-#[inline(always)]
-fn code_of(
-    alloc: Global,
-    modules: &Modules<Module>,
-    told: &NamedInstance,
-) -> Result<Option<Code>, AllocError>
-    ensures { IfOk result (λ it. it ≡ option_map (map held) (all_found (told.now ∷ []) modules.now)) }
-{
-    match instance_of(alloc, modules, told)? {
-        Some(it) => Ok(Some(Code::one(it))),
-        None => Ok(None),
-    }
-}
-
-/// The code of these names and serials, in the table, in memory of its own; none where some of it is not there.
-fn row_of(
-    alloc: Global,
-    modules: &Modules<Module>,
-    told: &[NamedInstance],
-) -> Result<Option<Code>, AllocError>
-    ensures { IfOk result (λ it. it ≡ option_map (map held) (all_found told.now modules.now)) }
-{
-    match instances_of(alloc, modules, told)? {
-        Some(code) => Ok(Some(Code::many(Row::new(code)))),
-        None => Ok(None),
-    }
-}
-
-/// The code of these names and serials, in the table; none where some of it is not there. One instance takes no memory.
+/// The code of these names and serials, in the table; none where some of it is not there.
 pub(super) fn code_in(
     alloc: Global,
     modules: &Modules<Module>,
     told: &[NamedInstance],
-) -> Result<Option<Code>, AllocError>
+) -> Result<Option<Row<Instance>>, AllocError>
     ensures { IfOk result (λ it. it ≡ option_map (map held) (all_found told.now modules.now)) }
 {
-    match told {
-        [only] => code_of(alloc, modules, only),
-        _ => row_of(alloc, modules, told),
+    match instances_of(alloc, modules, told)? {
+        Some(code) => Ok(Some(Row::new(code))),
+        None => Ok(None),
     }
 }
 
@@ -177,12 +148,12 @@ fn run_found(
     alloc: Global,
     modules: &Modules<Module>,
     did: &Did,
-) -> Result<Option<Code>, AllocError>
+) -> Result<Option<Row<Instance>>, AllocError>
     ensures { IfOk result (λ it. it ≡ code_found modules.now did.now) }
 {
     match did {
         Did::Ran(ran) => code_in(alloc, modules, ran.code.as_slice()),
-        Did::Idle | Did::Suspended => Ok(Some(Code::none(alloc))),
+        Did::Idle | Did::Suspended => Ok(Some(Row::new(Vec::new(alloc)))),
     }
 }
 
@@ -261,7 +232,7 @@ impl Process {
 
 impl Did {
     /// What the process does again, in this code, and what tells the code.
-    fn into_activity(self, alloc: Global, code: Code) -> (Activity, NamedInstances)
+    fn into_activity(self, alloc: Global, code: Row<Instance>) -> (Activity, NamedInstances)
         ensures activity { result.0 ≡ activity_by code self }
         ensures told { did_by result.1 result.0 ≡ self }
     {

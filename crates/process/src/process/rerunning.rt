@@ -8,9 +8,10 @@ use crate::activity::Running;
 use code_server::Modules;
 use erl_eval::Place;
 use erl_forms::Module;
-use erl_machine::{Code, Instance};
+use erl_machine::Instance;
 use job_code::NamedInstance;
 use std::alloc::{AllocError, Global};
+use values::Row;
 
 /// What a job leaves behind when its process rests again: where it rested before, and what it ran. It holds no code: the
 /// instances that the process used are told by names and serials.
@@ -30,7 +31,7 @@ pub struct Used {
     /// The instance of its place.
     pub rests_in: Option<Instance>,
     /// The code that it ran in.
-    pub code: Code,
+    pub code: Row<Instance>,
 }
 
 impl Ran {
