@@ -5,5 +5,6 @@ pub mod Parts
 pub mod Accessing
 pub mod Appending
 pub mod Rows
+pub mod Spelled
 pub mod Texts
 pub mod Written

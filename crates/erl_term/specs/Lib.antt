@@ -9,6 +9,8 @@ pub mod RoundTrip
 pub mod Accessors
 pub mod Appending
 pub mod Rows
+pub mod Spelling
+pub mod SpellingLaws
 pub mod Strings
 pub mod Term
 pub mod TermFalls

@@ -9,6 +9,7 @@
 //!
 //! - [`Atom::new`] gives the atom of exactly the text's characters, or `AtomTooLong` exactly where there
 //!   are over 255; [`Atom::predefined`] gives one that the program names itself.
+//!   A text stands for the atom that it spells where atoms are keys (`indexmap::Equivalent`).
 //! - [`Term::depth`] and [`Term::size`] are those of the tree, up to `2^64 - 1`, and [`Term::is_within`] says of any bounds
 //!   below `2^32` whether they hold.
 //! - [`Terms::rest`] is the row behind the first term, [`Terms::joined`] is terms and a row behind them, and
@@ -46,6 +47,7 @@ mod atom;
 mod conversions;
 mod predefined;
 mod printing;
+mod spelling;
 mod term;
 
 pub use accessors::{character, first, four, one, string, three, two};
