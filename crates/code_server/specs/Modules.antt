@@ -9,7 +9,7 @@ use Rattle.values.specs.Edits.{changed_at}
 use Rattle.code_server.specs.declared.modules.Instance.{Instance}
 use Rattle.code_server.specs.declared.modules.Slots.{Slots}
 use Rattle.code_server.specs.declared.error.CodeError.{CodeError}
-use Rattle.code_server.specs.declared.error.CodeError.TheVariants.{NotLoaded, NotPurged, OldInUse, CounterEnd, Memory}
+use Rattle.code_server.specs.declared.error.CodeError.TheVariants.{NotLoaded, NotPurged, OldInUse, CounterEnd}
 
 -- A module as the table has it: its name, and its instances. A name is the list of its characters.
 abbrev pub Entry : Type 0 → Type 0
@@ -101,14 +101,6 @@ purged name t = record {
 -- Soft purge: a purge that is refused where there is old code and somebody uses it.
 abbrev pub soft_purge_refusal : {C : Type 0} → List ℕ → Bool → Table C → Option CodeError
 soft_purge_refusal name in_use t = if is_some (old_of name t) && in_use then Some OldInUse else None
-
--- The error of a call that has this refusal, or none: the refusal, or want of memory where there is none.
-abbrev pub Tells : CodeError → Option CodeError → Type 0
-Tells NotLoaded refusal = refusal ≡ Some NotLoaded
-Tells NotPurged refusal = refusal ≡ Some NotPurged
-Tells OldInUse refusal = refusal ≡ Some OldInUse
-Tells CounterEnd refusal = refusal ≡ Some CounterEnd
-Tells Memory refusal = refusal ≡ None
 
 -- What holds of every table.
 

@@ -16,7 +16,4 @@ pub enum CodeError {
     /// The last load serial was given.
     #[error("the last load serial was given")]
     CounterEnd,
-    /// Memory was refused.
-    #[error("out of memory")]
-    Memory,
 }

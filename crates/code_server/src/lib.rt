@@ -15,7 +15,7 @@
 //! # What a look-up costs
 //!
 //! A module is found by key, in a time that does not grow with the table; names are hashed by keys that nobody outside knows.
-//! [`Modules::find`] walks over the table.
+//! [`Modules::find`] does so by the text of the name, and no atom is made for that.
 //!
 //! # What is proved
 //!

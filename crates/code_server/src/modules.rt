@@ -16,6 +16,7 @@ use indexmap::IndexMap;
 use std::alloc::Global;
 use std::hash::RandomState;
 use std::marker::Model;
+use values::Failure;
 
 /// One instance of a module's code.
 #[derive(Drop)]
@@ -58,7 +59,9 @@ impl<C> Model for Modules<C> {
 }
 
 impl<C: Drop> Modules<C> {
-    ghost use Rattle.code_server.specs.Modules.{Table, IsSound, Tells, empty_table, slots_of, current_of, old_of, place_of, load_refusal, loaded, delete_refusal, deleted, purged, soft_purge_refusal};
+    ghost use Rattle.code_server.specs.Modules.{Table, IsSound, empty_table, slots_of, current_of, old_of, place_of, load_refusal, loaded, delete_refusal, deleted, purged, soft_purge_refusal};
+    ghost use Rattle.values.specs.Failure.{Tells};
+    ghost use Rattle.values.specs.declared.failure.Failure.TheVariants.{Memory};
     ghost use Rattle.code_server.specs.Undo.{Fits, HasPurged, IsRemoval, undone};
 
     /// A table without modules, whose first load has serial 1. Names are hashed by `hashing`. Takes no memory.
@@ -128,20 +131,14 @@ impl<C: Drop> Modules<C> {
         }
     }
 
-    /// The name of the module that a text spells, as the table has it, where it is there. It walks over the table, for
-    /// where there is no memory for an atom to look up. Takes no memory.
+    /// The name of the module that a text spells, as the table has it, where it is there. Found by key. Takes no memory.
     pub fn find(&self, text: &str) -> Option<&Atom>
         ensures { MatchOption result (slots_of (chars text.now) self.now ≡ None) (λ name. name.now ≡ chars text.now) }
     {
-        for place in 0..self.len() {
-            let Some((name, _)) = self.entry(place) else {
-                unreachable!()
-            };
-            if spells(name, text) {
-                return Some(name);
-            }
+        match self.table.get_key_value(text) {
+            Some((name, _)) => Some(name),
+            None => None,
         }
-        None
     }
 
     /// Why a load of the module would be refused, but for want of memory. Takes no memory.
@@ -183,17 +180,17 @@ impl<C: Drop> Modules<C> {
     ///
     /// In this order: `NotPurged` where there is old code, `CounterEnd` where the last serial was given,
     /// `Memory`. The table is then as it was; the code is dropped.
-    pub fn load(&mut self, name: &Atom, code: C) -> Result<Undo<C>, CodeError>
+    pub fn load(&mut self, name: &Atom, code: C) -> Result<Undo<C>, Failure<CodeError>>
         ensures ok { OnOk result (load_refusal name.now self.old ≡ None) }
         ensures loaded { OnOk result (self.new ≡ loaded name.now code self.old) }
         ensures inverse { IfOk result (λ undo. Fits undo self.new × (undone undo self.new ≡ self.old)) }
-        ensures refused { IfErr result (λ e. Tells e (load_refusal name.now self.old)) }
+        ensures refused { IfErr result (λ failure. Tells failure (load_refusal name.now self.old)) }
         ensures old_code { IfOk result (λ undo. IsSome (old_of name.now self.old) → HasPurged undo) }
-        ensures memory { IfErr result (λ e. e ≡ CodeError.Memory → slots_of name.now self.old ≡ None) }
+        ensures memory { IfErr result (λ failure. failure ≡ Memory → slots_of name.now self.old ≡ None) }
         ensures err { OnErr result (self.new ≡ self.old) }
     {
         if let Some(refusal) = self.load_refusal(name) {
-            return Err(refusal);
+            return Err(Failure::Refused(refusal));
         }
         let serial = self.last + 1;
         let instance = Instance { serial, code };
@@ -219,17 +216,17 @@ impl<C: Drop> Modules<C> {
     ///
     /// `CounterEnd` where the last serial was given, and else `Memory`. The table is then as it was; the code
     /// is dropped.
-    pub fn purge_and_load(&mut self, name: &Atom, code: C) -> Result<Undo<C>, CodeError>
+    pub fn purge_and_load(&mut self, name: &Atom, code: C) -> Result<Undo<C>, Failure<CodeError>>
         ensures ok { OnOk result (load_refusal name.now (purged name.now self.old) ≡ None) }
         ensures loaded { OnOk result (self.new ≡ loaded name.now code (purged name.now self.old)) }
         ensures inverse { IfOk result (λ undo. Fits undo self.new × (undone undo self.new ≡ self.old)) }
-        ensures refused { IfErr result (λ e. Tells e (load_refusal name.now (purged name.now self.old))) }
+        ensures refused { IfErr result (λ failure. Tells failure (load_refusal name.now (purged name.now self.old))) }
         ensures old_code { IfOk result (λ undo. IsSome (old_of name.now self.old) → HasPurged undo) }
-        ensures memory { IfErr result (λ e. e ≡ CodeError.Memory → slots_of name.now self.old ≡ None) }
+        ensures memory { IfErr result (λ failure. failure ≡ Memory → slots_of name.now self.old ≡ None) }
         ensures err { OnErr result (self.new ≡ self.old) }
     {
         if self.last == u64::MAX {
-            return Err(CodeError::CounterEnd);
+            return Err(Failure::Refused(CodeError::CounterEnd));
         }
         let serial = self.last + 1;
         let instance = Instance { serial, code };
@@ -352,11 +349,4 @@ impl<C: Drop> Modules<C> {
             }
         }
     }
-}
-
-/// Whether a text spells a name.
-fn spells(name: &Atom, text: &str) -> bool
-    ensures { IsTrue result ↔ (name.now ≡ chars text.now) }
-{
-    name.as_str() == text
 }

@@ -7,10 +7,9 @@ ghost use Rattle.code_server.specs.Modules.{with_slots, stacked};
 ghost use Rattle.code_server.specs.Places.{changed_slots, current_at, former_at, gone_slot};
 ghost use Rattle.code_server.specs.Undo.{moved_back, moved_last};
 
-use crate::error::CodeError;
 use crate::modules::{ByName, Instance, Slots};
 use erl_term::Atom;
-use std::alloc::Global;
+use std::alloc::{AllocError, Global};
 use std::mem;
 use values::Duplicate;
 
@@ -24,28 +23,26 @@ pub(crate) fn has_current<C>(table: &ByName<C>, place: usize) -> bool
 }
 
 /// Puts a module last, under a copy of its name, with this instance as its current code.
+///
+/// # Errors
+///
+/// `AllocError` where memory is refused. The table is then as it was.
 pub(crate) fn add<C: Drop>(
     table: &mut ByName<C>,
     alloc: Global,
     name: &Atom,
     instance: Instance<C>,
-) -> Result<(), CodeError>
+) -> Result<(), AllocError>
     requires { lookup (bytes_eq name.now) table.old.entries ≡ None }
     ensures added { OnOk result (table.new.entries ≡ table.old.entries ++ (name.now, record { current = Some instance; former = None }) ∷ []) }
-    ensures memory { IfErr result (λ e. e ≡ CodeError.Memory) }
     ensures err { OnErr result (table.new.entries ≡ table.old.entries) }
 {
     let slots = Slots {
         current: Some(instance),
         former: None,
     };
-    let Ok(name) = name.copy(alloc) else {
-        return Err(CodeError::Memory);
-    };
-    match table.insert(name, slots) {
-        Ok(_) => Ok(()),
-        Err(_) => Err(CodeError::Memory),
-    }
+    table.insert(name.copy(alloc)?, slots)?;
+    Ok(())
 }
 
 /// What is done to the instances of a module, with the instance that comes in, or none. Each takes another back: `Stack`

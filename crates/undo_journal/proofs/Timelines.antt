@@ -10,8 +10,8 @@ use Rattle.undo_journal.specs.declared.error.JournalError.{JournalError}
 use Rattle.undo_journal.specs.declared.error.JournalError.TheVariants.{Step, DeadMark, SerialEnd, Memory}
 use Rattle.undo_journal.specs.Past.{Chained, station_of, stations, timeline_of, shortened}
 use Rattle.undo_journal.specs.Reversible.{Accepted, Accepts, Refuses, told_of}
-use Rattle.undo_journal.specs.declared.reversible.StepError.{StepError}
-use Rattle.undo_journal.specs.declared.reversible.StepError.TheVariants as steps
+use Rattle.values.specs.declared.failure.Failure.{Failure}
+use Rattle.values.specs.declared.failure.Failure.TheVariants as failure
 use Rattle.undo_journal.specs.Timeline.{Station, Timeline, newest, here, appended, kept_to, cut_to, cut_stations, notes_of, report_of, Rises, IsFront, IsOrdered}
 use Rattle.undo_journal.specs.Journal.{FailsBy, IsOutOfMemoryAt, Performs, PerformFails, UndoFails, Stopped, stopped_reports}
 use Rattle.undo_journal.proofs.Chains.{Chained-push}
@@ -229,6 +229,6 @@ noted-front floor node noted past items last k t within front is =
     subst (λ u. length (notes_of (cut_stations u (timeline_of floor node noted items last))) ≡ length (cut_stations u (timeline_of floor node noted items last))) is (rw (behind, notes) (simp length-map refl))
 
 -- why a step failed is why its event is not performed
-pub PerformFails-by : {S A N F : Type 0} (IsRuled : Result (Accepted S A N) F → Type 0) (MayRunOut : Type 0) (old : Timeline S N) (error : StepError F) (e : JournalError F N) → Refuses IsRuled MayRunOut error → FailsBy error (here old).serial e → PerformFails IsRuled MayRunOut old e
-PerformFails-by IsRuled MayRunOut old (steps.Rule f) e refuses is = subst (λ x. PerformFails IsRuled MayRunOut old x) (sym is) refuses
-PerformFails-by IsRuled MayRunOut old steps.Memory e may want = PerformFails-from_want IsRuled MayRunOut old e may want
+pub PerformFails-by : {S A N F : Type 0} (IsRuled : Result (Accepted S A N) F → Type 0) (MayRunOut : Type 0) (old : Timeline S N) (error : Failure F) (e : JournalError F N) → Refuses IsRuled MayRunOut error → FailsBy error (here old).serial e → PerformFails IsRuled MayRunOut old e
+PerformFails-by IsRuled MayRunOut old (failure.Refused f) e refuses is = subst (λ x. PerformFails IsRuled MayRunOut old x) (sym is) refuses
+PerformFails-by IsRuled MayRunOut old failure.Memory e may want = PerformFails-from_want IsRuled MayRunOut old e may want

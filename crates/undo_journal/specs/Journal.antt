@@ -4,8 +4,8 @@ use Rattle.undo_journal.specs.declared.reversible.Told.{Told}
 use Rattle.undo_journal.specs.declared.report.Report.{Report}
 use Rattle.undo_journal.specs.declared.error.JournalError.{JournalError}
 use Rattle.undo_journal.specs.declared.error.JournalError.TheVariants.{Step, DeadMark, SerialEnd, Memory}
-use Rattle.undo_journal.specs.declared.reversible.StepError.{StepError}
-use Rattle.undo_journal.specs.declared.reversible.StepError.TheVariants as steps
+use Rattle.values.specs.declared.failure.Failure.{Failure}
+use Rattle.values.specs.declared.failure.Failure.TheVariants as failure
 use Rattle.undo_journal.specs.Reversible.{Accepted, told_of}
 use Rattle.undo_journal.specs.Timeline.{Station, Timeline, here, appended, cut_to, cut_stations, report_of}
 
@@ -22,9 +22,9 @@ IsOutOfMemoryAt at SerialEnd = ⊥
 IsOutOfMemoryAt at (Memory mark reports) = (mark ≡ at) × (reports.items ≡ [])
 
 -- why an event was not performed whose step failed so, where the journal stands at this mark
-abbrev pub FailsBy : {F N : Type 0} → StepError F → ℕ → JournalError F N → Type 0
-FailsBy (steps.Rule refusal) at e = e ≡ Step refusal
-FailsBy steps.Memory at e = IsOutOfMemoryAt at e
+abbrev pub FailsBy : {F N : Type 0} → Failure F → ℕ → JournalError F N → Type 0
+FailsBy (failure.Refused refusal) at e = e ≡ Step refusal
+FailsBy failure.Memory at e = IsOutOfMemoryAt at e
 
 -- Why an event was not performed. Want of memory is told only where memory may run out.
 abbrev pub PerformFails : {S A N F : Type 0} → (Result (Accepted S A N) F → Type 0) → Type 0 → Timeline S N → JournalError F N → Type 0

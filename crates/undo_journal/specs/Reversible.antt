@@ -1,8 +1,8 @@
 -- What a reversible machine promises of one step.
 use Rattle.std.specs.Prelude.{◌≡◌, ℕ, List, Result, Ok, Err, replicate}
 use Rattle.undo_journal.specs.declared.reversible.Told.{Told}
-use Rattle.undo_journal.specs.declared.reversible.StepError.{StepError}
-use Rattle.undo_journal.specs.declared.reversible.StepError.TheVariants.{Rule, Memory}
+use Rattle.values.specs.Failure.{Fails}
+use Rattle.values.specs.declared.failure.Failure.{Failure}
 
 -- What the rule makes of an event that it accepts: the node after it, the answer, and the note.
 pub record Accepted (S A N : Type 0) : Type 0 where
@@ -23,6 +23,5 @@ Accepts {S} {A} {N} {F} IsRuled new n told =
 
 -- The step failed as the rule refuses, or for want of memory, where memory may run out: no refusal that is told without memory is
 -- hidden.
-abbrev pub Refuses : {S A N F : Type 0} → (Result (Accepted S A N) F → Type 0) → Type 0 → StepError F → Type 0
-Refuses IsRuled MayRunOut (Rule refusal) = IsRuled (Err refusal)
-Refuses IsRuled MayRunOut Memory = MayRunOut
+abbrev pub Refuses : {S A N F : Type 0} → (Result (Accepted S A N) F → Type 0) → Type 0 → Failure F → Type 0
+Refuses IsRuled MayRunOut failure = Fails (λ refusal. IsRuled (Err refusal)) MayRunOut failure

@@ -9,10 +9,11 @@ use crate::past::{
     Entry, enter, keep_newest, kept_entries, newest_serial, reports_on, take_back_to,
 };
 use crate::report::Report;
-use crate::reversible::{Reversible, StepError, Stepped, Told};
+use crate::reversible::{Reversible, Stepped, Told};
 use std::alloc::{AllocError, Global};
 use std::marker::Model;
 use std::snapshot::Snapshot;
+use values::Failure;
 
 /// The serial of a station. The node that a journal begins with has mark 0.
 pub type Mark = u64;
@@ -187,12 +188,12 @@ impl<S: Reversible> Journal<S> {
 
     /// Why an event isn't performed whose step failed, and changed nothing.
     #[inline(never)]
-    fn failure(&self, error: StepError<S::Refusal>) -> JournalError<S::Refusal, S::Note>
+    fn failure(&self, error: Failure<S::Refusal>) -> JournalError<S::Refusal, S::Note>
         ensures { FailsBy error (here self.now).serial result }
     {
         match error {
-            StepError::Rule(refusal) => JournalError::Step(refusal),
-            StepError::Memory => self.out_of_memory(),
+            Failure::Refused(refusal) => JournalError::Step(refusal),
+            Failure::Memory => self.out_of_memory(),
         }
     }
 

@@ -46,4 +46,4 @@ pub use error::JournalError;
 pub use history::{Command, Replayed, commands_have_one_end, marks_name_nodes, replay};
 pub use journal::{Journal, Mark};
 pub use report::Report;
-pub use reversible::{Reversible, StepError, Stepped, Told};
+pub use reversible::{Reversible, Stepped, Told};

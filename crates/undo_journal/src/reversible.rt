@@ -2,7 +2,7 @@
 ghost use Rattle.std.specs.Prelude.{◌≡◌, Result, Err, IfOk, IfErr, MatchOption, OnOk, OnErr};
 ghost use Rattle.undo_journal.specs.Reversible.{Accepted, Accepts, Refuses};
 
-use values::Duplicate;
+use values::{Duplicate, Failure};
 
 /// What is told of an accepted event: to the caller, and as a note that the journal keeps and that
 /// an undo of the step reports.
@@ -21,15 +21,6 @@ pub struct Stepped<A, N, R> {
     pub told: Vec<Told<A, N>>,
     /// The record by which [`Reversible::revert`] takes the step back.
     pub trace: R,
-}
-
-/// Why a machine did not make a step. The machine is then as it was.
-#[derive(Drop)]
-pub enum StepError<F> {
-    /// The rule refuses the event.
-    Rule(F),
-    /// Memory was refused.
-    Memory,
 }
 
 /// A machine whose steps can be taken back, one by one, the newest first.
@@ -70,13 +61,13 @@ pub trait Reversible: Drop {
     ///
     /// # Errors
     ///
-    /// `Rule` with the rule's refusal, and `Memory` where memory is refused, after every refusal
+    /// `Refused` with the rule's refusal, and `Memory` where memory is refused, after every refusal
     /// that is told without memory. Either leaves the machine as it was.
     fn step(
         &mut self,
         event: &Self::Event,
         n: usize,
-    ) -> Result<Stepped<Self::Answer, Self::Note, Self::Record>, StepError<Self::Refusal>>
+    ) -> Result<Stepped<Self::Answer, Self::Note, Self::Record>, Failure<Self::Refusal>>
         ensures accepted { IfOk result (λ done. Accepts (rule self.old event.now) self.new n done.told.items) }
         ensures reversible { IfOk result (λ done. undoes done.trace self.old self.new) }
         ensures refused { IfErr result

@@ -8,8 +8,8 @@ use std::cell::Cell;
 use std::marker::Model;
 use std::rc::Rc;
 use std::test::Fail;
-use undo_journal::{Reversible, StepError, Stepped, Told};
-use values::Duplicate;
+use undo_journal::{Reversible, Stepped, Told};
+use values::{Duplicate, Failure};
 
 /// How often memory is still given, before it is refused once.
 #[derive(Drop)]
@@ -137,15 +137,15 @@ impl Reversible for Counter {
         &mut self,
         event: &u64,
         n: usize,
-    ) -> Result<Stepped<u64, Added, u64>, StepError<Overflow>> {
+    ) -> Result<Stepped<u64, Added, u64>, Failure<Overflow>> {
         let Some(value) = self.value.checked_add(*event) else {
-            return Err(StepError::Rule(Overflow));
+            return Err(Failure::Refused(Overflow));
         };
         if self.budget.spend().is_err() {
-            return Err(StepError::Memory);
+            return Err(Failure::Memory);
         }
         let Ok(told) = equal_told(self.alloc, n, value, *event, &self.budget) else {
-            return Err(StepError::Memory);
+            return Err(Failure::Memory);
         };
         self.value = value;
         Ok(Stepped {

@@ -8,7 +8,8 @@ use super::scripts::Scripted;
 use std::alloc::{AllocError, Global};
 use std::marker::Model;
 use std::test::Fail;
-use undo_journal::{Reversible, StepError, Stepped, Told};
+use undo_journal::{Reversible, Stepped, Told};
+use values::Failure;
 
 /// A change of the table.
 #[derive(Drop)]
@@ -88,14 +89,14 @@ impl Reversible for Table {
         &mut self,
         event: &Change,
         n: usize,
-    ) -> Result<Stepped<usize, u64, Back>, StepError<OutOfRange>> {
+    ) -> Result<Stepped<usize, u64, Back>, Failure<OutOfRange>> {
         match event {
             Change::Push(item) => {
                 let Ok(told) = equal_told(self.alloc, n, self.items.len(), *item) else {
-                    return Err(StepError::Memory);
+                    return Err(Failure::Memory);
                 };
                 if self.items.push(*item).is_err() {
-                    return Err(StepError::Memory);
+                    return Err(Failure::Memory);
                 }
                 let trace = Back::Pushed;
                 Ok(Stepped { told, trace })
@@ -103,10 +104,10 @@ impl Reversible for Table {
             Change::Remove(at) => {
                 let at = *at;
                 if at >= self.items.len() {
-                    return Err(StepError::Rule(OutOfRange));
+                    return Err(Failure::Refused(OutOfRange));
                 }
                 let Ok(told) = equal_told(self.alloc, n, at, self.items[at]) else {
-                    return Err(StepError::Memory);
+                    return Err(Failure::Memory);
                 };
                 let trace = Back::Removed(at, self.items.remove(at));
                 Ok(Stepped { told, trace })

@@ -1,24 +1,27 @@
--- At the end every module was passed.
-use Rattle.std.proofs.Common.{◌≡◌, ℕ, suc, ◌<◌, ◌≤◌, Bool, true, false, List, [], ◌∷◌, length, slice_get, Some, refl, sym, arith}
-use Rattle.std.proofs.lemmas.Map.{NonePasses, lookup-none}
-use Rattle.std.proofs.lemmas.Slice.Eq.{bytes_eq-Decides}
+-- A text spells the key that is found, and where none is, no module has its characters.
+use Rattle.std.proofs.Common.{◌≡◌, ℕ, Bool, List, [], ◌∷◌, None, subst, refl, sym, ◌∙◌}
+use Rattle.std.specs.Map.{lookup}
 use Rattle.std.specs.Str.{bytes_eq, chars}
-use Rattle.code_server.specs.Modules.{Entry}
+use Rattle.std.proofs.lemmas.Map.Made.{lookup_key_passes}
+use Rattle.erl_term.proofs.Spelled.{spells-chars}
+use Rattle.erl_term.specs.Spelling.{spells}
+use Rattle.erl_term.specs.SpellingLaws.{spells-Decides}
+use Rattle.code_server.specs.Modules.{slots_of}
 use Rattle.code_server.proofs.modules.Modules.find.Goals as goal
 
-false_unless : (b : Bool) → (b ≡ true → ⊥) → b ≡ false
-false_unless true never = absurd (never refl)
-false_unless false never = refl
+-- tests that agree on every key find the same
+same_found : {K X : Type 0} (p q : K → Bool) → ((k : K) → p k ≡ q k) → (es : List (K × X)) → lookup p es ≡ lookup q es
+same_found p q agree [] = refl
+same_found p q agree (e ∷ es) = rw (agree e.0, same_found p q agree es) refl
 
-none_passes : {C : Type 0} (name : List ℕ) (es : List (Entry C)) → ((k : ℕ) (e : Entry C) → k < length es → slice_get es k ≡ Some e → e.0 ≡ name → ⊥) → NonePasses (bytes_eq name) es
-none_passes name [] none = tt
-none_passes name (e ∷ es) none = (
-  false_unless (bytes_eq name e.0) (λ yes. none 0 e (omega arith) refl (sym ((bytes_eq-Decides name e.0).0 yes))),
-  none_passes name es (λ k d within at. none (suc k) d (omega arith) at),
-)
+pub returns-in-None : goal.returns-in-None
+returns-in-None g c =
+    let text = c.args.text.now in
+    let entries = c.self.inside.table.entries in
+    let none = sym (same_found (spells text) (bytes_eq (chars text)) (λ name. spells-chars text name c.utf8.text) entries) ∙ sym c.in-None.ensures.value in
+    subst (λ t. slots_of (chars text) t ≡ None) c.self.view_is none
 
-pub returns : goal.returns
-returns g c =
-    let es = c.args.self.now.entries in
-    let all : length es ≤ c.loop-place.place = omega (arith, c.loop-place-test.false, c.len-place-end.ensures.len) in
-    lookup-none (bytes_eq (chars c.args.text.now)) es (none_passes (chars c.args.text.now) es (λ k e within. c.loop-place.invariant k e (omega (arith, within, all))))
+pub returns-in-Some : goal.returns-in-Some
+returns-in-Some g c =
+    let found = lookup_key_passes (spells c.args.text.now) c.self.inside.table.entries c.in-Some.name.now (sym c.in-Some.ensures.key) in
+    sym ((spells-Decides c.args.text.now c.in-Some.name.now).0 found).0
