@@ -1,3 +1,2 @@
 pub mod Children
-pub mod Errors
 pub mod Starts

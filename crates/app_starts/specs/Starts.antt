@@ -14,7 +14,8 @@ use Rattle.erl_steps.specs.declared.machine.End.TheVariants.{Rest, Value, Exit}
 use Rattle.erl_steps.specs.declared.world.Instance.{Instance}
 use Rattle.child_specs.specs.Reading.{children_of}
 use Rattle.child_specs.specs.declared.child.ChildSpec.{ChildSpec}
-use Rattle.child_starts.specs.Children.{AllStart, FirstFails}
+use Rattle.child_starts.specs.Children.{AllStart}
+use Rattle.child_starts.specs.Errors.{StartFails}
 use Rattle.otp_files.specs.declared.app.StartModule.{StartModule}
 use Rattle.process_batch.specs.Begins.{acts_begun, begun_told}
 use Rattle.process_ending.specs.declared.told.Reply.{Reply}
@@ -22,7 +23,7 @@ use Rattle.process_store.specs.Table.{Table}
 use Rattle.app_starts.specs.Children.{all_running}
 use Rattle.app_table.specs.declared.child.Child.{Child}
 use Rattle.app_starts.specs.declared.error.AppError.{AppError}
-use Rattle.app_starts.specs.declared.error.AppError.TheVariants.{BadInit, StartFailed, Memory}
+use Rattle.app_starts.specs.declared.error.AppError.TheVariants.{NotLoaded, AlreadyStarted, BadInit, StartFailed}
 
 -- What `init` of the callback module gives, in this code. It is evaluated outside of all processes.
 abbrev pub InitGives : List Instance → StartModule → Outcome → Type 0
@@ -66,21 +67,14 @@ pub record AppStarts (code : List Instance) (m : StartModule) (t : Table) (child
   pub all_run : AllRun code specs (initialized code outcome t) children after others
   pub tells : told ≡ begun_told None code outcome.acts t ++ others
 
--- Or it fails to: it has no supervision, or a child fails to start. Want of memory tells nothing.
+-- Or it fails to: it has no supervision, or a child fails to start.
 
 abbrev pub FailsFor : List Instance → Outcome → Table → AppError → Type 0
+FailsFor code o t NotLoaded = ⊥
+FailsFor code o t AlreadyStarted = ⊥
 FailsFor code o t (BadInit reason) = (children_in o.end ≡ None) × (reason ≡ init_fault o.end)
-FailsFor code o t (StartFailed id reason) = (cs : List ChildSpec) × (children_in o.end ≡ Some cs) ×
-    ((c : ChildSpec) × (id ≡ c.id) × FirstFails code cs (initialized code o t) c reason)
-FailsFor code o t Memory = Unit {0}
-
--- one of these children is the first that fails
-abbrev pub OneFails : AppError → List Instance → List ChildSpec → Table → Type 0
-OneFails (BadInit reason) code specs t = ⊥
-OneFails (StartFailed id reason) code specs t = (c : ChildSpec) × (id ≡ c.id) × FirstFails code specs t c reason
-OneFails Memory code specs t = Unit {0}
+FailsFor code o t (StartFailed failed) =
+    (cs : List ChildSpec) × (children_in o.end ≡ Some cs) × StartFails failed code cs (initialized code o t)
 
 abbrev pub AppFails : List Instance → StartModule → Table → AppError → Type 0
-AppFails code m t (BadInit reason) = (o : Outcome) × InitGives code m o × FailsFor code o t (BadInit reason)
-AppFails code m t (StartFailed id reason) = (o : Outcome) × InitGives code m o × FailsFor code o t (StartFailed id reason)
-AppFails code m t Memory = Unit {0}
+AppFails code m t e = (o : Outcome) × InitGives code m o × FailsFor code o t e

@@ -1,6 +1,8 @@
 // An application starts its children.
 ghost use Rattle.std.specs.Prelude.{◌≡◌, ◌++◌, ◌∷◌, [], IfErr, IfOk, List, OnErr, None, codes, map, replicate};
 ghost use Rattle.erl_eval.specs.Jobs.{Evaluates};
+ghost use Rattle.values.specs.Failure.{Fails};
+ghost use Rattle.child_starts.specs.Errors.{StartFails};
 ghost use Rattle.erl_term.specs.Term.{tree};
 ghost use Rattle.erl_term.specs.Tree.{atom, more, none};
 ghost use Rattle.erl_term.specs.declared.term.Term.TheVariants.{Tuple};
@@ -9,14 +11,14 @@ ghost use Rattle.process_ending.specs.declared.told.Reply.{Reply as Told};
 ghost use Rattle.process_store.specs.Table.{Table};
 ghost use Rattle.process_table.specs.Undo.{TakesBack};
 ghost use Rattle.app_starts.specs.Children.{all_running};
-ghost use Rattle.app_starts.specs.Starts.{AllRun, AppFails, AppStarts, OneFails, InitGives, bad_init, children_in, exit_value, init_fault};
+ghost use Rattle.app_starts.specs.Starts.{AllRun, AppFails, AppStarts, InitGives, bad_init, children_in, exit_value, init_fault};
 
 use crate::child::all_running;
 use crate::error::AppError;
 use app_table::Child;
 use callback_lang::evaluate;
 use child_specs::{ChildSpec, read_children};
-use child_starts::start_children;
+use child_starts::{StartFailed, start_children};
 use erl_machine::{End, Instance, Mode, Outcome};
 use erl_term::{Atom, Predefined, Term, Terms};
 use otp_files::StartModule;
@@ -24,7 +26,7 @@ use process_batch::Batch;
 use process_ending::Reply;
 use process_table::{Processes, Undo};
 use std::alloc::{AllocError, Global};
-use values::{Duplicate, Row};
+use values::{Duplicate, Failure, Row};
 
 /// What `init` of a callback module gives, in this code. It is evaluated outside of all processes.
 fn init(alloc: Global, code: &[Instance], module: &StartModule) -> Result<Outcome, AllocError>
@@ -89,14 +91,6 @@ pub struct Supervised {
     pub undo: Undo,
 }
 
-/// These children, which have started as the processes of these pids.
-fn run_all(alloc: Global, specs: Row<ChildSpec>, pids: Vec<u64>) -> Result<Row<Child>, AppError>
-    ensures run { IfOk result (λ it. it ≡ all_running specs pids.items) }
-    ensures refused { IfErr result (λ e. e ≡ AppError.Memory) }
-{
-    Ok(all_running(alloc, specs, pids.as_slice())?)
-}
-
 /// Starts these children, in order, as a part of a batch.
 fn begin_children(
     processes: &mut Processes,
@@ -104,14 +98,14 @@ fn begin_children(
     batch: &mut Batch,
     code: &[Instance],
     specs: Row<ChildSpec>,
-) -> Result<Row<Child>, AppError>
+) -> Result<Row<Child>, Failure<StartFailed>>
     ensures started { IfOk result (λ it. (before t : Table) (told : List Told) → IsUnderWay batch.old.changes.items batch.old.answers.items before processes.old t told → (after : Table) × (others : List Told) × AllRun code.now specs t it after others × IsUnderWay batch.new.changes.items batch.new.answers.items before processes.new after (told ++ others)) }
-    ensures failed { IfErr result (λ e. (before t : Table) (told : List Told) → IsUnderWay batch.old.changes.items batch.old.answers.items before processes.old t told → OneFails e code.now specs t) }
+    ensures failed { IfErr result (λ failure. (before t : Table) (told : List Told) → IsUnderWay batch.old.changes.items batch.old.answers.items before processes.old t told → Fails (λ failed. StartFails failed code.now specs t) (Unit {0}) failure) }
     ensures back { (before : Table) → CanGiveUp batch.old.changes.items before processes.old → CanGiveUp batch.new.changes.items before processes.new }
 {
     match start_children(processes, alloc, batch, code, specs.as_slice()) {
-        Ok(pids) => run_all(alloc, specs, pids),
-        Err(error) => Err(AppError::from(error)),
+        Ok(pids) => Ok(all_running(alloc, specs, pids.as_slice())?),
+        Err(failure) => Err(failure),
     }
 }
 
@@ -123,17 +117,22 @@ fn begin_supervision(
     batch: &mut Batch,
     code: &[Instance],
     module: &StartModule,
-) -> Result<Row<Child>, AppError>
+) -> Result<Row<Child>, Failure<AppError>>
     ensures started { IfOk result (λ it. (before t : Table) (told : List Told) → IsUnderWay batch.old.changes.items batch.old.answers.items before processes.old t told → (after : Table) × (others : List Told) × AppStarts code.now module.now t it after others × IsUnderWay batch.new.changes.items batch.new.answers.items before processes.new after (told ++ others)) }
-    ensures failed { IfErr result (λ e. (before t : Table) (told : List Told) → IsUnderWay batch.old.changes.items batch.old.answers.items before processes.old t told → AppFails code.now module.now t e) }
+    ensures failed { IfErr result (λ failure. (before t : Table) (told : List Told) → IsUnderWay batch.old.changes.items batch.old.answers.items before processes.old t told → Fails (AppFails code.now module.now t) (Unit {0}) failure) }
     ensures back { (before : Table) → CanGiveUp batch.old.changes.items before processes.old → CanGiveUp batch.new.changes.items before processes.new }
 {
     let outcome = init(alloc, code, module)?;
     let Some(specs) = children_in(alloc, &outcome.end)? else {
-        return Err(AppError::BadInit(init_fault(alloc, &outcome.end)?));
+        let reason = init_fault(alloc, &outcome.end)?;
+        return Err(Failure::Refused(AppError::BadInit(reason)));
     };
     processes.begin(batch, None, code, outcome.acts)?;
-    begin_children(processes, alloc, batch, code, specs)
+    match begin_children(processes, alloc, batch, code, specs) {
+        Ok(children) => Ok(children),
+        Err(Failure::Refused(failed)) => Err(Failure::Refused(AppError::StartFailed(failed))),
+        Err(Failure::Memory) => Err(Failure::Memory),
+    }
 }
 
 /// The application of a callback module starts: `init` is evaluated in this code, which is every module's current code, what it has done
@@ -149,10 +148,10 @@ pub fn supervise(
     code: &[Instance],
     module: &StartModule,
     n: usize,
-) -> Result<Supervised, AppError>
+) -> Result<Supervised, Failure<AppError>>
     ensures started { IfOk result (λ it. (told : List Told) × AppStarts code.now module.now processes.old it.children processes.new told × (it.told.items ≡ replicate n told)) }
     ensures inverse { IfOk result (λ it. TakesBack it.undo processes.old processes.new) }
-    ensures failed { IfErr result (λ e. AppFails code.now module.now processes.old e) }
+    ensures failed { IfErr result (Fails (AppFails code.now module.now processes.old) (Unit {0})) }
     ensures err { OnErr result (processes.new ≡ processes.old) }
 {
     let mut batch = Batch::new(alloc);
@@ -165,9 +164,9 @@ pub fn supervise(
                 undo,
             })
         }
-        Err(error) => {
+        Err(failure) => {
             processes.give_up(batch);
-            Err(error)
+            Err(failure)
         }
     }
 }

@@ -17,10 +17,12 @@ use Rattle.process_ending.specs.declared.told.Reply.{Reply}
 use Rattle.process_store.specs.Table.{Table, is_taken, next_pid}
 use Rattle.child_starts.proofs.Names.{fault_answered, free_name, pids_answered}
 use Rattle.child_starts.specs.Children.{AllStart, Fails, FirstFails, Starts, after_start, start_told}
-use Rattle.child_starts.specs.Errors.{ChildFails, StartFails, TellsFault}
+use Rattle.child_starts.specs.Errors.{ChildFails, StartFails}
 use Rattle.child_starts.specs.Results.{end_fault, first_of, name_fault, name_in, start_fault, starts}
-use Rattle.child_starts.specs.declared.error.StartError.{StartError}
-use Rattle.child_starts.specs.declared.error.StartError.TheVariants.{Failed, Memory}
+use Rattle.child_starts.specs.declared.error.StartFailed.{StartFailed}
+use Rattle.values.specs.Failure.{Fails}
+use Rattle.values.specs.declared.failure.Failure.{Failure}
+use Rattle.values.specs.declared.failure.Failure.TheVariants.{Refused, Memory}
 use Rattle.process_batch.specs.Begins.{IsUnderWay, acts_begun, begun_told}
 use Rattle.process_batch.specs.declared.change.Change.{Change}
 
@@ -40,8 +42,8 @@ module _ (answers : List Answer) (now t : Table) (makes : t ≡ all_answered ans
   pub starts_there : start_fault pid o now ≡ None → Starts code c t o
   starts_there none = record { gives = gives_there; faultless = same_fault ∙ none }
 
-  pub fails_there : (e : StartError) → TellsFault e c (start_fault pid o now) → ChildFails e code c t
-  fails_there (Failed id reason) tells = (tells.0, record { outcome = o; gives = gives_there; faulty = same_fault ∙ tells.1 })
+  pub fails_there : (e : Failure StartFailed) → Fails (λ failed. (failed.child ≡ c.id) × (start_fault pid o now ≡ Some failed.reason)) (Unit {0}) e → Fails (λ failed. ChildFails failed code c t) (Unit {0}) e
+  fails_there (Refused failed) tells = (tells.0, record { outcome = o; gives = gives_there; faulty = same_fault ∙ tells.1 })
   fails_there Memory tells = tt
 
 -- what has started is under way
@@ -82,7 +84,7 @@ all_reached code cs t rest pids now told none reached =
     let last : AllStart code rest now [] now [] = subst (λ xs. AllStart code xs now [] now []) (sym none) (refl, refl) in
     subst (λ qs. AllStart code cs t qs now told) (append-nil pids) (subst (AllStart code cs t (pids ++ []) now) (append-nil told) (reached.all [] now [] last))
 
-pub first_fails : (e : StartError) (code : List Instance) (cs : List ChildSpec) (t : Table) (c : ChildSpec) (rest left : List ChildSpec) (pids : List ℕ) (now : Table) (told : List Reply) → left ≡ c ∷ rest → Reached code cs t left pids now told → ChildFails e code c now → StartFails e code cs t
-first_fails (Failed id reason) code cs t c rest left pids now told is reached fails =
-    (c, fails.0, reached.fails c reason (subst (λ xs. FirstFails code xs now c reason) (sym is) (inl (refl, fails.1))))
+pub first_fails : (e : Failure StartFailed) (code : List Instance) (cs : List ChildSpec) (t : Table) (c : ChildSpec) (rest left : List ChildSpec) (pids : List ℕ) (now : Table) (told : List Reply) → left ≡ c ∷ rest → Reached code cs t left pids now told → Fails (λ failed. ChildFails failed code c now) (Unit {0}) e → Fails (λ failed. StartFails failed code cs t) (Unit {0}) e
+first_fails (Refused failed) code cs t c rest left pids now told is reached fails =
+    (c, fails.0, reached.fails c failed.reason (subst (λ xs. FirstFails code xs now c failed.reason) (sym is) (inl (refl, fails.1))))
 first_fails Memory code cs t c rest left pids now told is reached fails = tt

@@ -26,6 +26,6 @@ mod restarting;
 mod results;
 mod starting;
 
-pub use error::StartError;
+pub use error::StartFailed;
 pub use restarting::{Restarted, restart_child};
 pub use starting::{start_child, start_children};

@@ -1,12 +1,13 @@
 // A child starts again.
 ghost use Rattle.std.specs.Prelude.{◌≡◌, IfErr, IfOk, List, OnErr, replicate};
+ghost use Rattle.values.specs.Failure.{Fails};
 ghost use Rattle.child_starts.specs.Children.{Restarts};
 ghost use Rattle.child_starts.specs.Errors.{ChildFails};
 ghost use Rattle.process_ending.specs.declared.told.Reply.{Reply as Told};
 ghost use Rattle.process_store.specs.Table.{Table};
 ghost use Rattle.process_table.specs.Undo.{TakesBack};
 
-use crate::error::StartError;
+use crate::error::StartFailed;
 use crate::starting::start_child;
 use child_specs::ChildSpec;
 use erl_machine::Instance;
@@ -14,7 +15,7 @@ use process_batch::Batch;
 use process_ending::Reply;
 use process_table::{Processes, Undo};
 use std::alloc::Global;
-use values::Row;
+use values::{Failure, Row};
 
 /// What the start of one child has come to.
 #[derive(Drop)]
@@ -32,17 +33,17 @@ pub struct Restarted {
 ///
 /// # Errors
 ///
-/// In this order: `Failed` with the child's Id and the reason, `Memory`. The processes are then as they were.
+/// `StartFailed` with the child's Id and the reason, and `Memory`. The processes are then as they were.
 pub fn restart_child(
     processes: &mut Processes,
     alloc: Global,
     code: &[Instance],
     child: &ChildSpec,
     n: usize,
-) -> Result<Restarted, StartError>
+) -> Result<Restarted, Failure<StartFailed>>
     ensures started { IfOk result (λ it. (told : List Told) × Restarts code.now child.now processes.old it.pid processes.new told × (it.told.items ≡ replicate n told)) }
     ensures inverse { IfOk result (λ it. TakesBack it.undo processes.old processes.new) }
-    ensures failed { IfErr result (λ e. ChildFails e code.now child.now processes.old) }
+    ensures failed { IfErr result (Fails (λ failed. ChildFails failed code.now child.now processes.old) (Unit {0})) }
     ensures err { OnErr result (processes.new ≡ processes.old) }
 {
     let mut batch = Batch::new(alloc);
@@ -51,9 +52,9 @@ pub fn restart_child(
             let (told, undo) = processes.finish(batch, n)?;
             Ok(Restarted { pid, told, undo })
         }
-        Err(error) => {
+        Err(failure) => {
             processes.give_up(batch);
-            Err(error)
+            Err(failure)
         }
     }
 }

@@ -1,18 +1,19 @@
 // Children of a supervisor start.
-ghost use Rattle.std.specs.Prelude.{◌≡◌, ◌++◌, ◌∷◌, [], IfErr, IfOk, List, None, OnOk, map, option_map};
+ghost use Rattle.std.specs.Prelude.{◌≡◌, ◌++◌, ◌∷◌, [], IfErr, IfOk, List, None, OnOk, Some, map, option_map};
 ghost use Rattle.erl_eval.specs.Jobs.{Evaluates};
 ghost use Rattle.erl_eval.specs.State.{start_mode};
 ghost use Rattle.erl_machine.specs.Views.{outcome_of};
 ghost use Rattle.erl_machine.specs.declared.evaluation.Outcome.{Outcome as Given};
 ghost use Rattle.erl_steps.specs.Views.{instance};
+ghost use Rattle.values.specs.Failure.{Fails};
 ghost use Rattle.child_starts.specs.Children.{AllStart, Starts, after_start, start_told};
-ghost use Rattle.child_starts.specs.Errors.{ChildFails, StartFails, TellsFault};
+ghost use Rattle.child_starts.specs.Errors.{ChildFails, StartFails};
 ghost use Rattle.child_starts.specs.Results.{name_in, start_fault};
 ghost use Rattle.process_batch.specs.Begins.{CanGiveUp, IsUnderWay};
 ghost use Rattle.process_ending.specs.declared.told.Reply.{Reply as Told};
 ghost use Rattle.process_store.specs.Table.{Table, next_pid};
 
-use crate::error::StartError;
+use crate::error::StartFailed;
 use crate::results::{name_in, start_fault};
 use callback_lang::evaluate;
 use child_specs::ChildSpec;
@@ -22,7 +23,7 @@ use erl_term::Atom;
 use process_batch::Batch;
 use process_table::Processes;
 use std::alloc::{AllocError, Global};
-use values::{Duplicate, copied_slice};
+use values::{Duplicate, Failure, copied_slice};
 
 /// What a child's start function gives, in this code, where the child is to have a pid.
 fn outcome_of(
@@ -62,15 +63,15 @@ fn no_fault(
     pid: u64,
     child: &ChildSpec,
     outcome: &Outcome,
-) -> Result<(), StartError>
+) -> Result<(), Failure<StartFailed>>
     ensures ok { OnOk result (start_fault pid outcome.now processes.now ≡ None) }
-    ensures failed { IfErr result (λ e. TellsFault e child.now (start_fault pid outcome.now processes.now)) }
+    ensures failed { IfErr result (Fails (λ failed. (failed.child ≡ child.now.id) × (start_fault pid outcome.now processes.now ≡ Some failed.reason)) (Unit {0})) }
 {
     match start_fault(alloc, processes, pid, outcome)? {
-        Some(reason) => Err(StartError::Failed {
-            id: child.id.copy(alloc)?,
+        Some(reason) => Err(Failure::Refused(StartFailed {
+            child: child.id.copy(alloc)?,
             reason,
-        }),
+        })),
         None => Ok(()),
     }
 }
@@ -80,17 +81,17 @@ fn no_fault(
 ///
 /// # Errors
 ///
-/// In this order: `Failed` with the child's Id and the reason, `Memory`. The batch can then only be given up.
+/// `StartFailed` with the child's Id and the reason, and `Memory`. The batch can then only be given up.
 pub fn start_child(
     processes: &mut Processes,
     alloc: Global,
     batch: &mut Batch,
     code: &[Instance],
     child: &ChildSpec,
-) -> Result<u64, StartError>
+) -> Result<u64, Failure<StartFailed>>
     ensures pid { IfOk result (λ pid. pid ≡ next_pid processes.old) }
     ensures started { OnOk result ((before t : Table) (told : List Told) → IsUnderWay batch.old.changes.items batch.old.answers.items before processes.old t told → (o : Given) × Starts code.now child.now t o × IsUnderWay batch.new.changes.items batch.new.answers.items before processes.new (after_start code.now o t) (told ++ start_told code.now o t)) }
-    ensures failed { IfErr result (λ e. (before t : Table) (told : List Told) → IsUnderWay batch.old.changes.items batch.old.answers.items before processes.old t told → ChildFails e code.now child.now t) }
+    ensures failed { IfErr result (λ failure. (before t : Table) (told : List Told) → IsUnderWay batch.old.changes.items batch.old.answers.items before processes.old t told → Fails (λ failed. ChildFails failed code.now child.now t) (Unit {0}) failure) }
     ensures back { (before : Table) → CanGiveUp batch.old.changes.items before processes.old → CanGiveUp batch.new.changes.items before processes.new }
 {
     let pid = processes.next_pid();
@@ -101,7 +102,7 @@ pub fn start_child(
             processes.begin(batch, name, code, outcome.acts)?;
             Ok(pid)
         }
-        Err(error) => Err(error),
+        Err(failure) => Err(failure),
     }
 }
 
@@ -117,23 +118,23 @@ fn note(pids: &mut Vec<u64>, pid: u64) -> Result<(), AllocError>
 ///
 /// # Errors
 ///
-/// `Failed` of the first that fails, and `Memory`. The batch can then only be given up.
+/// `StartFailed` of the first that fails, and `Memory`. The batch can then only be given up.
 pub fn start_children(
     processes: &mut Processes,
     alloc: Global,
     batch: &mut Batch,
     code: &[Instance],
     children: &[ChildSpec],
-) -> Result<Vec<u64>, StartError>
+) -> Result<Vec<u64>, Failure<StartFailed>>
     ensures started { IfOk result (λ pids. (before t : Table) (told : List Told) → IsUnderWay batch.old.changes.items batch.old.answers.items before processes.old t told → (after : Table) × (others : List Told) × AllStart code.now children.now t pids.items after others × IsUnderWay batch.new.changes.items batch.new.answers.items before processes.new after (told ++ others)) }
-    ensures failed { IfErr result (λ e. (before t : Table) (told : List Told) → IsUnderWay batch.old.changes.items batch.old.answers.items before processes.old t told → StartFails e code.now children.now t) }
+    ensures failed { IfErr result (λ failure. (before t : Table) (told : List Told) → IsUnderWay batch.old.changes.items batch.old.answers.items before processes.old t told → Fails (λ failed. StartFails failed code.now children.now t) (Unit {0}) failure) }
     ensures back { (before : Table) → CanGiveUp batch.old.changes.items before processes.old → CanGiveUp batch.new.changes.items before processes.new }
 {
     let mut pids = Vec::with_capacity(alloc, children.len())?;
     for child in children {
         match start_child(processes, alloc, batch, code, child) {
             Ok(pid) => note(&mut pids, pid)?,
-            Err(error) => return Err(error),
+            Err(failure) => return Err(failure),
         }
     }
     Ok(pids)

@@ -4,9 +4,11 @@ use Rattle.std.proofs.lemmas.Bool.{cases_lt}
 use Rattle.std.specs.List.{cons_option, filter, range_with_len}
 use Rattle.std.specs.Prelude.{drop, filter_map, option_and_then, option_to_list, slice_get}
 use Rattle.std.proofs.lemmas.List.{append_assoc}
-use Rattle.code_server.specs.Modules.{Table as Loaded, Tells, slots_of}
+use Rattle.code_server.specs.Modules.{Table as Loaded, slots_of}
+use Rattle.values.specs.Failure.{Tells}
+use Rattle.values.specs.declared.failure.Failure.{Failure}
+use Rattle.values.specs.declared.failure.Failure.TheVariants.{Refused, Memory}
 use Rattle.code_server.specs.declared.error.CodeError.{CodeError}
-use Rattle.code_server.specs.declared.error.CodeError.TheVariants.{NotLoaded, NotPurged, OldInUse, CounterEnd, Memory}
 use Rattle.erl_forms.specs.Module.{Forms}
 use Rattle.process_store.specs.Table.{Table}
 use Rattle.code_loading.specs.Loading.{is_any, spared, spared_by}
@@ -48,11 +50,8 @@ somebody test n k below passes = one_from test 0 n k (omega arith) (omega (arith
 
 -- a load that is refused for want of memory finds no old code, and nobody is killed
 
-pub memory_alone : (e : CodeError) (o : Option CodeError) → Tells e o → o ≡ None → e ≡ Memory
-memory_alone NotLoaded o tells none = absurd (some_none (sym tells ∙ none))
-memory_alone NotPurged o tells none = absurd (some_none (sym tells ∙ none))
-memory_alone OldInUse o tells none = absurd (some_none (sym tells ∙ none))
-memory_alone CounterEnd o tells none = absurd (some_none (sym tells ∙ none))
+pub memory_alone : (e : Failure CodeError) (o : Option CodeError) → Tells e o → o ≡ None → e ≡ Memory
+memory_alone (Refused why) o tells none = absurd (some_none (sym tells ∙ none))
 memory_alone Memory o tells none = refl
 
 pub all_spared : (name : List ℕ) (modules : Loaded Forms) (t : Table) → slots_of name modules ≡ None → spared name modules t ≡ t

@@ -1,6 +1,7 @@
 // Loads and purges.
 ghost use Rattle.std.specs.Prelude.{◌≡◌, IfErr, IfOk, MatchResult, None, OnErr, OnOk, false, option_map, true};
-ghost use Rattle.code_server.specs.Modules.{Tells, load_refusal, loaded, old_of, purged};
+ghost use Rattle.values.specs.Failure.{Tells};
+ghost use Rattle.code_server.specs.Modules.{load_refusal, loaded, old_of, purged};
 ghost use Rattle.process_ending.specs.Uses.{users, uses};
 ghost use Rattle.process_store.specs.Table.{living};
 ghost use Rattle.code_loading.specs.Loading.{is_any, is_lingered_in, lingering, purge_told, spared};
@@ -13,7 +14,7 @@ use erl_term::Atom;
 use process_ending::{Reply, uses};
 use process_table::Processes;
 use std::alloc::{AllocError, Global};
-use values::Duplicate;
+use values::{Duplicate, Failure};
 
 /// The serial of a module's old code, if it has any.
 fn old_serial(modules: &Modules<Module>, name: &Atom) -> Option<u64>
@@ -148,26 +149,26 @@ pub fn load(
     processes: &mut Processes,
     alloc: Global,
     code: Module,
-) -> Result<Undo, CodeError>
+) -> Result<Undo, Failure<CodeError>>
     ensures ok { OnOk result (load_refusal code.name (purged code.name modules.old) ≡ None) }
     ensures modules { OnOk result (modules.new ≡ loaded code.name code (purged code.name modules.old)) }
     ensures processes { OnOk result (processes.new ≡ spared code.name modules.old processes.old) }
     ensures inverse { IfOk result (λ undo. TakesBack undo modules.old processes.old modules.new processes.new) }
-    ensures refused { IfErr result (λ e. Tells e (load_refusal code.name (purged code.name modules.old))) }
+    ensures refused { IfErr result (λ failure. Tells failure (load_refusal code.name (purged code.name modules.old))) }
     ensures err { OnErr result ((modules.new ≡ modules.old) × (processes.new ≡ processes.old)) }
 {
     if let Some(refusal) = modules.purge_and_load_refusal() {
-        return Err(refusal);
+        return Err(Failure::Refused(refusal));
     }
     let Ok(name) = code.name().copy(alloc) else {
-        return Err(CodeError::Memory);
+        return Err(Failure::Memory);
     };
     let Ok(killed) = kill_lingering(modules, processes, &name) else {
-        return Err(CodeError::Memory);
+        return Err(Failure::Memory);
     };
     match modules.purge_and_load(&name, code) {
         Ok(modules) => Ok(Undo { modules, killed }),
-        Err(error) => Err(error),
+        Err(failure) => Err(failure),
     }
 }
 

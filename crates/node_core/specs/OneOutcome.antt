@@ -1,5 +1,5 @@
 -- An event has one outcome at most.
-use Rattle.std.proofs.Common.{◌≡◌, ◌≢◌, ℕ, true, false, List, [], ◌∷◌, map, Option, None, Some, Ok, Err, refl, sym, ap, subst, ◌∙◌}
+use Rattle.std.proofs.Common.{◌≡◌, ℕ, true, false, List, [], ◌∷◌, map, Option, None, Some, Ok, Err, refl, sym, ap, subst, ◌∙◌}
 use Rattle.std.proofs.lemmas.Bool.{true≢false}
 use Rattle.std.proofs.lemmas.Option.{none-some, same_Some}
 use Rattle.erl_term.specs.declared.term.Term.{Term}
@@ -80,17 +80,16 @@ pub data IsRefusal (job : Job) (t : Table) : ProcError → Type 0 where
   stale : (IsRunning job t → ⊥) → IsRefusal job t proc.Stale
   at_end : IsRunning job t → (CanTurnAt job.pid t → ⊥) → IsRefusal job t proc.CounterEnd
 
-refusal_is : (e : ProcError) (job : Job) (t : Table) → RefusesCommit e job t → e ≢ proc.Memory → IsRefusal job t e
-refusal_is proc.NoProc job t refuses known = absurd refuses
-refusal_is proc.Suspended job t refuses known = absurd refuses
-refusal_is proc.Idle job t refuses known = absurd refuses
-refusal_is proc.Running job t refuses known = absurd refuses
-refusal_is proc.NotRunning job t refuses known = absurd refuses
-refusal_is proc.Stale job t refuses known = stale refuses
-refusal_is proc.NameTaken job t refuses known = absurd refuses
-refusal_is proc.DuplicateCall job t refuses known = absurd refuses
-refusal_is proc.CounterEnd job t refuses known = at_end refuses.0 refuses.1
-refusal_is proc.Memory job t refuses known = absurd (known refl)
+refusal_is : (e : ProcError) (job : Job) (t : Table) → RefusesCommit e job t → IsRefusal job t e
+refusal_is proc.NoProc job t refuses = absurd refuses
+refusal_is proc.Suspended job t refuses = absurd refuses
+refusal_is proc.Idle job t refuses = absurd refuses
+refusal_is proc.Running job t refuses = absurd refuses
+refusal_is proc.NotRunning job t refuses = absurd refuses
+refusal_is proc.Stale job t refuses = stale refuses
+refusal_is proc.NameTaken job t refuses = absurd refuses
+refusal_is proc.DuplicateCall job t refuses = absurd refuses
+refusal_is proc.CounterEnd job t refuses = at_end refuses.0 refuses.1
 
 one_refusal : (job : Job) (t : Table) (e f : ProcError) → IsRefusal job t e → IsRefusal job t f → e ≡ f
 one_refusal job t _ _ (stale never) (stale other) = refl
@@ -104,27 +103,25 @@ never_both job t _ (at_end also no_turn) runs turns = no_turn turns
 
 one_commit : (done : Done) (n : NodeState) (r s : Outcome) → Commits done n r → Commits done n s → r ≡ s
 one_commit done n (Err e) (Err f) first second =
-    ap Err (first.3 ∙ ap OfProcesses (one_refusal done.job n.processes first.0 second.0 (refusal_is first.0 done.job n.processes first.1 first.2) (refusal_is second.0 done.job n.processes second.1 second.2)) ∙ sym second.3)
+    ap Err (first.2 ∙ ap OfProcesses (one_refusal done.job n.processes first.0 second.0 (refusal_is first.0 done.job n.processes first.1) (refusal_is second.0 done.job n.processes second.1)) ∙ sym second.2)
 one_commit done n (Err e) (Ok b) first second =
-    absurd (never_both done.job n.processes first.0 (refusal_is first.0 done.job n.processes first.1 first.2) second.0 second.1)
+    absurd (never_both done.job n.processes first.0 (refusal_is first.0 done.job n.processes first.1) second.0.0 second.0.1)
 one_commit done n (Ok a) (Err f) first second =
-    absurd (never_both done.job n.processes second.0 (refusal_is second.0 done.job n.processes second.1 second.2) first.0 first.1)
-one_commit done n (Ok a) (Ok b) first second = ap Ok (first.2 ∙ sym second.2)
+    absurd (never_both done.job n.processes second.0 (refusal_is second.0 done.job n.processes second.1) first.0.0 first.0.1)
+one_commit done n (Ok a) (Ok b) first second = ap Ok (first.1 ∙ sym second.1)
 
 -- Revive
 
 pub data IsUnrevived (code : List Instance) (name : List ℕ) (id : Term) (apps : List Application) (t : Table) : SysError → Type 0 where
   no_child : child_of name id apps ≡ None → IsUnrevived code name id apps t sys.NoChild
   not_due : (c : Child) → child_of name id apps ≡ Some c → is_due c ≡ false → IsUnrevived code name id apps t sys.NotDue
-  failed : (c : Child) (reason : Term) → child_of name id apps ≡ Some c → is_due c ≡ true → Fails code c.spec t reason → IsUnrevived code name id apps t (sys.StartFailed c.spec.id reason)
+  failed : (c : Child) (reason : Term) → child_of name id apps ≡ Some c → is_due c ≡ true → Fails code c.spec t reason → IsUnrevived code name id apps t (sys.StartFailed (record { child = c.spec.id; reason = reason }))
 
-unrevived_is : (e : SysError) (code : List Instance) (name : List ℕ) (id : Term) (apps : List Application) (t : Table) → RefusesRevive e code name id apps t → e ≢ sys.Memory → IsUnrevived code name id apps t e
-unrevived_is (sys.StartFailed child reason) code name id apps t refuses known =
-    subst (λ c. IsUnrevived code name id apps t (sys.StartFailed c reason)) (sym refuses.3) (failed refuses.0 reason refuses.1 refuses.2 refuses.4)
-unrevived_is sys.NoChild code name id apps t refuses known = no_child refuses
-unrevived_is sys.NotDue code name id apps t refuses known = not_due refuses.0 refuses.1 refuses.2
-unrevived_is (sys.AppFailed reason) code name id apps t refuses known = absurd refuses
-unrevived_is sys.Memory code name id apps t refuses known = absurd (known refl)
+unrevived_is : (e : SysError) (code : List Instance) (name : List ℕ) (id : Term) (apps : List Application) (t : Table) → RefusesRevive e code name id apps t → IsUnrevived code name id apps t e
+unrevived_is (sys.StartFailed it) code name id apps t refuses =
+    subst (λ c. IsUnrevived code name id apps t (sys.StartFailed (record { child = c; reason = it.reason }))) (sym refuses.3.0) (failed refuses.0 it.reason refuses.1 refuses.2 refuses.3.1)
+unrevived_is sys.NoChild code name id apps t refuses = no_child refuses
+unrevived_is sys.NotDue code name id apps t refuses = not_due refuses.0 refuses.1 refuses.2
 
 one_child : (o : Option Child) (c d : Child) → o ≡ Some c → o ≡ Some d → c ≡ d
 one_child o c d first second = same_Some c d (sym first ∙ second)
@@ -137,9 +134,9 @@ one_fault : (code : List Instance) (c : Child) (t : Table) (r s : Term) → Fail
 one_fault code c t r s first second =
     same_Some r s (sym first.faulty ∙ ap (λ o. start_fault (next_pid t) o t) (one_outcome code c.spec t first.outcome second.outcome first.gives second.gives) ∙ second.faulty)
 
-one_failure : (code : List Instance) (c d : Child) (t : Table) (r s : Term) → c ≡ d → Fails code c.spec t r → Fails code d.spec t s → sys.StartFailed c.spec.id r ≡ sys.StartFailed d.spec.id s
+one_failure : (code : List Instance) (c d : Child) (t : Table) (r s : Term) → c ≡ d → Fails code c.spec t r → Fails code d.spec t s → sys.StartFailed (record { child = c.spec.id; reason = r }) ≡ sys.StartFailed (record { child = d.spec.id; reason = s })
 one_failure code c d t r s same first second =
-    (λ i. sys.StartFailed (same i).spec.id (one_fault code d t r s (subst (λ x. Fails code x.spec t r) same first) second i))
+    (λ i. sys.StartFailed (record { child = (same i).spec.id; reason = one_fault code d t r s (subst (λ x. Fails code x.spec t r) same first) second i }))
 
 one_unrevived : (code : List Instance) (name : List ℕ) (id : Term) (apps : List Application) (t : Table) (e f : SysError) → IsUnrevived code name id apps t e → IsUnrevived code name id apps t f → e ≡ f
 one_unrevived code name id apps t _ _ (no_child none) (no_child other) = refl
@@ -179,11 +176,11 @@ one_revival app id n a b first second =
 one_revive : (app : List ℕ) (id : Term) (n : NodeState) (r s : Outcome) → Revives app id n r → Revives app id n s → r ≡ s
 one_revive app id n (Err e) (Err f) first second =
     let code = current_code n.modules in
-    ap Err (first.3 ∙ ap OfApps (one_unrevived code app id n.apps n.processes first.0 second.0 (unrevived_is first.0 code app id n.apps n.processes first.1 first.2) (unrevived_is second.0 code app id n.apps n.processes second.1 second.2)) ∙ sym second.3)
+    ap Err (first.2 ∙ ap OfApps (one_unrevived code app id n.apps n.processes first.0 second.0 (unrevived_is first.0 code app id n.apps n.processes first.1) (unrevived_is second.0 code app id n.apps n.processes second.1)) ∙ sym second.2)
 one_revive app id n (Err e) (Ok b) first second =
-    absurd (never_revived app id n b first.0 second (unrevived_is first.0 (current_code n.modules) app id n.apps n.processes first.1 first.2))
+    absurd (never_revived app id n b first.0 second (unrevived_is first.0 (current_code n.modules) app id n.apps n.processes first.1))
 one_revive app id n (Ok a) (Err f) first second =
-    absurd (never_revived app id n a second.0 first (unrevived_is second.0 (current_code n.modules) app id n.apps n.processes second.1 second.2))
+    absurd (never_revived app id n a second.0 first (unrevived_is second.0 (current_code n.modules) app id n.apps n.processes second.1))
 one_revive app id n (Ok a) (Ok b) first second = ap Ok (one_revival app id n a b first second)
 
 -- Each event

@@ -1,5 +1,5 @@
 -- What an event does to a node, or why it is refused: one clause an event.
-use Rattle.std.specs.Prelude.{◌≡◌, ◌≢◌, ℕ, true, if◌then◌else◌, List, [], ◌∷◌, Option, None, Some, Result, Ok, Err}
+use Rattle.std.specs.Prelude.{◌≡◌, ℕ, true, if◌then◌else◌, List, [], ◌∷◌, Option, None, Some, Result, Ok, Err}
 use Rattle.erl_forms.specs.Module.{Forms}
 use Rattle.erl_machine.specs.declared.jobs.Done.{Done}
 use Rattle.erl_machine.specs.declared.jobs.Job.{Job}
@@ -14,21 +14,18 @@ use Rattle.code_loading.specs.Loading.{is_lingered_in, lingering, purge_told, sp
 use Rattle.code_server.specs.Modules.{delete_refusal, deleted, load_refusal, loaded, purged}
 use Rattle.code_server.specs.declared.error.CodeError.{CodeError}
 use Rattle.code_server.specs.declared.error.CodeError.TheVariants.{OldInUse}
-use Rattle.process_commit.specs.Commits.{IsRunning, job_at}
+use Rattle.process_commit.specs.Commits.{job_at}
 use Rattle.process_ending.specs.Told.{killed}
 use Rattle.process_ending.specs.declared.told.Reply.{Reply}
-use Rattle.process_store.specs.Changes.{CanTurnAt}
 use Rattle.process_store.specs.Table.{Table, living}
-use Rattle.process_table.specs.Commit.{RefusesCommit, commit_told, committed, normal}
+use Rattle.process_table.specs.Commit.{CanCommit, RefusesCommit, commit_told, committed, normal}
 use Rattle.process_table.specs.Messages.{arrival_of, message_of}
 use Rattle.process_table.specs.Steps.{IsCodeOf, after_arrival, arrive_refusal, take_refusal, taken}
 use Rattle.process_table.specs.declared.body.Body.{Body}
 use Rattle.process_table.specs.declared.error.ProcError.{ProcError}
-use Rattle.process_table.specs.declared.error.ProcError.TheVariants as proc
 use Rattle.app_table.specs.Applications.{Application, all_ended, child_of, revived}
-use Rattle.sys_protocol.specs.Refusals.{RefusesRevive}
+use Rattle.sys_protocol.specs.Refusals.{IsDue, RefusesRevive}
 use Rattle.sys_protocol.specs.declared.error.SysError.{SysError}
-use Rattle.sys_protocol.specs.declared.error.SysError.TheVariants as sys
 use Rattle.undo_journal.specs.Reversible.{Accepted}
 use Rattle.node_core.specs.Node.{NodeState, with_modules, with_processes}
 use Rattle.node_core.specs.declared.event.Answer.{Answer}
@@ -79,8 +76,8 @@ ended_by pid (Value v) apps = all_ended normal (pid ∷ []) apps
 ended_by pid (Exit reason) apps = all_ended reason (pid ∷ []) apps
 
 abbrev pub Commits : Done → NodeState → Outcome → Type 0
-Commits done n (Err e) = (it : ProcError) × RefusesCommit it done.job n.processes × (it ≢ proc.Memory) × (e ≡ OfProcesses it)
-Commits done n (Ok a) = IsRunning done.job n.processes × CanTurnAt done.job.pid n.processes × (a ≡ record {
+Commits done n (Err e) = (it : ProcError) × RefusesCommit it done.job n.processes × (e ≡ OfProcesses it)
+Commits done n (Ok a) = CanCommit done.job n.processes × (a ≡ record {
   node = record {
     modules = n.modules;
     processes = committed done n.processes;
@@ -110,7 +107,7 @@ pub record IsRevived (app : List ℕ) (id : Term) (n : NodeState) (a : Accepted 
   pub is : a ≡ revived_as app id pid after told n
 
 abbrev pub Revives : List ℕ → Term → NodeState → Outcome → Type 0
-Revives app id n (Err e) = (it : SysError) × RefusesRevive it (current_code n.modules) app id n.apps n.processes × (it ≢ sys.Memory) × (e ≡ OfApps it)
+Revives app id n (Err e) = (it : SysError) × RefusesRevive it (current_code n.modules) app id n.apps n.processes × (e ≡ OfApps it)
 Revives app id n (Ok a) = IsRevived app id n a
 
 -- Load and purge: those who linger in what is purged are killed, and their children are due, or not.
@@ -171,8 +168,8 @@ Step n (SoftPurge name) r = r ≡ code_soft_purged name n
 abbrev pub MayRunOut : NodeState → Event → Type 0
 MayRunOut n (Arrive client name body) = arrive_refusal name body n.processes ≡ None
 MayRunOut n (Take pid) = take_refusal pid n.processes ≡ None
-MayRunOut n (Commit done) = IsRunning done.job n.processes × CanTurnAt done.job.pid n.processes
-MayRunOut n (Revive app id) = RefusesRevive sys.Memory (current_code n.modules) app id n.apps n.processes
+MayRunOut n (Commit done) = CanCommit done.job n.processes
+MayRunOut n (Revive app id) = IsDue app id n.apps
 MayRunOut n (Load m) = load_refusal m.name (purged m.name n.modules) ≡ None
 MayRunOut n (Delete name) = delete_refusal name n.modules ≡ None
 MayRunOut n (Purge name) = Unit {0}

@@ -23,8 +23,8 @@ use process_table::Processes;
 use reserved_box::{Boxed, Reserved};
 use std::alloc::{AllocError, Global};
 use sys_protocol::Apps;
-use undo_journal::{StepError, Stepped, Told};
-use values::Duplicate;
+use undo_journal::{Stepped, Told};
+use values::{Duplicate, Failure};
 
 /// What is told of a load or a purge, in `n` equal values.
 fn killing_told(
@@ -72,7 +72,7 @@ impl Node {
         ensures err { OnErr result (self.new ≡ self.old) }
     {
         if let Some(refusal) = self.modules.purge_and_load_refusal() {
-            return Err(StepError::Rule(Refusal::OfModules(refusal)));
+            return Err(Failure::Refused(Refusal::OfModules(refusal)));
         }
         let Ok(told) = killing_told(
             self.alloc,
@@ -82,13 +82,13 @@ impl Node {
             Answer::Unit,
             n,
         ) else {
-            return Err(StepError::Memory);
+            return Err(Failure::Memory);
         };
         let Ok(copy) = code.copy(self.alloc) else {
-            return Err(StepError::Memory);
+            return Err(Failure::Memory);
         };
         let Ok(room) = Reserved::new(self.alloc) else {
-            return Err(StepError::Memory);
+            return Err(Failure::Memory);
         };
         let Ok(ended) = end_lingering(
             &mut self.apps,
@@ -97,7 +97,7 @@ impl Node {
             &self.processes,
             code.name(),
         ) else {
-            return Err(StepError::Memory);
+            return Err(Failure::Memory);
         };
         match load(&mut self.modules, &mut self.processes, self.alloc, copy) {
             Ok(undo) => Ok(Stepped {
@@ -106,7 +106,7 @@ impl Node {
             }),
             Err(_) => {
                 unend(&mut self.apps, ended);
-                Err(StepError::Memory)
+                Err(Failure::Memory)
             }
         }
     }
@@ -121,10 +121,10 @@ impl Node {
         let killed = Answer::Killed(is_lingered_in(&self.modules, &self.processes, name));
         let Ok(told) = killing_told(self.alloc, &self.modules, &self.processes, name, killed, n)
         else {
-            return Err(StepError::Memory);
+            return Err(Failure::Memory);
         };
         let Ok(room) = Reserved::new(self.alloc) else {
-            return Err(StepError::Memory);
+            return Err(Failure::Memory);
         };
         let Ok(ended) = end_lingering(
             &mut self.apps,
@@ -133,7 +133,7 @@ impl Node {
             &self.processes,
             name,
         ) else {
-            return Err(StepError::Memory);
+            return Err(Failure::Memory);
         };
         match purge(&mut self.modules, &mut self.processes, name) {
             Ok(undo) => Ok(Stepped {
@@ -142,7 +142,7 @@ impl Node {
             }),
             Err(_) => {
                 unend(&mut self.apps, ended);
-                Err(StepError::Memory)
+                Err(Failure::Memory)
             }
         }
     }
@@ -163,13 +163,13 @@ impl Node {
         ensures err { OnErr result (self.new ≡ self.old) }
     {
         if let Some(refusal) = self.modules.delete_refusal(name) {
-            return Err(StepError::Rule(Refusal::OfModules(refusal)));
+            return Err(Failure::Refused(Refusal::OfModules(refusal)));
         }
         let Ok(told) = self.quiet(n) else {
-            return Err(StepError::Memory);
+            return Err(Failure::Memory);
         };
         let Ok(room) = Reserved::new(self.alloc) else {
-            return Err(StepError::Memory);
+            return Err(Failure::Memory);
         };
         let Ok(undo) = self.modules.delete(name) else {
             unreachable!();
@@ -188,13 +188,13 @@ impl Node {
         ensures err { OnErr result (self.new ≡ self.old) }
     {
         if is_lingered_in(&self.modules, &self.processes, name) {
-            return Err(StepError::Rule(Refusal::OfModules(CodeError::OldInUse)));
+            return Err(Failure::Refused(Refusal::OfModules(CodeError::OldInUse)));
         }
         let Ok(told) = self.quiet(n) else {
-            return Err(StepError::Memory);
+            return Err(Failure::Memory);
         };
         let Ok(room) = Reserved::new(self.alloc) else {
-            return Err(StepError::Memory);
+            return Err(Failure::Memory);
         };
         let Ok(undo) = soft_purge(&mut self.modules, &self.processes, name) else {
             unreachable!();

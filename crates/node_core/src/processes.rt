@@ -21,10 +21,11 @@ use process_table::{Body, ProcError};
 use reserved_box::{Boxed, Reserved};
 use std::alloc::{AllocError, Global};
 use sys_protocol::Apps;
-use undo_journal::{StepError, Stepped};
+use undo_journal::Stepped;
+use values::Failure;
 
 /// What one step of a node gives.
-pub(crate) type Step = Result<Stepped<Answer, Note, Record>, StepError<Refusal>>;
+pub(crate) type Step = Result<Stepped<Answer, Note, Record>, Failure<Refusal>>;
 
 /// The child, if any, whose process ends for a reason has none, and is due or not.
 fn end_one(
@@ -86,12 +87,12 @@ fn record_of(undo: process_table::Undo, ended: Option<Boxed<sys_protocol::Undo>>
 }
 
 /// Why a step isn't made: the refusal, or want of memory where there is none.
-fn error_of(refusal: Option<ProcError>) -> StepError<Refusal>
+fn error_of(refusal: Option<ProcError>) -> Failure<Refusal>
     ensures { result ≡ error_of refusal }
 {
     match refusal {
-        Some(why) => StepError::Rule(Refusal::OfProcesses(why)),
-        None => StepError::Memory,
+        Some(why) => Failure::Refused(Refusal::OfProcesses(why)),
+        None => Failure::Memory,
     }
 }
 
@@ -145,10 +146,10 @@ impl Node {
         ensures err { OnErr result (self.new ≡ self.old) }
     {
         let Ok(told) = room(self.alloc, n) else {
-            return Err(error_of(self.processes.commit_refusal(done)));
+            return Err(error_of(self.processes.commit_refusal(done.job())));
         };
         let Ok(ended) = end_child(&mut self.apps, self.alloc, done) else {
-            return Err(error_of(self.processes.commit_refusal(done)));
+            return Err(error_of(self.processes.commit_refusal(done.job())));
         };
         match self.processes.commit(done, n) {
             Ok((lists, undo)) => Ok(Stepped {
@@ -157,7 +158,7 @@ impl Node {
             }),
             Err(_) => {
                 unend(&mut self.apps, ended);
-                Err(error_of(self.processes.commit_refusal(done)))
+                Err(error_of(self.processes.commit_refusal(done.job())))
             }
         }
     }

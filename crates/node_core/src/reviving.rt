@@ -13,8 +13,8 @@ use crate::telling::{room, tell_revived};
 use code_loading::current_code;
 use erl_term::{Atom, Term};
 use reserved_box::Reserved;
-use sys_protocol::SysError;
-use undo_journal::{StepError, Stepped};
+use undo_journal::Stepped;
+use values::Failure;
 
 impl Node {
     /// A child that is due starts again.
@@ -25,16 +25,16 @@ impl Node {
         ensures err { OnErr result (self.new ≡ self.old) }
     {
         if let Some(refusal) = self.apps.revive_refusal(app, id) {
-            return Err(StepError::Rule(Refusal::OfApps(refusal)));
+            return Err(Failure::Refused(Refusal::OfApps(refusal)));
         }
         let Ok(code) = current_code(self.alloc, &self.modules) else {
-            return Err(StepError::Memory);
+            return Err(Failure::Memory);
         };
         let Ok(told) = room(self.alloc, n) else {
-            return Err(StepError::Memory);
+            return Err(Failure::Memory);
         };
         let Ok(memory) = Reserved::new(self.alloc) else {
-            return Err(StepError::Memory);
+            return Err(Failure::Memory);
         };
         match self
             .apps
@@ -44,8 +44,8 @@ impl Node {
                 told: tell_revived(told, revival.pid, revival.told),
                 trace: Record::OfChildren(revival.processes, memory.fill(revival.undo)),
             }),
-            Err(SysError::Memory) => Err(StepError::Memory),
-            Err(refusal) => Err(StepError::Rule(Refusal::OfApps(refusal))),
+            Err(Failure::Refused(refusal)) => Err(Failure::Refused(Refusal::OfApps(refusal))),
+            Err(Failure::Memory) => Err(Failure::Memory),
         }
     }
 }

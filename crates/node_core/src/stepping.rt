@@ -95,7 +95,7 @@ impl Reversible for Node {
                 self.processes.arrive_refusal(name, body),
             ),
             Event::Take(pid) => of_processes(self.processes.take_refusal(*pid)),
-            Event::Commit(done) => of_processes(self.processes.commit_refusal(done)),
+            Event::Commit(done) => of_processes(self.processes.commit_refusal(done.job())),
             Event::Revive { app, id } => of_apps(self.apps.revive_refusal(app, id)),
             Event::Load(_) => of_modules(self.modules.purge_and_load_refusal()),
             Event::Delete(name) => of_modules(self.modules.delete_refusal(name)),

@@ -14,7 +14,7 @@ use Rattle.process_ending.specs.declared.told.Reply.{Reply}
 use Rattle.process_store.specs.Changes.{CanTurnAt}
 use Rattle.process_store.specs.Table.{Table}
 use Rattle.process_table.specs.declared.error.ProcError.{ProcError}
-use Rattle.process_table.specs.declared.error.ProcError.TheVariants.{Stale, CounterEnd, Memory}
+use Rattle.process_table.specs.declared.error.ProcError.TheVariants.{Stale, CounterEnd}
 
 -- the reason of a process that has given a value
 abbrev pub normal : Term
@@ -40,15 +40,12 @@ told_by pid acts (Exit reason) t = exit_told pid reason acts t
 abbrev pub commit_told : Done → Table → List Reply
 commit_told done t = told_by done.job.pid done.outcome.acts done.outcome.end t
 
--- Why a commit is refused, in order: its process doesn't run the job, code included; or its turn is the last; or there is no memory.
+-- Why a commit is refused, in order: its process doesn't run the job, code included; or its turn is the last.
 abbrev pub RefusesCommit : ProcError → Job → Table → Type 0
 RefusesCommit Stale job t = IsRunning job t → ⊥
 RefusesCommit CounterEnd job t = IsRunning job t × (CanTurnAt job.pid t → ⊥)
-RefusesCommit Memory job t = IsRunning job t × CanTurnAt job.pid t
-RefusesCommit e job t = ⊥
+RefusesCommit why job t = ⊥
 
--- Whether this, or nothing, stands against a commit that there is memory for.
-abbrev pub IsCommitRefusal : Option ProcError → Job → Table → Type 0
-IsCommitRefusal None job t = IsRunning job t × CanTurnAt job.pid t
-IsCommitRefusal (Some Memory) job t = ⊥
-IsCommitRefusal (Some e) job t = RefusesCommit e job t
+-- nothing stands against a commit
+abbrev pub CanCommit : Job → Table → Type 0
+CanCommit job t = IsRunning job t × CanTurnAt job.pid t

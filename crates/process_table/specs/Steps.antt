@@ -19,16 +19,11 @@ use Rattle.process_index.specs.declared.calls.Call.{Call}
 use Rattle.process_table.specs.declared.body.Body.{Body}
 use Rattle.process_table.specs.declared.body.Body.TheVariants as body
 use Rattle.process_table.specs.declared.error.ProcError.{ProcError}
-use Rattle.process_table.specs.declared.error.ProcError.TheVariants.{NoProc, Suspended, Idle, Running, NotRunning, NameTaken, DuplicateCall, CounterEnd, Memory}
+use Rattle.process_table.specs.declared.error.ProcError.TheVariants.{NoProc, Suspended, Idle, Running, NotRunning, NameTaken, DuplicateCall, CounterEnd}
 use Rattle.process_store.specs.declared.living.Living.{Living}
 use Rattle.process_store.specs.Living.{arrived, run, takes_next}
 use Rattle.process_table.specs.Messages.{message_of}
 use Rattle.process_store.specs.Table.{Table, added, changed, is_open, is_taken, living, next_pid, pid_of}
-
--- The error of a step that has this refusal, or none: the refusal, or want of memory where there is none.
-abbrev pub Tells : ProcError → Option ProcError → Type 0
-Tells Memory refusal = refusal ≡ None
-Tells e refusal = refusal ≡ Some e
 
 -- Start: a process rests at a place, under the next pid, and under a name, if it is to have one.
 

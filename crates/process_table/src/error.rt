@@ -1,5 +1,4 @@
 // Why a step of a process is refused.
-use std::alloc::AllocError;
 
 /// Why a step of a process is refused. The table is then as it was.
 #[derive(Clone, Copy, Debug, Drop, PartialEq, Eq, thiserror::Error)]
@@ -31,18 +30,4 @@ pub enum ProcError {
     /// The next number is no number of 64 bits.
     #[error("there is no further number")]
     CounterEnd,
-    /// Memory is refused.
-    #[error("no memory")]
-    Memory,
-}
-
-impl From<AllocError> for ProcError {
-    ghost use Rattle.std.specs.Prelude.{◌≡◌};
-    ghost use Rattle.process_table.specs.declared.error.ProcError.TheVariants.{Memory};
-
-    ghost from_gives = { λ _ e. e ≡ Memory };
-
-    fn from(_: AllocError) -> ProcError {
-        ProcError::Memory
-    }
 }

@@ -23,7 +23,7 @@ use reserved_box::{Boxed, Reserved};
 use std::alloc::{AllocError, Global};
 use std::hash::RandomState;
 use std::marker::Model;
-use values::{Duplicate, Row};
+use values::{Duplicate, Failure, Row};
 
 /// The processes of a node.
 #[derive(Drop)]
@@ -46,8 +46,9 @@ impl Model for Processes {
 }
 
 impl Processes {
+    ghost use Rattle.values.specs.Failure.{Tells};
     ghost use Rattle.process_table.specs.Messages.{arrival_of, message_of};
-    ghost use Rattle.process_table.specs.Steps.{IsNextRunnable, Takes, Tells, after_arrival, arrive_refusal, is_repeated, is_runnable, missing, retake_refusal, start_refusal, take_refusal, with_process};
+    ghost use Rattle.process_table.specs.Steps.{IsNextRunnable, Takes, after_arrival, arrive_refusal, is_repeated, is_runnable, missing, retake_refusal, start_refusal, take_refusal, with_process};
     ghost use Rattle.process_store.specs.Table.{changed, empty_table, is_open, living, next_pid, pid_of};
     ghost use Rattle.process_commit.specs.Commits.{job_at};
     ghost use Rattle.process_store.specs.Changes.{resume_living, suspend_living};
@@ -130,17 +131,17 @@ impl Processes {
         name: Option<Atom>,
         place: Place,
         code: &[Instance],
-    ) -> Result<(u64, Undo), ProcError>
+    ) -> Result<(u64, Undo), Failure<ProcError>>
         ensures ok { OnOk result (start_refusal name self.old ≡ None) }
         ensures pid { IfOk result (λ it. it.0 ≡ next_pid self.old) }
         ensures started { OnOk result (self.new ≡ with_process name place code.now self.old) }
         ensures inverse { IfOk result (λ it. TakesBack it.1 self.old self.new) }
         ensures pieces { IfOk result (λ it. HoldsLost (held it.1 self.new) self.old self.new) }
-        ensures refused { IfErr result (λ e. Tells e (start_refusal name self.old)) }
+        ensures refused { IfErr result (λ failure. Tells failure (start_refusal name self.old)) }
         ensures err { OnErr result (self.new ≡ self.old) }
     {
         if let Some(refusal) = self.start_refusal(name.as_ref()) {
-            return Err(refusal);
+            return Err(Failure::Refused(refusal));
         }
         let rests_in = rests_in(self.alloc, &place, code)?;
         let pid = self.store.add(name, place, rests_in)?;
@@ -183,23 +184,23 @@ impl Processes {
         name: &Atom,
         body: &Body,
         n: usize,
-    ) -> Result<(Vec<(Atom, Term)>, Undo), ProcError>
+    ) -> Result<(Vec<(Atom, Term)>, Undo), Failure<ProcError>>
         ensures ok { OnOk result (arrive_refusal name.now body.now self.old ≡ None) }
         ensures arrived { OnOk result (self.new ≡ after_arrival client name.now body.now self.old) }
         ensures told { IfOk result (λ it. map Some it.0.items ≡ replicate n (arrival_of name.now (message_of body.now))) }
         ensures inverse { IfOk result (λ it. TakesBack it.1 self.old self.new) }
         ensures pieces { IfOk result (λ it. HoldsLost (held it.1 self.new) self.old self.new) }
-        ensures refused { IfErr result (λ e. Tells e (arrive_refusal name.now body.now self.old)) }
+        ensures refused { IfErr result (λ failure. Tells failure (arrive_refusal name.now body.now self.old)) }
         ensures err { OnErr result (self.new ≡ self.old) }
     {
         let Some(pid) = self.pid_of(name) else {
-            return Err(ProcError::NoProc);
+            return Err(Failure::Refused(ProcError::NoProc));
         };
         if self.is_repeated(body) {
-            return Err(ProcError::DuplicateCall);
+            return Err(Failure::Refused(ProcError::DuplicateCall));
         }
         let Some(message) = body.message(self.alloc)? else {
-            return Err(ProcError::CounterEnd);
+            return Err(Failure::Refused(ProcError::CounterEnd));
         };
         let arrival = (name.copy(self.alloc)?, message.copy(self.alloc)?);
         let arrivals = equal_values(self.alloc, arrival, n)?;
@@ -256,27 +257,27 @@ impl Processes {
         modules: &Modules<Module>,
         pid: u64,
         n: usize,
-    ) -> Result<(Vec<Job>, Undo), ProcError>
+    ) -> Result<(Vec<Job>, Undo), Failure<ProcError>>
         ensures ok { OnOk result (take_refusal pid self.old ≡ None) }
         ensures taken { IfOk result (λ it. Takes modules.now pid n it.0.items self.old self.new) }
         ensures inverse { IfOk result (λ it. TakesBack it.1 self.old self.new) }
         ensures pieces { IfOk result (λ it. HoldsLost (held it.1 self.new) self.old self.new) }
-        ensures refused { IfErr result (λ e. Tells e (take_refusal pid self.old)) }
+        ensures refused { IfErr result (λ failure. Tells failure (take_refusal pid self.old)) }
         ensures err { OnErr result (self.new ≡ self.old) }
     {
         let Some(living) = self.store.get(pid) else {
-            return Err(ProcError::NoProc);
+            return Err(Failure::Refused(ProcError::NoProc));
         };
         let position = match next_of(&living.process) {
             Ok(position) => position,
-            Err(refusal) => return Err(refusal),
+            Err(refusal) => return Err(Failure::Refused(refusal)),
         };
         let Ok(Some((job, code))) = job_for(self.alloc, modules, living, position) else {
-            return Err(ProcError::Memory);
+            return Err(Failure::Memory);
         };
         let entry_serial = job.entry_serial;
         let Ok(jobs) = equal_values(self.alloc, job, n) else {
-            return Err(ProcError::Memory);
+            return Err(Failure::Memory);
         };
         self.store.run(pid, position, entry_serial, code);
         Ok((jobs, Undo::Taken { pid, position }))
@@ -287,17 +288,17 @@ impl Processes {
     /// # Errors
     ///
     /// In this order: `NoProc` where no process has the pid, `NotRunning` where it runs nothing, `Memory`.
-    pub fn retake(&self, pid: u64) -> Result<Job, ProcError>
+    pub fn retake(&self, pid: u64) -> Result<Job, Failure<ProcError>>
         ensures job { IfOk result (λ job. job_at (living pid self.now) ≡ Some job) }
-        ensures refused { IfErr result (λ e. Tells e (retake_refusal pid self.now)) }
+        ensures refused { IfErr result (λ failure. Tells failure (retake_refusal pid self.now)) }
     {
         let Some(living) = self.get(pid) else {
-            return Err(ProcError::NoProc);
+            return Err(Failure::Refused(ProcError::NoProc));
         };
         match living.process.job(self.alloc) {
             Ok(Some(job)) => Ok(job),
-            Ok(None) => Err(ProcError::NotRunning),
-            Err(_) => Err(ProcError::Memory),
+            Ok(None) => Err(Failure::Refused(ProcError::NotRunning)),
+            Err(_) => Err(Failure::Memory),
         }
     }
 
@@ -374,16 +375,16 @@ impl Processes {
     /// # Errors
     ///
     /// In this order: `NoProc` where no process has the pid, `Memory`. The table is then as it was.
-    pub fn end(&mut self, pid: u64) -> Result<Undo, ProcError>
+    pub fn end(&mut self, pid: u64) -> Result<Undo, Failure<ProcError>>
         ensures ended { OnOk result (self.new ≡ vacated pid self.old) }
         ensures inverse { IfOk result (λ undo. TakesBackEnds undo self.old self.new) }
         ensures pieces { IfOk result (λ undo. HoldsLost (held undo self.new) self.old self.new) }
         ensures ok { OnOk result (missing pid self.old ≡ None) }
-        ensures refused { IfErr result (λ e. Tells e (missing pid self.old)) }
+        ensures refused { IfErr result (λ failure. Tells failure (missing pid self.old)) }
         ensures err { OnErr result (self.new ≡ self.old) }
     {
         if self.store.get(pid).is_none() {
-            return Err(ProcError::NoProc);
+            return Err(Failure::Refused(ProcError::NoProc));
         }
         let room = Reserved::new(self.alloc)?;
         let ended = end(&mut self.store, self.alloc, pid)?;

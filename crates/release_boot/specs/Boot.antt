@@ -20,7 +20,9 @@ use Rattle.release_table.specs.declared.table.Release.{Release}
 use Rattle.release_words.specs.declared.start_type.StartType.{StartType}
 use Rattle.release_words.specs.declared.start_type.StartType.TheVariants as start
 use Rattle.app_table.specs.Applications.{Application, loaded as app_loaded, started}
-use Rattle.sys_protocol.specs.Refusals.{HasFailedChild, HasNoSupervision, Runs, module_of, start_fault}
+use Rattle.sys_protocol.specs.Refusals.{RefusesStart, Runs, module_of, start_refusal}
+use Rattle.app_starts.specs.declared.error.AppError.{AppError}
+use Rattle.app_starts.specs.declared.error.AppError.TheVariants.{NotLoaded, AlreadyStarted, BadInit, StartFailed}
 use Rattle.release_boot.specs.declared.error.BootError.{BootError}
 use Rattle.release_boot.specs.declared.error.BootError.TheVariants.{NotStarted, Memory}
 
@@ -62,7 +64,7 @@ to_start apps = map (λ app. app.name) (filter (λ app. is_started_as app.start_
 
 -- One starts: it has children, which run. Nobody is told anything, for no call is open.
 pub record Starts (code : List Instance) (name : List ℕ) (apps : List Application) (t : Table) (apps_after : List Application) (after : Table) : Type 0 where
-  pub faultless : start_fault name apps ≡ None
+  pub unrefused : start_refusal name apps ≡ None
   pub children : List Child
   pub told : List Reply
   pub runs : Runs code (module_of name apps) t children after told
@@ -74,15 +76,22 @@ AllStart code [] apps t apps_after after = (apps_after ≡ apps) × (after ≡ t
 AllStart code (name ∷ names) apps t apps_after after =
     (apps_next : List Application) × (next : Table) × Starts code name apps t apps_next next × AllStart code names apps_next next apps_after after
 
--- Why one doesn't: it is started already, its `init` gives no supervision, or a child fails to start.
+-- Why one doesn't: it is not loaded, or started already, its `init` gives no supervision, or a child fails to start.
 
 abbrev pub start_failed : Term → Term → Term
 start_failed child reason = term.Tuple (more (atom (codes "start_failed")) (more (tree child) (more (tree reason) none)))
 
+abbrev pub of_word : List ℕ → List ℕ → Term
+of_word word name = term.Tuple (more (atom word) (more (atom name) none))
+
+abbrev pub reason_of : List ℕ → AppError → Term
+reason_of name NotLoaded = of_word (codes "not_loaded") name
+reason_of name AlreadyStarted = of_word (codes "already_started") name
+reason_of name (BadInit reason) = reason
+reason_of name (StartFailed failed) = start_failed failed.child failed.reason
+
 abbrev pub DoesNotStart : List Instance → List ℕ → List Application → Table → Term → Type 0
-DoesNotStart code name apps t reason = (start_fault name apps ≡ Some reason) ⊎ ((start_fault name apps ≡ None) ×
-    (HasNoSupervision code (module_of name apps) t reason ⊎
-    ((child cause : Term) × HasFailedChild code (module_of name apps) t child cause × (reason ≡ start_failed child cause))))
+DoesNotStart code name apps t reason = (e : AppError) × RefusesStart e code name apps t × (reason ≡ reason_of name e)
 
 -- The first that doesn't, and why.
 abbrev pub FirstFails : List Instance → List (List ℕ) → List Application → Table → List ℕ → Term → Type 0

@@ -1,7 +1,8 @@
 // A release boots.
-ghost use Rattle.std.specs.Prelude.{◌≡◌, ◌⊎◌, ◌∷◌, [], IfErr, IfOk, OnOk};
+ghost use Rattle.std.specs.Prelude.{◌≡◌, ◌⊎◌, ◌∷◌, [], IfErr, IfOk, IsTrue, OnOk, length, ◌≤◌};
 ghost use Rattle.code_server.specs.Modules.{loaded, purged};
-ghost use Rattle.release_boot.specs.Boot.{AllStart, BootFails, Boots, Fails, FailsFor, Starts, all_loaded, is_started_as, modules_of, start_failed, to_start};
+ghost use Rattle.erl_term.specs.Ascii.{is_ascii_text};
+ghost use Rattle.release_boot.specs.Boot.{AllStart, BootFails, Boots, Fails, FailsFor, Starts, all_loaded, is_started_as, modules_of, of_word, reason_of, start_failed, to_start};
 
 use crate::error::BootError;
 use crate::specs_of::specs_of;
@@ -15,8 +16,8 @@ use process_table::Processes;
 use release_table::{AppFiles, Release};
 use std::alloc::{AllocError, Global};
 use std::hash::RandomState;
-use sys_protocol::{Apps, SysError};
-use values::Duplicate;
+use sys_protocol::{AppError, Apps, StartFailed};
+use values::{Duplicate, Failure};
 
 /// What a release has booted.
 #[derive(Drop)]
@@ -89,6 +90,30 @@ fn start_failed(alloc: Global, child: Term, reason: Term) -> Result<Term, AllocE
     Ok(Term::Tuple(Terms::new(alloc, parts)?))
 }
 
+/// `{Word,App}`
+fn of_word(alloc: Global, word: &str, app: &Atom) -> Result<Term, AllocError>
+    requires ascii { IsTrue (is_ascii_text word.now) }
+    requires short { length word.now ≤ 255 }
+    ensures { IfOk result (λ it. it ≡ of_word word.now app.now) }
+{
+    let mut parts = Vec::with_capacity(alloc, 2)?;
+    parts.push(Term::Atom(Atom::word(alloc, word)?))?;
+    parts.push(Term::Atom(app.copy(alloc)?))?;
+    Ok(Term::Tuple(Terms::new(alloc, parts)?))
+}
+
+/// The reason that is told of an application that doesn't start.
+fn reason_of(alloc: Global, app: &Atom, refusal: AppError) -> Result<Term, AllocError>
+    ensures { IfOk result (λ it. it ≡ reason_of app.now refusal) }
+{
+    match refusal {
+        AppError::NotLoaded => of_word(alloc, "not_loaded", app),
+        AppError::AlreadyStarted => of_word(alloc, "already_started", app),
+        AppError::BadInit(reason) => Ok(reason),
+        AppError::StartFailed(StartFailed { child, reason }) => start_failed(alloc, child, reason),
+    }
+}
+
 /// That an application doesn't start, and why.
 fn not_started(alloc: Global, app: &Atom, reason: Term) -> Result<(), BootError>
     ensures failed { IfErr result (λ e. (e ≡ BootError.Memory) ⊎ (e ≡ BootError.NotStarted app.now reason)) }
@@ -113,13 +138,11 @@ fn start_app(
 {
     match apps.start_app(processes, code, name, 0) {
         Ok(_) => Ok(()),
-        Err(SysError::AppFailed(reason)) => not_started(alloc, name, reason),
-        Err(SysError::StartFailed { child, reason }) => {
-            let reason = start_failed(alloc, child, reason)?;
+        Err(Failure::Refused(refusal)) => {
+            let reason = reason_of(alloc, name, refusal)?;
             not_started(alloc, name, reason)
         }
-        Err(SysError::Memory) => Err(BootError::Memory),
-        Err(SysError::NoChild | SysError::NotDue) => unreachable!(),
+        Err(Failure::Memory) => Err(BootError::Memory),
     }
 }
 

@@ -22,7 +22,6 @@ use Rattle.erl_term.specs.declared.term.Term.{Term}
 use Rattle.erl_eval.specs.declared.acts.Place.TheVariants.{Loop}
 use Rattle.shell_answers.specs.Answers.{activity_of, apps_of, arrival_of, arrivals_of, committed, line_of, listed, loaded, modules_of, process_of, replied_by, replies_in, replies_of, rows_of, stopped_undo, undone_steps, mark_at, called, job_of, pair, place_of, revived, told_as, triple}
 use Rattle.shell_answers.specs.Faults.{fault_of, kind_word, placed, source_fault, start_failed, term_fault}
-use Rattle.shell_answers.specs.Refusals.{app_failed}
 use Rattle.shell_answers.proofs.Pieces.{AreTuples, AreTuples-append, bytes, list-alone, list-bytes, pid-pieces, tuple-alone, tuple-bytes}
 
 -- Tuples of two and of three
@@ -200,11 +199,6 @@ stopped-line mark report =
     let arrivals = list (arrivals_of report.notes) in
     let inner = more (int (pos mark)) (more (int (pos report.cut)) (more replies (more arrivals none))) in
     ap (λ l. codes "{error,{memory," ++ (bytes (int (pos mark)) ++ 44 ∷ l)) (regrouped (bytes (int (pos report.cut))) (bytes replies) (bytes arrivals) (codes "}}\n")) ∙ sym (tuple-bytes (atom (codes "error")) (more (tuple (more (atom (codes "memory")) inner)) none) (10 ∷ []) ∙ ap (λ l. codes "{error," ++ l) (tuple-bytes (atom (codes "memory")) inner (125 ∷ 10 ∷ [])))
-
-pub app_failed-line : (reason : Term) → codes "{error,{app_failed," ++ (bytes (tree reason) ++ codes "}}\n") ≡ line_of (app_failed reason)
-unfolding utf8 is_quoted_word encode
-app_failed-line reason =
-    sym (tuple-bytes (atom (codes "error")) (more (pair (atom (codes "app_failed")) (tree reason)) none) (10 ∷ []) ∙ ap (λ l. codes "{error," ++ l) (tuple-bytes (atom (codes "app_failed")) (more (tree reason) none) (125 ∷ 10 ∷ [])))
 
 -- Words
 

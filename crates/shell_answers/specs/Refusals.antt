@@ -1,8 +1,5 @@
 -- Refusals of events, as they are answered: `false` where OTP's code server answers so, else `{error,Name}`, or with what is told.
-use Rattle.std.specs.Prelude.{codes}
-use Rattle.erl_term.specs.Term.{tree}
-use Rattle.erl_term.specs.Tree.{Tree, atom}
-use Rattle.erl_term.specs.declared.term.Term.{Term}
+use Rattle.erl_term.specs.Tree.{Tree}
 use Rattle.code_server.specs.declared.error.CodeError.{CodeError}
 use Rattle.code_server.specs.declared.error.CodeError.TheVariants as code
 use Rattle.process_table.specs.declared.error.ProcError.{ProcError}
@@ -11,7 +8,7 @@ use Rattle.sys_protocol.specs.declared.error.SysError.{SysError}
 use Rattle.sys_protocol.specs.declared.error.SysError.TheVariants as sys
 use Rattle.node_core.specs.declared.event.Refusal.{Refusal}
 use Rattle.node_core.specs.declared.event.Refusal.TheVariants.{OfProcesses, OfModules, OfApps}
-use Rattle.shell_answers.specs.Answers.{fixed, pair}
+use Rattle.shell_answers.specs.Answers.{fixed}
 use Rattle.shell_answers.specs.Faults.{start_failed}
 use Rattle.shell_answers.specs.declared.fixed.Fixed.{Fixed}
 use Rattle.shell_answers.specs.declared.fixed.Fixed.TheVariants as it
@@ -26,25 +23,17 @@ proc_refusal proc.Stale = it.Stale
 proc_refusal proc.NameTaken = it.NameTaken
 proc_refusal proc.DuplicateCall = it.DuplicateCall
 proc_refusal proc.CounterEnd = it.CounterAtEnd
-proc_refusal proc.Memory = it.Memory
 
 abbrev pub code_refusal : CodeError → Fixed
 code_refusal code.NotLoaded = it.False
 code_refusal code.NotPurged = it.False
 code_refusal code.OldInUse = it.False
 code_refusal code.CounterEnd = it.CounterAtEnd
-code_refusal code.Memory = it.Memory
-
--- `{error,{app_failed,Reason}}`
-abbrev pub app_failed : Term → Tree
-app_failed reason = pair (atom (codes "error")) (pair (atom (codes "app_failed")) (tree reason))
 
 abbrev pub app_refusal : SysError → Tree
-app_refusal (sys.StartFailed child reason) = start_failed child reason
+app_refusal (sys.StartFailed failed) = start_failed failed.child failed.reason
 app_refusal sys.NoChild = fixed it.NoChild
 app_refusal sys.NotDue = fixed it.NotDue
-app_refusal (sys.AppFailed reason) = app_failed reason
-app_refusal sys.Memory = fixed it.Memory
 
 abbrev pub refusal_of : Refusal → Tree
 refusal_of (OfProcesses why) = fixed (proc_refusal why)

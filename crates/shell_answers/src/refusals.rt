@@ -1,13 +1,11 @@
 // Refusals, as answers.
 ghost use Rattle.std.specs.Prelude.{◌≡◌, ◌++◌, OnOk};
 ghost use Rattle.shell_answers.specs.Answers.{line_of};
-ghost use Rattle.shell_answers.specs.Refusals.{app_failed, app_refusal, code_refusal, proc_refusal, refusal_of};
+ghost use Rattle.shell_answers.specs.Refusals.{app_refusal, code_refusal, proc_refusal, refusal_of};
 
-use crate::bytes::put;
 use crate::faults::write_start_failed;
 use crate::fixed::Fixed;
 use code_server::CodeError;
-use erl_term::{Term, print};
 use node_core::Refusal;
 use process_table::ProcError;
 use std::alloc::AllocError;
@@ -27,7 +25,6 @@ pub fn proc_refusal(why: ProcError) -> Fixed
         ProcError::NameTaken => Fixed::NameTaken,
         ProcError::DuplicateCall => Fixed::DuplicateCall,
         ProcError::CounterEnd => Fixed::CounterAtEnd,
-        ProcError::Memory => Fixed::Memory,
     }
 }
 
@@ -38,17 +35,7 @@ pub fn code_refusal(why: CodeError) -> Fixed
     match why {
         CodeError::NotLoaded | CodeError::NotPurged | CodeError::OldInUse => Fixed::False,
         CodeError::CounterEnd => Fixed::CounterAtEnd,
-        CodeError::Memory => Fixed::Memory,
     }
-}
-
-/// Appends `{error,{app_failed,Reason}}`.
-fn write_app_failed(reason: &Term, out: &mut Vec<u8>) -> Result<(), AllocError>
-    ensures { OnOk result (out.new.items ≡ out.old.items ++ line_of (app_failed reason.now)) }
-{
-    put(b"{error,{app_failed,", out)?;
-    print(reason, out)?;
-    put(b"}}\n", out)
 }
 
 /// Appends what a refusal of the applications answers.
@@ -56,11 +43,9 @@ fn write_app_refusal(why: &SysError, out: &mut Vec<u8>) -> Result<(), AllocError
     ensures { OnOk result (out.new.items ≡ out.old.items ++ line_of (app_refusal why.now)) }
 {
     match why {
-        SysError::StartFailed { child, reason } => write_start_failed(child, reason, out),
+        SysError::StartFailed(failed) => write_start_failed(&failed.child, &failed.reason, out),
         SysError::NoChild => Fixed::NoChild.write(out),
         SysError::NotDue => Fixed::NotDue.write(out),
-        SysError::AppFailed(reason) => write_app_failed(reason, out),
-        SysError::Memory => Fixed::Memory.write(out),
     }
 }
 

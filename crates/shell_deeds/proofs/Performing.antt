@@ -13,11 +13,12 @@ use Rattle.process_store.specs.Table.{Table, is_open, living}
 use Rattle.process_table.specs.Messages.{call_message}
 use Rattle.process_table.specs.declared.body.Body.TheVariants as body
 use Rattle.process_store.specs.declared.living.Living.{Living}
-use Rattle.process_table.specs.Steps.{Tells, call_refusal, retake_refusal, retake_refusal_of}
+use Rattle.process_table.specs.Steps.{call_refusal, retake_refusal, retake_refusal_of}
 use Rattle.process_table.specs.declared.error.ProcError.{ProcError}
 use Rattle.process_table.specs.declared.error.ProcError.TheVariants as proc
 use Rattle.shell_answers.specs.Answers.{fixed, job_of, line_of}
 use Rattle.shell_answers.specs.Refusals.{proc_refusal}
+use Rattle.shell_answers.specs.declared.fixed.Fixed.TheVariants as words
 use Rattle.node_core.specs.Node.{NodeState}
 use Rattle.node_core.specs.declared.event.Answer.{Answer}
 use Rattle.node_core.specs.declared.event.Answer.TheVariants as tells
@@ -29,7 +30,7 @@ use Rattle.node_core.specs.declared.event.Refusal.{Refusal}
 use Rattle.node_core.specs.declared.event.Refusal.TheVariants.{OfModules}
 use Rattle.shell_requests.specs.declared.request.Arrival.{Arrival}
 use Rattle.shell_deeds.specs.Deeds.{Commits, Misses, Performs, Retakes, no_memory_to_read, no_memory_to_run, not_run, not_run_full, unread_full, unread_refused, accepted, full, kept_again, no_memory, no_memory_to_keep, not_running, refused, took, tried}
-use Rattle.shell_deeds.specs.Done.{IsDone, IsKept, after_missed, proc_fate}
+use Rattle.shell_deeds.specs.Done.{IsDone, IsKept, after_missed}
 use Rattle.shell_deeds.specs.Halts.{Halts, HaltsBy, MayAllRunOut, MayCommit, RefusesAll, RefusesResult, halt_answer, halt_by, halt_fate, missed_fate, refusal_of_call}
 use Rattle.undo_journal.specs.declared.history.Command.TheVariants.{Perform}
 use Rattle.shell_deeds.specs.State.{Deed, IsFull, ShellState, node_of, stepped, with_job}
@@ -78,20 +79,14 @@ again_kept s new pid job (Some fates.Unread) text appended runs told = absurd to
 again_kept s new pid job (Some (fates.StoppedAt mark)) text appended runs told = absurd told
 
 -- and it is told why there is none
-retold : (s : ShellState) (pid : ℕ) (why : ProcError) (text appended : List ℕ) → retake_refusal pid (node_of s).processes ≡ Some why → appended ≡ text ++ line_of (fixed (proc_refusal why)) → IsDone (Retakes s pid None) s text appended
-retold s pid why text appended refuses told = (_, not_running why refuses, refl, told)
 
-pub untaken_again : (s : ShellState) (pid : ℕ) (why : ProcError) (fate : Option Fate) (text appended : List ℕ) → Tells why (retake_refusal pid (node_of s).processes) → (fate ≡ proc_fate why) × (appended ≡ text ++ line_of (fixed (proc_refusal why))) → IsDone (Retakes s pid fate) s text appended
-untaken_again s pid proc.NoProc fate text appended tells told = subst (λ f. IsDone (Retakes s pid f) s text appended) (sym told.0) (retold s pid proc.NoProc text appended tells told.1)
-untaken_again s pid proc.Suspended fate text appended tells told = subst (λ f. IsDone (Retakes s pid f) s text appended) (sym told.0) (retold s pid proc.Suspended text appended tells told.1)
-untaken_again s pid proc.Idle fate text appended tells told = subst (λ f. IsDone (Retakes s pid f) s text appended) (sym told.0) (retold s pid proc.Idle text appended tells told.1)
-untaken_again s pid proc.Running fate text appended tells told = subst (λ f. IsDone (Retakes s pid f) s text appended) (sym told.0) (retold s pid proc.Running text appended tells told.1)
-untaken_again s pid proc.NotRunning fate text appended tells told = subst (λ f. IsDone (Retakes s pid f) s text appended) (sym told.0) (retold s pid proc.NotRunning text appended tells told.1)
-untaken_again s pid proc.Stale fate text appended tells told = subst (λ f. IsDone (Retakes s pid f) s text appended) (sym told.0) (retold s pid proc.Stale text appended tells told.1)
-untaken_again s pid proc.NameTaken fate text appended tells told = subst (λ f. IsDone (Retakes s pid f) s text appended) (sym told.0) (retold s pid proc.NameTaken text appended tells told.1)
-untaken_again s pid proc.DuplicateCall fate text appended tells told = subst (λ f. IsDone (Retakes s pid f) s text appended) (sym told.0) (retold s pid proc.DuplicateCall text appended tells told.1)
-untaken_again s pid proc.CounterEnd fate text appended tells told = subst (λ f. IsDone (Retakes s pid f) s text appended) (sym told.0) (retold s pid proc.CounterEnd text appended tells told.1)
-untaken_again s pid proc.Memory fate text appended tells told = subst (λ f. IsDone (Retakes s pid f) s text appended) (sym told.0) (_, no_memory_to_keep tells, refl, told.1)
+pub retold : (s : ShellState) (pid : ℕ) (why : ProcError) (fate : Option Fate) (text appended : List ℕ) → retake_refusal pid (node_of s).processes ≡ Some why → (fate ≡ None) × (appended ≡ text ++ line_of (fixed (proc_refusal why))) → IsDone (Retakes s pid fate) s text appended
+retold s pid why fate text appended refuses told =
+    subst (λ f. IsDone (Retakes s pid f) s text appended) (sym told.0) (_, not_running why refuses, refl, told.1)
+
+pub not_kept : (s : ShellState) (pid : ℕ) (fate : Option Fate) (text appended : List ℕ) → retake_refusal pid (node_of s).processes ≡ None → (fate ≡ Some fates.Refused) × (appended ≡ text ++ line_of (fixed words.Memory)) → IsDone (Retakes s pid fate) s text appended
+not_kept s pid fate text appended none told =
+    subst (λ f. IsDone (Retakes s pid f) s text appended) (sym told.0) (_, no_memory_to_keep none, refl, told.1)
 
 -- an event that the journal refuses is not performed
 pub failed : {X : Type 0} (s : ShellState) (e : Event) (r : Result X (JournalError Refusal Note)) (why : JournalError Refusal Note) → r ≡ Err why → (IsFull s → r ≡ Err error.SerialEnd) → PerformFails (Step (node_of s) e) (MayRunOut (node_of s) e) s.timeline why → Halts (halt_by why) s e

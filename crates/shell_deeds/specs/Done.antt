@@ -14,8 +14,6 @@ use Rattle.erl_term.specs.Tree.{Tree}
 use Rattle.erl_term.specs.declared.term.Term.{Term}
 use Rattle.app_table.specs.Applications.{has_id}
 use Rattle.app_table.specs.declared.child.Child.{Child}
-use Rattle.process_table.specs.declared.error.ProcError.{ProcError}
-use Rattle.process_table.specs.declared.error.ProcError.TheVariants as proc
 use Rattle.undo_journal.specs.declared.report.Report.{Report}
 use Rattle.undo_journal.specs.declared.error.JournalError.{JournalError}
 use Rattle.undo_journal.specs.declared.error.JournalError.TheVariants as error
@@ -78,19 +76,6 @@ IsKept pid job None old new text appended =
 IsKept pid job (Some fates.Refused) old new text appended = (new ≡ old) × (appended ≡ text ++ line_of (fixed words.Memory))
 IsKept pid job (Some fates.Unread) old new text appended = ⊥
 IsKept pid job (Some (fates.StoppedAt mark)) old new text appended = ⊥
-
--- what becomes of a job that isn't taken again
-abbrev pub proc_fate : ProcError → Option Fate
-proc_fate proc.NoProc = None
-proc_fate proc.Suspended = None
-proc_fate proc.Idle = None
-proc_fate proc.Running = None
-proc_fate proc.NotRunning = None
-proc_fate proc.Stale = None
-proc_fate proc.NameTaken = None
-proc_fate proc.DuplicateCall = None
-proc_fate proc.CounterEnd = None
-proc_fate proc.Memory = Some fates.Refused
 
 -- A term was read, or it is told why none was. Where memory was refused nothing is said of the text.
 

@@ -1,11 +1,9 @@
 -- Why something isn't done that the node is asked for, and what is told of it.
-use Rattle.std.specs.Prelude.{◌≡◌, ◌≢◌, ◌^◌, nat_lt, if◌then◌else◌, ℕ, List, Option, None, Some, Err}
+use Rattle.std.specs.Prelude.{◌≡◌, ◌^◌, nat_lt, if◌then◌else◌, ℕ, List, Option, None, Some, Err}
 use Rattle.erl_machine.specs.declared.jobs.Job.{Job}
 use Rattle.erl_term.specs.Tree.{Tree}
-use Rattle.process_commit.specs.Commits.{IsRunning}
-use Rattle.process_store.specs.Changes.{CanTurnAt}
 use Rattle.process_store.specs.Table.{Table, is_open}
-use Rattle.process_table.specs.Commit.{RefusesCommit}
+use Rattle.process_table.specs.Commit.{CanCommit, RefusesCommit}
 use Rattle.process_table.specs.declared.error.ProcError.{ProcError}
 use Rattle.process_table.specs.declared.error.ProcError.TheVariants as proc
 use Rattle.code_server.specs.Modules.{delete_refusal}
@@ -56,10 +54,10 @@ MayAllRunOut {X} s e = (x : X) → MayRunOut (node_of s) (e x)
 -- of the result of a job, whatever it gives
 abbrev pub RefusesResult : ShellState → Job → Refusal → Type 0
 RefusesResult s job why =
-    (it : ProcError) × RefusesCommit it job (node_of s).processes × (it ≢ proc.Memory) × (why ≡ OfProcesses it)
+    (it : ProcError) × RefusesCommit it job (node_of s).processes × (why ≡ OfProcesses it)
 
 abbrev pub MayCommit : ShellState → Job → Type 0
-MayCommit s job = IsRunning job (node_of s).processes × CanTurnAt job.pid (node_of s).processes
+MayCommit s job = CanCommit job (node_of s).processes
 
 -- why a change of a module is refused
 abbrev pub refusal_of_change : Change → List ℕ → NodeState → Option CodeError

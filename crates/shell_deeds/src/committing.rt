@@ -13,7 +13,6 @@ use crate::telling::{Said, say, tell_halt};
 use erl_machine::{Done, Job};
 use node_core::{Answer, Event, Note, Refusal};
 use process_ending::Reply;
-use process_table::ProcError;
 use shell_answers::{Fixed, write_committed};
 use std::alloc::Global;
 use undo_journal::Told;
@@ -59,14 +58,9 @@ impl Holdings {
         if self.is_full() {
             return Halt::Full;
         }
-        match self.processes().get(job.pid) {
-            Some(living) if living.process.runs(job) => {
-                if living.process.turn() == u64::MAX {
-                    return Halt::Refused(Refusal::OfProcesses(ProcError::CounterEnd));
-                }
-                Halt::Memory
-            }
-            _ => Halt::Refused(Refusal::OfProcesses(ProcError::Stale)),
+        match self.processes().commit_refusal(job) {
+            Some(why) => Halt::Refused(Refusal::OfProcesses(why)),
+            None => Halt::Memory,
         }
     }
 }

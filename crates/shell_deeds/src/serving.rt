@@ -4,9 +4,8 @@ ghost use Rattle.erl_machine.specs.declared.jobs.Job.{Job};
 ghost use Rattle.node_core.specs.declared.event.Answer.TheVariants as tells;
 ghost use Rattle.node_core.specs.declared.event.Event.TheVariants as event;
 ghost use Rattle.shell_deeds.specs.Deeds.{ServesAs};
-ghost use Rattle.shell_answers.specs.Answers.{fixed, job_of, line_of};
-ghost use Rattle.shell_answers.specs.Refusals.{proc_refusal};
-ghost use Rattle.shell_deeds.specs.Done.{IsDone, IsKept, proc_fate};
+ghost use Rattle.shell_answers.specs.Answers.{job_of, line_of};
+ghost use Rattle.shell_deeds.specs.Done.{IsDone, IsKept};
 ghost use Rattle.shell_requests.specs.declared.request.Service.TheVariants.{Retake, Show, Take};
 
 use crate::holdings::Holdings;
@@ -14,8 +13,8 @@ use crate::stepping::{halt_of, send_told, step};
 use crate::telling::{Said, refuse, say, tell_halt};
 use erl_machine::Job;
 use node_core::{Answer, Event};
-use process_table::ProcError;
 use shell_answers::{Fixed, proc_refusal, write_job, write_process};
+use values::Failure;
 
 impl Holdings {
     /// Takes the next message of a process, and keeps the job.
@@ -40,7 +39,8 @@ impl Holdings {
     {
         match self.processes().retake(pid) {
             Ok(job) => self.keep_again(pid, job, out),
-            Err(why) => tell_refused(why, out),
+            Err(Failure::Refused(why)) => say(proc_refusal(why), out),
+            Err(Failure::Memory) => refuse(out),
         }
     }
 
@@ -91,14 +91,4 @@ fn tell_taken(jobs: &mut Vec<Job>, pid: u64, answer: Answer, out: &mut Vec<u8>) 
     keep_told(jobs, answer);
     write_job(place, pid, out)?;
     Ok(None)
-}
-
-/// Tells why a job isn't taken again.
-fn tell_refused(why: ProcError, out: &mut Vec<u8>) -> Said
-    ensures { IfOk result (λ fate. (fate ≡ proc_fate why) × (out.new.items ≡ out.old.items ++ line_of (fixed (proc_refusal why)))) }
-{
-    match why {
-        ProcError::Memory => refuse(out),
-        _ => say(proc_refusal(why), out),
-    }
 }

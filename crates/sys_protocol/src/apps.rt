@@ -5,24 +5,25 @@ ghost use Rattle.app_table.specs.Applications.{all_ended, child_of, loaded, plac
 ghost use Rattle.app_table.specs.Children.{is_due};
 ghost use Rattle.app_table.specs.Undo.{undone};
 ghost use Rattle.app_table.specs.declared.child.Child.{Child as OneChild};
-ghost use Rattle.erl_term.specs.Ascii.{is_ascii_text};
+ghost use Rattle.values.specs.Failure.{Fails};
 ghost use Rattle.child_starts.specs.Children.{Restarts};
 ghost use Rattle.process_ending.specs.declared.told.Reply.{Reply as Told};
 ghost use Rattle.process_table.specs.Undo.{TakesBack};
-ghost use Rattle.sys_protocol.specs.Refusals.{IsDue, IsFault, IsNotDue, RefusesRevive, RefusesStart, Runs, StartsBack, fault, module_of, start_fault};
+ghost use Rattle.sys_protocol.specs.Refusals.{IsDue, IsNotDue, RefusesRevive, RefusesStart, Runs, StartsBack, module_of, start_refusal};
 
 use crate::error::SysError;
 use crate::running::{Running, run};
+use app_starts::AppError;
 use app_table::{App, AppTable, Undo};
 use child_starts::{Restarted, restart_child};
 use erl_machine::Instance;
-use erl_term::{Atom, Term, Terms};
+use erl_term::{Atom, Term};
 use otp_files::AppSpec;
 use process_ending::Reply;
 use process_table::Processes;
 use std::alloc::{AllocError, Global};
 use std::marker::Model;
-use values::{Duplicate, Row};
+use values::{Failure, Row};
 
 /// The applications of a node, in order, each with its specification and the children of its supervisor.
 #[derive(Drop)]
@@ -68,25 +69,6 @@ pub struct Revival {
     pub undo: Undo,
 }
 
-/// `{Word,App}`
-fn fault(alloc: Global, word: Atom, app: &Atom) -> Result<Term, AllocError>
-    ensures { IfOk result (λ it. it ≡ fault word app.now) }
-{
-    let mut parts = Vec::with_capacity(alloc, 2)?;
-    parts.push(Term::Atom(word))?;
-    parts.push(Term::Atom(app.copy(alloc)?))?;
-    Ok(Term::Tuple(Terms::new(alloc, parts)?))
-}
-
-/// That an application can't be started, for a word.
-fn cant_start(alloc: Global, word: &str, name: &Atom) -> Result<Term, AllocError>
-    requires ascii { IsTrue (is_ascii_text word.now) }
-    requires short { length word.now ≤ 255 }
-    ensures { IfOk result (λ it. it ≡ fault word.now name.now) }
-{
-    fault(alloc, Atom::word(alloc, word)?, name)
-}
-
 impl Apps {
     /// Applications of these specifications, none of them started.
     ///
@@ -121,19 +103,17 @@ impl Apps {
         self.table.app(place)
     }
 
-    /// The place of an application that can be started.
-    fn place_to_start(&self, name: &Atom) -> Result<usize, SysError>
+    /// The place of an application that can be started, or why it can't, whatever its start would come to. Takes no memory.
+    fn place_to_start(&self, name: &Atom) -> Result<usize, AppError>
         ensures place { IfOk result (λ place. place_of name.now self.now ≡ Some place) }
-        ensures ok { OnOk result (start_fault name.now self.now ≡ None) }
-        ensures refused { IfErr result (λ e. IsFault e (start_fault name.now self.now)) }
+        ensures ok { OnOk result (start_refusal name.now self.now ≡ None) }
+        ensures refused { IfErr result (λ e. start_refusal name.now self.now ≡ Some e) }
     {
         let Some(place) = self.table.place_of(name) else {
-            let reason = cant_start(self.alloc, "not_loaded", name)?;
-            return Err(SysError::AppFailed(reason));
+            return Err(AppError::NotLoaded);
         };
         if self.table.app_at(place).is_started() {
-            let reason = cant_start(self.alloc, "already_started", name)?;
-            return Err(SysError::AppFailed(reason));
+            return Err(AppError::AlreadyStarted);
         }
         Ok(place)
     }
@@ -143,23 +123,26 @@ impl Apps {
     ///
     /// # Errors
     ///
-    /// In this order: `AppFailed` where it is not loaded, or started already, or has no supervision; `StartFailed` of the first child that
-    /// fails; `Memory`. All is then as it was, and no pid is used.
+    /// In this order: `NotLoaded`, `AlreadyStarted`; and then, as they come, `BadInit` where it has no supervision, `StartFailed` of the
+    /// first child that fails, and `Memory`. All is then as it was, and no pid is used.
     pub fn start_app(
         &mut self,
         processes: &mut Processes,
         code: &[Instance],
         name: &Atom,
         n: usize,
-    ) -> Result<AppStart, SysError>
-        ensures ok { OnOk result (start_fault name.now self.old ≡ None) }
+    ) -> Result<AppStart, Failure<AppError>>
+        ensures ok { OnOk result (start_refusal name.now self.old ≡ None) }
         ensures started { IfOk result (λ it. (children : List OneChild) × (told : List Told) × Runs code.now (module_of name.now self.old) processes.old children processes.new told × (it.told.items ≡ replicate n told) × (self.new ≡ started name.now children self.old)) }
         ensures inverse { IfOk result (λ it. undone it.undo self.new ≡ self.old) }
         ensures processes { IfOk result (λ it. StartsBack it.processes processes.old processes.new) }
-        ensures refused { IfErr result (λ e. RefusesStart e code.now name.now self.old processes.old) }
+        ensures refused { IfErr result (Fails (λ e. RefusesStart e code.now name.now self.old processes.old) (start_refusal name.now self.old ≡ None)) }
         ensures err { OnErr result ((self.new ≡ self.old) × (processes.new ≡ processes.old)) }
     {
-        let place = self.place_to_start(name)?;
+        let place = match self.place_to_start(name) {
+            Ok(place) => place,
+            Err(refusal) => return Err(Failure::Refused(refusal)),
+        };
         let module = self.table.app_at(place).spec().start.as_ref();
         let Running {
             children,
@@ -200,27 +183,28 @@ impl Apps {
         name: &Atom,
         id: &Term,
         n: usize,
-    ) -> Result<Revival, SysError>
+    ) -> Result<Revival, Failure<SysError>>
         ensures revived { IfOk result (λ it. (c : OneChild) × (told : List Told) × (child_of name.now id.now self.old ≡ Some c) × (is_due c ≡ true) × Restarts code.now c.spec processes.old it.pid processes.new told × (it.told.items ≡ replicate n told) × (self.new ≡ revived name.now id.now it.pid self.old)) }
         ensures inverse { IfOk result (λ it. undone it.undo self.new ≡ self.old) }
         ensures processes { IfOk result (λ it. TakesBack it.processes processes.old processes.new) }
-        ensures refused { IfErr result (λ e. RefusesRevive e code.now name.now id.now self.old processes.old) }
+        ensures refused { IfErr result (Fails (λ e. RefusesRevive e code.now name.now id.now self.old processes.old) (IsDue name.now id.now self.old)) }
         ensures err { OnErr result ((self.new ≡ self.old) × (processes.new ≡ processes.old)) }
     {
         let Some(spot) = self.table.spot_of(name, id) else {
-            return Err(SysError::NoChild);
+            return Err(Failure::Refused(SysError::NoChild));
         };
         let child = self.table.child_at(spot);
         if !child.is_due() {
-            return Err(SysError::NotDue);
+            return Err(Failure::Refused(SysError::NotDue));
         }
-        let Restarted { pid, told, undo } = restart_child(
-            processes,
-            self.alloc,
-            code,
-            &child.spec,
-            n,
-        )?;
+        let restarted = match restart_child(processes, self.alloc, code, &child.spec, n) {
+            Ok(restarted) => restarted,
+            Err(Failure::Refused(failed)) => {
+                return Err(Failure::Refused(SysError::StartFailed(failed)));
+            }
+            Err(Failure::Memory) => return Err(Failure::Memory),
+        };
+        let Restarted { pid, told, undo } = restarted;
         Ok(Revival {
             pid,
             told,

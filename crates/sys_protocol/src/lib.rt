@@ -9,7 +9,8 @@
 //!   these children then, and the processes and what clients are told are what the acts of `init` and of the start functions make, in
 //!   order (`Runs`, `started`). One without a callback module has no children.
 //! - Else it is told why: that the application is not loaded, or is started already, that `init` gave no supervision, or which child has
-//!   failed first, and for what reason (`RefusesStart`). All is then as it was, and no pid is used.
+//!   failed first, and for what reason (`RefusesStart`). All is then as it was, and no pid is used. Want of memory is told only of one
+//!   that is loaded and not started.
 //! - A child is revived exactly where it is due and its start function starts it (`revived`, `RefusesRevive`). Want of memory is told only
 //!   of a child that is due.
 //! - A child whose process has ended has none, and is due where its Restart and the reason say so and its application is started
@@ -27,6 +28,8 @@ mod apps;
 mod error;
 mod running;
 
+pub use app_starts::AppError;
 pub use app_table::{App, Child, ChildState, Ended, Undo};
 pub use apps::{AppStart, Apps, Revival};
+pub use child_starts::StartFailed;
 pub use error::SysError;

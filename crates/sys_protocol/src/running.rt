@@ -1,18 +1,18 @@
 // What runs of an application.
 ghost use Rattle.std.specs.Prelude.{◌≡◌, [], IfErr, IfOk, List, None, OnErr, replicate};
 ghost use Rattle.std.specs.Option.{option_copied};
+ghost use Rattle.values.specs.Failure.{Fails};
 ghost use Rattle.process_ending.specs.declared.told.Reply.{Reply as Told};
 ghost use Rattle.sys_protocol.specs.Refusals.{FailsToRun, Runs, StartsBack};
 
-use crate::error::SysError;
-use app_starts::{Supervised, supervise};
+use app_starts::{AppError, Supervised, supervise};
 use app_table::Child;
 use erl_machine::Instance;
 use otp_files::StartModule;
 use process_ending::Reply;
 use process_table::{Processes, Undo};
 use std::alloc::{AllocError, Global};
-use values::Row;
+use values::{Failure, Row};
 
 /// What the start of an application's processes has come to.
 pub(crate) struct Running {
@@ -39,17 +39,17 @@ fn nothing_told(alloc: Global, n: usize) -> Result<Vec<Row<Reply>>, AllocError>
 ///
 /// # Errors
 ///
-/// `AppFailed` where it has no supervision, `StartFailed` of the first child that fails, `Memory`. The processes are then as they were.
+/// `BadInit` where it has no supervision, `StartFailed` of the first child that fails, `Memory`. The processes are then as they were.
 pub(crate) fn run(
     processes: &mut Processes,
     alloc: Global,
     code: &[Instance],
     module: Option<&StartModule>,
     n: usize,
-) -> Result<Running, SysError>
+) -> Result<Running, Failure<AppError>>
     ensures runs { IfOk result (λ it. (told : List Told) × Runs code.now (option_copied module.entry) processes.old it.children processes.new told × (it.told.items ≡ replicate n told)) }
     ensures inverse { IfOk result (λ it. StartsBack it.undo processes.old processes.new) }
-    ensures failed { IfErr result (λ e. FailsToRun e code.now (option_copied module.entry) processes.old) }
+    ensures failed { IfErr result (Fails (λ e. FailsToRun e code.now (option_copied module.entry) processes.old) (Unit {0})) }
     ensures err { OnErr result (processes.new ≡ processes.old) }
 {
     let Some(module) = module else {
@@ -72,6 +72,6 @@ pub(crate) fn run(
                 undo: Some(undo),
             })
         }
-        Err(error) => Err(SysError::from(error)),
+        Err(failure) => Err(failure),
     }
 }

@@ -1,11 +1,12 @@
 // A job is committed.
-ghost use Rattle.std.specs.Prelude.{◌≡◌, ◌↔◌, IfErr, IfOk, IsSome, IsTrue, None, OnErr, OnOk, replicate};
+ghost use Rattle.std.specs.Prelude.{◌≡◌, ◌↔◌, IfErr, IfOk, IsSome, IsTrue, MatchOption, OnErr, OnOk, replicate};
+ghost use Rattle.values.specs.Failure.{Fails};
 ghost use Rattle.process_commit.specs.Acts.{acts_told};
 ghost use Rattle.process_commit.specs.Commits.{IsRunning, rested_after};
 ghost use Rattle.process_store.specs.Changes.{CanTurnAt};
 ghost use Rattle.process_store.specs.Table.{living};
 ghost use Rattle.process_commit.specs.Exits.{exit_told, exited};
-ghost use Rattle.process_table.specs.Commit.{IsCommitRefusal, RefusesCommit, commit_told, committed, concluded, normal, told_by};
+ghost use Rattle.process_table.specs.Commit.{CanCommit, RefusesCommit, commit_told, committed, concluded, normal, told_by};
 ghost use Rattle.process_store.specs.Pieces.{HoldsLost};
 ghost use Rattle.process_table.specs.Undo.{Fits, IsKept, TakesBackEnds, held, undone};
 
@@ -22,7 +23,7 @@ use process_ending::Reply;
 use process_told::Telling;
 use reserved_box::{Boxed, Reserved};
 use std::alloc::{AllocError, Global};
-use values::Row;
+use values::{Failure, Row};
 
 /// The reason of a process that has given a value.
 fn normal(alloc: Global) -> Result<Term, AllocError>
@@ -123,11 +124,10 @@ impl Processes {
         }
     }
 
-    /// Why the commit of what a job gave would be refused, but for want of memory. Takes no memory.
-    pub fn commit_refusal(&self, done: &Done) -> Option<ProcError>
-        ensures { IsCommitRefusal result done.now.job self.now }
+    /// Why the commit of what a job gives would be refused, whatever that is, but for want of memory. Takes no memory.
+    pub fn commit_refusal(&self, job: &Job) -> Option<ProcError>
+        ensures { MatchOption result (CanCommit job.now self.now) (λ why. RefusesCommit why job.now self.now) }
     {
-        let job = done.job();
         if !self.runs(job) {
             return Some(ProcError::Stale);
         }
@@ -145,22 +145,26 @@ impl Processes {
     ///
     /// In this order: `Stale` where the process of the job's pid doesn't run an equal job, code included; `CounterEnd` where its turn
     /// is the last; `Memory`. The table is then as it was.
-    pub fn commit(&mut self, done: &Done, n: usize) -> Result<(Vec<Row<Reply>>, Undo), ProcError>
+    pub fn commit(
+        &mut self,
+        done: &Done,
+        n: usize,
+    ) -> Result<(Vec<Row<Reply>>, Undo), Failure<ProcError>>
         ensures committed { OnOk result (self.new ≡ committed done.now self.old) }
         ensures told { IfOk result (λ it. it.0.items ≡ replicate n (commit_told done.now self.old)) }
         ensures inverse { IfOk result (λ it. TakesBackEnds it.1 self.old self.new) }
         ensures pieces { IfOk result (λ it. HoldsLost (held it.1 self.new) self.old self.new) }
-        ensures ok { OnOk result (IsCommitRefusal None done.now.job self.old) }
-        ensures refused { IfErr result (λ e. RefusesCommit e done.now.job self.old) }
+        ensures ok { OnOk result (CanCommit done.now.job self.old) }
+        ensures refused { IfErr result (Fails (λ why. RefusesCommit why done.now.job self.old) (CanCommit done.now.job self.old)) }
         ensures err { OnErr result (self.new ≡ self.old) }
     {
-        if let Some(refusal) = self.commit_refusal(done) {
-            return Err(refusal);
-        }
         let (job, outcome) = (done.job(), done.outcome());
+        if let Some(refusal) = self.commit_refusal(job) {
+            return Err(Failure::Refused(refusal));
+        }
         match self.conclude(job, outcome.acts.as_slice(), &outcome.end, n) {
             Ok(told) => Ok(told),
-            Err(_) => Err(ProcError::Memory),
+            Err(_) => Err(Failure::Memory),
         }
     }
 

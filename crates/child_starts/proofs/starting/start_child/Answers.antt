@@ -22,4 +22,4 @@ returns-in_ok-begin-in-Ok-clause-started c =
 pub returns-in-Err-clause-failed : goal.returns-in-Err-clause-failed
 returns-in-Err-clause-failed c =
     λ before t told way.
-    fails_there c.args.batch.now.answers.items c.args.processes.now t way.makes c.args.code.now c.args.child.now c.in_ok-outcome.outcome c.next_pid-pid.result c.next_pid-pid.ensures.pid c.in_ok-outcome.ensures c.in-Err.error c.in-Err.ensures.failed
+    fails_there c.args.batch.now.answers.items c.args.processes.now t way.makes c.args.code.now c.args.child.now c.in_ok-outcome.outcome c.next_pid-pid.result c.next_pid-pid.ensures.pid c.in_ok-outcome.ensures c.in-Err.failure c.in-Err.ensures.failed

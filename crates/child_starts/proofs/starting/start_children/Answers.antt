@@ -23,7 +23,7 @@ returns-in-Err-clause-failed c =
     let place = c.loop-child.child-index in
     let child = c.child-item.result in
     let (now, others, reached, under) = c.loop-child.invariant.so_far before t told way in
-    first_fails c.in-Err.error c.args.code.now children t child (drop (place + 1) children) (drop place children) c.loop-child.pids.items now others (from_here children place child c.loop-child-test.true c.child-item.is) reached (c.in-Err.ensures.failed before now (told ++ others) under)
+    first_fails c.in-Err.failure c.args.code.now children t child (drop (place + 1) children) (drop place children) c.loop-child.pids.items now others (from_here children place child c.loop-child-test.true c.child-item.is) reached (c.in-Err.ensures.failed before now (told ++ others) under)
 
 pub loop-child-preserved : goal.loop-child-preserved
 loop-child-preserved c = record {

@@ -8,5 +8,5 @@ pub returns-clause-err : goal.returns-clause-err
 returns-clause-err c =
     let name = c.in-Ok.name in
     let modules = c.args.modules.now in
-    let alone = memory_alone c.in-Err.error (load_refusal name (purged name modules)) c.in-Err.ensures.refused (sym (c.in_default.ensures name)) in
+    let alone = memory_alone c.in-Err.failure (load_refusal name (purged name modules)) c.in-Err.ensures.refused (sym (c.in_default.ensures name)) in
     (c.in-Err.ensures.err, c.in-Ok-kill_lingering.ensures.spared ∙ all_spared name modules c.args.processes.now (c.in-Err.ensures.memory alone))

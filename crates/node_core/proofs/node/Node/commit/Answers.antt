@@ -1,10 +1,10 @@
 -- What the job has done is done.
-use Rattle.std.proofs.Common.{◌≡◌, ◌∙◌, List, None, map, sym, subst, ap, refl}
+use Rattle.std.proofs.Common.{◌≡◌, ◌∙◌, List, MatchOption, None, map, sym, subst, ap, refl}
 use Rattle.code_loading.proofs.Stepping.{steps_keep_code}
 use Rattle.code_loading.specs.Consistent.{IsConsistent}
 use Rattle.process_ending.specs.declared.told.Reply.{Reply}
 use Rattle.process_store.specs.Table.{Table}
-use Rattle.process_table.specs.Commit.{IsCommitRefusal, commit_told, committed}
+use Rattle.process_table.specs.Commit.{CanCommit, RefusesCommit, commit_told, committed}
 use Rattle.undo_journal.specs.Reversible.{Accepted}
 use Rattle.undo_journal.specs.declared.reversible.Told.{Told}
 use Rattle.node_core.proofs.Accepting.{accepted_of, each_of}
@@ -33,7 +33,7 @@ returns-in-Ok-commit-clause-accepted c =
     let new : NodeState = record { modules = m; processes = c.commit.new.self; apps = c.end_child.new.apps } in
     let said : List Reply → Told Answer Note = λ rs. record { answer = answer.Unit; note = record { replies = rs; arrival = None } } in
     let is : new ≡ a.node = (λ i. record { modules = m; processes = c.in-Ok-commit.ensures.committed i; apps = c.in-Ok-end_child.ensures.ended i }) in
-    accepted_of n c.args.self.now (event.Commit done) a new k c.tell_replies.result.items c.self.view_is (c.in-Ok-commit.ensures.ok.0, c.in-Ok-commit.ensures.ok.1, refl) is (c.tell_replies.ensures ∙ ap (map said) c.in-Ok-commit.ensures.told ∙ each_of said (commit_told done t) k)
+    accepted_of n c.args.self.now (event.Commit done) a new k c.tell_replies.result.items c.self.view_is (c.in-Ok-commit.ensures.ok, refl) is (c.tell_replies.ensures ∙ ap (map said) c.in-Ok-commit.ensures.told ∙ each_of said (commit_told done t) k)
 
 pub returns-in_default-clause-refused : goal.returns-in_default-clause-refused
 returns-in_default-clause-refused c =
@@ -48,5 +48,5 @@ returns-in_default-end_child-clause-refused c =
 pub returns-in-Err-clause-refused : goal.returns-in-Err-clause-refused
 returns-in-Err-clause-refused c =
     let n : NodeState = record { modules = c.self.inside.modules; processes = c.self.inside.processes; apps = c.self.inside.apps } in
-    let stands = subst (λ (t : Table). IsCommitRefusal c.commit_refusal-in-Err.result c.args.done.now.job t) c.in-Err.ensures.err c.commit_refusal-in-Err.ensures in
+    let stands = subst (λ (t : Table). MatchOption c.commit_refusal-in-Err.result (CanCommit c.args.done.now.job t) (λ why. RefusesCommit why c.args.done.now.job t)) c.in-Err.ensures.err c.commit_refusal-in-Err.ensures in
     commit-refused c.args.done.now n c.args.self.now c.error_of-in-Err.result c.commit_refusal-in-Err.result c.self.view_is stands c.error_of-in-Err.ensures
