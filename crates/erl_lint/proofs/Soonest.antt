@@ -1,5 +1,5 @@
 -- What is found last is the first fault of all.
-use Rattle.std.proofs.Common.{◌≡◌, ◌≤◌, nat_le, Result, Ok, Err, IfOk, sym, subst, Bool, true, false, if◌then◌else◌, List, [], ◌∷◌, Option, None, Some, All, zero, suc, inl, inr, refl, arith}
+use Rattle.std.proofs.Common.{◌≡◌, ◌≤◌, nat_le, Bool, true, false, if◌then◌else◌, List, [], ◌∷◌, Option, None, Some, All, zero, suc, inl, inr, refl, arith}
 use Rattle.std.proofs.lemmas.Bool.{leb-true, leb-false}
 use Rattle.std.proofs.lemmas.List.Elements.{Contains-get_or, Contains-append_left, Contains-append_right, Contains-append_cases}
 use Rattle.erl_lint.specs.declared.fault.StaticFault.{StaticFault}
@@ -46,8 +46,3 @@ from f (g ∷ gs) = one_more f g gs (nat_le (place f) (place g)) refl (from f gs
 pub first_of : (faults : List StaticFault) → IsFirstFault (soonest None faults) faults
 first_of [] = refl
 first_of (f ∷ fs) = from f fs
-
-pub first_found : {E : Type 0} (result : Result (Option StaticFault) E) (faults : List StaticFault) → IfOk result (λ found. found ≡ soonest None faults) →
-    IfOk result (λ found. IsFirstFault found faults)
-first_found (Ok found) faults is = subst (λ r. IsFirstFault r faults) (sym is) (first_of faults)
-first_found (Err e) faults is = tt

@@ -8,14 +8,13 @@ use Rattle.erl_syntax.specs.declared.tree.SyntaxTree.{SyntaxTree}
 use Rattle.erl_syntax.specs.declared.tree.ClauseTree.{ClauseTree}
 use Rattle.erl_syntax.specs.declared.form.Exported.{Exported}
 use Rattle.erl_syntax.specs.declared.form.FunctionClause.{FunctionClause}
-use Rattle.erl_syntax.specs.declared.form.FormTree.{FormTree}
 use Rattle.erl_syntax.specs.Tree.{Trees}
 use Rattle.erl_syntax.specs.TreeForms.{tree, trees, guards, clauses}
 use Rattle.erl_lint.specs.declared.fault.StaticFault.{StaticFault}
 use Rattle.erl_lint.specs.First.{sooner, soonest}
 use Rattle.erl_lint.specs.Keys.{Key}
 use Rattle.erl_lint.specs.Scopes.{Names, with_names, binds, binds_in}
-use Rattle.erl_lint.specs.Faults.{faults_in, faults_apart, faults_in_turn, faults_in_guards, faults_in_clause, faults_in_clauses, faults_in_function, export_faults, exports_faults, faults_in_form, faults_in_forms}
+use Rattle.erl_lint.specs.Faults.{faults_in, faults_apart, faults_in_turn, faults_in_guards, faults_in_clause, faults_in_clauses, faults_in_function, export_faults, exports_faults}
 use Rattle.erl_lint.proofs.Rows.{grown, in_turn, behind, append-assoc, append-none, joined, binds_push}
 
 -- what was bound first is found again
@@ -136,15 +135,3 @@ pub exports_found : (functions : List Key) (items : List Exported) (i : ℕ) (e 
     i < length items → e ≡ get_or items i e → between ≡ soonest before (exports_faults functions (take i items)) →
     after ≡ soonest between (export_faults functions e) → after ≡ soonest before (exports_faults functions (take (i + 1) items))
 exports_found functions = grown sooner (exports_faults functions) (export_faults functions) (exports_push functions)
-
-forms_push : (functions : List Key) (fs : List FormTree) (form : FormTree) →
-    faults_in_forms functions (fs ++ form ∷ []) ≡ faults_in_forms functions fs ++ faults_in_form functions form
-forms_push functions [] form = append-none (faults_in_form functions form)
-forms_push functions (g ∷ gs) form =
-    behind (faults_in_form functions g) (faults_in_forms functions (gs ++ form ∷ [])) (faults_in_forms functions gs) (faults_in_form functions form)
-    (forms_push functions gs form)
-
-pub forms_found : (functions : List Key) (items : List FormTree) (i : ℕ) (form : FormTree) (before between after : Option StaticFault) →
-    i < length items → form ≡ get_or items i form → between ≡ soonest before (faults_in_forms functions (take i items)) →
-    after ≡ soonest between (faults_in_form functions form) → after ≡ soonest before (faults_in_forms functions (take (i + 1) items))
-forms_found functions = grown sooner (faults_in_forms functions) (faults_in_form functions) (forms_push functions)

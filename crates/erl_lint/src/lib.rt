@@ -1,7 +1,7 @@
 //! The static faults of a module of Erlang that is read as a syntax tree.
 //!
-//! [`first_fault`] tells the fault that stands first in the source, or none. There are three kinds of them ([`StaticFault`]),
-//! by the rules of the Erlang Reference Manual (Functions, Modules, Expressions):
+//! [`note_functions`] tells the first fault of the heads of a module's functions, and [`first_in_form`] then, form after form, the
+//! first that stands in the source, or none. There are three kinds of them ([`StaticFault`]), by the rules of the Erlang Reference Manual (Functions, Modules, Expressions):
 //!
 //! - A function may not have the name and the number of arguments of an earlier function of the module, nor of a function
 //!   that is built in and called plainly. The fault stands at the name of its first clause.
@@ -27,8 +27,8 @@
 //!
 //! # What is proved
 //!
-//! [`first_fault`] gives none exactly where the module has no fault by the definitions of `specs/`, and else one of its
-//! faults, where no fault stands at a lesser place.
+//! Form after form, the fault so far is the first of those of the forms so far, by the definitions of `specs/` (`soonest`): none
+//! exactly where they have no fault, and else one of theirs, where no fault stands at a lesser place.
 //!
 //! # What no contract says
 //!
@@ -51,5 +51,5 @@ mod walk;
 pub use binding::is_anonymous;
 pub use fault::StaticFault;
 pub use functions::{Functions, count, note_functions};
-pub use module::{first_fault, first_in_form};
+pub use module::first_in_form;
 pub use scope::Scope;

@@ -1,72 +1,21 @@
-// The first fault of a module.
+// The first fault of a form.
 ghost use Rattle.std.specs.Prelude.{◌≡◌, [], IfOk, OnOk};
-ghost use Rattle.erl_lint.specs.First.{soonest, IsFirstFault};
-ghost use Rattle.erl_lint.specs.Faults.{faults_in_function, faults_in_loop, export_faults, exports_faults, faults_in_form, faults_in_forms, faults_of};
+ghost use Rattle.erl_lint.specs.First.{soonest};
+ghost use Rattle.erl_lint.specs.Faults.{faults_in_function, faults_in_loop, export_faults, exports_faults, faults_in_form};
 
 use crate::binding::bind_patterns;
 use crate::fault::{StaticFault, sooner};
-use crate::functions::{Functions, has, is_built_in, note_functions};
+use crate::functions::{Functions, has, is_built_in};
 use crate::scope::Scope;
 use crate::walk::{First, first_in_clause, first_in_clauses, first_in_guards};
-use erl_syntax::{Exported, FormTree, FunctionClause, LoopTree, ModuleTree};
-use indexmap::IndexSet;
-use std::alloc::{AllocError, Global};
-use std::hash::RandomState;
-
-/// The static fault of a module that stands first in its source; none where it has none.
-///
-/// Names are hashed by `hashing`. Takes time for each part of the module, and what an expression binds is looked for once
-/// more in each body, block, subject of a `case` and side of `andalso` or `orelse` that it stands in. Takes memory for each
-/// function, and for each variable that is bound at one place. Recurses as deep as the trees are nested.
-///
-/// # Errors
-///
-/// `AllocError` where memory is refused.
-pub fn first_fault(
-    alloc: Global,
-    hashing: RandomState,
-    module: &ModuleTree,
-) -> Result<Option<StaticFault>, AllocError>
-    ensures { IfOk result (λ found. IsFirstFault found (faults_of «module».now)) }
-{
-    first_of_all(alloc, hashing, module)
-}
-
-/// The static fault of a module that stands first, by going over all of them.
-fn first_of_all(
-    alloc: Global,
-    hashing: RandomState,
-    module: &ModuleTree,
-) -> Result<Option<StaticFault>, AllocError>
-    ensures { IfOk result (λ found. found ≡ soonest None (faults_of «module».now)) }
-{
-    let forms = module.forms.as_slice();
-    let mut functions = IndexSet::with_hasher(alloc, hashing);
-    let found = note_functions(alloc, forms, &mut functions, None)?;
-    let mut scope = Scope::new(alloc, hashing);
-    first_in_forms(&functions, forms, &mut scope, found)
-}
-
-/// The first fault with those of forms.
-fn first_in_forms<'a>(
-    functions: &Functions,
-    forms: &'a [FormTree],
-    scope: &mut Scope<'a>,
-    first: First,
-) -> Result<First, AllocError>
-    requires { scope.old ≡ [] }
-    ensures { IfOk result (λ r. r ≡ soonest first (faults_in_forms functions.now.keys forms.now)) }
-{
-    let mut found = first;
-    for form in forms {
-        found = first_in_form(functions, form, scope, found)?;
-    }
-    Ok(found)
-}
+use erl_syntax::{Exported, FormTree, FunctionClause, LoopTree};
+use std::alloc::AllocError;
 
 /// The first fault with those of a form of a module that has these functions. In `scope` nothing is bound, before and behind it.
 ///
-/// Takes time for each part of the form, as [`first_fault`] does.
+/// Takes time for each part of the form, and what an expression binds is looked for once more in each body, block, subject of
+/// a `case` and side of `andalso` or `orelse` that it stands in. Takes memory for each variable that is bound at one place.
+/// Recurses as deep as the trees are nested.
 ///
 /// # Errors
 ///

@@ -1,6 +1,7 @@
 // Functions that are defined twice, and exports of those that there are not.
 use crate::postfix::{clause, named, trees};
-use erl_lint::{StaticFault, first_fault};
+use erl_lint::StaticFault;
+use erl_lower::{Lowering, lowered};
 use erl_syntax::{
     ClauseTrees, Exported, FormTree, FunctionClause, FunctionTree, GuardTrees, LoopTree, ModuleTree,
 };
@@ -42,7 +43,10 @@ pub(crate) fn fault(alloc: Global, forms: Vec<FormTree>) -> Result<Option<Static
         forms: Row::new(forms),
     };
     let hashing = RandomState::new(&NoBytes)?;
-    Ok(first_fault(alloc, hashing, &module)?)
+    match lowered(alloc, hashing, module)? {
+        Lowering::Fault(fault) => Ok(Some(fault)),
+        Lowering::Module(_) => Ok(None),
+    }
 }
 
 /// A function of one clause.

@@ -1,5 +1,4 @@
 -- Bytes are compared, which are the characters' own.
-use Rattle.std.proofs.Common.{◌∙◌}
 use Rattle.erl_lint.proofs.Texts.{same_names}
 use Rattle.erl_lint.proofs.scope.VariableNamePartialEq.eq.Goals as goal
 
