@@ -24,21 +24,8 @@ fn put_told(front: &[u8], reply: &Reply, term: &Term, out: &mut Vec<u8>) -> Resu
     put(b",", out)?;
     put_number(reply.number, out)?;
     put(b",", out)?;
-    put_term(term, out)?;
+    print(term, out)?;
     put(b"}", out)
-}
-
-/// Appends a term. A number from 0 on needs no text of its own first.
-fn put_term(term: &Term, out: &mut Vec<u8>) -> Result<(), AllocError>
-    ensures { OnOk result (out.new.items ≡ out.old.items ++ utf8 (text (tree term.now))) }
-{
-    match term {
-        Term::Int(n) => match u64::try_from(*n) {
-            Ok(n) => put_number(n, out),
-            Err(_) => print(term, out),
-        },
-        _ => print(term, out),
-    }
 }
 
 /// Appends `{reply,Client,N,T}` or `{down,Client,N,R}`.
