@@ -1,5 +1,4 @@
 pub mod Accepting
 pub mod Backs
 pub mod Booting
-pub mod Refusing
 pub mod Spared

@@ -1,4 +1,3 @@
-pub mod Errors
 pub mod Evaluated
 pub mod Node
 pub mod Note

@@ -9,20 +9,20 @@ ghost use Rattle.node_core.specs.Step.{MayRunOut, Step as Steps, reporting};
 ghost use Rattle.node_core.specs.declared.event.Answer.TheVariants as answer;
 ghost use Rattle.node_core.specs.declared.event.Event.TheVariants as event;
 
-use crate::event::{Answer, Refusal};
+use crate::event::Answer;
 use crate::node::Node;
 use crate::note::Note;
 use crate::processes::{Step, unend};
 use crate::record::Record;
 use crate::telling::{reporting, tell};
 use code_loading::{is_lingered_in, lingering, load, purge, purge_told, soft_purge};
-use code_server::{CodeError, Modules};
+use code_server::Modules;
 use erl_forms::Module;
 use erl_term::{Atom, Predefined, Term};
 use process_table::Processes;
 use reserved_box::{Boxed, Reserved};
 use std::alloc::{AllocError, Global};
-use sys_protocol::Apps;
+use sys_protocol::AppTable;
 use undo_journal::{Stepped, Told};
 use values::{Duplicate, Failure};
 
@@ -43,7 +43,7 @@ fn killing_told(
 
 /// The children, if any, whose processes linger in a module have none, and are due or not.
 fn end_lingering(
-    apps: &mut Apps,
+    apps: &mut AppTable,
     alloc: Global,
     modules: &Modules<Module>,
     processes: &Processes,
@@ -66,14 +66,12 @@ fn end_lingering(
 impl Node {
     /// A module is loaded; where it has old code, that is purged first.
     pub(crate) fn load(&mut self, code: &Module, n: usize) -> Step
+        requires { MayRunOut self.old (event.Load code.now) }
         ensures accepted { IfOk result (λ done. Accepts (Steps self.old (event.Load code.now)) self.new n done.told.items) }
         ensures reversible { IfOk result (λ done. Undoes done.trace self.old self.new) }
         ensures refused { IfErr result (Refuses (Steps self.old (event.Load code.now)) (MayRunOut self.old (event.Load code.now))) }
         ensures err { OnErr result (self.new ≡ self.old) }
     {
-        if let Some(refusal) = self.modules.purge_and_load_refusal() {
-            return Err(Failure::Refused(Refusal::OfModules(refusal)));
-        }
         let Ok(told) = killing_told(
             self.alloc,
             &self.modules,
@@ -157,14 +155,12 @@ impl Node {
 
     /// A module's current code becomes old.
     pub(crate) fn delete(&mut self, name: &Atom, n: usize) -> Step
+        requires { MayRunOut self.old (event.Delete name.now) }
         ensures accepted { IfOk result (λ done. Accepts (Steps self.old (event.Delete name.now)) self.new n done.told.items) }
         ensures reversible { IfOk result (λ done. Undoes done.trace self.old self.new) }
         ensures refused { IfErr result (Refuses (Steps self.old (event.Delete name.now)) (MayRunOut self.old (event.Delete name.now))) }
         ensures err { OnErr result (self.new ≡ self.old) }
     {
-        if let Some(refusal) = self.modules.delete_refusal(name) {
-            return Err(Failure::Refused(Refusal::OfModules(refusal)));
-        }
         let Ok(told) = self.quiet(n) else {
             return Err(Failure::Memory);
         };
@@ -182,14 +178,12 @@ impl Node {
 
     /// A module's old code is purged, where nobody lingers in it.
     pub(crate) fn soft_purge(&mut self, name: &Atom, n: usize) -> Step
+        requires { MayRunOut self.old (event.SoftPurge name.now) }
         ensures accepted { IfOk result (λ done. Accepts (Steps self.old (event.SoftPurge name.now)) self.new n done.told.items) }
         ensures reversible { IfOk result (λ done. Undoes done.trace self.old self.new) }
         ensures refused { IfErr result (Refuses (Steps self.old (event.SoftPurge name.now)) (MayRunOut self.old (event.SoftPurge name.now))) }
         ensures err { OnErr result (self.new ≡ self.old) }
     {
-        if is_lingered_in(&self.modules, &self.processes, name) {
-            return Err(Failure::Refused(Refusal::OfModules(CodeError::OldInUse)));
-        }
         let Ok(told) = self.quiet(n) else {
             return Err(Failure::Memory);
         };

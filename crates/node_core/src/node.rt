@@ -12,7 +12,7 @@ use release_table::Release;
 use std::alloc::Global;
 use std::hash::RandomState;
 use std::marker::Model;
-use sys_protocol::Apps;
+use sys_protocol::AppTable;
 
 /// A node: its modules, its processes and its applications.
 #[derive(Drop)]
@@ -20,7 +20,7 @@ pub struct Node {
     pub(crate) alloc: Global,
     pub(crate) modules: Modules<Module>,
     pub(crate) processes: Processes,
-    pub(crate) apps: Apps,
+    pub(crate) apps: AppTable,
 }
 
 impl Model for Node {
@@ -87,7 +87,7 @@ impl Node {
     }
 
     /// Its applications. Takes no memory.
-    pub fn apps(&self) -> &Apps
+    pub fn apps(&self) -> &AppTable
         ensures { result.now ≡ self.now.apps }
     {
         &self.apps

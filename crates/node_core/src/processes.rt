@@ -4,7 +4,6 @@ ghost use Rattle.app_table.specs.Applications.{all_ended};
 ghost use Rattle.app_table.specs.Undo.{undone as apps_before};
 ghost use Rattle.undo_journal.specs.Reversible.{Accepts, Refuses};
 ghost use Rattle.process_table.specs.Undo.{TakesBackEnds};
-ghost use Rattle.node_core.specs.Errors.{error_of};
 ghost use Rattle.node_core.specs.Node.{IsKept, NodeState};
 ghost use Rattle.node_core.specs.Record.{AppsBack, Undoes};
 ghost use Rattle.node_core.specs.Step.{MayRunOut, Step as Steps, ended_by};
@@ -17,10 +16,10 @@ use crate::record::Record;
 use crate::telling::{room, tell_arrivals, tell_jobs, tell_replies};
 use erl_machine::{Done, End};
 use erl_term::{Atom, Predefined, Term};
-use process_table::{Body, ProcError};
+use process_table::Body;
 use reserved_box::{Boxed, Reserved};
 use std::alloc::{AllocError, Global};
-use sys_protocol::Apps;
+use sys_protocol::AppTable;
 use undo_journal::Stepped;
 use values::Failure;
 
@@ -29,7 +28,7 @@ pub(crate) type Step = Result<Stepped<Answer, Note, Record>, Failure<Refusal>>;
 
 /// The child, if any, whose process ends for a reason has none, and is due or not.
 fn end_one(
-    apps: &mut Apps,
+    apps: &mut AppTable,
     alloc: Global,
     pid: u64,
     reason: &Term,
@@ -45,7 +44,7 @@ fn end_one(
 
 /// The child, if any, whose process ends by a job has none, and is due or not.
 fn end_child(
-    apps: &mut Apps,
+    apps: &mut AppTable,
     alloc: Global,
     done: &Done,
 ) -> Result<Option<Boxed<sys_protocol::Undo>>, AllocError>
@@ -65,7 +64,7 @@ fn end_child(
 }
 
 /// Takes an end of children back.
-pub(crate) fn unend(apps: &mut Apps, undo: Option<Boxed<sys_protocol::Undo>>)
+pub(crate) fn unend(apps: &mut AppTable, undo: Option<Boxed<sys_protocol::Undo>>)
     ensures undone { IfSome undo (λ it. apps.new ≡ apps_before it apps.old) }
     ensures none { undo ≡ None → apps.new ≡ apps.old }
 {
@@ -86,19 +85,10 @@ fn record_of(undo: process_table::Undo, ended: Option<Boxed<sys_protocol::Undo>>
     }
 }
 
-/// Why a step isn't made: the refusal, or want of memory where there is none.
-fn error_of(refusal: Option<ProcError>) -> Failure<Refusal>
-    ensures { result ≡ error_of refusal }
-{
-    match refusal {
-        Some(why) => Failure::Refused(Refusal::OfProcesses(why)),
-        None => Failure::Memory,
-    }
-}
-
 impl Node {
     /// A message of a client comes for the process of a name.
     pub(crate) fn arrive(&mut self, client: u64, name: &Atom, body: &Body, n: usize) -> Step
+        requires { MayRunOut self.old (event.Arrive client name.now body.now) }
         ensures accepted { IfOk result (λ done. Accepts (Steps self.old (event.Arrive client name.now body.now)) self.new n done.told.items) }
         ensures reversible { IfOk result (λ done. Undoes done.trace self.old self.new) }
         ensures refused { IfErr result (Refuses (Steps self.old (event.Arrive client name.now body.now))
@@ -106,11 +96,10 @@ impl Node {
         ensures err { OnErr result (self.new ≡ self.old) }
     {
         let Ok(told) = room(self.alloc, n) else {
-            return Err(error_of(self.processes.arrive_refusal(name, body)));
+            return Err(Failure::Memory);
         };
-        let (arrivals, undo) = match self.processes.arrive(client, name, body, n) {
-            Ok(arrived) => arrived,
-            Err(_) => return Err(error_of(self.processes.arrive_refusal(name, body))),
+        let Ok((arrivals, undo)) = self.processes.arrive(client, name, body, n) else {
+            return Err(Failure::Memory);
         };
         Ok(Stepped {
             told: tell_arrivals(told, arrivals),
@@ -120,17 +109,17 @@ impl Node {
 
     /// A process takes its next message, and runs it.
     pub(crate) fn take(&mut self, pid: u64, n: usize) -> Step
+        requires { MayRunOut self.old (event.Take pid) }
         ensures accepted { IfOk result (λ done. Accepts (Steps self.old (event.Take pid)) self.new n done.told.items) }
         ensures reversible { IfOk result (λ done. Undoes done.trace self.old self.new) }
         ensures refused { IfErr result (Refuses (Steps self.old (event.Take pid)) (MayRunOut self.old (event.Take pid))) }
         ensures err { OnErr result (self.new ≡ self.old) }
     {
         let Ok(told) = room(self.alloc, n) else {
-            return Err(error_of(self.processes.take_refusal(pid)));
+            return Err(Failure::Memory);
         };
-        let (jobs, undo) = match self.processes.take(&self.modules, pid, n) {
-            Ok(taken) => taken,
-            Err(_) => return Err(error_of(self.processes.take_refusal(pid))),
+        let Ok((jobs, undo)) = self.processes.take(&self.modules, pid, n) else {
+            return Err(Failure::Memory);
         };
         Ok(Stepped {
             told: tell_jobs(told, self.alloc, jobs),
@@ -140,16 +129,17 @@ impl Node {
 
     /// What a job has done is done. A child whose process ends with it ends first, and lives again where the commit isn't made.
     pub(crate) fn commit(&mut self, done: &Done, n: usize) -> Step
+        requires { MayRunOut self.old (event.Commit done.now) }
         ensures accepted { IfOk result (λ it. Accepts (Steps self.old (event.Commit done.now)) self.new n it.told.items) }
         ensures reversible { IfOk result (λ it. Undoes it.trace self.old self.new) }
         ensures refused { IfErr result (Refuses (Steps self.old (event.Commit done.now)) (MayRunOut self.old (event.Commit done.now))) }
         ensures err { OnErr result (self.new ≡ self.old) }
     {
         let Ok(told) = room(self.alloc, n) else {
-            return Err(error_of(self.processes.commit_refusal(done.job())));
+            return Err(Failure::Memory);
         };
         let Ok(ended) = end_child(&mut self.apps, self.alloc, done) else {
-            return Err(error_of(self.processes.commit_refusal(done.job())));
+            return Err(Failure::Memory);
         };
         match self.processes.commit(done, n) {
             Ok((lists, undo)) => Ok(Stepped {
@@ -158,7 +148,7 @@ impl Node {
             }),
             Err(_) => {
                 unend(&mut self.apps, ended);
-                Err(error_of(self.processes.commit_refusal(done.job())))
+                Err(Failure::Memory)
             }
         }
     }

@@ -13,20 +13,19 @@ use crate::telling::{room, tell_revived};
 use code_loading::current_code;
 use erl_term::{Atom, Term};
 use reserved_box::Reserved;
+use sys_protocol::revive;
 use undo_journal::Stepped;
 use values::Failure;
 
 impl Node {
     /// A child that is due starts again.
     pub(crate) fn revive(&mut self, app: &Atom, id: &Term, n: usize) -> Step
+        requires { MayRunOut self.old (event.Revive app.now id.now) }
         ensures accepted { IfOk result (λ done. Accepts (Steps self.old (event.Revive app.now id.now)) self.new n done.told.items) }
         ensures reversible { IfOk result (λ done. Undoes done.trace self.old self.new) }
         ensures refused { IfErr result (Refuses (Steps self.old (event.Revive app.now id.now)) (MayRunOut self.old (event.Revive app.now id.now))) }
         ensures err { OnErr result (self.new ≡ self.old) }
     {
-        if let Some(refusal) = self.apps.revive_refusal(app, id) {
-            return Err(Failure::Refused(Refusal::OfApps(refusal)));
-        }
         let Ok(code) = current_code(self.alloc, &self.modules) else {
             return Err(Failure::Memory);
         };
@@ -36,10 +35,15 @@ impl Node {
         let Ok(memory) = Reserved::new(self.alloc) else {
             return Err(Failure::Memory);
         };
-        match self
-            .apps
-            .revive(&mut self.processes, code.as_slice(), app, id, n)
-        {
+        match revive(
+            &mut self.apps,
+            &mut self.processes,
+            self.alloc,
+            code.as_slice(),
+            app,
+            id,
+            n,
+        ) {
             Ok(revival) => Ok(Stepped {
                 told: tell_revived(told, revival.pid, revival.told),
                 trace: Record::OfChildren(revival.processes, memory.fill(revival.undo)),

@@ -14,8 +14,9 @@ use code_loading::is_lingered_in;
 use code_server::CodeError;
 use erl_term::Atom;
 use process_table::ProcError;
-use sys_protocol::SysError;
+use sys_protocol::{SysError, revive_refusal};
 use undo_journal::Reversible;
+use values::Failure;
 
 /// A refusal of the processes, if there is one.
 fn of_processes(refusal: Option<ProcError>) -> Option<Refusal>
@@ -68,6 +69,9 @@ impl Reversible for Node {
     ghost undoes = { Undoes };
 
     fn step(&mut self, event: &Event, n: usize) -> Step {
+        if let Some(refusal) = self.refusal(event) {
+            return Err(Failure::Refused(refusal));
+        }
         match event {
             Event::Arrive { client, name, body } => self.arrive(*client, name, body, n),
             Event::Take(pid) => self.take(*pid, n),
@@ -96,7 +100,7 @@ impl Reversible for Node {
             ),
             Event::Take(pid) => of_processes(self.processes.take_refusal(*pid)),
             Event::Commit(done) => of_processes(self.processes.commit_refusal(done.job())),
-            Event::Revive { app, id } => of_apps(self.apps.revive_refusal(app, id)),
+            Event::Revive { app, id } => of_apps(revive_refusal(&self.apps, app, id)),
             Event::Load(_) => of_modules(self.modules.purge_and_load_refusal()),
             Event::Delete(name) => of_modules(self.modules.delete_refusal(name)),
             Event::Purge(_) => None,

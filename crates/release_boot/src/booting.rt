@@ -16,7 +16,7 @@ use process_table::Processes;
 use release_table::{AppFiles, Release};
 use std::alloc::{AllocError, Global};
 use std::hash::RandomState;
-use sys_protocol::{AppError, Apps, StartFailed};
+use sys_protocol::{AppError, AppTable, StartFailed, start_app as start};
 use values::{Duplicate, Failure};
 
 /// What a release has booted.
@@ -27,7 +27,7 @@ pub struct Booted {
     /// The processes of its applications.
     pub processes: Processes,
     /// Its applications.
-    pub apps: Apps,
+    pub apps: AppTable,
 }
 
 /// Loads a module; where it has old code, that goes.
@@ -127,7 +127,7 @@ fn not_started(alloc: Global, app: &Atom, reason: Term) -> Result<(), BootError>
 
 /// Starts an application.
 fn start_app(
-    apps: &mut Apps,
+    apps: &mut AppTable,
     processes: &mut Processes,
     alloc: Global,
     code: &[Instance],
@@ -136,7 +136,7 @@ fn start_app(
     ensures started { OnOk result (Starts code.now name.now apps.old processes.old apps.new processes.new) }
     ensures failed { IfErr result (λ e. FailsFor e code.now name.now apps.old processes.old) }
 {
-    match apps.start_app(processes, code, name, 0) {
+    match start(apps, processes, alloc, code, name, 0) {
         Ok(_) => Ok(()),
         Err(Failure::Refused(refusal)) => {
             let reason = reason_of(alloc, name, refusal)?;
@@ -148,7 +148,7 @@ fn start_app(
 
 /// Starts an application, where it is started by its type.
 fn start_one(
-    apps: &mut Apps,
+    apps: &mut AppTable,
     processes: &mut Processes,
     alloc: Global,
     code: &[Instance],
@@ -165,7 +165,7 @@ fn start_one(
 
 /// Starts those of these applications that are started by their types, in order.
 fn start_all(
-    apps: &mut Apps,
+    apps: &mut AppTable,
     processes: &mut Processes,
     alloc: Global,
     code: &[Instance],
@@ -193,7 +193,7 @@ pub fn boot(alloc: Global, hashing: RandomState, release: &Release) -> Result<Bo
     let mut modules = Modules::new(alloc, hashing);
     load_all(&mut modules, alloc, release.apps.as_slice())?;
     let specs = specs_of(alloc, release.apps.as_slice(), release.rel.apps.as_slice())?;
-    let mut apps = Apps::new(alloc, specs)?;
+    let mut apps = AppTable::new(alloc, specs)?;
     let mut processes = Processes::new(alloc, hashing, hashing)?;
     let code = current_code(alloc, &modules)?;
     start_all(

@@ -7,10 +7,10 @@ ghost use Rattle.shell_answers.specs.Answers.{app_of, apps_of, line_of};
 use crate::bytes::{put, put_separator};
 use erl_term::{ToTerm, print, print_atom};
 use std::alloc::AllocError;
-use sys_protocol::{App, Apps};
+use sys_protocol::{App, AppTable};
 
 /// Appends `[{App,Vsn}]`.
-pub fn write_apps(apps: &Apps, out: &mut Vec<u8>) -> Result<(), AllocError>
+pub fn write_apps(apps: &AppTable, out: &mut Vec<u8>) -> Result<(), AllocError>
     ensures { OnOk result (out.new.items ≡ out.old.items ++ line_of (list (apps_of apps.now))) }
 {
     put(b"[", out)?;
@@ -19,7 +19,7 @@ pub fn write_apps(apps: &Apps, out: &mut Vec<u8>) -> Result<(), AllocError>
 }
 
 /// Appends the applications, with commas between them.
-fn put_apps(apps: &Apps, out: &mut Vec<u8>) -> Result<(), AllocError>
+fn put_apps(apps: &AppTable, out: &mut Vec<u8>) -> Result<(), AllocError>
     ensures { OnOk result (out.new.items ≡ out.old.items ++ utf8 (elements_text (apps_of apps.now))) }
 {
     for place in 0..apps.len() {

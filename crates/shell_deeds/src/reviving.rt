@@ -20,7 +20,7 @@ use node_core::{Answer, Event, Refusal};
 use shell_answers::{Fixed, write_revived};
 use shell_requests::Name;
 use std::alloc::{AllocError, Global};
-use sys_protocol::{App, Apps, Child, SysError};
+use sys_protocol::{App, AppTable, Child, SysError};
 
 impl Holdings {
     /// Revives a child of an application, by its Id.
@@ -74,7 +74,7 @@ fn tell_revived(answer: Answer, out: &mut Vec<u8>) -> Said
 }
 
 /// Why a child isn't revived, whatever its start would come to. Takes no memory: it walks over the applications.
-fn revive_refusal(apps: &Apps, app: Name<'_>, id: Name<'_>) -> Option<SysError>
+fn revive_refusal(apps: &AppTable, app: Name<'_>, id: Name<'_>) -> Option<SysError>
     ensures { MatchOption result (IsDue (chars app.entry.text.now) (term.Atom (chars id.entry.text.now)) apps.now) (λ e. IsNotDue e (chars app.entry.text.now) (term.Atom (chars id.entry.text.now)) apps.now) }
 {
     let Some(app) = find_app(apps, app.as_str()) else {
@@ -88,7 +88,7 @@ fn revive_refusal(apps: &Apps, app: Name<'_>, id: Name<'_>) -> Option<SysError>
 }
 
 /// The application whose name a text spells.
-fn find_app<'a>(apps: &'a Apps, text: &str) -> Option<&'a App>
+fn find_app<'a>(apps: &'a AppTable, text: &str) -> Option<&'a App>
     ensures { option_copied result ≡ app_of (chars text.now) apps.now }
 {
     for place in 0..apps.len() {

@@ -1,7 +1,7 @@
 //! The applications of a node: their specifications, and the children of their supervisors (application(3); supervisor(3)).
 //!
-//! [`Apps`] starts an application ([`Apps::start_app`]) and a child that is due ([`Apps::revive`]), and is told of processes that have
-//! ended ([`Apps::ended`]). [`Apps::revert`] takes a step back.
+//! [`start_app`] starts an application, and [`revive`] a child that is due. The applications ([`AppTable`]) are told of processes that
+//! have ended ([`AppTable::ended`]), and take a step back ([`AppTable::revert`]).
 //!
 //! # What is proved
 //!
@@ -29,7 +29,7 @@ mod error;
 mod running;
 
 pub use app_starts::AppError;
-pub use app_table::{App, Child, ChildState, Ended, Undo};
-pub use apps::{AppStart, Apps, Revival};
+pub use app_table::{App, AppTable, Child, ChildState, Ended, Undo};
+pub use apps::{AppStart, Revival, revive, revive_refusal, start_app};
 pub use child_starts::StartFailed;
 pub use error::SysError;

@@ -37,13 +37,3 @@ returns-clause-accepted c =
     let new : NodeState = record { modules = m; processes = c.arrive.new.self; apps = apps } in
     let said : Option (List ℕ × Term) → Told Answer Note = λ o. record { answer = answer.Unit; note = record { replies = []; arrival = o } } in
     accepted_of n c.args.self.now (event.Arrive c.args.client name body) a new k c.tell_arrivals.result.items c.self.view_is (unless_none (arrive_refusal name body t) OfProcesses a c.in-Ok-arrive.ensures.ok) (ap (λ (u : Table). with_processes u n) c.in-Ok-arrive.ensures.arrived) (c.tell_arrivals.ensures ∙ all_told said c.in-Ok-arrive.arrived.0.items came k c.in-Ok-arrive.ensures.told)
-
-pub returns-in_default-clause-refused : goal.returns-in_default-clause-refused
-returns-in_default-clause-refused c =
-    let n : NodeState = record { modules = c.self.inside.modules; processes = c.self.inside.processes; apps = c.self.inside.apps } in
-    arrival-refused c.args.client c.args.name.now c.args.body.now n c.args.self.now c.error_of.result c.self.view_is (c.error_of.ensures ∙ ap error_of c.arrive_refusal.ensures)
-
-pub returns-in-Err-clause-refused : goal.returns-in-Err-clause-refused
-returns-in-Err-clause-refused c =
-    let n : NodeState = record { modules = c.self.inside.modules; processes = c.self.inside.processes; apps = c.self.inside.apps } in
-    arrival-refused c.args.client c.args.name.now c.args.body.now n c.args.self.now c.error_of-in-Err.result c.self.view_is (c.error_of-in-Err.ensures ∙ ap error_of (c.arrive_refusal-in-Err.ensures ∙ ap (λ (t : Table). arrive_refusal c.args.name.now c.args.body.now t) c.in-Err.ensures.err))

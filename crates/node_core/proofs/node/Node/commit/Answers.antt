@@ -34,19 +34,3 @@ returns-in-Ok-commit-clause-accepted c =
     let said : List Reply → Told Answer Note = λ rs. record { answer = answer.Unit; note = record { replies = rs; arrival = None } } in
     let is : new ≡ a.node = (λ i. record { modules = m; processes = c.in-Ok-commit.ensures.committed i; apps = c.in-Ok-end_child.ensures.ended i }) in
     accepted_of n c.args.self.now (event.Commit done) a new k c.tell_replies.result.items c.self.view_is (c.in-Ok-commit.ensures.ok, refl) is (c.tell_replies.ensures ∙ ap (map said) c.in-Ok-commit.ensures.told ∙ each_of said (commit_told done t) k)
-
-pub returns-in_default-clause-refused : goal.returns-in_default-clause-refused
-returns-in_default-clause-refused c =
-    let n : NodeState = record { modules = c.self.inside.modules; processes = c.self.inside.processes; apps = c.self.inside.apps } in
-    commit-refused c.args.done.now n c.args.self.now c.error_of.result c.commit_refusal.result c.self.view_is c.commit_refusal.ensures c.error_of.ensures
-
-pub returns-in_default-end_child-clause-refused : goal.returns-in_default-end_child-clause-refused
-returns-in_default-end_child-clause-refused c =
-    let n : NodeState = record { modules = c.self.inside.modules; processes = c.self.inside.processes; apps = c.self.inside.apps } in
-    commit-refused c.args.done.now n c.args.self.now c.error_of-in_default-end_child.result c.commit_refusal-in_default-end_child.result c.self.view_is c.commit_refusal-in_default-end_child.ensures c.error_of-in_default-end_child.ensures
-
-pub returns-in-Err-clause-refused : goal.returns-in-Err-clause-refused
-returns-in-Err-clause-refused c =
-    let n : NodeState = record { modules = c.self.inside.modules; processes = c.self.inside.processes; apps = c.self.inside.apps } in
-    let stands = subst (λ (t : Table). MatchOption c.commit_refusal-in-Err.result (CanCommit c.args.done.now.job t) (λ why. RefusesCommit why c.args.done.now.job t)) c.in-Err.ensures.err c.commit_refusal-in-Err.ensures in
-    commit-refused c.args.done.now n c.args.self.now c.error_of-in-Err.result c.commit_refusal-in-Err.result c.self.view_is stands c.error_of-in-Err.ensures

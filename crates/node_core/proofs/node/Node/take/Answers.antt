@@ -39,13 +39,3 @@ returns-clause-accepted c =
     let said : Job → Told Answer Note = λ j. record { answer = answer.Job j; note = record { replies = []; arrival = None } } in
     let runs = ap (λ (u : Table). job_at (living pid u)) (sym takes.table) ∙ takes.runs in
     accepted_of n c.args.self.now (event.Take pid) a new k c.tell_jobs.result.items c.self.view_is (job, c.in-Ok-take.ensures.ok, takes.code, runs, refl) (ap (λ (u : Table). with_processes u n) takes.table) (c.tell_jobs.ensures ∙ ap (map said) takes.told ∙ each_of said job k)
-
-pub returns-in_default-clause-refused : goal.returns-in_default-clause-refused
-returns-in_default-clause-refused c =
-    let n : NodeState = record { modules = c.self.inside.modules; processes = c.self.inside.processes; apps = c.self.inside.apps } in
-    take-refused c.args.pid n c.args.self.now c.error_of.result c.self.view_is (c.error_of.ensures ∙ ap error_of c.take_refusal.ensures)
-
-pub returns-in-Err-clause-refused : goal.returns-in-Err-clause-refused
-returns-in-Err-clause-refused c =
-    let n : NodeState = record { modules = c.self.inside.modules; processes = c.self.inside.processes; apps = c.self.inside.apps } in
-    take-refused c.args.pid n c.args.self.now c.error_of-in-Err.result c.self.view_is (c.error_of-in-Err.ensures ∙ ap error_of (c.take_refusal-in-Err.ensures ∙ ap (λ (t : Table). take_refusal c.args.pid t) c.in-Err.ensures.err))
