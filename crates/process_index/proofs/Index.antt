@@ -9,11 +9,13 @@ use Rattle.std.specs.Cmp.{IsTotalOrder, nat_cmp_total}
 use Rattle.std.specs.Cmp.Lexicographic.{slice_cmp, nat_list_cmp_total}
 use Rattle.std.specs.FinMap.{FinMap, IsAntisymmetric, nat_cmp-IsAntisymmetric, slice_cmp-IsAntisymmetric, from_entries, find, get, get-empty, get-from_entries, get-insert, get-remove, same_map}
 use Rattle.std.specs.Map.{lookup}
-use Rattle.std.specs.Str.{bytes_eq}
+use Rattle.std.specs.Str.{IsUtf8, bytes_eq, chars}
 use Rattle.std.proofs.lemmas.Bool.{false_from_ne_true}
 use Rattle.std.proofs.lemmas.Bool.Decides.{nat_tests}
 use Rattle.std.proofs.lemmas.Cmp.{eq_by_cmp_equiv}
 use Rattle.std.proofs.lemmas.Map.Text.{is_eq-slice_cmp}
+use Rattle.erl_term.proofs.Spelled.{spells-chars}
+use Rattle.erl_term.specs.Spelling.{spells}
 use Rattle.process_index.specs.declared.numbers.Owner.{Owner}
 use Rattle.process_index.specs.Index.{Names, put}
 use Rattle.process_index.specs.Numbers.{Owners}
@@ -113,6 +115,12 @@ module _ {K X : Type 0} {R : K → K → Ordering} {test : K → K → Bool} (o 
   put_back m k v = put-put m k (get m k) v ∙ put-get m k
 
 -- Names
+
+-- what the entries have under a text is what they have under the name that its characters are
+pub lookup-spelled : {X : Type 0} (text : List ℕ) (es : List (List ℕ × X)) → IsUtf8 text → lookup (spells text) es ≡ lookup (bytes_eq (chars text)) es
+lookup-spelled text [] whole = refl
+lookup-spelled text (e ∷ es) whole =
+    ap (λ b. cond b (Some e.1) (lookup (spells text) es)) (spells-chars text e.0 whole) ∙ ap (cond (bytes_eq (chars text) e.0) (Some e.1)) (lookup-spelled text es whole)
 
 pub names_read : (names : Names) (name : List ℕ) (pid : Option ℕ) (other : List ℕ) → get (put name pid names) other ≡ cond (bytes_eq name other) pid (get names other)
 names_read = get-put names_apart

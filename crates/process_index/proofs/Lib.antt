@@ -1,4 +1,3 @@
-pub mod Few
 pub mod Index
 pub mod OpenCalls
-pub mod Rows
+pub mod Standing

@@ -1,12 +1,16 @@
 -- Lemmas on open calls in order, and the set `calls_laws` of those that a crate above wants.
-use Rattle.std.proofs.Common.{◌≡◌, ℕ, zero, suc, ◌<◌, ◌≤◌, ⊎_elim, Bool, true, false, cond, not, ◌&&◌, ◌||◌, List, [], ◌∷◌, length, get_or, insert, remove, All, refl, sym, ap, ◌∙◌, subst, arith}
+use Rattle.std.proofs.Common.{◌≡◌, ℕ, zero, suc, ◌<◌, ⊎_elim, Bool, true, false, cond, not, ◌&&◌, ◌||◌, List, [], ◌∷◌, length, get_or, All, refl, sym, ap, ◌∙◌, subst, arith}
+use Rattle.std.specs.declared.cmp.Ordering.{Ordering}
+use Rattle.std.specs.declared.cmp.Ordering.TheVariants.{Less, Equal, Greater}
+use Rattle.std.specs.Ordering.{is_eq, match_ordering, nat_cmp, ordering_then}
+use Rattle.std.specs.BTreeMap.{is_at}
+use Rattle.std.specs.BTreeSet.{insert_key}
+use Rattle.std.specs.Set.{remove_key}
 use Rattle.std.specs.Bool.{Decides}
-use Rattle.std.specs.List.{Contains, AllWithin}
-use Rattle.std.specs.List.Sorted.{IsPartitionedBy, IsPartitionPoint}
-use Rattle.std.proofs.lemmas.Bool.{cond-true, cond-false, and_parts, or_cases, or_parts, or_left, or_right, or_from, and_from, and_right, cases_eq, eqb-true, eq-eqb, true≢false, false_from_ne_true}
+use Rattle.std.specs.List.{Contains}
+use Rattle.std.proofs.lemmas.Bool.{cond-true, cond-false, and_parts, or_cases, or_parts, or_left, or_right, or_from, and_from, and_right, eqb-true, eq-eqb, true≢false}
 use Rattle.std.proofs.lemmas.Bool.Decides.{nat_tests}
-use Rattle.std.proofs.lemmas.List.{get_or_default}
-use Rattle.std.proofs.lemmas.List.Elements.{All-cons, All-head, All-tail, All-get_or, All-nil, All-weaker}
+use Rattle.std.proofs.lemmas.List.Elements.{All-cons, All-head, All-tail, All-nil, All-weaker}
 use Rattle.process_index.specs.declared.calls.Call.{Call}
 use Rattle.process_index.specs.Calls.{is_same, is_before, AreInOrder, has, with_call, without}
 
@@ -46,19 +50,6 @@ before_or_behind c d not_before other = grind (arith, nat_tests)
 
 -- Calls in order
 
-pub ordered_places : (cs : List Call) → AreInOrder cs → (i j : ℕ) (d : Call) → i < j → j < length cs → is_before (get_or cs i d) (get_or cs j d) ≡ true
-ordered_places [] ordered i j d before within = absurd (omega arith)
-ordered_places (c ∷ cs) ordered i zero d before within = absurd (omega arith)
-ordered_places (c ∷ cs) ordered zero (suc j) d before within =
-    All-get_or (λ e. is_before c e ≡ true) cs j d (omega arith) ordered.0
-ordered_places (c ∷ cs) ordered (suc i) (suc j) d before within =
-    ordered_places cs ordered.1 i j d (omega arith) (omega arith)
-
--- those that come before a call stand before those that do not
-pub parted : (c : Call) (cs : List Call) → AreInOrder cs → IsPartitionedBy (λ d. is_before d c) cs
-parted c cs ordered i j d upto within before =
-    ⊎_elim (λ e. subst (λ k. is_before (get_or cs k d) c ≡ true) (sym e) before) (λ ne. before-trans _ _ c (ordered_places cs ordered i j d (omega arith) within) before) (cases_eq i j)
-
 -- none of those that a call comes before is that call
 pub none_behind : (c : Call) (cs : List Call) → All (λ d. is_before c d ≡ true) cs → has c cs ≡ false
 none_behind c [] behind = refl
@@ -70,24 +61,35 @@ pub before_all : (c d : Call) (ds : List Call) → is_before c d ≡ true → Ar
 before_all c d ds before ordered =
     All-cons (λ e. is_before c e ≡ true) d ds before (All-weaker (λ e. is_before d e ≡ true) (λ e. is_before c e ≡ true) (λ e. before-trans c d e before) ds ordered.0)
 
--- A call put in and taken out, where it is to stand
+-- A call put in and taken out by the order of its client and number
 
-pub insert-with_call : (c : Call) (cs : List Call) (i : ℕ) → i ≤ length cs → AllWithin (λ d. is_before d c ≡ true) cs 0 i → AllWithin (λ d. is_before d c ≡ false) cs i (length cs) → insert cs i c ≡ with_call c cs
-insert-with_call c [] zero within front back = refl
-insert-with_call c [] (suc i) within front back = absurd (omega arith)
-insert-with_call c (d ∷ ds) zero within front back =
-    sym (cond-false (is_before d c) (d ∷ with_call c ds) (c ∷ d ∷ ds) (back 0 c (omega arith) (omega arith)))
-insert-with_call c (d ∷ ds) (suc i) within front back =
-    ap (λ es. d ∷ es) (insert-with_call c ds i (omega arith) (λ k e low high. front (suc k) e (omega arith) (omega arith)) (λ k e low high. back (suc k) e (omega arith) (omega arith)))
-    ∙ sym (cond-true (is_before d c) (d ∷ with_call c ds) (c ∷ d ∷ ds) (front 0 c (omega arith) (omega arith)))
+abbrev pub call_cmp : Call → Call → Ordering
+call_cmp c d = ordering_then (nat_cmp c.client d.client) (nat_cmp c.number d.number)
 
-pub remove-without : (c : Call) (cs : List Call) (i : ℕ) (at : Call) → i < length cs → at ≡ get_or cs i at → is_same at c ≡ true → AllWithin (λ d. is_before d c ≡ true) cs 0 i → remove cs i ≡ without c cs
-remove-without c [] i at within is same front = absurd (omega arith)
-remove-without c (d ∷ ds) zero at within is same front =
-    sym (cond-true (is_same c d) ds (d ∷ without c ds) (same_turned c d ∙ subst (λ e. is_same e c ≡ true) is same))
-remove-without c (d ∷ ds) (suc i) at within is same front =
-    ap (λ es. d ∷ es) (remove-without c ds i at (omega arith) is same (λ k e low high. front (suc k) e (omega arith) (omega arith)))
-    ∙ sym (cond-false (is_same c d) ds (d ∷ without c ds) (before-not_same d c (front 0 c (omega arith) (omega arith))))
+-- the order tells which call is meant, and which comes first
+told : (c d : Call) → call_cmp c d ≡ cond (is_same c d) Equal (cond (is_before d c) Greater Less)
+told c d = grind (arith, nat_tests)
+
+tied : (c d : Call) → is_eq (call_cmp c d) ≡ is_same c d
+tied c d = grind (arith, nat_tests)
+
+chosen : {A : Type 0} (before : Bool) (first same behind : A) → match_ordering (cond before Greater Less) first same behind ≡ cond before behind first
+chosen true first same behind = refl
+chosen false first same behind = refl
+
+pub insert_key-with_call : (c : Call) (cs : List Call) → has c cs ≡ false → insert_key call_cmp cs c ≡ with_call c cs
+insert_key-with_call c [] absent = refl
+insert_key-with_call c (d ∷ ds) absent =
+    let parts = or_parts _ _ absent in
+    let apart = told c d ∙ cond-false (is_same c d) Equal (cond (is_before d c) Greater Less) parts.0 in
+    ap (λ r. match_ordering r (c ∷ d ∷ ds) (d ∷ ds) (d ∷ insert_key call_cmp ds c)) apart
+    ∙ chosen (is_before d c) (c ∷ d ∷ ds) (d ∷ ds) (d ∷ insert_key call_cmp ds c)
+    ∙ ap (λ es. cond (is_before d c) (d ∷ es) (c ∷ d ∷ ds)) (insert_key-with_call c ds parts.1)
+
+pub remove_key-without : (c : Call) (cs : List Call) → remove_key (is_at (call_cmp c)) cs ≡ without c cs
+remove_key-without c [] = refl
+remove_key-without c (d ∷ ds) =
+    ap (λ b. cond b ds (d ∷ remove_key (is_at (call_cmp c)) ds)) (tied c d) ∙ ap (λ es. cond (is_same c d) ds (d ∷ es)) (remove_key-without c ds)
 
 -- a call that is none of them, taken out
 pub without-absent : (c : Call) (cs : List Call) → has c cs ≡ false → without c cs ≡ cs
@@ -95,33 +97,6 @@ without-absent c [] absent = refl
 without-absent c (d ∷ ds) absent =
     let parts = or_parts _ _ absent in
     cond-false (is_same c d) ds (d ∷ without c ds) parts.0 ∙ ap (λ es. d ∷ es) (without-absent c ds parts.1)
-
--- where it would stand another stands, or none: it is none of them
-pub absent_at : (c at : Call) (cs : List Call) (i : ℕ) → AreInOrder cs → i ≤ length cs → AllWithin (λ d. is_before d c ≡ true) cs 0 i → AllWithin (λ d. is_before d c ≡ false) cs i (length cs) → (i < length cs → is_same (get_or cs i at) c ≡ false) → has c cs ≡ false
-absent_at c at [] i ordered within front back other = refl
-absent_at c at (d ∷ ds) zero ordered within front back other =
-    let differs = same_turned c d ∙ other (omega arith) in
-    none_behind c (d ∷ ds) (before_all c d ds (before_or_behind c d (back 0 c (omega arith) (omega arith)) differs) ordered)
-absent_at c at (d ∷ ds) (suc i) ordered within front back other =
-    or_from _ _ (before-not_same d c (front 0 c (omega arith) (omega arith))) (absent_at c at ds i ordered.1 (omega arith) (λ k e low high. front (suc k) e (omega arith) (omega arith)) (λ k e low high. back (suc k) e (omega arith) (omega arith)) (λ below. other (omega arith)))
-
--- The items behind the type, after a call is put in or taken out at its place
-
-pub put_in : (c : Call) (seen items cs new : List Call) (i : ℕ) → seen ≡ items → items ≡ cs → new ≡ insert items i c → i ≤ length seen → IsPartitionPoint (λ d. is_before d c ≡ true) (λ d. is_before d c ≡ false) seen i → new ≡ with_call c cs
-put_in c seen items cs new i value view put within point =
-    put ∙ ap (λ xs. insert xs i c) (sym value) ∙ insert-with_call c seen i within point.0 point.1 ∙ ap (with_call c) (value ∙ view)
-
-pub taken_out : (c d : Call) (seen items cs new : List Call) (i : ℕ) → seen ≡ items → items ≡ cs → new ≡ remove items i → i < length seen → get_or seen i d ≡ c → IsPartitionPoint (λ d. is_before d c ≡ true) (λ d. is_before d c ≡ false) seen i → new ≡ without c cs
-taken_out c d seen items cs new i value view cut within same point =
-    let front = subst (λ xs. AllWithin (λ d. is_before d c ≡ true) xs 0 i) value point.0 in
-    let at = sym same ∙ get_or_default seen i d c within ∙ ap (λ xs. get_or xs i c) value in
-    cut ∙ remove-without c items i c (subst (λ xs. i < length xs) value within) at (same_itself c) front ∙ ap (without c) view
-
-pub left_alone : (c at : Call) (seen items cs : List Call) (i : ℕ) → seen ≡ items → items ≡ cs → AreInOrder items → i ≤ length seen → IsPartitionPoint (λ d. is_before d c ≡ true) (λ d. is_before d c ≡ false) seen i → (i < length seen → (get_or seen i at ≡ c → ⊥)) → cs ≡ without c cs
-left_alone c at seen items cs i value view ordered within point other =
-    let differs = λ (below : i < length seen). false_from_ne_true (is_same (get_or seen i at) c) (λ e. other below (same_call _ c e)) in
-    let absent = absent_at c at seen i (subst AreInOrder (sym value) ordered) within point.0 point.1 differs in
-    sym (without-absent c cs (subst (λ xs. has c xs ≡ false) (value ∙ view) absent))
 
 -- The order is kept
 

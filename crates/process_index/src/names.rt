@@ -1,27 +1,22 @@
 // Registered names.
 ghost use Rattle.std.specs.Prelude.{◌≡◌, None, Some, OnOk, OnErr};
 ghost use Rattle.std.specs.FinMap as map;
-ghost use Rattle.std.specs.Map.{lookup};
-ghost use Rattle.std.specs.Str.{bytes_eq};
+ghost use Rattle.std.specs.Str.{chars};
 ghost use Rattle.process_index.specs.Index.{put};
 
 use erl_term::Atom;
+use indexmap::IndexMap;
 use std::alloc::{AllocError, Global};
-use std::collections::HashMap;
 use std::hash::RandomState;
 use std::marker::Model;
-use values::Same;
-
-/// So many names are compared in turn, which takes less time than to hash one.
-const FEW: usize = 8;
 
 /// The names that are registered, and the pids of the processes that have them.
 ///
-/// Contracts see it as a finite map from a name's characters to a pid. A name is compared with each where few are registered,
-/// and else hashed, by keys that nobody outside knows: so nobody can pick names that collide.
+/// Contracts see it as a finite map from a name's characters to a pid. Names are hashed by keys that nobody outside knows: so
+/// nobody can pick names that collide.
 #[derive(Drop)]
 pub struct NameIndex {
-    pids: HashMap<Atom, u64, RandomState>,
+    pids: IndexMap<Atom, u64, RandomState>,
 }
 
 impl Model for NameIndex {
@@ -36,36 +31,20 @@ impl Model for NameIndex {
     ghost view = { λ index. map.from_entries index.pids.entries };
 }
 
-/// The pid under a name, sought from the first entry to the last. It stands by itself, so that what calls it stays small.
-#[inline(never)]
-fn pid_among(pids: &HashMap<Atom, u64, RandomState>, name: &Atom) -> Option<u64>
-    ensures { result ≡ lookup (bytes_eq name.now) pids.now.entries }
-{
-    for (other, pid) in pids.iter() {
-        if name.same(other) {
-            return Some(*pid);
-        }
-    }
-    None
-}
-
 impl NameIndex {
     /// No name is registered. Names are hashed by `hashing`. Takes no memory.
     pub fn new(alloc: Global, hashing: RandomState) -> NameIndex
         ensures { result ≡ map.empty }
     {
         NameIndex {
-            pids: HashMap::with_hasher(alloc, hashing),
+            pids: IndexMap::with_hasher(alloc, hashing),
         }
     }
 
-    /// The pid of the process that has a name, where one has it. Takes no memory.
-    pub fn get(&self, name: &Atom) -> Option<u64>
-        ensures { result ≡ map.get self.now name.now }
+    /// The pid of the process that has the name that a text is, where one has it. Takes no memory.
+    pub fn get(&self, name: &str) -> Option<u64>
+        ensures { result ≡ map.get self.now (chars name.now) }
     {
-        if self.pids.len() <= FEW {
-            return pid_among(&self.pids, name);
-        }
         self.pids.get(name).copied()
     }
 
@@ -86,6 +65,6 @@ impl NameIndex {
     pub fn remove(&mut self, name: &Atom)
         ensures { self.new ≡ put name.now None self.old }
     {
-        self.pids.remove(name);
+        self.pids.swap_remove(name);
     }
 }

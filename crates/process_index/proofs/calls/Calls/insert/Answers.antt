@@ -1,12 +1,13 @@
--- The call is put in behind those that come before it.
-use Rattle.std.proofs.Common.{sym, subst}
-use Rattle.process_index.specs.Calls.{AreInOrder}
-use Rattle.process_index.proofs.OpenCalls.{AreInOrder-with_call, put_in}
+-- The set puts the call in behind those that come before it.
+use Rattle.std.proofs.Common.{◌≡◌, sym, ap, subst, ◌∙◌, false}
+use Rattle.process_index.specs.Calls.{AreInOrder, has, with_call}
+use Rattle.process_index.proofs.OpenCalls.{AreInOrder-with_call, insert_key-with_call}
 use Rattle.process_index.proofs.calls.Calls.insert.Goals as goal
 
 pub returns-clause-ok : goal.returns-clause-ok
 returns-clause-ok c =
-    put_in c.args.call c.as_slice.result.now c.self.inside.items c.args.self.now _ c.place-place.result c.as_slice.ensures c.self.view_is c.in_ok-insert.ensures.ok c.place-place.ensures.within c.place-place.ensures.parted
+    let absent = subst (λ cs. has c.args.call cs ≡ false) (sym c.self.view_is) c.requires in
+    c.in_ok-insert.ensures.keys ∙ insert_key-with_call c.args.call c.self.inside.items.keys absent ∙ ap (with_call c.args.call) c.self.view_is
 
 pub invariant_of-self-2 : goal.invariant_of-self-2
 invariant_of-self-2 c =
