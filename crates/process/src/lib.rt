@@ -16,21 +16,20 @@
 //! - [`Process::can_take`] tells the first message that is taken where the process rests, by the rules of evaluation
 //!   (`accepts` of `erl_eval`), and none while it runs or is suspended.
 //! - Each step is a stated function of the process: [`Process::deliver`] puts a message last, [`Process::take`] takes just the
-//!   one at the position, [`Process::rest`] moves the process to its new place, one turn on. Where memory is refused the
+//!   one at the position, [`Process::rest_next`] moves the process to its new place, one turn on. Where memory is refused the
 //!   process is as it was.
 //! - [`Process::suspend`] makes an idle process suspended, [`Process::resume`] a suspended one idle, and nothing else.
-//! - [`Process::undeliver`], [`Process::untake`] and [`Process::unrest`] take the others back. What `rest` hands out gives the
-//!   process that ran, whole.
+//! - [`Process::undeliver`], [`Process::untake`] and [`Process::unrest`] take the others back. What `rest_next` hands out gives
+//!   the process that ran, whole.
 //! - [`Process::job`] gives the job that the process runs, and [`Process::runs`] tells exactly whether it is one that is asked
 //!   about: pid, turn, place, serial, message and code.
 //!
-//! - [`Process::end`] gives all of a process but code, as do [`Process::told`] and then [`Process::into_ended`], of which the second
-//!   takes no memory; and [`Ended::live`] the process again, with the instances that the table of modules has under those names
-//!   and serials. [`ended_processes_live`]: where the instances that it used stand in the table, it is the process that it was.
-//! - [`Process::rest`] may be made in two steps: [`Process::next_at`] looks for the message that is taken next, and
-//!   [`Process::rest_next`] moves the process, and can't fail.
-//! - What `rest` hands out is kept without code as a [`NamedRan`] ([`Ran::named`], which takes no memory), and is made whole again
-//!   by [`NamedRan::run_again`], or by [`NamedRan::used`] and then [`NamedRan::run_with`], of which the second can't fail.
+//! - [`Process::told`] and then [`Process::into_ended`], which takes no memory, give all of a process but code; and [`Ended::live`]
+//!   the process again, with the instances that the table of modules has under those names and serials. [`ended_processes_live`]: where the instances that it used stand in the table, it is the process that it was.
+//! - To rest takes two steps: [`Process::next_at`] looks for the message that is taken next, and [`Process::rest_next`] moves the
+//!   process, and can't fail.
+//! - What `rest_next` hands out is kept without code as a [`NamedRan`] ([`Ran::named`], which takes no memory), and is made whole again
+//!   by [`NamedRan::used`] and then [`NamedRan::run_with`], of which the second can't fail.
 //!   [`jobs_run_again`]: where the instances stand in the table, it is what it was.
 //!
 //! # What no contract says

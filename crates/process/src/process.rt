@@ -1,5 +1,5 @@
 // A process.
-ghost use Rattle.std.specs.Prelude.{◌≡◌, ◌<◌, ◌≤◌, ◌+◌, ◌^◌, ◌↔◌, IfOk, OnOk, OnErr, IsTrue, MatchOption, None, Some, length, slice_get};
+ghost use Rattle.std.specs.Prelude.{◌≡◌, ◌<◌, ◌≤◌, ◌+◌, ◌^◌, ◌↔◌, IfOk, OnOk, OnErr, IsTrue, None, Some, length, slice_get};
 ghost use Rattle.std.specs.Option.{option_copied};
 ghost use Rattle.process.specs.Process.{awaited, IsRunning, can_take, delivered, first_taken, job_of, rested, resumed, run_at, started, suspended, takes_at, undelivered, unrested, untaken};
 
@@ -336,27 +336,6 @@ impl Process {
             }
             Activity::Idle | Activity::Suspended => false,
         }
-    }
-
-    /// The process rests at a place, one turn on. What it ran is handed out, if it ran.
-    ///
-    /// # Errors
-    ///
-    /// `AllocError` where memory is refused. The process is then as it was.
-    pub fn rest(
-        &mut self,
-        alloc: Global,
-        place: Place,
-        rests_in: Option<Instance>,
-    ) -> Result<Ran, AllocError>
-        requires running { IsRunning self.old }
-        requires turns { self.old.turn + 1 < 2 ^ 64 }
-        ensures ok { OnOk result (self.new ≡ rested place rests_in self.old) }
-        ensures back { IfOk result (λ ran. unrested ran self.new ≡ self.old) }
-        ensures err { OnErr result (self.new ≡ self.old) }
-    {
-        let next = self.next_at(alloc, &place, rests_in.as_ref())?;
-        Ok(self.rest_next(place, rests_in, next))
     }
 
     /// The position of the message that it takes next, if it comes to rest at a place.

@@ -163,7 +163,6 @@ impl Process {
     /// # Errors
     ///
     /// `AllocError` where memory is refused.
-    #[inline(always)]
     pub fn told(&self, alloc: Global) -> Result<Told, AllocError>
         ensures { IfOk result (λ told. ended_with told.rests_in told.code self.now ≡ ended self.now) }
     {
@@ -211,21 +210,6 @@ impl Process {
             did,
             turn,
             mailbox,
-        }
-    }
-
-    /// Takes the process out whole, so that it can live again. It holds no code then.
-    ///
-    /// # Errors
-    ///
-    /// The process, as it was, where memory is refused.
-    pub fn end(self, alloc: Global) -> Result<Ended, Process>
-        ensures ok { IfOk result (λ it. it ≡ ended self) }
-        ensures err { IfErr result (λ it. it ≡ self) }
-    {
-        match self.told(alloc) {
-            Ok(told) => Ok(self.into_ended(told)),
-            Err(_) => Err(self),
         }
     }
 }

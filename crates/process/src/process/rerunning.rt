@@ -1,5 +1,5 @@
 // What a job leaves behind when its process rests again, with no code.
-ghost use Rattle.std.specs.Prelude.{◌≡◌, IfErr, IfOk, IfSome, Some};
+ghost use Rattle.std.specs.Prelude.{◌≡◌, IfOk, IfSome, Some};
 ghost use Rattle.process.specs.Rerun.{JobsRunAgain, ran_in, ran_with, runs_again};
 
 use super::Ran;
@@ -77,38 +77,6 @@ impl NamedRan {
         Ok(Some(Used { rests_in, code }))
     }
 
-    /// The same with these instances, and what tells them.
-    fn with_code(self, used: Used) -> (Ran, Told)
-        ensures ran { result.0 ≡ ran_in used.rests_in used.code self }
-        ensures told { ran_with result.1.rests_in result.1.code result.0 ≡ self }
-    {
-        let NamedRan {
-            place,
-            rests_in: told,
-            running,
-        } = self;
-        let Used { rests_in, code } = used;
-        let NamedRunning {
-            entry_serial,
-            message,
-            code: code_told,
-        } = running;
-        let ran = Ran {
-            place,
-            rests_in,
-            running: Running {
-                entry_serial,
-                message,
-                code,
-            },
-        };
-        let told = Told {
-            rests_in: told,
-            code: code_told,
-        };
-        (ran, told)
-    }
-
     /// What the job has left behind, with these instances. Takes no memory.
     #[inline(always)]
     pub fn run_with(self, used: Used) -> Ran
@@ -129,27 +97,6 @@ impl NamedRan {
                 message,
                 code,
             },
-        }
-    }
-
-    /// What the job has left behind, with the instances that the process used, as they stand in the table. What tells them is handed
-    /// out with it, so that [`Ran::named`] makes it anew without memory.
-    ///
-    /// # Errors
-    ///
-    /// The same as it was, where memory is refused, and where one of the instances is not in the table.
-    pub fn run_again(
-        self,
-        alloc: Global,
-        modules: &Modules<Module>,
-    ) -> Result<(Ran, Told), NamedRan>
-        ensures ok { IfOk result (λ it. runs_again modules.now self ≡ Some it.0) }
-        ensures told { IfOk result (λ it. ran_with it.1.rests_in it.1.code it.0 ≡ self) }
-        ensures err { IfErr result (λ it. it ≡ self) }
-    {
-        match self.used(alloc, modules) {
-            Ok(Some(used)) => Ok(self.with_code(used)),
-            Ok(None) | Err(_) => Err(self),
         }
     }
 }
