@@ -1,22 +1,33 @@
 -- The slot of a process: what a write there is, and what is found there.
-use Rattle.std.proofs.Common.{◌≡◌, ℕ, zero, suc, ◌<◌, ◌≤◌, Bool, false, List, [], ◌∷◌, ◌++◌, length, slice_get, slice_set, get_or, Option, None, Some, option_map, IfSome, refl, sym, ap, subst, ◌∙◌, arith}
+use Rattle.std.proofs.Common.{◌≡◌, ℕ, zero, suc, ◌<◌, ◌≤◌, Bool, false, List, [], ◌∷◌, ◌++◌, length, slice_get, get_or, Option, None, Some, option_map, IfSome, refl, sym, ap, ◌∙◌, arith}
 use Rattle.std.proofs.lemmas.Option.{none-some, same_Some}
-use Rattle.process_index.specs.Calls.{has}
-use Rattle.process_index.specs.declared.calls.Call.{Call}
+use Rattle.process_index.specs.Standing.{put_at}
 use Rattle.process_store.specs.declared.living.Living.{Living}
 use Rattle.process_store.specs.Table.{changed_slots, living_at}
 
--- a write at the place of a pid is a change of its process
-pub slots_from_write : (f : Living → Living) (slots : List (Option Living)) (pid : ℕ) (old w : Option Living) → pid < length slots → old ≡ get_or slots pid old → w ≡ option_map f old → slice_set slots pid w ≡ changed_slots f pid slots
-slots_from_write f [] pid old w within is done = refl
-slots_from_write f (s ∷ ss) zero old w within is done = ap (λ x. x ∷ ss) (done ∙ ap (option_map f) is)
-slots_from_write f (s ∷ ss) (suc pid) old w within is done = ap (λ xs. s ∷ xs) (slots_from_write f ss pid old w (omega (arith, within)) is done)
+-- what is written at the place of a process that lives is a change of it
+pub slots_changed : (f : Living → Living) (slots : List (Option Living)) (pid : ℕ) (l w : Living) → Some l ≡ living_at slots pid → w ≡ f l → put_at pid w slots ≡ changed_slots f pid slots
+slots_changed f [] pid l w lives done = refl
+slots_changed f (s ∷ ss) zero l w lives done = ap (λ o. o ∷ ss) (ap (λ x. Some x) done ∙ ap (option_map f) lives)
+slots_changed f (s ∷ ss) (suc pid) l w lives done = ap (λ xs. s ∷ xs) (slots_changed f ss pid l w lives done)
 
--- where the pid was not given, nothing changes
-pub slots_from_past : (f : Living → Living) (slots : List (Option Living)) (pid : ℕ) → length slots ≤ pid → changed_slots f pid slots ≡ slots
-slots_from_past f [] pid past = refl
-slots_from_past f (s ∷ ss) zero past = absurd (omega (arith, past))
-slots_from_past f (s ∷ ss) (suc pid) past = ap (λ xs. s ∷ xs) (slots_from_past f ss pid (omega (arith, past)))
+-- what is written there takes nothing away where it is the process that was there, and is taken back by a change that gives it again
+
+pub slots_same : (slots : List (Option Living)) (pid : ℕ) (l w : Living) → Some l ≡ living_at slots pid → w ≡ l → put_at pid w slots ≡ slots
+slots_same [] pid l w lives same = refl
+slots_same (s ∷ ss) zero l w lives same = ap (λ o. o ∷ ss) (ap (λ x. Some x) same ∙ lives)
+slots_same (s ∷ ss) (suc pid) l w lives same = ap (λ xs. s ∷ xs) (slots_same ss pid l w lives same)
+
+pub slots_put_back : (g : Living → Living) (slots : List (Option Living)) (pid : ℕ) (l w : Living) → Some l ≡ living_at slots pid → g w ≡ l → changed_slots g pid (put_at pid w slots) ≡ slots
+slots_put_back g [] pid l w lives back = refl
+slots_put_back g (s ∷ ss) zero l w lives back = ap (λ o. o ∷ ss) (ap (λ x. Some x) back ∙ lives)
+slots_put_back g (s ∷ ss) (suc pid) l w lives back = ap (λ xs. s ∷ xs) (slots_put_back g ss pid l w lives back)
+
+-- where nobody lives, nothing changes
+pub slots_unchanged : (f : Living → Living) (slots : List (Option Living)) (pid : ℕ) → living_at slots pid ≡ None → changed_slots f pid slots ≡ slots
+slots_unchanged f [] pid nobody = refl
+slots_unchanged f (s ∷ ss) zero nobody = ap (λ o. option_map f o ∷ ss) nobody ∙ ap (λ o. o ∷ ss) (sym nobody)
+slots_unchanged f (s ∷ ss) (suc pid) nobody = ap (λ xs. s ∷ xs) (slots_unchanged f ss pid nobody)
 
 -- Who is found after a change, and what a test says of it.
 module _ (test : Option Living → Bool) where
@@ -109,9 +120,3 @@ pub living_given : (slots : List (Option Living)) (k : ℕ) (l : Living) → liv
 living_given [] k l is = absurd (none-some l is)
 living_given (s ∷ ss) zero l is = omega arith
 living_given (s ∷ ss) (suc k) l is = let below = living_given ss k l is in omega (arith, below)
-
--- what is asked of the process of a pid, asked of its slot
-pub uncalled_in_slot : (call : Option Call) (slots : List (Option Living)) (pid : ℕ) (d : Option Living) → pid < length slots → IfSome call (λ c. IfSome (living_at slots pid) (λ l. has c l.calls ≡ false)) → IfSome call (λ c. IfSome (get_or slots pid d) (λ l. has c l.calls ≡ false))
-uncalled_in_slot call slots pid d within asked =
-    let P : Option Living → Type 0 = λ o. IfSome call (λ c. IfSome o (λ l. has c l.calls ≡ false)) in
-    subst P (living_within slots pid d within) asked

@@ -12,6 +12,7 @@ use Rattle.process_store.specs.Table.{Table, is_taken, living_at, pid_of}
 use Rattle.process_store.specs.Inverses.{WasStarted}
 use Rattle.process_store.proofs.Indexes.{IsIndexed-started, IsIndexed-unstarted, named_by_index}
 use Rattle.process_store.proofs.Slots.{living_last}
+use Rattle.process_store.proofs.Vacating.{unregistered_back}
 
 -- a name that is not taken is nobody's
 free_name : (names : Names) (open_calls : Owners) (slots : List (Option Living)) (name : Option (List ℕ)) → IsIndexed names open_calls slots → is_taken name (record { slots = slots }) ≡ false → IfSome name (λ n. get names n ≡ None)
@@ -25,6 +26,12 @@ free_name names open_calls slots (Some n) indexed able =
 pub started_indexed : (names after : Names) (open_calls : Owners) (slots now : List (Option Living)) (name : Option (List ℕ)) (pid : ℕ) (l : Living) → IsIndexed names open_calls slots → is_taken name (record { slots = slots }) ≡ false → l.process.name ≡ name → l.process.pid ≡ pid → l.calls ≡ [] → pid ≡ length slots → after ≡ registered name pid names → now ≡ slots ++ Some l ∷ [] → IsIndexed after open_calls now
 started_indexed names after open_calls slots now name pid l indexed able named own uncalled last was is =
     subst (λ x. IsIndexed x open_calls now) (sym (was ∙ ap (λ p. registered name p names) last)) (subst (IsIndexed (registered name (length slots) names) open_calls) (sym is) (IsIndexed-started names open_calls slots name l indexed named (own ∙ last) uncalled (free_name names open_calls slots name indexed able)))
+
+-- where the process does not come, the names are as they were
+pub unnamed_again : (names after again : Names) (open_calls : Owners) (slots now : List (Option Living)) (name : Option (List ℕ)) (pid : ℕ) → IsIndexed names open_calls slots → is_taken name (record { slots = slots }) ≡ false → after ≡ registered name pid names → again ≡ unregistered name after → now ≡ slots → IsIndexed again open_calls now
+unnamed_again names after again open_calls slots now name pid indexed able was is same =
+    let back : again ≡ names = is ∙ ap (unregistered name) was ∙ unregistered_back name pid names (free_name names open_calls slots name indexed able) in
+    subst (λ n. IsIndexed n open_calls now) (sym back) (subst (IsIndexed names open_calls) (sym same) indexed)
 
 -- the last process goes, and the table is as it was
 pub started_back : (slots now : List (Option Living)) (t : Table) (l : Living) → now ≡ slots ++ Some l ∷ [] → l.calls ≡ [] → record { slots = slots } ≡ t → WasStarted (living_at now (length now - 1)) × ◌≡◌ {A = Table} (record { slots = take (length now - 1) now }) t

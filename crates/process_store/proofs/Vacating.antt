@@ -1,9 +1,8 @@
 -- A process is taken out of the table, with its name and its open calls, and put back into its slot.
-use Rattle.std.proofs.Common.{◌≡◌, ℕ, zero, suc, ◌+◌, ◌<◌, Bool, true, false, cond, inl, inr, nat_eq, List, [], ◌∷◌, length, drop, get_or, slice_get, slice_set, Option, None, Some, IfSome, is_some, option_and_then, refl, sym, ap, subst, ◌∙◌, arith, ◌||◌, ◌&&◌}
+use Rattle.std.proofs.Common.{◌≡◌, ℕ, zero, suc, ◌<◌, Bool, true, false, cond, inl, inr, nat_eq, List, [], ◌∷◌, length, slice_get, Option, None, Some, IfSome, is_some, option_and_then, refl, sym, ap, subst, ◌∙◌, arith, ◌||◌, ◌&&◌}
 use Rattle.std.proofs.lemmas.Bool.{eqb-true, false_from_ne_true, or_left, or_right, true≢false}
 use Rattle.std.proofs.lemmas.Bool.Decides.{eqb_tells, nat_tests}
 use Rattle.std.proofs.lemmas.Grind.{common_steps}
-use Rattle.std.proofs.lemmas.List.{drop_more}
 use Rattle.std.proofs.lemmas.Option.{none-some, same_Some}
 use Rattle.std.specs.FinMap.{get}
 use Rattle.values.specs.Edits.{changed_at}
@@ -22,17 +21,6 @@ use Rattle.process_store.proofs.Arriving.{free_number}
 use Rattle.process_store.proofs.Indexes.{asked_by_index, asked_calls, named_by_index, other_pid, owner_told, same_name}
 
 -- Slots
-
--- a write at the place of a pid, of nobody and of this process
-pub vacated_from_write : (slots : List (Option Living)) (pid : ℕ) (w : Option Living) → w ≡ None → slice_set slots pid w ≡ vacated_slots pid slots
-vacated_from_write [] pid w is = refl
-vacated_from_write (s ∷ ss) zero w is = ap (λ x. x ∷ ss) is
-vacated_from_write (s ∷ ss) (suc pid) w is = ap (λ xs. s ∷ xs) (vacated_from_write ss pid w is)
-
-pub occupied_from_write : (l : Living) (slots : List (Option Living)) (pid : ℕ) → slice_set slots pid (Some l) ≡ occupied_slots pid l slots
-occupied_from_write l [] pid = refl
-occupied_from_write l (s ∷ ss) zero = refl
-occupied_from_write l (s ∷ ss) (suc pid) = ap (λ xs. s ∷ xs) (occupied_from_write l ss pid)
 
 -- where nobody lives, nothing changes
 pub vacated_nobody : (slots : List (Option Living)) (pid : ℕ) → living_at slots pid ≡ None → vacated_slots pid slots ≡ slots
@@ -316,20 +304,35 @@ answered_back cs before now free same =
       | false ↦ λ e. same n e
     ] refl)
 
+-- the calls of a process change nothing under other numbers
+asked_elsewhere : (pid : ℕ) (cs : List Call) (owners : Owners) → IsSameElsewhere cs owners (all_asked pid cs owners)
+asked_elsewhere pid [] owners number none = refl
+asked_elsewhere pid (c ∷ cs) owners number none =
+    let o : Owner = record { pid = pid; client = c.client } in
+    let here : nat_eq c.number number ≡ false = grind (arith, common_steps, none) in
+    let later : has_number number cs ≡ false = grind (arith, common_steps, none) in
+    asked_elsewhere pid cs (put c.number (Some o) owners) number later ∙ numbers_read owners c.number (Some o) number ∙ ap (λ b. cond b (Some o) (get owners number)) here
+
+-- all calls of a process are asked, and answered again
+pub asked_back : (pid : ℕ) (cs : List Call) (owners : Owners) → AreFreeNumbers cs owners → all_answered cs (all_asked pid cs owners) ≡ owners
+asked_back pid cs owners free = answered_back cs owners (all_asked pid cs owners) free (asked_elsewhere pid cs owners)
+
+-- where the process does not come back, its name is free and none of its calls is open, as before
+pub left_again : (names entered again : Names) (open_calls asked left : Owners) (slots now : List (Option Living)) (pid : ℕ) (l back : Living) (t : Table) → IsIndexed names open_calls slots → record { slots = slots } ≡ t → CanReturn pid l t → entered ≡ registered l.process.name pid names → asked ≡ all_asked pid l.calls open_calls → back ≡ l → again ≡ unregistered back.process.name entered → left ≡ all_answered back.calls asked → now ≡ slots → IsIndexed again left now
+left_again names entered again open_calls asked left slots now pid l back t indexed view able named opened whole unnamed closed same =
+    let names_back : again ≡ names = unnamed ∙ (λ i. unregistered (whole i).process.name (named i)) ∙ unregistered_back l.process.name pid names (name_is_free names open_calls slots l t indexed view able.1) in
+    let calls_back : left ≡ open_calls = closed ∙ (λ i. all_answered (whole i).calls (opened i)) ∙ asked_back pid l.calls open_calls (calls_are_free names open_calls slots l t indexed view able.2) in
+    subst (λ n. IsIndexed n left now) (sym names_back) (subst (λ o. IsIndexed names o now) (sym calls_back) (subst (IsIndexed names open_calls) (sym same) indexed))
+
 -- Calls one by one
 
-pub asked_next : (pid : ℕ) (cs : List Call) (i : ℕ) (d : Call) (owners after before : Owners) → i < length cs → after ≡ put (get_or cs i d).number (Some (record { pid = pid; client = (get_or cs i d).client })) owners → all_asked pid (drop i cs) owners ≡ before → all_asked pid (drop (i + 1) cs) after ≡ before
-asked_next pid cs i d owners after before within is so_far =
-    ap (all_asked pid (drop (i + 1) cs)) is ∙ sym (ap (λ xs. all_asked pid xs owners) (drop_more cs i d within)) ∙ so_far
+-- of calls of which those that are left are among them
+pub left_fewer : (c : Call) (cs calls : List Call) → ((number : ℕ) → has_number number (c ∷ cs) ≡ true → has_number number calls ≡ true) → (number : ℕ) → has_number number cs ≡ true → has_number number calls ≡ true
+left_fewer c cs calls among number there =
+    among number (elim (nat_eq c.number number) as (λ b. cond b true (has_number number cs) ≡ true) [ true ↦ refl | false ↦ there ])
 
--- a number that is none of those of calls is that of none of them
-other_number : (cs : List Call) (i : ℕ) (d : Call) (number : ℕ) → i < length cs → has_number number cs ≡ false → nat_eq (get_or cs i d).number number ≡ false
-other_number [] i d number within none = absurd (omega (arith, within))
-other_number (c ∷ cs) zero d number within none = grind (arith, common_steps, none)
-other_number (c ∷ cs) (suc i) d number within none =
-    let later : has_number number cs ≡ false = grind (arith, common_steps, none) in
-    other_number cs i d number (omega (arith, within)) later
-
-pub same_elsewhere : (cs : List Call) (i : ℕ) (d : Call) (owner : Option Owner) (before now after : Owners) → i < length cs → after ≡ put (get_or cs i d).number owner now → IsSameElsewhere cs before now → IsSameElsewhere cs before after
-same_elsewhere cs i d owner before now after within is same number none =
-    ap (λ o. get o number) is ∙ numbers_read now (get_or cs i d).number owner number ∙ ap (λ b. cond b owner (get now number)) (other_number cs i d number within none) ∙ same number none
+pub same_elsewhere : (c : Call) (cs calls : List Call) (owner : Option Owner) (before now after : Owners) → ((number : ℕ) → has_number number (c ∷ cs) ≡ true → has_number number calls ≡ true) → after ≡ put c.number owner now → IsSameElsewhere calls before now → IsSameElsewhere calls before after
+same_elsewhere c cs calls owner before now after among is same number none =
+    let apart : nat_eq c.number number ≡ false = false_from_ne_true (nat_eq c.number number) (λ e.
+    true≢false (sym (among number (ap (λ b. cond b true (has_number number cs)) e)) ∙ none)) in
+    ap (λ o. get o number) is ∙ numbers_read now c.number owner number ∙ ap (λ b. cond b owner (get now number)) apart ∙ same number none

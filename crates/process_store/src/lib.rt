@@ -14,21 +14,20 @@
 //! - [`ProcessStore::remove`] takes a process out of its slot, with its name and its open calls (`vacated`), and such a process can
 //!   always come back (`CanReturn`). [`ProcessStore::restore`] puts it into its slot again, or leaves all as it was (`occupied`).
 //! - A process rests again, one turn on, and runs again what it ran; a call is closed by its number, whosever it is (`owner_of`), and
-//!   is open again; a message goes to a pid, or nowhere where nobody has it ([`ProcessStore::rest`], [`ProcessStore::close`],
+//!   is open again; a message goes to a pid, or nowhere where nobody has it ([`ProcessStore::rest_next`], [`ProcessStore::close`],
 //!   [`ProcessStore::deliver`], and what takes each back). Of these a commit is to be made.
 //! - A name and an open call stand in the process that has them, so each is a living one's. A suspended process runs nothing, by
 //!   the type of what a process does.
 //!
 //! # What no contract says
 //!
-//! That there is memory, and what a call costs. A name and the number of a call are found by hash. A change touches one process.
-//! The slot of a process that has ended stays, for a pid is not given again: processes are started by applications alone, so there
-//! are not many.
+//! That there is memory, and what a call costs. A name and the number of a call are found by hash, and a process by its pid in
+//! logarithmic time. A change touches one process. Memory and time hang on the processes that live, and not on how many pids were
+//! given.
 #![tactic(auto)]
 
 mod living;
 mod places;
-mod slot_changes;
 mod store;
 
 pub use living::Living;

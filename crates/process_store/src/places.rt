@@ -1,139 +1,143 @@
-// Writes at the place of a process in the table. Each says exactly what the processes are then.
-ghost use Rattle.std.specs.Prelude.{◌≡◌, ◌<◌, ◌≤◌, ℕ, Option, false, IfSome, OnOk, OnErr, length, Some};
-ghost use Rattle.std.specs.Option.{option_copied, option_map};
+// Changes of the process of a pid in the table. Each says exactly what the processes are then.
+ghost use Rattle.std.specs.Prelude.{◌≡◌, false, IfSome, OnOk, OnErr};
 ghost use Rattle.process_index.specs.Calls.{has};
+ghost use Rattle.process_store.specs.Changes.{CanTurn, IsNext, LivesAndRuns, Turned, closed_living, reopened_living, rest_living, resume_living, suspend_living, unrest_living};
+ghost use Rattle.process_store.specs.Inverses.{WasTaken};
 ghost use Rattle.process_store.specs.Living.{arrived, run, unarrived, untook};
 ghost use Rattle.process_store.specs.Table.{changed_slots, living_at};
-ghost use Rattle.process_store.specs.Inverses.{WasTaken};
 
 use crate::living::Living;
+use erl_eval::Place;
 use erl_machine::Instance;
 use erl_term::Term;
-use process_index::Call;
+use process::Ran;
+use process_index::{Call, Slots};
 use std::alloc::{AllocError, Global};
 use values::Row;
 
-/// The process of a pid, where it lives.
-pub(crate) fn living(slots: &[Option<Living>], pid: u64) -> Option<&Living>
-    ensures { option_copied result ≡ living_at slots.now pid }
-{
-    match slots.get(pid as usize) {
-        Some(slot) => slot.as_ref(),
-        None => None,
-    }
-}
-
-/// A message comes for the process in a slot, if one lives there, and the call that it is, if it is one, is open.
-fn arrive_in(
-    slot: &mut Option<Living>,
+/// A message comes for a process, where it lives, and the call that it is, if it is one, is open.
+pub(crate) fn arrive_at(
+    slots: &mut Slots<Living>,
+    pid: u64,
     alloc: Global,
     message: Term,
     call: Option<Call>,
 ) -> Result<(), AllocError>
-    requires { IfSome call (λ c. IfSome slot.old (λ l. has c l.calls ≡ false)) }
-    ensures ok { OnOk result (slot.new ≡ option_map (arrived message call) slot.old) }
-    ensures err { OnErr result (slot.new ≡ slot.old) }
+    requires { IfSome call (λ x. IfSome (living_at slots.old pid) (λ l. has x l.calls ≡ false)) }
+    ensures ok { OnOk result (slots.new ≡ changed_slots (arrived message call) pid slots.old) }
+    ensures err { OnErr result (slots.new ≡ slots.old) }
 {
-    match slot {
+    match slots.get_mut(pid) {
         Some(living) => living.arrive(alloc, message, call),
         None => Ok(()),
     }
 }
 
-/// A message comes for a process, and the call that it is, if it is one, is open.
-#[tactic(auto, using(crate::proofs::Slots::slots_from_write))]
-pub(crate) fn arrive_at(
-    slots: &mut Vec<Option<Living>>,
-    pid: u64,
-    alloc: Global,
-    message: Term,
-    call: Option<Call>,
-) -> Result<(), AllocError>
-    requires { IfSome call (λ c. IfSome (living_at slots.old.items pid) (λ l. has c l.calls ≡ false)) }
-    ensures ok { OnOk result (slots.new.items ≡ changed_slots (arrived message call) pid slots.old.items) }
-    ensures err { OnErr result (slots.new.items ≡ slots.old.items) }
+/// The last message of a process goes, where it lives, and the call that it is, if it is one, was never made.
+pub(crate) fn unarrive_at(slots: &mut Slots<Living>, pid: u64, call: Option<Call>)
+    ensures { slots.new ≡ changed_slots (unarrived call) pid slots.old }
 {
-    let place = pid as usize;
-    if slots.len() <= place {
-        return Ok(());
-    }
-    arrive_in(&mut slots[place], alloc, message, call)
-}
-
-/// The last message of the process in a slot goes, and the call that it is, if it is one, was never made.
-fn unarrive_in(slot: &mut Option<Living>, call: Option<Call>)
-    ensures { slot.new ≡ option_map (unarrived call) slot.old }
-{
-    if let Some(living) = slot {
+    if let Some(living) = slots.get_mut(pid) {
         living.unarrive(call);
     }
 }
 
-/// The last message of a process goes, and the call that it is, if it is one, was never made.
-#[tactic(auto, using(crate::proofs::Slots::slots_from_write))]
-pub(crate) fn unarrive_at(slots: &mut Vec<Option<Living>>, pid: u64, call: Option<Call>)
-    ensures { slots.new.items ≡ changed_slots (unarrived call) pid slots.old.items }
-{
-    let place = pid as usize;
-    if slots.len() <= place {
-        return;
-    }
-    unarrive_in(&mut slots[place], call);
-}
-
-/// The message at a position of the process in a slot is taken, and runs.
-fn run_in(slot: &mut Option<Living>, position: usize, entry_serial: u64, code: Row<Instance>)
-    ensures { slot.new ≡ option_map (run position entry_serial code) slot.old }
-{
-    if let Some(living) = slot {
-        living.run(position, entry_serial, code);
-    }
-}
-
 /// The message at a position of a process is taken, and runs.
-#[tactic(auto, using(crate::proofs::Slots::slots_from_write))]
 pub(crate) fn run_at(
-    slots: &mut Vec<Option<Living>>,
+    slots: &mut Slots<Living>,
     pid: u64,
     position: usize,
     entry_serial: u64,
     code: Row<Instance>,
 )
-    ensures { slots.new.items ≡ changed_slots (run position entry_serial code) pid slots.old.items }
+    ensures { slots.new ≡ changed_slots (run position entry_serial code) pid slots.old }
 {
-    let place = pid as usize;
-    if slots.len() <= place {
-        return;
+    if let Some(living) = slots.get_mut(pid) {
+        living.run(position, entry_serial, code);
     }
-    run_in(&mut slots[place], position, entry_serial, code);
 }
 
-/// The message that the process in a slot runs is back at its position.
-fn untake_in(slot: &mut Option<Living>, position: usize) -> Result<(), AllocError>
-    requires { IfSome slot.old (λ l. WasTaken position (Some l)) }
-    ensures ok { OnOk result (slot.new ≡ option_map (untook position) slot.old) }
-    ensures err { OnErr result (slot.new ≡ slot.old) }
+/// The message that a process runs is back at its position.
+pub(crate) fn untake_at(
+    slots: &mut Slots<Living>,
+    pid: u64,
+    position: usize,
+) -> Result<(), AllocError>
+    requires { WasTaken position (living_at slots.old pid) }
+    ensures ok { OnOk result (slots.new ≡ changed_slots (untook position) pid slots.old) }
+    ensures err { OnErr result (slots.new ≡ slots.old) }
 {
-    match slot {
+    match slots.get_mut(pid) {
         Some(living) => living.untake(position),
         None => Ok(()),
     }
 }
 
-/// The message that a process runs is back at its position.
-#[tactic(auto, using(crate::proofs::Slots::slots_from_write))]
-pub(crate) fn untake_at(
-    slots: &mut Vec<Option<Living>>,
-    pid: u64,
-    position: usize,
-) -> Result<(), AllocError>
-    requires { WasTaken position (living_at slots.old.items pid) }
-    ensures ok { OnOk result (slots.new.items ≡ changed_slots (untook position) pid slots.old.items) }
-    ensures err { OnErr result (slots.new.items ≡ slots.old.items) }
+/// A process is suspended, where it is idle.
+pub(crate) fn suspend_at(slots: &mut Slots<Living>, pid: u64)
+    ensures { slots.new ≡ changed_slots suspend_living pid slots.old }
 {
-    let place = pid as usize;
-    if slots.len() <= place {
-        return Ok(());
+    if let Some(living) = slots.get_mut(pid) {
+        living.process.suspend();
     }
-    untake_in(&mut slots[place], position)
+}
+
+/// A process is idle again, where it is suspended.
+pub(crate) fn resume_at(slots: &mut Slots<Living>, pid: u64)
+    ensures { slots.new ≡ changed_slots resume_living pid slots.old }
+{
+    if let Some(living) = slots.get_mut(pid) {
+        living.process.resume();
+    }
+}
+
+/// A process that lives and runs rests at a place, one turn on. What it ran is handed out.
+pub(crate) fn rest_at(
+    slots: &mut Slots<Living>,
+    pid: u64,
+    place: Place,
+    rests_in: Option<Instance>,
+    next: Option<usize>,
+) -> Ran
+    requires running { LivesAndRuns (living_at slots.old pid) }
+    requires turns { IfSome (living_at slots.old pid) CanTurn }
+    requires next { IfSome (living_at slots.old pid) (IsNext place rests_in next) }
+    ensures rested { slots.new ≡ changed_slots (rest_living place rests_in) pid slots.old }
+    ensures back { changed_slots (unrest_living result) pid slots.new ≡ slots.old }
+{
+    match slots.get_mut(pid) {
+        Some(living) => living.process.rest_next(place, rests_in, next),
+        None => unreachable!(),
+    }
+}
+
+/// A process runs again what it ran before it rested.
+pub(crate) fn unrest_at(slots: &mut Slots<Living>, pid: u64, ran: Ran)
+    requires { IfSome (living_at slots.old pid) Turned }
+    ensures { slots.new ≡ changed_slots (unrest_living ran) pid slots.old }
+{
+    if let Some(living) = slots.get_mut(pid) {
+        living.process.unrest(ran);
+    }
+}
+
+/// A call is open to a process no more.
+pub(crate) fn close_at(slots: &mut Slots<Living>, pid: u64, call: Call)
+    ensures { slots.new ≡ changed_slots (closed_living call) pid slots.old }
+{
+    if let Some(living) = slots.get_mut(pid) {
+        living.calls.remove(call);
+    }
+}
+
+/// A call is open to a process.
+pub(crate) fn reopen_at(slots: &mut Slots<Living>, pid: u64, call: Call) -> Result<(), AllocError>
+    requires { IfSome (living_at slots.old pid) (λ l. has call l.calls ≡ false) }
+    ensures ok { OnOk result (slots.new ≡ changed_slots (reopened_living call) pid slots.old) }
+    ensures err { OnErr result (slots.new ≡ slots.old) }
+{
+    match slots.get_mut(pid) {
+        Some(living) => living.calls.insert(call),
+        None => Ok(()),
+    }
 }

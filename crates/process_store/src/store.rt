@@ -1,20 +1,23 @@
 // The processes of a node by pid, and where each is found.
-ghost use Rattle.std.specs.Prelude.{◌≡◌, ◌-◌, ◌<◌, ◌++◌, ◌∷◌, [], ℕ, None, Some, length, take, vec_len, vec_capacity, IfOk, IfSome, IsSome, OnOk, OnErr, false, option_map};
+ghost use Rattle.std.specs.Prelude.{◌≡◌, ◌+◌, ◌-◌, ◌^◌, ◌<◌, ℕ, None, Some, drop, IfOk, IfSome, IsSome, OnOk, OnErr, false, option_map};
+ghost use Rattle.std.specs.Map.Iter.{ShowsInOrder, deref_pair};
 ghost use Rattle.std.specs.Option.{option_copied};
+ghost use Rattle.std.specs.Str.{chars};
+ghost use Rattle.process_index.specs.Standing.{alive, alive_from};
 ghost use Rattle.process_store.specs.Indexed.{registered, unregistered};
-ghost use Rattle.process_store.specs.Table.{living_at};
 
 mod changing;
 mod vacating;
 
 use crate::living::Living;
-use crate::places::{arrive_at, living, run_at, unarrive_at, untake_at};
+use crate::places::{arrive_at, run_at, unarrive_at, untake_at};
 use erl_eval::Place;
 use erl_machine::Instance;
 use erl_term::{Atom, Term};
 use process::Process;
-use process_index::{Call, CallIndex, Calls, NameIndex, Owner};
+use process_index::{Call, CallIndex, Calls, NameIndex, Owner, Slots};
 use std::alloc::{AllocError, Global};
+use std::collections::btree_map::{Iter, Range};
 use std::hash::RandomState;
 use std::marker::Model;
 use values::{Duplicate, Row};
@@ -23,7 +26,7 @@ use values::{Duplicate, Row};
 #[derive(Drop)]
 pub struct ProcessStore {
     alloc: Global,
-    slots: Vec<Option<Living>>,
+    slots: Slots<Living>,
     names: NameIndex,
     open_calls: CallIndex,
 }
@@ -39,9 +42,9 @@ impl Model for ProcessStore {
 
     ghost coded = { Prim.hlevel (codes, terms.the_row.coded, modules.the_row.coded) };
 
-    ghost view = { λ p. record { slots = p.slots.items } };
+    ghost view = { λ p. record { slots = p.slots } };
 
-    ghost invariant = { λ p. IsIndexed p.names p.open_calls p.slots.items };
+    ghost invariant = { λ p. IsIndexed p.names p.open_calls p.slots };
 }
 
 /// Registers a name, if there is one, for the process of a pid.
@@ -61,22 +64,6 @@ fn register(
     }
 }
 
-/// Puts a process last, for which there is room.
-fn push_last(slots: &mut Vec<Option<Living>>, living: Living)
-    requires { vec_len slots.old < vec_capacity slots.old }
-    ensures { slots.new.items ≡ slots.old.items ++ Some living ∷ [] }
-{
-    let _ = slots.push(Some(living));
-}
-
-/// Takes the last process out, if one lives there.
-fn pop_last(slots: &mut Vec<Option<Living>>) -> Option<Living>
-    ensures rest { slots.new.items ≡ take (length slots.old.items - 1) slots.old.items }
-    ensures last { result ≡ living_at slots.old.items (length slots.old.items - 1) }
-{
-    slots.pop()?
-}
-
 /// A name is registered no more, if there is one.
 fn unregister(names: &mut NameIndex, name: Option<&Atom>)
     ensures { names.new ≡ unregistered (option_copied name.entry) names.old }
@@ -92,46 +79,52 @@ impl ProcessStore {
     ghost use Rattle.process_store.specs.Sound.{IsSound};
     ghost use Rattle.process_store.specs.Table.{added, changed, empty_table, is_open, is_taken, living, next_pid, pid_of, without_last};
 
-    /// No process. Names and numbers are hashed by keys that nobody outside knows.
-    ///
-    /// # Errors
-    ///
-    /// `AllocError` where memory is refused.
-    pub fn new(
-        alloc: Global,
-        names: RandomState,
-        numbers: RandomState,
-    ) -> Result<ProcessStore, AllocError>
-        ensures { IfOk result (λ it. it ≡ empty_table) }
+    /// No process. Names and numbers are hashed by keys that nobody outside knows. Takes no memory.
+    pub fn new(alloc: Global, names: RandomState, numbers: RandomState) -> ProcessStore
+        ensures { result ≡ empty_table }
     {
-        let mut slots = Vec::new(alloc);
-        slots.push(None)?;
-        Ok(ProcessStore {
+        ProcessStore {
             alloc,
-            slots,
+            slots: Slots::new(alloc),
             names: NameIndex::new(alloc, names),
             open_calls: CallIndex::new(alloc, numbers),
-        })
+        }
     }
 
-    /// The pid that the next process gets. Takes no memory.
-    pub fn next_pid(&self) -> u64
-        ensures pid { result ≡ next_pid self.now }
+    /// The pid that was given last, or 0. Takes no memory.
+    pub fn last_pid(&self) -> u64
+        ensures pid { result + 1 ≡ next_pid self.now }
         ensures sound { IsSound self.now }
     {
-        self.slots.len() as u64
+        self.slots.last()
     }
 
-    /// The process of a pid, where it lives. Takes no memory.
+    /// The process of a pid, where it lives, in logarithmic time. Takes no memory.
     pub fn get(&self, pid: u64) -> Option<&Living>
         ensures { option_copied result ≡ living pid self.now }
     {
-        living(self.slots.as_slice(), pid)
+        self.slots.get(pid)
     }
 
-    /// The process that is registered under a name, found by key. Takes no memory.
-    pub fn pid_of(&self, name: &Atom) -> Option<u64>
-        ensures { result ≡ pid_of name.now self.now }
+    /// The processes that live, with their pids, in order of pid. Takes no memory.
+    pub fn iter(&self) -> Iter<'_, u64, Living>
+        ensures rest { result ≡ alive self.now.slots }
+        ensures runs { ShowsInOrder (deref_pair {K = ℕ} {X = Living}) }
+    {
+        self.slots.iter()
+    }
+
+    /// The processes that live and have a pid or a later one, with their pids, in order of pid. Takes no memory.
+    pub fn iter_from(&self, pid: u64) -> Range<'_, u64, Living>
+        ensures rest { result ≡ alive_from pid (drop pid self.now.slots) }
+        ensures runs { ShowsInOrder (deref_pair {K = ℕ} {X = Living}) }
+    {
+        self.slots.iter_from(pid)
+    }
+
+    /// The process that is registered under the name that a text is, found by key. Takes no memory.
+    pub fn pid_of(&self, name: &str) -> Option<u64>
+        ensures { result ≡ pid_of (chars name.now) self.now }
     {
         self.names.get(name)
     }
@@ -155,22 +148,27 @@ impl ProcessStore {
         place: Place,
         rests_in: Option<Instance>,
     ) -> Result<u64, AllocError>
-        requires { is_taken name self.old ≡ false }
+        requires untaken { is_taken name self.old ≡ false }
+        requires given { next_pid self.old < 2 ^ 64 }
         ensures pid { IfOk result (λ pid. pid ≡ next_pid self.old) }
         ensures ok { OnOk result (self.new ≡ added name place rests_in self.old) }
         ensures fits { OnOk result (WasStarted (living (next_pid self.new - 1) self.new)) }
         ensures back { OnOk result (without_last self.new ≡ self.old) }
         ensures err { OnErr result (self.new ≡ self.old) }
     {
-        let pid = self.slots.len() as u64;
-        self.slots.reserve(1)?;
+        let pid = self.slots.last() + 1;
         register(&mut self.names, self.alloc, name.as_ref(), pid)?;
         let living = Living {
             process: Process::new(self.alloc, pid, name, place, rests_in),
             calls: Calls::new(self.alloc),
         };
-        push_last(&mut self.slots, living);
-        Ok(pid)
+        match self.slots.push(living) {
+            Ok(()) => Ok(pid),
+            Err(living) => {
+                unregister(&mut self.names, living.process.name());
+                Err(AllocError)
+            }
+        }
     }
 
     /// The last process goes, and its name is free. Takes no memory.
@@ -178,7 +176,7 @@ impl ProcessStore {
         requires { WasStarted (living (next_pid self.old - 1) self.old) }
         ensures { self.new ≡ without_last self.old }
     {
-        if let Some(living) = pop_last(&mut self.slots) {
+        if let Some(living) = self.slots.pop() {
             unregister(&mut self.names, living.process.name());
         }
     }

@@ -7,8 +7,9 @@ ghost use Rattle.process_store.specs.Living.{arrived, unarrived};
 ghost use Rattle.process_store.specs.Table.{changed, living};
 
 use super::ProcessStore;
-use crate::places::{arrive_at, unarrive_at};
-use crate::slot_changes::{close_at, reopen_at, rest_at, resume_at, suspend_at, unrest_at};
+use crate::places::{
+    arrive_at, close_at, reopen_at, rest_at, resume_at, suspend_at, unarrive_at, unrest_at,
+};
 use erl_eval::Place;
 use erl_machine::Instance;
 use erl_term::Term;
@@ -91,35 +92,11 @@ impl ProcessStore {
         unarrive_at(&mut self.slots, pid, None);
     }
 
-    /// The process of a pid, which lives and runs, rests at a place, one turn on. What it ran is handed out, by which
-    /// [`ProcessStore::unrest`] takes it back.
-    ///
-    /// # Errors
-    ///
-    /// `AllocError` where memory is refused. The table is then as it was.
-    pub fn rest(
-        &mut self,
-        pid: u64,
-        place: Place,
-        rests_in: Option<Instance>,
-    ) -> Result<Ran, AllocError>
-        requires running { IsRunningAt pid self.old }
-        requires turns { CanTurnAt pid self.old }
-        ensures ok { OnOk result (self.new ≡ changed (rest_living place rests_in) pid self.old) }
-        ensures back { IfOk result (λ ran. changed (unrest_living ran) pid self.new ≡ self.old) }
-        ensures fits { IfOk result (λ ran. HasTurned pid self.new) }
-        ensures err { OnErr result (self.new ≡ self.old) }
-    {
-        let next = self.next_at(pid, &place, rests_in.as_ref())?;
-        Ok(self.rest_next(pid, place, rests_in, next))
-    }
-
     /// The position of the message that the process of a pid, which lives, takes next, if it comes to rest at a place.
     ///
     /// # Errors
     ///
     /// `AllocError` where memory is refused.
-    #[inline(always)]
     pub fn next_at(
         &self,
         pid: u64,
@@ -137,7 +114,6 @@ impl ProcessStore {
 
     /// The process of a pid, which lives and runs, rests at a place, one turn on, and takes next the message that
     /// [`ProcessStore::next_at`] tells. What it ran is handed out, by which [`ProcessStore::unrest`] takes it back. Takes no memory.
-    #[inline(always)]
     pub fn rest_next(
         &mut self,
         pid: u64,
@@ -156,7 +132,6 @@ impl ProcessStore {
     }
 
     /// The process of a pid runs again what it ran before it rested, where it lives. Takes no memory.
-    #[inline(always)]
     pub fn unrest(&mut self, pid: u64, ran: Ran)
         requires { HasTurned pid self.old }
         ensures { self.new ≡ changed (unrest_living ran) pid self.old }
@@ -166,7 +141,6 @@ impl ProcessStore {
 
     /// Closes the open call of a number, whosever process it is open to, and hands out the pid and the call. Found by key;
     /// takes no memory.
-    #[inline(always)]
     pub fn close(&mut self, number: u64) -> Option<(u64, Call)>
         ensures owner { result ≡ owner_of number self.old }
         ensures closed { IfSome result (λ it. self.new ≡ closed_in it.0 it.1 self.old) }

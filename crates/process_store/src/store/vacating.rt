@@ -1,52 +1,32 @@
 // A process is taken out of the table, with its name and its open calls, and put back into its slot.
-ghost use Rattle.std.specs.Prelude.{◌≡◌, ◌<◌, IfErr, IfSome, OnErr, OnOk, Some, length};
-ghost use Rattle.std.specs.Option.{option_copied};
+ghost use Rattle.std.specs.Prelude.{◌≡◌, ◌<◌, IfErr, IfSome, OnErr, OnOk, Some};
 ghost use Rattle.process_index.specs.Calls.{AreInOrder};
 ghost use Rattle.process_store.specs.Indexed.{registered, unregistered};
 ghost use Rattle.process_store.specs.Table.{living, living_at};
-ghost use Rattle.process_store.specs.Vacating.{AreFreeNumbers, CanReturn, IsFreeName, all_answered, all_asked, occupied, occupied_slots, vacated, vacated_slots};
+ghost use Rattle.process_store.specs.Vacating.{AreFreeNumbers, CanReturn, IsFreeName, all_answered, all_asked, occupied, vacated};
 
 use super::{ProcessStore, register, unregister};
 use crate::living::Living;
-use process_index::{Call, CallIndex, NameIndex, Owner};
+use process_index::{CallIndex, Calls, NameIndex, Owner};
 use std::alloc::{AllocError, Global};
 
-/// Takes the process of a pid out of its slot, where it lives.
-fn vacate_at(slots: &mut Vec<Option<Living>>, pid: u64) -> Option<Living>
-    ensures process { result ≡ living_at slots.old.items pid }
-    ensures slots { slots.new.items ≡ vacated_slots pid slots.old.items }
-{
-    let place = pid as usize;
-    if slots.len() <= place {
-        return None;
-    }
-    slots[place].take()
-}
-
 /// No call of these numbers is open any more.
-fn answer_all(open_calls: &mut CallIndex, calls: &[Call])
+fn answer_all(open_calls: &mut CallIndex, calls: &Calls)
     ensures { open_calls.new ≡ all_answered calls.now open_calls.old }
 {
-    for call in calls {
+    for call in calls.iter() {
         open_calls.remove(call.number);
     }
 }
 
-/// Puts a process into the slot of a pid.
-fn occupy_at(slots: &mut Vec<Option<Living>>, pid: u64, living: Living)
-    requires { pid < length slots.old.items }
-    ensures { slots.new.items ≡ occupied_slots pid living slots.old.items }
-{
-    slots[pid as usize] = Some(living);
-}
-
 /// Calls that clients made to the process of a pid are open. No call of their numbers is open before.
-fn ask_all(open_calls: &mut CallIndex, pid: u64, calls: &[Call]) -> Result<(), AllocError>
+fn ask_all(open_calls: &mut CallIndex, pid: u64, calls: &Calls) -> Result<(), AllocError>
     requires { AreFreeNumbers calls.now open_calls.old }
+    ensures ordered { AreInOrder calls.now }
     ensures ok { OnOk result (open_calls.new ≡ all_asked pid calls.now open_calls.old) }
     ensures err { OnErr result (open_calls.new ≡ open_calls.old) }
 {
-    for call in calls {
+    for call in calls.iter() {
         let owner = Owner {
             pid,
             client: call.client,
@@ -71,21 +51,30 @@ fn enter(
 ) -> Result<(), AllocError>
     requires name { IsFreeName living.now.process.name names.old }
     requires calls { AreFreeNumbers living.now.calls open_calls.old }
-    ensures ordered { AreInOrder living.now.calls }
+    ensures ordered { OnOk result (AreInOrder living.now.calls) }
     ensures named { OnOk result (names.new ≡ registered living.now.process.name pid names.old) }
     ensures asked { OnOk result (open_calls.new ≡ all_asked pid living.now.calls open_calls.old) }
     ensures unnamed { OnErr result (names.new ≡ names.old) }
     ensures unasked { OnErr result (open_calls.new ≡ open_calls.old) }
 {
-    let calls = living.calls.as_slice();
-    register(names, alloc, living.process.name(), pid)?;
-    match ask_all(open_calls, pid, calls) {
+    let name = living.process.name();
+    register(names, alloc, name, pid)?;
+    match ask_all(open_calls, pid, &living.calls) {
         Ok(()) => Ok(()),
         Err(refused) => {
-            unregister(names, living.process.name());
+            unregister(names, name);
             Err(refused)
         }
     }
+}
+
+/// The name of a process is registered no more, and its calls are open no more.
+fn leave(names: &mut NameIndex, open_calls: &mut CallIndex, living: &Living)
+    ensures unnamed { names.new ≡ unregistered living.now.process.name names.old }
+    ensures answered { open_calls.new ≡ all_answered living.now.calls open_calls.old }
+{
+    unregister(names, living.process.name());
+    answer_all(open_calls, &living.calls);
 }
 
 impl ProcessStore {
@@ -96,10 +85,9 @@ impl ProcessStore {
         ensures returns { IfSome result (λ l. CanReturn pid l self.new) }
         ensures back { IfSome result (λ l. occupied pid l self.new ≡ self.old) }
     {
-        match vacate_at(&mut self.slots, pid) {
+        match self.slots.take(pid) {
             Some(living) => {
-                unregister(&mut self.names, living.process.name());
-                answer_all(&mut self.open_calls, living.calls.as_slice());
+                leave(&mut self.names, &mut self.open_calls, &living);
                 Some(living)
             }
             None => None,
@@ -119,18 +107,23 @@ impl ProcessStore {
         ensures back { IfErr result (λ l. l ≡ living) }
         ensures err { OnErr result (self.new ≡ self.old) }
     {
-        match enter(
+        let entered = enter(
             &mut self.names,
             &mut self.open_calls,
             self.alloc,
             pid,
             &living,
-        ) {
-            Ok(()) => {
-                occupy_at(&mut self.slots, pid, living);
-                Ok(())
+        );
+        match entered {
+            Ok(()) => {}
+            Err(_) => return Err(living),
+        }
+        match self.slots.put(pid, living) {
+            Ok(()) => Ok(()),
+            Err(living) => {
+                leave(&mut self.names, &mut self.open_calls, &living);
+                Err(living)
             }
-            Err(_) => Err(living),
         }
     }
 }

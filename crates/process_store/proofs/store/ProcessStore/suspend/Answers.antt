@@ -9,7 +9,7 @@ use Rattle.process_store.proofs.store.ProcessStore.suspend.Goals as goal
 pub invariant_of-self : goal.invariant_of-self
 invariant_of-self c =
     let i = c.self.inside in
-    subst (IsIndexed i.names i.open_calls) (sym c.suspend_at.ensures) (IsIndexed-kept suspend_living (λ l. refl) (λ l. refl) (λ l. refl) i.names i.open_calls i.slots.items c.args.pid c.self.invariant)
+    subst (IsIndexed i.names i.open_calls) (sym c.suspend_at.ensures) (IsIndexed-kept suspend_living (λ l. refl) (λ l. refl) (λ l. refl) i.names i.open_calls i.slots c.args.pid c.self.invariant)
 
 pub returns-clause-back : goal.returns-clause-back
-returns-clause-back c = suspend_back c.self.inside.slots.items c.suspend_at.new.slots.items c.args.self.now c.args.pid c.was_suspended-was.result c.self.view_is c.was_suspended-was.ensures c.suspend_at.ensures
+returns-clause-back c = suspend_back c.self.inside.slots c.suspend_at.new.slots c.args.self.now c.args.pid c.was_suspended-was.result c.self.view_is c.was_suspended-was.ensures c.suspend_at.ensures

@@ -7,4 +7,4 @@ use Rattle.process_store.proofs.store.ProcessStore.undeliver.Goals as goal
 pub invariant_of-self : goal.invariant_of-self
 invariant_of-self c =
     let i = c.self.inside in
-    changed_indexed (unarrived None) (λ l. refl) (λ l. refl) (λ l. refl) i.names i.open_calls i.slots.items c.unarrive_at.new.slots.items c.args.pid c.self.invariant c.unarrive_at.ensures
+    changed_indexed (unarrived None) (λ l. refl) (λ l. refl) (λ l. refl) i.names i.open_calls i.slots c.unarrive_at.new.slots c.args.pid c.self.invariant c.unarrive_at.ensures

@@ -7,4 +7,4 @@ use Rattle.process_store.proofs.store.ProcessStore.unrest.Goals as goal
 pub invariant_of-self : goal.invariant_of-self
 invariant_of-self c =
     let i = c.self.inside in
-    changed_indexed (unrest_living c.args.ran) (λ l. refl) (λ l. refl) (λ l. refl) i.names i.open_calls i.slots.items c.unrest_at.new.slots.items c.args.pid c.self.invariant c.unrest_at.ensures
+    changed_indexed (unrest_living c.args.ran) (λ l. refl) (λ l. refl) (λ l. refl) i.names i.open_calls i.slots c.unrest_at.new.slots c.args.pid c.self.invariant c.unrest_at.ensures
