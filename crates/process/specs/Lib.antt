@@ -1,4 +1,3 @@
 pub mod Ended
-pub mod Kept
 pub mod Process
 pub mod Rerun

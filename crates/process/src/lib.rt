@@ -50,6 +50,6 @@ mod process;
 
 pub use activity::{Activity, Running};
 pub use process::{
-    Did, Ended, NamedInstances, NamedRan, NamedRunning, Process, Ran, Told, Used,
-    ended_processes_live, jobs_run_again,
+    Did, Ended, NamedRan, NamedRunning, Process, Ran, Told, Used, ended_processes_live,
+    jobs_run_again,
 };

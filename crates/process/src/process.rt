@@ -4,7 +4,6 @@ ghost use Rattle.std.specs.Option.{option_copied};
 ghost use Rattle.process.specs.Process.{awaited, IsRunning, can_take, delivered, first_taken, job_of, rested, resumed, run_at, started, suspended, takes_at, undelivered, unrested, untaken};
 
 mod ending;
-mod named_code;
 mod rerunning;
 
 use crate::activity::{Activity, Running};
@@ -12,7 +11,6 @@ pub use ending::{Did, Ended, NamedRunning, Told, ended_processes_live};
 use erl_eval::Place;
 use erl_machine::{Instance, Job, matches};
 use erl_term::{Atom, Term};
-pub use named_code::NamedInstances;
 pub use rerunning::{NamedRan, Used, jobs_run_again};
 use std::alloc::{AllocError, Global};
 use std::collections::VecDeque;

@@ -5,7 +5,6 @@ ghost use Rattle.job_code.specs.Named.{all_found};
 ghost use Rattle.process.specs.Process.{awaited};
 ghost use Rattle.process.specs.Ended.{EndedProcessesLive, activity_by, code_found, code_named, did_by, ended, ended_with, held, lived, lives, named, rests_found};
 
-use super::named_code::{NamedInstances, name_of};
 use super::{Process, first_of};
 use crate::activity::{Activity, Running};
 use code_server::Modules;
@@ -13,7 +12,7 @@ use erl_eval::Place;
 use erl_forms::Module;
 use erl_machine::Instance;
 use erl_term::{Atom, Term};
-use job_code::{NamedInstance, instance_of, instances_of};
+use job_code::{NamedInstance, instance_of, instances_of, named_of};
 use std::alloc::{AllocError, Global};
 use std::collections::VecDeque;
 use std::marker::Model;
@@ -38,7 +37,7 @@ pub struct NamedRunning {
     /// The message.
     pub message: Term,
     /// What tells the instances of its code, in their order.
-    pub code: NamedInstances,
+    pub code: Row<NamedInstance>,
 }
 
 /// A process that was taken out whole, so that it can live again. It holds no code: the instances that it used are told by
@@ -72,7 +71,7 @@ pub struct Told {
     /// The instance of its place, where this is a loop function.
     pub rests_in: Option<NamedInstance>,
     /// The code that it runs in, in order, where it runs.
-    pub code: NamedInstances,
+    pub code: Row<NamedInstance>,
 }
 
 /// The instances that an ended process used, and the position of the message that it takes next.
@@ -84,6 +83,16 @@ struct Found {
     code: Row<Instance>,
     /// The position of the message that it takes next.
     next: Option<usize>,
+}
+
+/// What tells an instance.
+fn name_of(alloc: Global, item: &Instance) -> Result<NamedInstance, AllocError>
+    ensures { IfOk result (λ it. it ≡ named item.now) }
+{
+    Ok(NamedInstance {
+        name: item.name.copy(alloc)?,
+        serial: item.serial,
+    })
 }
 
 /// What tells the instance of a place, where there is one.
@@ -102,12 +111,12 @@ fn place_told(
 
 /// What tells the code that a process runs in.
 #[inline(always)]
-fn code_told(alloc: Global, activity: &Activity) -> Result<NamedInstances, AllocError>
+fn code_told(alloc: Global, activity: &Activity) -> Result<Row<NamedInstance>, AllocError>
     ensures { IfOk result (λ it. it ≡ code_named activity.now) }
 {
     match activity {
-        Activity::Idle | Activity::Suspended => Ok(NamedInstances::none(alloc)),
-        Activity::Runs(running) => Ok(NamedInstances::of(alloc, running.code.as_slice())?),
+        Activity::Idle | Activity::Suspended => Ok(Row::new(Vec::new(alloc))),
+        Activity::Runs(running) => Ok(Row::new(named_of(alloc, running.code.as_slice())?)),
     }
 }
 
@@ -216,13 +225,13 @@ impl Process {
 
 impl Did {
     /// What the process does again, in this code, and what tells the code.
-    fn into_activity(self, alloc: Global, code: Row<Instance>) -> (Activity, NamedInstances)
+    fn into_activity(self, alloc: Global, code: Row<Instance>) -> (Activity, Row<NamedInstance>)
         ensures activity { result.0 ≡ activity_by code self }
         ensures told { did_by result.1 result.0 ≡ self }
     {
         match self {
-            Did::Idle => (Activity::Idle, NamedInstances::none(alloc)),
-            Did::Suspended => (Activity::Suspended, NamedInstances::none(alloc)),
+            Did::Idle => (Activity::Idle, Row::new(Vec::new(alloc))),
+            Did::Suspended => (Activity::Suspended, Row::new(Vec::new(alloc))),
             Did::Ran(ran) => {
                 let NamedRunning {
                     entry_serial,
