@@ -1,5 +1,5 @@
 -- Bytes mean one module at most, and what is told of them says that they mean none.
-use Rattle.std.proofs.Common.{◌≡◌, ℕ, List, length, Option, Some, None, ap, subst, sym, ◌∙◌, refl, arith, ◌⊎◌, inl, inr}
+use Rattle.std.proofs.Common.{◌≡◌, ℕ, List, length, Option, Some, None, ap, subst, sym, ◌∙◌, refl, arith}
 use Rattle.std.specs.Prelude.{Result, Ok, Err, IfErr}
 use Rattle.std.proofs.lemmas.Option.{none-some}
 use Rattle.std.specs.Str.{chars, IsUtf8}
@@ -18,10 +18,12 @@ use Rattle.module_forms.proofs.Modules.{one_module}
 use Rattle.erl_lower.specs.Meaning.{IsMeaning}
 use Rattle.erl_parse.proofs.Apart.{functions_apart}
 use Rattle.erl_parse.specs.declared.error.LangError.{LangError}
-use Rattle.erl_parse.specs.declared.error.LangError.TheVariants as errors
 use Rattle.erl_parse.specs.Sources.{IsWritten, IsNoSource, OneModule, FaultlessMean}
-use Rattle.erl_parse.specs.Telling.{StopsAt, AreNoModule, Says, not_utf8, faulty, misplaced, unclosed, no_dot, static, memory}
-use Rattle.erl_parse.specs.Telling.{TellsRefusal, stopped, at_token, in_bracket, at_end, TellsTree, has_fault, has_no_meaning, no_memory}
+use Rattle.erl_parse.specs.Telling.{StopsAt, AreNoModule, Says, not_utf8, faulty, misplaced, unclosed, no_dot, static}
+use Rattle.erl_parse.specs.Telling.{TellsRefusal, stopped, at_token, in_bracket, at_end, TellsTree, has_fault, has_no_meaning}
+use Rattle.values.specs.Failure.{Fails}
+use Rattle.values.specs.declared.failure.Failure.{Failure}
+use Rattle.values.specs.declared.failure.Failure.TheVariants.{Refused, Memory}
 
 -- a text has one list of tokens and one stop
 tokens_one : (cs : List ℕ) (ts us : List Spot) (s t : Option ReadError) → IsScanOf cs ts s → IsScanOf cs us t → (ts ≡ us) × (s ≡ t)
@@ -70,14 +72,13 @@ against_fault bytes f tree written first m source =
     let empty : length (faults_of tree) ≡ 0 = ap (λ t. length (faults_of t)) same ∙ ap length source.faultless in
     omega (arith, empty, first.0.1)
 
-pub says_none : (bytes : List ℕ) (error : LangError) → Says bytes error → (error ≡ errors.Memory) ⊎ IsNoSource bytes
-says_none bytes error (not_utf8 is none valid) = inr (λ m source. none source.written.utf8)
-says_none bytes error (faulty {e} is stops) = inr (against_stop bytes e stops)
-says_none bytes error (misplaced {stop} is none) = inr (against_tokens bytes stop none)
-says_none bytes error (unclosed is none) = inr (against_tokens bytes None none)
-says_none bytes error (no_dot is none) = inr (against_tokens bytes None none)
-says_none bytes error (static {fault} is first) = inr (against_fault bytes fault first.tree first.written first.first)
-says_none bytes error (memory is) = inl is
+pub says_none : (bytes : List ℕ) (error : LangError) → Says bytes error → IsNoSource bytes
+says_none bytes error (not_utf8 is none valid) = λ m source. none source.written.utf8
+says_none bytes error (faulty {e} is stops) = against_stop bytes e stops
+says_none bytes error (misplaced {stop} is none) = against_tokens bytes stop none
+says_none bytes error (unclosed is none) = against_tokens bytes None none
+says_none bytes error (no_dot is none) = against_tokens bytes None none
+says_none bytes error (static {fault} is first) = against_fault bytes fault first.tree first.written first.first
 
 -- what is told of tokens and of trees, as told of the bytes
 
@@ -97,16 +98,17 @@ pub tree_says : (bytes : List ℕ) (tree : ModuleTree) (error : LangError) → I
 tree_says bytes tree error written (has_fault is first) = static is (record { tree = tree; written = written; first = first })
 tree_says bytes tree error written (has_no_meaning none nothing is) =
     absurd (nothing (functions_apart tree written.is_module.1 written.is_module.3 none))
-tree_says bytes tree error written (no_memory is) = memory is
 
--- the same of results
+-- the same of results, of which want of memory says nothing
 
-pub results_say : {A : Type 0} (bytes : List ℕ) (tree : ModuleTree) → IsWritten bytes tree → (r : Result A LangError) →
-    IfErr r (λ e. TellsTree tree e) → IfErr r (λ e. Says bytes e)
+pub results_say : {A : Type 0} (bytes : List ℕ) (tree : ModuleTree) → IsWritten bytes tree → (r : Result A (Failure LangError)) →
+    IfErr r (Fails (TellsTree tree) (Unit {0})) → IfErr r (Fails (Says bytes) (Unit {0}))
 results_say bytes tree written (Ok x) told = told
-results_say bytes tree written (Err e) told = tree_says bytes tree e written told
+results_say bytes tree written (Err (Refused e)) told = tree_says bytes tree e written told
+results_say bytes tree written (Err Memory) told = told
 
-pub errors_deny : {A : Type 0} (bytes : List ℕ) (r : Result A LangError) → IfErr r (λ e. Says bytes e) →
-    IfErr r (λ e. (e ≡ errors.Memory) ⊎ IsNoSource bytes)
+pub errors_deny : {A : Type 0} (bytes : List ℕ) (r : Result A (Failure LangError)) → IfErr r (Fails (Says bytes) (Unit {0})) →
+    IfErr r (Fails (λ _. IsNoSource bytes) (Unit {0}))
 errors_deny bytes (Ok x) said = said
-errors_deny bytes (Err e) said = says_none bytes e said
+errors_deny bytes (Err (Refused e)) said = says_none bytes e said
+errors_deny bytes (Err Memory) said = said

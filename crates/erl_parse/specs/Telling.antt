@@ -73,7 +73,7 @@ pub record FaultsFirst (bytes : List ℕ) (fault : StaticFault) : Type 0 where
   pub written : IsWritten bytes tree
   pub first : IsFirstFault (Some fault) (faults_of tree)
 
--- What an error says of the bytes. Of `Memory` it says nothing.
+-- What an error says of the bytes.
 pub data Says (bytes : List ℕ) (error : LangError) : Type 0 where
   not_utf8 : {at : ℕ} → error ≡ text_error faults.NotUtf8 at → (IsUtf8 bytes → ⊥) → IsValidUpTo bytes at → Says bytes error
   -- a token that is faulty by itself
@@ -85,7 +85,6 @@ pub data Says (bytes : List ℕ) (error : LangError) : Type 0 where
   no_dot : error ≡ text_error faults.MissingDot (length bytes) → AreNoModule bytes None → Says bytes error
   -- a static fault
   static : {fault : StaticFault} → error ≡ error_of_static fault → FaultsFirst bytes fault → Says bytes error
-  memory : error ≡ errors.Memory → Says bytes error
 
 -- Parts of it, for the steps of reading
 
@@ -100,4 +99,3 @@ pub data TellsRefusal (stop : Option ReadError) (total : ℕ) (error : LangError
 pub data TellsTree (tree : ModuleTree) (error : LangError) : Type 0 where
   has_fault : {fault : StaticFault} → error ≡ error_of_static fault → IsFirstFault (Some fault) (faults_of tree) → TellsTree tree error
   has_no_meaning : faults_of tree ≡ [] → HasNoMeaning tree → error ≡ errors.Syntax tree.name.at → TellsTree tree error
-  no_memory : error ≡ errors.Memory → TellsTree tree error

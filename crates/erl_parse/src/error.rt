@@ -1,9 +1,5 @@
 // Why bytes are no source of a module, and where.
-ghost use Rattle.std.specs.Prelude.{◌≡◌};
-ghost use Rattle.erl_parse.specs.declared.error.LangError.TheVariants.{Memory};
-
 use erl_scan::ReadError;
-use std::alloc::AllocError;
 use thiserror::Error;
 
 /// Why bytes are no source of a module, each with its first byte in the source, from 0.
@@ -27,15 +23,4 @@ pub enum LangError {
     /// The module has no function of this name and so many arguments.
     #[error("at byte {0}: there is no function of this name and number of arguments")]
     UndefinedLocal(usize),
-    /// Memory was refused.
-    #[error("out of memory")]
-    Memory,
-}
-
-impl From<AllocError> for LangError {
-    ghost from_gives = { λ _ e. e ≡ Memory };
-
-    fn from(_error: AllocError) -> LangError {
-        LangError::Memory
-    }
 }

@@ -1,8 +1,9 @@
 //! Sources of Erlang modules, read from bytes as the modules that they are (Erlang Reference Manual, Modules).
 //!
-//! [`read_module`] reads the bytes of a source as a [`Module`], or tells a [`LangError`]: the first thing that stands against
-//! it, and its byte. It joins the layers below: the tokens of the text (`erl_scan`), the forms that they are (`module_forms`),
-//! their static faults (`erl_lint`), and what forms without such a fault mean (`erl_lower`).
+//! [`read_module`] reads the bytes of a source as a [`Module`], or refuses them by a [`LangError`]: the first thing that stands
+//! against them, and its byte. Want of memory is no refusal. It joins the layers below: the tokens of the text (`erl_scan`),
+//! the forms that they are (`module_forms`), their static faults (`erl_lint`), and what forms without such a fault mean
+//! (`erl_lower`).
 //!
 //! # What is proved
 //!
@@ -12,8 +13,7 @@
 //!   module: it is one of its faults, and none stands at a lesser place. `NotUtf8` is told at the first byte that is none, and
 //!   the fault that a token has by itself at its place. `MissingDot` and the `Unclosed` of a bracket say that the text ends, and
 //!   its tokens are written as no module; all others, that those up to the end or to a faulty one are written as none.
-//! - [`read_module`], `meaningless`: want of memory aside, bytes of which an error is told are no source of a module
-//!   (`IsNoSource`).
+//! - [`read_module`], `meaningless`: bytes of which an error is told are no source of a module (`IsNoSource`).
 //! - [`sources_mean_one_module`]: bytes mean at most one module, and they mean one where they are written as a module without
 //!   static fault. So no such source is refused, but for want of memory.
 //!

@@ -1,10 +1,10 @@
 // Reading whole sources.
-ghost use Rattle.std.specs.Prelude.{◌≡◌, ◌⊎◌, [], IfErr, IfOk};
+ghost use Rattle.std.specs.Prelude.{◌≡◌, [], IfErr, IfOk};
 ghost use Rattle.erl_lint.specs.Faults.{faults_of};
 ghost use Rattle.erl_lower.specs.Meaning.{IsMeaning};
-ghost use Rattle.erl_parse.specs.declared.error.LangError.TheVariants.{Memory as refused};
 ghost use Rattle.erl_parse.specs.Sources.{IsSource, IsNoSource, OneModule, FaultlessMean};
 ghost use Rattle.erl_parse.specs.Telling.{Says, TellsTree};
+ghost use Rattle.values.specs.Failure.{Fails};
 
 use crate::error::LangError;
 use crate::telling::{of_refusal, of_static, of_token};
@@ -16,6 +16,7 @@ use module_forms::read_forms;
 use std::alloc::Global;
 use std::hash::RandomState;
 use std::str;
+use values::Failure;
 
 /// Reads the bytes of a source as the module that they mean.
 ///
@@ -24,26 +25,31 @@ use std::str;
 ///
 /// # Errors
 ///
-/// What stands first against the bytes, from left to right: a token that is faulty by itself, or with which no source within
-/// the limits goes on, or the end. Where there is none, the first static fault. `Memory` where memory is refused.
-pub fn read_module(alloc: Global, hashing: RandomState, bytes: &[u8]) -> Result<Module, LangError>
+/// `Refused` by what stands first against the bytes, from left to right: a token that is faulty by itself, or with which no
+/// source within the limits goes on, or the end; where there is none, by the first static fault. `Memory` where memory is
+/// refused.
+pub fn read_module(
+    alloc: Global,
+    hashing: RandomState,
+    bytes: &[u8],
+) -> Result<Module, Failure<LangError>>
     ensures found { IfOk result (λ m. IsSource bytes.now m) }
-    ensures refused { IfErr result (λ e. Says bytes.now e) }
-    ensures meaningless { IfErr result (λ e. (e ≡ refused) ⊎ IsNoSource bytes.now) }
+    ensures refused { IfErr result (Fails (Says bytes.now) (Unit {0})) }
+    ensures meaningless { IfErr result (Fails (λ _. IsNoSource bytes.now) (Unit {0})) }
 {
     match str::from_utf8(bytes) {
         Ok(text) => read_text(alloc, hashing, text),
-        Err(error) => Err(LangError::Text(ReadError {
+        Err(error) => Err(Failure::Refused(LangError::Text(ReadError {
             kind: Fault::NotUtf8,
             at: error.valid_up_to(),
-        })),
+        }))),
     }
 }
 
 /// Reads a source as the module that it means. The tokens are let go once the tree is read.
-fn read_text(alloc: Global, hashing: RandomState, text: &str) -> Result<Module, LangError>
+fn read_text(alloc: Global, hashing: RandomState, text: &str) -> Result<Module, Failure<LangError>>
     ensures found { IfOk result (λ m. IsSource text.now m) }
-    ensures refused { IfErr result (λ e. Says text.now e) }
+    ensures refused { IfErr result (Fails (Says text.now) (Unit {0})) }
 {
     let Scanned { tokens, fault } = scan(alloc, text)?;
     let tree = read_forms(alloc, tokens.as_slice())?;
@@ -51,23 +57,27 @@ fn read_text(alloc: Global, hashing: RandomState, text: &str) -> Result<Module, 
     match tree {
         Ok(tree) => match fault {
             None => module_of(alloc, hashing, tree),
-            Some(fault) => Err(of_token(fault)),
+            Some(fault) => Err(Failure::Refused(of_token(fault))),
         },
-        Err(refusal) => Err(of_refusal(refusal, fault, text.len())),
+        Err(refusal) => Err(Failure::Refused(of_refusal(refusal, fault, text.len()))),
     }
 }
 
 /// The module that a tree means, where it has no static fault. It means none where two functions have one name and one number of
 /// arguments, which is a static fault.
-fn module_of(alloc: Global, hashing: RandomState, tree: ModuleTree) -> Result<Module, LangError>
+fn module_of(
+    alloc: Global,
+    hashing: RandomState,
+    tree: ModuleTree,
+) -> Result<Module, Failure<LangError>>
     ensures found { IfOk result (λ m. (faults_of tree ≡ []) × IsMeaning tree m) }
-    ensures refused { IfErr result (λ e. TellsTree tree e) }
+    ensures refused { IfErr result (Fails (TellsTree tree) (Unit {0})) }
 {
     let at = tree.name.at;
     match lowered(alloc, hashing, tree)? {
         Lowering::Module(Some(module)) => Ok(module),
-        Lowering::Module(None) => Err(LangError::Syntax(at)),
-        Lowering::Fault(fault) => Err(of_static(fault)),
+        Lowering::Module(None) => Err(Failure::Refused(LangError::Syntax(at))),
+        Lowering::Fault(fault) => Err(Failure::Refused(of_static(fault))),
     }
 }
 
