@@ -6,7 +6,6 @@ use Rattle.erl_forms.specs.Module.{Forms}
 use Rattle.erl_parse.specs.Sources.{IsNoSource, IsSource}
 use Rattle.erl_parse.specs.Telling.{Says}
 use Rattle.erl_parse.specs.declared.error.LangError.{LangError}
-use Rattle.erl_parse.specs.declared.error.LangError.TheVariants.{Memory as lang_refused}
 use Rattle.erl_term.specs.declared.term.Term.{Term}
 use Rattle.low_instructions.specs.declared.low.Low.{Low}
 use Rattle.otp_files.specs.declared.applications.RelApp.{RelApp}
@@ -27,6 +26,8 @@ use Rattle.release_files.specs.Files.{Contents, StandsAs, file_of, paths_of}
 use Rattle.release_files.specs.Paths.{HasNoRel, IsRelPath, app_path, appup_path, release_path, relup_path, source_path}
 use Rattle.release_files.specs.Releases.{IsModuleOf, IsRelOf, IsRelupOf, absent, no_scripts, written}
 use Rattle.release_files.proofs.Told.{file_told, source_told}
+use Rattle.values.specs.Failure.{Fails}
+use Rattle.values.specs.declared.failure.Failure.{Failure}
 
 -- a file that its reader refuses
 abbrev IsTold : FileError → FileFault → Type 0
@@ -124,9 +125,9 @@ appup_judged files app path key text error fault at same stands read told =
 
 -- A source
 
-pub module_judged : (files : Contents) (name path text : List ℕ) (error : LangError) (fault : FileFault) → file_of path files ≡ Some text → Says text error → (error ≡ lang_refused) ⊎ IsNoSource text → (fault ≡ Memory) ⊎ ((error ≢ lang_refused) × (fault ≡ Lang error)) → (fault ≡ Memory) ⊎ ModuleWrong files name path fault
-module_judged files name path text error fault stands says read told =
-    elim (source_told files path text error fault stands says read told) [
+pub module_judged : (files : Contents) (name path text : List ℕ) (failure : Failure LangError) (fault : FileFault) → file_of path files ≡ Some text → Fails (Says text) (Unit {0}) failure → Fails (λ _. IsNoSource text) (Unit {0}) failure → Fails (λ error. fault ≡ Lang error) (fault ≡ Memory) failure → (fault ≡ Memory) ⊎ ModuleWrong files name path fault
+module_judged files name path text failure fault stands says none told =
+    elim (source_told files path text failure fault stands says none told) [
       | inl memory ↦ inl memory
       | inr wrong ↦ inr (no_module wrong)
     ]

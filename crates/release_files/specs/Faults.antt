@@ -6,7 +6,6 @@ use Rattle.erl_forms.specs.Module.{Forms}
 use Rattle.erl_parse.specs.Sources.{IsSource, IsNoSource}
 use Rattle.erl_parse.specs.Telling.{Says}
 use Rattle.erl_parse.specs.declared.error.LangError.{LangError}
-use Rattle.erl_parse.specs.declared.error.LangError.TheVariants.{Memory as no_memory}
 use Rattle.erl_term.specs.declared.term.Term.{Term}
 use Rattle.instructions.specs.declared.instruction.Instruction.{Instruction}
 use Rattle.low_instructions.specs.declared.low.Low.{Low}
@@ -89,7 +88,6 @@ pub record StandsUnread (files : Contents) (path : List ℕ) (fault : FileFault)
   pub error : LangError
   pub no_source : IsNoSource text
   pub says : Says text error
-  pub told : error ≢ no_memory
   pub is : fault ≡ Lang error
 
 -- the source of a module's name: there is none, or it is no module's, or another module's

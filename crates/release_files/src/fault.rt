@@ -1,13 +1,14 @@
 // Why files are no release.
 ghost use Rattle.std.specs.Prelude.{◌≡◌, ◌≢◌, ◌⊎◌, string_bytes};
-ghost use Rattle.erl_parse.specs.declared.error.LangError.TheVariants.{Memory as lang_refused};
 ghost use Rattle.otp_files.specs.declared.error.FileError.TheVariants.{Memory as file_refused};
 ghost use Rattle.release_files.specs.declared.fault.FileFault.TheVariants.{Memory as refused};
+ghost use Rattle.values.specs.Failure.{Fails};
 
 use erl_parse::LangError;
 use otp_files::FileError;
 use std::alloc::Global;
 use thiserror::Error;
+use values::Failure;
 
 /// What stands against a file of a release.
 #[derive(Clone, Copy, Debug, PartialEq, Eq, Error)]
@@ -73,12 +74,12 @@ pub(crate) fn of_file(error: FileError) -> FileFault
     }
 }
 
-/// The fault of a source that is refused; memory that was refused is told as such.
-pub(crate) fn of_source(error: LangError) -> FileFault
-    ensures { (result ≡ refused) ⊎ ((error ≢ lang_refused) × (result ≡ FileFault.Lang error)) }
+/// The fault of a source that is not read; memory that was refused is told as such.
+pub(crate) fn of_source(failure: Failure<LangError>) -> FileFault
+    ensures { Fails (λ error. result ≡ FileFault.Lang error) (result ≡ refused) failure }
 {
-    match error {
-        LangError::Memory => FileFault::Memory,
-        error => FileFault::Lang(error),
+    match failure {
+        Failure::Refused(error) => FileFault::Lang(error),
+        Failure::Memory => FileFault::Memory,
     }
 }

@@ -105,6 +105,6 @@ fn module_at(alloc: Global, files: &Files, path: &str, name: &Atom) -> Result<Mo
                 Err(FileFault::WrongModule)
             }
         }
-        Err(error) => Err(of_source(error)),
+        Err(failure) => Err(of_source(failure)),
     }
 }

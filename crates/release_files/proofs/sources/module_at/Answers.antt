@@ -18,4 +18,4 @@ returns-else-same c =
 
 pub returns-in-Err : goal.returns-in-Err
 returns-in-Err c =
-    module_judged c.args.files.now c.args.name.now c.args.path.now c.in-Some.text.now c.in-Err.error c.of_source.result c.in-Some.ensures c.in-Err.ensures.refused c.in-Err.ensures.meaningless c.of_source.ensures
+    module_judged c.args.files.now c.args.name.now c.args.path.now c.in-Some.text.now c.in-Err.failure c.of_source.result c.in-Some.ensures c.in-Err.ensures.refused c.in-Err.ensures.meaningless c.of_source.ensures
