@@ -222,10 +222,6 @@ pub undefined_local-word : bytes (atom (codes "undefined_local")) ≡ codes "und
 unfolding utf8 is_quoted_word encode
 undefined_local-word = refl
 
-pub memory-word : bytes (atom (codes "memory")) ≡ codes "memory"
-unfolding utf8 is_quoted_word encode
-memory-word = refl
-
 pub missing-word : bytes (atom (codes "missing")) ≡ codes "missing"
 unfolding utf8 is_quoted_word encode
 missing-word = refl

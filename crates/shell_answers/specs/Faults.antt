@@ -5,7 +5,7 @@ use Rattle.erl_scan.specs.declared.error.Fault.{Fault}
 use Rattle.erl_scan.specs.declared.error.Fault.TheVariants.{NotUtf8, BadChar, Unclosed, BadEscape, IntegerRange, Unsupported as NotRead, MissingDot, TooDeep}
 use Rattle.erl_scan.specs.declared.error.Fault.TheVariants.{AtomTooLong, Syntax as NoText, Memory}
 use Rattle.erl_parse.specs.declared.error.LangError.{LangError}
-use Rattle.erl_parse.specs.declared.error.LangError.TheVariants.{Text, Syntax, Unsupported, DuplicateFunction, UnboundVariable, UndefinedLocal, Memory as NoMemory}
+use Rattle.erl_parse.specs.declared.error.LangError.TheVariants.{Text, Syntax, Unsupported, DuplicateFunction, UnboundVariable, UndefinedLocal}
 use Rattle.erl_term.specs.Rows.{integers}
 use Rattle.erl_term.specs.Term.{tree}
 use Rattle.erl_term.specs.Tree.{Tree, int, atom, list}
@@ -45,7 +45,6 @@ lang_fault (Unsupported at) = placed (codes "unsupported") at
 lang_fault (DuplicateFunction at) = placed (codes "duplicate_function") at
 lang_fault (UnboundVariable at) = placed (codes "unbound_variable") at
 lang_fault (UndefinedLocal at) = placed (codes "undefined_local") at
-lang_fault NoMemory = atom (codes "memory")
 
 abbrev pub fault_of : SourceFault → Tree
 fault_of Missing = atom (codes "missing")

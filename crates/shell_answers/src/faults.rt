@@ -63,7 +63,6 @@ fn put_lang(error: LangError, out: &mut Vec<u8>) -> Result<(), AllocError>
         LangError::DuplicateFunction(at) => put_placed(b"duplicate_function", at, out),
         LangError::UnboundVariable(at) => put_placed(b"unbound_variable", at, out),
         LangError::UndefinedLocal(at) => put_placed(b"undefined_local", at, out),
-        LangError::Memory => put(b"memory", out),
     }
 }
 

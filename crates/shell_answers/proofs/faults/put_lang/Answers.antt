@@ -3,7 +3,7 @@ use Rattle.std.proofs.Common.{◌++◌, ◌∷◌, [], codes, pos, sym, ap, ◌�
 use Rattle.erl_term.specs.Tree.{int}
 use Rattle.shell_answers.specs.Faults.{kind_word, lang_fault}
 use Rattle.shell_answers.proofs.Pieces.{on_ok, same, bytes}
-use Rattle.shell_answers.proofs.Texts.{kind-bytes, placed-pieces, syntax-word, unsupported-word, duplicate_function-word, unbound_variable-word, undefined_local-word, memory-word}
+use Rattle.shell_answers.proofs.Texts.{kind-bytes, placed-pieces, syntax-word, unsupported-word, duplicate_function-word, unbound_variable-word, undefined_local-word}
 use Rattle.shell_answers.proofs.faults.put_lang.Goals as goal
 
 pub returns-in-Text : goal.returns-in-Text
@@ -29,7 +29,3 @@ returns-in-UnboundVariable c =
 pub returns-in-UndefinedLocal : goal.returns-in-UndefinedLocal
 returns-in-UndefinedLocal c =
     on_ok c.put_placed-in-UndefinedLocal.result _ _ c.put_placed-in-UndefinedLocal.ensures (λ wrote. same c.args.out.now.items c.put_placed-in-UndefinedLocal.new.out.items (123 ∷ ((codes "undefined_local") ++ 44 ∷ (bytes (int (pos c.in-UndefinedLocal.at)) ++ 125 ∷ []))) _ wrote (placed-pieces (codes "undefined_local") c.in-UndefinedLocal.at undefined_local-word ∙ ap (λ e. bytes (lang_fault e)) (sym c.in-UndefinedLocal.is)))
-
-pub returns-in-Memory : goal.returns-in-Memory
-returns-in-Memory c =
-    on_ok c.put.result _ _ c.put.ensures (λ wrote. same c.args.out.now.items c.put.new.out.items (codes "memory") _ wrote (sym memory-word ∙ ap (λ e. bytes (lang_fault e)) (sym c.in-Memory.is)))
