@@ -1,10 +1,9 @@
 -- Lemmas on what was read for a line, or not.
-use Rattle.std.proofs.Common.{◌≡◌, ◌≢◌, ◌⊎◌, ℕ, List, ◌++◌, Option, None, Some, refl, sym, ap, subst, ◌∙◌, inl, inr}
+use Rattle.std.proofs.Common.{◌≡◌, ℕ, List, ◌++◌, Option, None, Some, refl, sym, ap, subst, ◌∙◌}
 use Rattle.erl_forms.specs.Module.{Forms}
 use Rattle.erl_parse.specs.Sources.{IsNoSource}
 use Rattle.erl_parse.specs.Telling.{Says}
 use Rattle.erl_parse.specs.declared.error.LangError.{LangError}
-use Rattle.erl_parse.specs.declared.error.LangError.TheVariants as lang
 use Rattle.node_core.specs.declared.event.Answer.{Answer}
 use Rattle.node_core.specs.declared.event.Event.{Event}
 use Rattle.node_core.specs.declared.event.Event.TheVariants as event
@@ -25,25 +24,16 @@ use Rattle.shell_deeds.specs.declared.loading.Unloaded.TheVariants.{Faulted}
 use Rattle.shell_deeds.specs.declared.stepping.Halt.{Halt}
 use Rattle.shell_deeds.specs.declared.stepping.Halt.TheVariants as halts
 use Rattle.shell_deeds.proofs.Performing.{done-as}
+use Rattle.values.specs.Failure.{Fails}
+use Rattle.values.specs.declared.failure.Failure.{Failure}
+use Rattle.values.specs.declared.failure.Failure.TheVariants as failures
 
 -- Sources.
 
-no_source_by : (bytes : List ℕ) (e : LangError) → e ≢ lang.Memory → (e ≡ lang.Memory) ⊎ IsNoSource bytes → IsNoSource bytes
-no_source_by bytes e other (inl same) = absurd (other same)
-no_source_by bytes e other (inr none) = none
-
-module _ (s : ShellState) (name path bytes : List ℕ) (found : file_of path s.files ≡ Some bytes) where
-  told : (e : LangError) → e ≢ lang.Memory → Says bytes e → (e ≡ lang.Memory) ⊎ IsNoSource bytes → Unsourced s name path (Faulted (source.Lang e))
-  told e other says none = (bytes, found, other, says, no_source_by bytes e other none)
-
-  pub unsourced : (e : LangError) → Says bytes e → (e ≡ lang.Memory) ⊎ IsNoSource bytes → Unsourced s name path (not_loaded e)
-  unsourced lang.Memory says none = (bytes, found)
-  unsourced (lang.Text error) says none = told (lang.Text error) (λ same. let never : ⊥ = cc in never) says none
-  unsourced (lang.Syntax at) says none = told (lang.Syntax at) (λ same. let never : ⊥ = cc in never) says none
-  unsourced (lang.Unsupported at) says none = told (lang.Unsupported at) (λ same. let never : ⊥ = cc in never) says none
-  unsourced (lang.DuplicateFunction at) says none = told (lang.DuplicateFunction at) (λ same. let never : ⊥ = cc in never) says none
-  unsourced (lang.UnboundVariable at) says none = told (lang.UnboundVariable at) (λ same. let never : ⊥ = cc in never) says none
-  unsourced (lang.UndefinedLocal at) says none = told (lang.UndefinedLocal at) (λ same. let never : ⊥ = cc in never) says none
+pub unsourced : (s : ShellState) (name path bytes : List ℕ) → file_of path s.files ≡ Some bytes → (failure : Failure LangError) →
+    Fails (Says bytes) (Unit {0}) failure → Fails (λ _. IsNoSource bytes) (Unit {0}) failure → Unsourced s name path (not_loaded failure)
+unsourced s name path bytes found (failures.Refused why) says none = (bytes, found, says, none)
+unsourced s name path bytes found failures.Memory says none = (bytes, found)
 
 module _ (s : ShellState) (name path : List ℕ) (new : ShellState) (fate : Option Fate) (text appended : List ℕ) where
   pub source-read : (m : Forms) → IsSourced s name path m → IsDone (Performs s s (event.Load m) (λ a. carried (stepped a s) (event.Load m) (loaded m.name)) fate) new text appended → IsDone (Loads s name path fate) new text appended
@@ -59,7 +49,7 @@ source-faulted s name path source.Missing fate text appended is said =
 source-faulted s name path source.WrongModule fate text appended is said =
     subst (λ f. IsDone (Loads s name path f) s text appended) (sym said.0) (_, another is.0 is.1 is.2 is.3 is.4, refl, said.1)
 source-faulted s name path (source.Lang why) fate text appended is said =
-    subst (λ f. IsDone (Loads s name path f) s text appended) (sym said.0) (_, no_source is.0 why is.1 is.2 is.3 is.4, refl, said.1)
+    subst (λ f. IsDone (Loads s name path f) s text appended) (sym said.0) (_, no_source is.0 why is.1 is.2 is.3, refl, said.1)
 
 -- What stands against an event whatever a part of it is stands against each.
 pub halts-at : {X : Type 0} (s : ShellState) (e : X → Event) (h : Halt) → HaltsBy (RefusesAll s e) (MayAllRunOut s e) h s → (x : X) → Halts h s (e x)

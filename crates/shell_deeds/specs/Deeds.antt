@@ -6,7 +6,6 @@ use Rattle.erl_machine.specs.declared.jobs.Job.{Job}
 use Rattle.erl_parse.specs.Sources.{IsNoSource, IsSource}
 use Rattle.erl_parse.specs.Telling.{Says}
 use Rattle.erl_parse.specs.declared.error.LangError.{LangError}
-use Rattle.erl_parse.specs.declared.error.LangError.TheVariants as lang
 use Rattle.erl_forms.specs.Module.{Forms}
 use Rattle.erl_scan.specs.declared.error.Fault.{Fault}
 use Rattle.erl_term.specs.Term.{tree}
@@ -89,7 +88,7 @@ Changes s kind name fate d =
 -- `load MOD PATH`: what stands against the file is told first.
 pub data Loads (s : ShellState) (name path : List ℕ) : Option Fate → Deed → Type 0 where
   missing : file_of path s.files ≡ None → Loads s name path None (answered s (source_fault path source.Missing))
-  no_source : (bytes : List ℕ) (why : LangError) → file_of path s.files ≡ Some bytes → why ≢ lang.Memory → Says bytes why → IsNoSource bytes →
+  no_source : (bytes : List ℕ) (why : LangError) → file_of path s.files ≡ Some bytes → Says bytes why → IsNoSource bytes →
       Loads s name path None (answered s (source_fault path (source.Lang why)))
   another : (bytes : List ℕ) (m : Forms) → file_of path s.files ≡ Some bytes → IsSource bytes m → m.name ≢ name →
       Loads s name path None (answered s (source_fault path source.WrongModule))

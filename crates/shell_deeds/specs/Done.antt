@@ -7,7 +7,6 @@ use Rattle.erl_machine.specs.declared.jobs.Job.{Job}
 use Rattle.erl_parse.specs.Sources.{IsNoSource, IsSource}
 use Rattle.erl_parse.specs.Telling.{Says}
 use Rattle.erl_parse.specs.declared.error.LangError.{LangError}
-use Rattle.erl_parse.specs.declared.error.LangError.TheVariants as lang
 use Rattle.erl_term.specs.Order.{tree_cmp}
 use Rattle.erl_term.specs.Term.{tree}
 use Rattle.erl_term.specs.Tree.{Tree}
@@ -35,6 +34,8 @@ use Rattle.shell_deeds.specs.declared.fate.Fate.{Fate}
 use Rattle.shell_deeds.specs.declared.fate.Fate.TheVariants as fates
 use Rattle.shell_deeds.specs.declared.stepping.Halt.{Halt}
 use Rattle.shell_deeds.specs.declared.stepping.Halt.TheVariants.{Full, Refused, Memory}
+use Rattle.values.specs.declared.failure.Failure.{Failure}
+use Rattle.values.specs.declared.failure.Failure.TheVariants as failures
 
 -- One of these deeds was done: the shell is the one after it, and its text is appended.
 abbrev pub IsDone : (Deed → Type 0) → ShellState → List ℕ → List ℕ → Type 0
@@ -97,13 +98,13 @@ Unsourced s name path (Faulted source.Missing) = file_of path s.files ≡ None
 Unsourced s name path (Faulted source.WrongModule) =
     (bytes : List ℕ) × (m : Forms) × (file_of path s.files ≡ Some bytes) × IsSource bytes m × (m.name ≢ name)
 Unsourced s name path (Faulted (source.Lang why)) =
-    (bytes : List ℕ) × (file_of path s.files ≡ Some bytes) × (why ≢ lang.Memory) × Says bytes why × IsNoSource bytes
+    (bytes : List ℕ) × (file_of path s.files ≡ Some bytes) × Says bytes why × IsNoSource bytes
 Unsourced s name path Unread = (bytes : List ℕ) × (file_of path s.files ≡ Some bytes)
 
--- by the error of its source
-abbrev pub not_loaded : LangError → Unloaded
-not_loaded lang.Memory = Unread
-not_loaded e = Faulted (source.Lang e)
+-- by what is told of its source
+abbrev pub not_loaded : Failure LangError → Unloaded
+not_loaded (failures.Refused why) = Faulted (source.Lang why)
+not_loaded failures.Memory = Unread
 
 -- what is told of an arrival that was not performed: a call is counted, unless memory was refused
 abbrev pub after_missed : Halt → Arrival → ShellState → ShellState

@@ -18,7 +18,7 @@ use erl_term::Atom;
 use node_core::{Event, Refusal};
 use shell_answers::{SourceFault, write_loaded};
 use shell_requests::Name;
-use values::Duplicate;
+use values::{Duplicate, Failure};
 
 /// Why no module was read.
 #[derive(Clone, Copy)]
@@ -51,7 +51,7 @@ impl Holdings {
         match read_module(self.alloc, self.hashing, bytes) {
             Ok(code) if spells(code.name(), name.as_str()) => Ok(code),
             Ok(_) => Err(Unloaded::Faulted(SourceFault::WrongModule)),
-            Err(error) => Err(not_loaded(error)),
+            Err(failure) => Err(not_loaded(failure)),
         }
     }
 
@@ -83,18 +83,13 @@ impl Holdings {
     }
 }
 
-/// Why no module was read, by the error of its source.
-fn not_loaded(error: LangError) -> Unloaded
-    ensures { result ≡ not_loaded error }
+/// Why no module was read, by what is told of its source.
+fn not_loaded(failure: Failure<LangError>) -> Unloaded
+    ensures { result ≡ not_loaded failure }
 {
-    match error {
-        LangError::Memory => Unloaded::Unread,
-        LangError::Text(_)
-        | LangError::Syntax(_)
-        | LangError::Unsupported(_)
-        | LangError::DuplicateFunction(_)
-        | LangError::UnboundVariable(_)
-        | LangError::UndefinedLocal(_) => Unloaded::Faulted(SourceFault::Lang(error)),
+    match failure {
+        Failure::Refused(why) => Unloaded::Faulted(SourceFault::Lang(why)),
+        Failure::Memory => Unloaded::Unread,
     }
 }
 

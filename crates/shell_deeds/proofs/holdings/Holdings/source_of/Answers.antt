@@ -14,4 +14,4 @@ returns-in-Err c =
     let name = chars c.args.name.text.now in
     let path = c.args.path.now in
     let found = subst (λ (t : ShellState). file_of path t.files ≡ Some c.in-Some.bytes.now) c.self.view_is c.in-Some.ensures in
-    subst (λ (u : Unloaded). Unsourced s name path u) (sym c.not_loaded.ensures) (unsourced s name path c.in-Some.bytes.now found c.in-Err.error c.in-Err.ensures.refused c.in-Err.ensures.meaningless)
+    subst (λ (u : Unloaded). Unsourced s name path u) (sym c.not_loaded.ensures) (unsourced s name path c.in-Some.bytes.now found c.in-Err.failure c.in-Err.ensures.refused c.in-Err.ensures.meaningless)
