@@ -1,5 +1,5 @@
+pub mod Alive
 pub mod Ends
 pub mod Kills
-pub mod Pids
 pub mod Pieces
 pub mod Returns

@@ -1,9 +1,8 @@
 -- What a process that has ended holds is lost: nobody has it any more.
-use Rattle.std.proofs.Common.{◌≡◌, ℕ, ◌⊎◌, Bool, true, false, cond, inl, inr, nat_eq, List, [], ◌∷◌, ◌++◌, Option, None, Some, option_map, refl, sym, ap, subst, ◌∙◌, arith}
+use Rattle.std.proofs.Common.{◌≡◌, ℕ, ◌⊎◌, true, false, cond, inl, inr, nat_eq, List, [], ◌∷◌, ◌++◌, Option, None, Some, refl, sym, ap, subst, ◌∙◌}
 use Rattle.std.proofs.lemmas.Bool.Decides.{eqb_tells}
 use Rattle.std.proofs.lemmas.List.{append-nil, append_assoc}
 use Rattle.std.proofs.lemmas.Option.{none-some, same_Some}
-use Rattle.erl_steps.specs.declared.world.Instance.{Instance}
 use Rattle.job_code.specs.declared.named.NamedInstance.{NamedInstance}
 use Rattle.process.specs.Ended.{did_by, ended_with}
 use Rattle.process.specs.Process.{ProcessState}

@@ -13,7 +13,7 @@ use crate::ending::{EndedProcess, ToldProcess, take_out};
 use crate::told::{Reply, tell};
 use crate::using::{users, uses};
 use erl_term::{Atom, Term};
-use process_store::ProcessStore;
+use process_store::{Living, ProcessStore};
 use std::alloc::{AllocError, Global};
 
 /// The reason of a process that is killed.
@@ -23,19 +23,16 @@ fn killed(alloc: Global) -> Result<Term, AllocError>
     Ok(Term::Atom(Atom::word(alloc, "killed")?))
 }
 
-/// The process of a pid, where it lives and uses the instance of a serial, and what tells its instances.
+/// A process that lives under a pid, where it uses the instance of a serial, and what tells its instances.
 fn told_user(
-    store: &ProcessStore,
     alloc: Global,
     pid: u64,
+    living: &Living,
     serial: u64,
 ) -> Result<Option<ToldProcess>, AllocError>
-    ensures user { IfOk result (λ it. option_map (λ p. p.pid) it ≡ (if uses serial (living pid store.now) then Some pid else None)) }
-    ensures told { IfOk result (λ it. IfSome it (λ p. IsTold p.told (living p.pid store.now))) }
+    ensures user { IfOk result (λ it. option_map (λ p. p.pid) it ≡ (if uses serial (Some living.now) then Some pid else None)) }
+    ensures told { IfOk result (λ it. IfSome it (λ p. (p.pid ≡ pid) × IsTold p.told (Some living.now))) }
 {
-    let Some(living) = store.get(pid) else {
-        return Ok(None);
-    };
     if uses(&living.process, serial) {
         let told = living.process.told(alloc)?;
         Ok(Some(ToldProcess { pid, told }))
@@ -54,8 +51,8 @@ fn told_users(
     ensures told { IfOk result (λ it. All (λ p. IsTold p.told (living p.pid store.now)) it.items) }
 {
     let mut leaving = Vec::new(alloc);
-    for pid in 0..store.next_pid() {
-        if let Some(process) = told_user(store, alloc, pid, serial)? {
+    for (pid, living) in store.iter() {
+        if let Some(process) = told_user(alloc, *pid, living, serial)? {
             leaving.push(process)?;
         }
     }
@@ -73,7 +70,7 @@ fn tell_of(
     ensures { OnOk result (replies.new.items ≡ replies.old.items ++ downs reason.now (living pid store.now)) }
 {
     match store.get(pid) {
-        Some(living) => tell(replies, alloc, living.calls.as_slice(), reason),
+        Some(living) => tell(replies, alloc, &living.calls, reason),
         None => Ok(()),
     }
 }

@@ -3,7 +3,7 @@ ghost use Rattle.std.specs.Prelude.{◌≡◌, ◌++◌, map, IfOk, OnOk};
 ghost use Rattle.process_ending.specs.Told.{down};
 
 use erl_term::Term;
-use process_index::Call;
+use process_index::Calls;
 use std::alloc::{AllocError, Global};
 use values::{Duplicate, Same};
 
@@ -67,12 +67,12 @@ impl Duplicate for Reply {
 pub(crate) fn tell(
     replies: &mut Vec<Reply>,
     alloc: Global,
-    calls: &[Call],
+    calls: &Calls,
     reason: &Term,
 ) -> Result<(), AllocError>
     ensures { OnOk result (replies.new.items ≡ replies.old.items ++ map (down reason.now) calls.now) }
 {
-    for call in calls {
+    for call in calls.iter() {
         replies.push(Reply {
             client: call.client,
             number: call.number,
@@ -87,10 +87,10 @@ pub(crate) fn tell(
 /// # Errors
 ///
 /// `AllocError` where memory is refused.
-pub fn downs_of(alloc: Global, calls: &[Call], reason: &Term) -> Result<Vec<Reply>, AllocError>
+pub fn downs_of(alloc: Global, calls: &Calls, reason: &Term) -> Result<Vec<Reply>, AllocError>
     ensures { IfOk result (λ it. it.items ≡ map (down reason.now) calls.now) }
 {
-    let mut replies = Vec::with_capacity(alloc, calls.len())?;
+    let mut replies = Vec::new(alloc);
     tell(&mut replies, alloc, calls, reason)?;
     Ok(replies)
 }

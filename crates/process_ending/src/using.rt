@@ -1,8 +1,7 @@
 // Which instances a process uses.
 ghost use Rattle.std.specs.Prelude.{◌≡◌, IfOk};
 ghost use Rattle.std.specs.Option.{option_copied};
-ghost use Rattle.process_ending.specs.Uses.{is_among, is_of, users, uses, uses_by};
-ghost use Rattle.process_store.specs.Table.{living};
+ghost use Rattle.process_ending.specs.Uses.{is_among, is_of, users, uses_by};
 
 use erl_machine::Instance;
 use process::{Activity, Process};
@@ -37,16 +36,6 @@ pub fn uses(process: &Process, serial: u64) -> bool
     }
 }
 
-/// Whether the process of a pid uses the instance of a serial.
-fn is_user(store: &ProcessStore, pid: u64, serial: u64) -> bool
-    ensures { result ≡ uses serial (living pid store.now) }
-{
-    match store.get(pid) {
-        Some(living) => uses(&living.process, serial),
-        None => false,
-    }
-}
-
 /// The pids of the processes that use the instance of a serial, in order.
 ///
 /// # Errors
@@ -56,9 +45,9 @@ pub fn users(store: &ProcessStore, alloc: Global, serial: u64) -> Result<Vec<u64
     ensures { IfOk result (λ it. it.items ≡ users serial store.now) }
 {
     let mut pids = Vec::new(alloc);
-    for pid in 0..store.next_pid() {
-        if is_user(store, pid, serial) {
-            pids.push(pid)?;
+    for (pid, living) in store.iter() {
+        if uses(&living.process, serial) {
+            pids.push(*pid)?;
         }
     }
     Ok(pids)

@@ -2,7 +2,7 @@
 use Rattle.std.proofs.Common.{sym, subst, ◌∙◌, arith}
 use Rattle.process_ending.specs.Ends.{KillsBack}
 use Rattle.process_ending.specs.Pieces.{held_by_all}
-use Rattle.process_ending.proofs.Pieces.{HaveLeft, left_lost, more_left, none_left}
+use Rattle.process_ending.proofs.Pieces.{HaveLeft, left_lost, more_left}
 use Rattle.process_ending.proofs.Returns.{kills_back, leaves_last, nobody_leaves, still_stand, told_last, told_others}
 use Rattle.process_ending.proofs.killing.take_all_out.Goals as goal
 
