@@ -18,6 +18,8 @@ use Rattle.process_commit.specs.Commits.{job_at, rests_in}
 use Rattle.process_index.specs.declared.calls.Call.{Call}
 use Rattle.process_table.specs.declared.body.Body.{Body}
 use Rattle.process_table.specs.declared.body.Body.TheVariants as body
+use Rattle.process_table.specs.declared.body.BodyKind.{BodyKind}
+use Rattle.process_table.specs.declared.body.BodyKind.TheVariants as kinds
 use Rattle.process_table.specs.declared.error.ProcError.{ProcError}
 use Rattle.process_table.specs.declared.error.ProcError.TheVariants.{NoProc, Suspended, Idle, Running, NotRunning, NameTaken, DuplicateCall, CounterEnd}
 use Rattle.process_store.specs.declared.living.Living.{Living}
@@ -36,6 +38,12 @@ with_process name at code t = added name at (rests_in at code) t
 
 -- Arrive: a message of a client comes for the process of a name. A call is open from then on; no two open calls have one
 -- number, whoever asked, and a number is an integer of Erlang.
+
+-- its kind
+abbrev pub kind_of : Body → BodyKind
+kind_of (body.Call number term) = kinds.Call number
+kind_of (body.Cast term) = kinds.Cast
+kind_of (body.Info term) = kinds.Info
 
 abbrev pub is_repeated : Body → Table → Bool
 is_repeated (body.Call number term) t = is_open number t

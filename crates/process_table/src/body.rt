@@ -1,7 +1,7 @@
 // What arrives from outside, and the message that it comes as.
 ghost use Rattle.std.specs.Prelude.{◌≡◌, IfOk, OnErr, is_some, true};
 ghost use Rattle.process_table.specs.Messages.{call_message, cast_message, message_of};
-ghost use Rattle.process_table.specs.Steps.{call_of};
+ghost use Rattle.process_table.specs.Steps.{call_of, kind_of};
 
 use erl_term::{Atom, Predefined, Term, Terms};
 use process_index::Call;
@@ -24,7 +24,29 @@ pub enum Body {
     Info(Term),
 }
 
+/// What kind of message arrives: all that a refusal looks at.
+#[derive(Clone, Copy, Debug, Drop, PartialEq, Eq)]
+pub enum BodyKind {
+    /// A call of this number.
+    Call(u64),
+    /// A cast.
+    Cast,
+    /// Any other message.
+    Info,
+}
+
 impl Body {
+    /// Its kind.
+    pub fn kind(&self) -> BodyKind
+        ensures { result ≡ kind_of self.now }
+    {
+        match self {
+            Body::Call { number, .. } => BodyKind::Call(*number),
+            Body::Cast(_) => BodyKind::Cast,
+            Body::Info(_) => BodyKind::Info,
+        }
+    }
+
     /// The call that it is, if it is one, of a client.
     pub(crate) fn call(&self, client: u64) -> Option<Call>
         ensures { result ≡ call_of client self.now }
@@ -35,16 +57,6 @@ impl Body {
                 number: *number,
             }),
             Body::Cast(_) | Body::Info(_) => None,
-        }
-    }
-
-    /// Whether there is a message that it comes as. Takes no memory.
-    pub(crate) fn has_message(&self) -> bool
-        ensures { result ≡ is_some (message_of self.now) }
-    {
-        match self {
-            Body::Call { number, .. } => i64::try_from(*number).is_ok(),
-            Body::Cast(_) | Body::Info(_) => true,
         }
     }
 

@@ -47,7 +47,7 @@ mod processes;
 mod taking;
 mod undo;
 
-pub use body::Body;
+pub use body::{Body, BodyKind};
 pub use error::ProcError;
 pub use process_commit::{Closed, Exited, Rested};
 pub use process_ending::{EndedProcess, Reply, ReplyBody};

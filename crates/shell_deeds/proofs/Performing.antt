@@ -13,7 +13,7 @@ use Rattle.process_store.specs.Table.{Table, is_open, living}
 use Rattle.process_table.specs.Messages.{call_message}
 use Rattle.process_table.specs.declared.body.Body.TheVariants as body
 use Rattle.process_store.specs.declared.living.Living.{Living}
-use Rattle.process_table.specs.Steps.{call_refusal, retake_refusal, retake_refusal_of}
+use Rattle.process_table.specs.Steps.{retake_refusal, retake_refusal_of}
 use Rattle.process_table.specs.declared.error.ProcError.{ProcError}
 use Rattle.process_table.specs.declared.error.ProcError.TheVariants as proc
 use Rattle.shell_answers.specs.Answers.{fixed, job_of, line_of}
@@ -31,7 +31,7 @@ use Rattle.node_core.specs.declared.event.Refusal.TheVariants.{OfModules}
 use Rattle.shell_requests.specs.declared.request.Arrival.{Arrival}
 use Rattle.shell_deeds.specs.Deeds.{Commits, Misses, Performs, Retakes, no_memory_to_read, no_memory_to_run, not_run, not_run_full, unread_full, unread_refused, accepted, full, kept_again, no_memory, no_memory_to_keep, not_running, refused, took, tried}
 use Rattle.shell_deeds.specs.Done.{IsDone, IsKept, after_missed}
-use Rattle.shell_deeds.specs.Halts.{Halts, HaltsBy, MayAllRunOut, MayCommit, RefusesAll, RefusesResult, halt_answer, halt_by, halt_fate, missed_fate, refusal_of_call}
+use Rattle.shell_deeds.specs.Halts.{Halts, HaltsBy, MayAllRunOut, MayCommit, RefusesAll, RefusesResult, halt_answer, halt_by, halt_fate, missed_fate}
 use Rattle.undo_journal.specs.declared.history.Command.TheVariants.{Perform}
 use Rattle.shell_deeds.specs.State.{Deed, IsFull, ShellState, node_of, stepped, with_job}
 use Rattle.shell_deeds.specs.Stepping.{IsStepped}
@@ -140,16 +140,6 @@ pub not_one_of : (ts : List Term) → (length ts ≡ 1 → ⊥) → IsNotOne (tr
 not_one_of [] many = tt
 not_one_of (t ∷ []) many = absurd (many refl)
 not_one_of (t ∷ u ∷ ts) many = tt
-
--- a call is refused by its number, whatever it asks
-
-has_message : (b : Bool) (m : Term) → cond b None (Some proc.CounterEnd) ≡ cond (is_some (cond b (Some m) None)) None (Some proc.CounterEnd)
-has_message true m = refl
-has_message false m = refl
-
-pub by_number : (number : ℕ) (t : Term) (table : Table) → refusal_of_call number table ≡ call_refusal (body.Call number t) table
-by_number number t table =
-    ap (λ r. cond (is_open number table) (Some proc.DuplicateCall) r) (has_message (ltb number (2 ^ 63)) (call_message (pos number) t))
 
 -- where a test says that serials are left, they are
 pub unfull : (b : Bool) (P : Type 0) → (IsTrue b ↔ P) → b ≡ false → P → ⊥

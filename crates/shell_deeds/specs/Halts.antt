@@ -1,11 +1,9 @@
 -- Why something isn't done that the node is asked for, and what is told of it.
-use Rattle.std.specs.Prelude.{◌≡◌, ◌^◌, nat_lt, if◌then◌else◌, ℕ, List, Option, None, Some, Err}
+use Rattle.std.specs.Prelude.{◌≡◌, ℕ, List, Option, None, Some, Err}
 use Rattle.erl_machine.specs.declared.jobs.Job.{Job}
 use Rattle.erl_term.specs.Tree.{Tree}
-use Rattle.process_store.specs.Table.{Table, is_open}
 use Rattle.process_table.specs.Commit.{CanCommit, RefusesCommit}
 use Rattle.process_table.specs.declared.error.ProcError.{ProcError}
-use Rattle.process_table.specs.declared.error.ProcError.TheVariants as proc
 use Rattle.code_server.specs.Modules.{delete_refusal}
 use Rattle.code_server.specs.declared.error.CodeError.{CodeError}
 use Rattle.undo_journal.specs.declared.error.JournalError.{JournalError}
@@ -64,11 +62,6 @@ abbrev pub refusal_of_change : Change → List ℕ → NodeState → Option Code
 refusal_of_change changes.Delete name n = delete_refusal name n.modules
 refusal_of_change changes.Purge name n = None
 refusal_of_change changes.SoftPurge name n = soft_purge_refusal name n
-
--- why a call of a number is refused, whatever it asks
-abbrev pub refusal_of_call : ℕ → Table → Option ProcError
-refusal_of_call number t =
-    if is_open number t then Some proc.DuplicateCall else (if nat_lt number (2 ^ 63) then None else Some proc.CounterEnd)
 
 -- What is told.
 

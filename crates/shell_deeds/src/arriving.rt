@@ -3,11 +3,11 @@ ghost use Rattle.std.specs.Prelude.{◌≡◌, ◌++◌, ℕ, List, IfOk, None};
 ghost use Rattle.std.specs.Str.{chars};
 ghost use Rattle.erl_term.specs.Term.{tree};
 ghost use Rattle.erl_term.specs.declared.term.Term.{Term};
-ghost use Rattle.process_table.specs.Steps.{arrive_refusal, call_refusal};
+ghost use Rattle.process_table.specs.Steps.{arrive_refusal, kind_of};
 ghost use Rattle.shell_answers.specs.Answers.{line_of};
 ghost use Rattle.shell_deeds.specs.Deeds.{Arrives, Performs, arrival_answer, arrival_event, body_of, event_of_arrival, tried};
 ghost use Rattle.shell_deeds.specs.Done.{IsDone, after_missed};
-ghost use Rattle.shell_deeds.specs.Halts.{HaltsBy, MayAllRunOut, RefusesAll, halt_answer, halt_fate, missed_fate, refusal_of_call};
+ghost use Rattle.shell_deeds.specs.Halts.{HaltsBy, MayAllRunOut, RefusesAll, halt_answer, halt_fate, missed_fate};
 ghost use Rattle.shell_deeds.specs.declared.stepping.Halt.{Halt};
 ghost use Rattle.shell_deeds.specs.State.{carried, next_number, node_of, stepped};
 ghost use Rattle.shell_deeds.specs.Terms.{IsRead, one};
@@ -18,7 +18,7 @@ use crate::stepping::Halt;
 use crate::telling::{Said, say, say_term_fault, tell_halt, tell_missed};
 use erl_term::{Atom, Term};
 use node_core::{Event, Refusal};
-use process_table::{Body, ProcError};
+use process_table::{Body, BodyKind, ProcError};
 use shell_answers::{Fixed, write_called};
 use shell_requests::{Arrival, Name};
 
@@ -149,33 +149,19 @@ impl Holdings {
     fn arrival_refusal(&self, kind: Arrival, name: Name<'_>) -> Option<ProcError>
         ensures { (t : Term) → result ≡ arrive_refusal (chars name.entry.text.now) (body_of kind (next_number self.now) t) (node_of self.now).processes }
     {
-        match self.pid_of(name) {
-            Some(_) => self.call_refusal(kind),
-            None => Some(ProcError::NoProc),
-        }
+        let kind = body_kind(kind, self.next_number());
+        self.processes().arrive_refusal(name.as_str(), kind)
     }
+}
 
-    /// Why an arrival for a process is refused whatever its term is.
-    fn call_refusal(&self, kind: Arrival) -> Option<ProcError>
-        ensures { (t : Term) → result ≡ call_refusal (body_of kind (next_number self.now) t) (node_of self.now).processes }
-    {
-        match kind {
-            Arrival::Call => self.refusal_of_call(self.next_number()),
-            Arrival::Cast | Arrival::Info => None,
-        }
-    }
-
-    /// Why a call of a number is refused, whatever it asks.
-    fn refusal_of_call(&self, number: u64) -> Option<ProcError>
-        ensures { result ≡ refusal_of_call number (node_of self.now).processes }
-    {
-        if self.processes().is_open(number) {
-            return Some(ProcError::DuplicateCall);
-        }
-        match i64::try_from(number) {
-            Ok(_) => None,
-            Err(_) => Some(ProcError::CounterEnd),
-        }
+/// The kind of what arrives.
+fn body_kind(kind: Arrival, number: u64) -> BodyKind
+    ensures { (t : Term) → kind_of (body_of kind number t) ≡ result }
+{
+    match kind {
+        Arrival::Call => BodyKind::Call(number),
+        Arrival::Cast => BodyKind::Cast,
+        Arrival::Info => BodyKind::Info,
     }
 }
 
