@@ -1,8 +1,8 @@
 -- A process that ends: it is others it was, but for calls that are closed, and its open calls are told.
-use Rattle.std.proofs.Common.{◌≡◌, ℕ, zero, suc, ◌+◌, ◌<◌, ◌≤◌, true, false, cond, nat_eq, All, List, [], ◌∷◌, ◌++◌, drop, get_or, length, map, Option, None, Some, IfSome, IsSome, refl, sym, ap, subst, ◌∙◌, arith}
+use Rattle.std.proofs.Common.{◌≡◌, ℕ, zero, suc, ◌+◌, ◌≤◌, true, false, cond, nat_eq, All, List, [], ◌∷◌, ◌++◌, get_or, length, map, Option, None, Some, IfSome, IsSome, refl, sym, ap, subst, ◌∙◌, arith}
 use Rattle.std.proofs.lemmas.Bool.{eq-eqb, true≢false}
 use Rattle.std.proofs.lemmas.Option.{none-some, same_Some}
-use Rattle.std.proofs.lemmas.List.{append_assoc, drop_more, get_or_push, length_push}
+use Rattle.std.proofs.lemmas.List.{append_assoc, get_or_push, length_push}
 use Rattle.erl_forms.specs.Module.{Forms}
 use Rattle.code_server.specs.Modules.{IsSound, Table as Loaded}
 use Rattle.erl_term.specs.declared.term.Term.{Term}
@@ -168,7 +168,7 @@ last_is xs ys x reason is all =
     let long : length ys ≡ length xs + 1 = ap length is ∙ length_push xs x in
     sym (get_or_push xs x x (length xs) refl) ∙ ap (λ zs. get_or zs (length xs) x) (sym is) ∙ all (length xs) x (omega (arith, long))
 
-pub told_next : (reasons rest : List Term) (before now told : List Reply) (calls : List Call) (i : ℕ) (d : Call) (x reason : Term) → i < length calls → reasons ≡ rest ++ x ∷ [] → All (λ r. r ≡ reason) reasons → now ≡ before ++ down x (get_or calls i d) ∷ [] → before ++ map (down reason) (drop i calls) ≡ told → now ++ map (down reason) (drop (i + 1) calls) ≡ told
-told_next reasons rest before now told calls i d x reason within popped all pushed is =
+pub told_next : (reasons rest : List Term) (before now told : List Reply) (c : Call) (cs : List Call) (x reason : Term) → reasons ≡ rest ++ x ∷ [] → All (λ r. r ≡ reason) reasons → now ≡ before ++ down x c ∷ [] → before ++ map (down reason) (c ∷ cs) ≡ told → now ++ map (down reason) cs ≡ told
+told_next reasons rest before now told c cs x reason popped all pushed is =
     let same : x ≡ reason = last_is rest reasons x reason popped all in
-    ap (λ ys. ys ++ map (down reason) (drop (i + 1) calls)) (pushed ∙ ap (λ r. before ++ down r (get_or calls i d) ∷ []) same) ∙ append_assoc before (down reason (get_or calls i d) ∷ []) (map (down reason) (drop (i + 1) calls)) ∙ ap (λ cs. before ++ map (down reason) cs) (sym (drop_more calls i d within)) ∙ is
+    ap (λ ys. ys ++ map (down reason) cs) (pushed ∙ ap (λ r. before ++ down r c ∷ []) same) ∙ append_assoc before (down reason c ∷ []) (map (down reason) cs) ∙ is

@@ -17,7 +17,7 @@ use erl_eval::Act;
 use erl_forms::Module;
 use erl_term::Term;
 use process_ending::{EndedProcess, Reply, ReplyBody, ended_process, return_ended};
-use process_index::Call;
+use process_index::Calls;
 use process_store::ProcessStore;
 use std::alloc::{AllocError, Global};
 use values::{Duplicate, Row};
@@ -31,6 +31,18 @@ pub struct Exited {
     pub receivers: Row<u64>,
     /// The calls that were closed by replies, in order.
     pub closed: Row<Closed>,
+}
+
+/// A reason, as often as there are calls.
+fn copies_for(alloc: Global, calls: &Calls, reason: &Term) -> Result<Vec<Term>, AllocError>
+    ensures same { IfOk result (λ it. All (λ r. r ≡ reason.now) it.items) }
+    ensures enough { IfOk result (λ it. length calls.now ≡ vec_len it) }
+{
+    let mut reasons = Vec::new(alloc);
+    for _ in calls.iter() {
+        reasons.push(reason.copy(alloc)?)?;
+    }
+    Ok(reasons)
 }
 
 /// A reason, as often as the process of a pid, which lives, has open calls.
@@ -48,25 +60,21 @@ pub fn reasons_for(
     ensures same { IfOk result (λ it. All (λ r. r ≡ reason.now) it.items) }
     ensures enough { IfOk result (λ it. IfSome (living pid store.now) (λ l. length l.calls ≡ vec_len it)) }
 {
-    let Some(living) = store.get(pid) else {
-        unreachable!()
-    };
-    let mut reasons = Vec::new(alloc);
-    for _ in living.calls.as_slice() {
-        reasons.push(reason.copy(alloc)?)?;
+    match store.get(pid) {
+        Some(living) => copies_for(alloc, &living.calls, reason),
+        None => unreachable!(),
     }
-    Ok(reasons)
 }
 
 /// Tells each of these calls that its process has ended, by a reason that is there as often as is needed. There is room for what is
 /// told.
-fn tell_downs(replies: &mut Vec<Reply>, reasons: Vec<Term>, calls: &[Call])
+fn tell_downs(replies: &mut Vec<Reply>, reasons: Vec<Term>, calls: &Calls)
     requires enough { length calls.now ≤ vec_len reasons }
     requires room { vec_len replies.old + length calls.now ≤ vec_capacity replies.old }
     ensures { (reason : Term) → All (λ r. r ≡ reason) reasons.items → replies.new.items ≡ replies.old.items ++ map (down reason) calls.now }
 {
     let mut reasons = reasons;
-    for call in calls {
+    for call in calls.iter() {
         let Some(reason) = reasons.pop() else {
             unreachable!()
         };
@@ -108,7 +116,7 @@ pub fn commit_exit(
                 receivers,
                 closed,
             } = acted;
-            tell_downs(&mut replies, reasons, living.calls.as_slice());
+            tell_downs(&mut replies, reasons, &living.calls);
             let exited = Exited {
                 ended: ended_process(pid, living, told),
                 receivers: Row::new(receivers),

@@ -16,7 +16,7 @@ pub fn receiver_of(store: &ProcessStore, to: &Receiver) -> Option<u64>
     ensures { result ≡ receiver_of to.now store.now }
 {
     match to {
-        Receiver::Named(name) => store.pid_of(name),
+        Receiver::Named(name) => store.pid_of(name.as_str()),
         Receiver::Process(pid) => Some(*pid),
     }
 }

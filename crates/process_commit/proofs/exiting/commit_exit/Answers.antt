@@ -1,5 +1,5 @@
 -- What the process sends to itself goes with it, and all else of it is as it was: its record holds that, which nobody has any more.
-use Rattle.std.proofs.Common.{◌≡◌, ◌++◌, arith, map, sym, ap, subst, ◌∙◌}
+use Rattle.std.proofs.Common.{◌≡◌, ◌++◌, arith, refl, sym, ap, subst, ◌∙◌}
 use Rattle.process_commit.proofs.Leaving.{downs_by_calls, enough_reasons, exited_back, exited_fits, leaver_lives, process_of, same_process, still_lives}
 use Rattle.process_commit.proofs.OwnMessages.{calls_at, ended_calls, ended_the_same, ended_told}
 use Rattle.process_commit.proofs.Pieces.{exited_lost}
@@ -8,18 +8,18 @@ use Rattle.process_commit.specs.Exits.{ExitsBack}
 use Rattle.process_commit.specs.Parted.{answers_of}
 use Rattle.process_commit.specs.declared.exiting.Exited.{Exited}
 use Rattle.process_ending.specs.Ends.{ended_as}
-use Rattle.process_ending.specs.Told.{down, downs}
+use Rattle.process_ending.specs.Told.{downs}
 use Rattle.process_store.specs.Table.{living}
 use Rattle.process_store.specs.Vacating.{vacated}
 use Rattle.process_commit.proofs.exiting.commit_exit.Goals as goal
 
 pub tell_downs-requires-clause-enough : goal.tell_downs-requires-clause-enough
 tell_downs-requires-clause-enough c =
-    enough_reasons c.args.pid c.args.acts.now (answers_of c.args.acts.now) c.args.store.now c.act_all.new.store c.in_ok-acted.ensures.table c.in-Some.living c.as_slice.result.now _ c.in-Some.ensures.process c.as_slice.ensures.calls c.requires c.in_ok-reasons.ensures.enough
+    enough_reasons c.args.pid c.args.acts.now (answers_of c.args.acts.now) c.args.store.now c.act_all.new.store c.in_ok-acted.ensures.table c.in-Some.living c.in-Some.living.calls _ c.in-Some.ensures.process refl c.requires c.in_ok-reasons.ensures.enough
 
 pub tell_downs-requires-clause-room : goal.tell_downs-requires-clause-room
 tell_downs-requires-clause-room c =
-    let enough = enough_reasons c.args.pid c.args.acts.now (answers_of c.args.acts.now) c.args.store.now c.act_all.new.store c.in_ok-acted.ensures.table c.in-Some.living c.as_slice.result.now _ c.in-Some.ensures.process c.as_slice.ensures.calls c.requires c.in_ok-reasons.ensures.enough in
+    let enough = enough_reasons c.args.pid c.args.acts.now (answers_of c.args.acts.now) c.args.store.now c.act_all.new.store c.in_ok-acted.ensures.table c.in-Some.living c.in-Some.living.calls _ c.in-Some.ensures.process refl c.requires c.in_ok-reasons.ensures.enough in
     omega (arith, enough, c.in_ok-acted.ensures.room, c.len.ensures)
 
 pub unreachable-requires : goal.unreachable-requires
@@ -37,7 +37,7 @@ returns-clause-told c =
     let t = c.args.store.now in
     let replies = c.in_ok-acted.ensures.told ∙ ended_told pid acts t in
     let calls : calls_at (living pid c.act_all.new.store) ≡ calls_at (living pid (acts_done acts t)) = ap (λ x. calls_at (living pid x)) c.in_ok-acted.ensures.table ∙ ended_calls pid acts t in
-    let down_there = ap (map (down c.args.reason.now)) c.as_slice.ensures.calls ∙ ap (downs c.args.reason.now) c.in-Some.ensures.process ∙ downs_by_calls c.args.reason.now (living pid c.act_all.new.store) (living pid (acts_done acts t)) calls in
+    let down_there = ap (downs c.args.reason.now) c.in-Some.ensures.process ∙ downs_by_calls c.args.reason.now (living pid c.act_all.new.store) (living pid (acts_done acts t)) calls in
     c.tell_downs.ensures c.args.reason.now c.in_ok-reasons.ensures.same ∙ (λ i. replies i ++ down_there i)
 
 pub returns-clause-inverse : goal.returns-clause-inverse
