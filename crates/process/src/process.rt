@@ -61,7 +61,6 @@ pub struct Ran {
 }
 
 /// The position of the first message that is taken at a place.
-#[inline(always)]
 fn first_of(
     alloc: Global,
     pid: u64,
@@ -341,7 +340,6 @@ impl Process {
     /// # Errors
     ///
     /// `AllocError` where memory is refused.
-    #[inline(always)]
     pub fn next_at(
         &self,
         alloc: Global,
@@ -355,7 +353,6 @@ impl Process {
 
     /// The process rests at a place, one turn on, and takes next the message that [`Process::next_at`] tells. What it ran is handed
     /// out. Takes no memory.
-    #[inline(always)]
     pub fn rest_next(
         &mut self,
         place: Place,
@@ -383,7 +380,6 @@ impl Process {
     }
 
     /// The process runs again what it ran before it rested. Takes no memory.
-    #[inline(always)]
     pub fn unrest(&mut self, ran: Ran)
         requires { 0 < self.old.turn }
         ensures { self.new ≡ unrested ran self.old }

@@ -72,7 +72,6 @@ impl<T> Reserved<T> {
     }
 
     /// Gives the memory back. A room that is dropped does the same, but moves what isn't there.
-    #[inline(always)]
     pub fn free(self)
     where
         T: Drop,

@@ -22,7 +22,6 @@ pub(crate) enum Misread {
 }
 
 /// The term that a text is, which has no dot.
-#[inline(never)]
 pub(crate) fn term_of(alloc: Global, text: &str) -> Result<Term, Misread>
     ensures { MatchResult result (λ t. IsRead text.now (one (tree t))) (Misreads text.now) }
 {

@@ -176,7 +176,6 @@ impl<S: Reversible> Journal<S> {
     }
 
     /// Why an event isn't performed for which there is no memory: the rule refuses it, as is told without memory, or memory is wanting.
-    #[inline(never)]
     fn failure_without_memory(&self, event: &S::Event) -> JournalError<S::Refusal, S::Note>
         ensures { PerformFails (S.rule (here self.now).node event.now) (S.may_run_out (here self.now).node event.now) self.now result }
     {
@@ -187,7 +186,6 @@ impl<S: Reversible> Journal<S> {
     }
 
     /// Why an event isn't performed whose step failed, and changed nothing.
-    #[inline(never)]
     fn failure(&self, error: Failure<S::Refusal>) -> JournalError<S::Refusal, S::Note>
         ensures { FailsBy error (here self.now).serial result }
     {
@@ -198,7 +196,6 @@ impl<S: Reversible> Journal<S> {
     }
 
     /// Want of memory that changed nothing.
-    #[inline(never)]
     fn out_of_memory(&self) -> JournalError<S::Refusal, S::Note>
         ensures { IsOutOfMemoryAt (here self.now).serial result }
     {

@@ -96,7 +96,6 @@ fn name_of(alloc: Global, item: &Instance) -> Result<NamedInstance, AllocError>
 }
 
 /// What tells the instance of a place, where there is one.
-#[inline(always)]
 fn place_told(
     alloc: Global,
     rests_in: Option<&Instance>,
@@ -110,7 +109,6 @@ fn place_told(
 }
 
 /// What tells the code that a process runs in.
-#[inline(always)]
 fn code_told(alloc: Global, activity: &Activity) -> Result<Row<NamedInstance>, AllocError>
     ensures { IfOk result (λ it. it ≡ code_named activity.now) }
 {
@@ -121,7 +119,6 @@ fn code_told(alloc: Global, activity: &Activity) -> Result<Row<NamedInstance>, A
 }
 
 /// The instance of a place, where there is one, in the table; none where it is not there.
-#[inline(always)]
 pub(super) fn place_found(
     alloc: Global,
     modules: &Modules<Module>,

@@ -36,7 +36,6 @@ pub struct Used {
 
 impl Ran {
     /// The same without code: its instances are told so. Takes no memory.
-    #[inline(always)]
     pub fn named(self, told: Told) -> NamedRan
         ensures { result ≡ ran_with told.rests_in told.code self }
     {
@@ -78,7 +77,6 @@ impl NamedRan {
     }
 
     /// What the job has left behind, with these instances. Takes no memory.
-    #[inline(always)]
     pub fn run_with(self, used: Used) -> Ran
         ensures { result ≡ ran_in used.rests_in used.code self }
     {
