@@ -58,7 +58,8 @@ fn send(
     }
 }
 
-/// Starts a process at a place, under a name that is free, if it is to have one, and notes it.
+/// Starts a process at a place, under a name that is free, if it is to have one, and notes it. It fails where memory is refused, and
+/// where every pid was given.
 fn start(
     store: &mut ProcessStore,
     alloc: Global,
@@ -73,6 +74,9 @@ fn start(
     ensures fits { AllFit changes.old.items store.old → AllFit changes.new.items store.new }
     ensures err { OnErr result (store.new ≡ store.old) }
 {
+    if store.last_pid() == u64::MAX {
+        return Err(AllocError);
+    }
     let rests_in = rests_in(alloc, &place, code)?;
     changes.push(Change::Started)?;
     match store.add(name, place, rests_in) {
