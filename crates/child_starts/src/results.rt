@@ -150,7 +150,7 @@ fn name_fault(
     ensures { IfOk result (λ it. it ≡ name_fault (option_map (λ it. (it.0.now, it.1)) asked.entry) processes.now) }
 {
     match asked {
-        Some((name, by_register)) => taken_by(alloc, by_register, processes.pid_of(name)),
+        Some((name, by_register)) => taken_by(alloc, by_register, processes.pid_of(name.as_str())),
         None => Ok(None),
     }
 }

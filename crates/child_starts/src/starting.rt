@@ -81,7 +81,7 @@ fn no_fault(
 ///
 /// # Errors
 ///
-/// `StartFailed` with the child's Id and the reason, and `Memory`. The batch can then only be given up.
+/// `StartFailed` with the child's Id and the reason, and `Memory`, also where every pid was given. The batch can then only be given up.
 pub fn start_child(
     processes: &mut Processes,
     alloc: Global,
@@ -94,7 +94,11 @@ pub fn start_child(
     ensures failed { IfErr result (λ failure. (before t : Table) (told : List Told) → IsUnderWay batch.old.changes.items batch.old.answers.items before processes.old t told → Fails (λ failed. ChildFails failed code.now child.now t) (Unit {0}) failure) }
     ensures back { (before : Table) → CanGiveUp batch.old.changes.items before processes.old → CanGiveUp batch.new.changes.items before processes.new }
 {
-    let pid = processes.next_pid();
+    let last = processes.last_pid();
+    if last == u64::MAX {
+        return Err(Failure::Memory);
+    }
+    let pid = last + 1;
     let outcome = outcome_of(alloc, code, pid, child)?;
     match no_fault(alloc, processes, pid, child, &outcome) {
         Ok(()) => {

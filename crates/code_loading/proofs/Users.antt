@@ -2,7 +2,7 @@
 use Rattle.std.proofs.Common.{◌≡◌, ◌<◌, ◌≤◌, ◌+◌, ◌∙◌, ℕ, zero, suc, Bool, true, false, cond, List, [], ◌∷◌, ◌++◌, Option, None, Some, refl, sym, ap, arith, inl, inr}
 use Rattle.std.proofs.lemmas.Bool.{cases_lt}
 use Rattle.std.specs.List.{cons_option, filter, range_with_len}
-use Rattle.std.specs.Prelude.{drop, filter_map, option_and_then, option_to_list, slice_get}
+use Rattle.std.specs.Prelude.{drop, filter_map, map, option_and_then, option_to_list, slice_get}
 use Rattle.std.proofs.lemmas.List.{append_assoc}
 use Rattle.code_server.specs.Modules.{Table as Loaded, slots_of}
 use Rattle.values.specs.Failure.{Tells}
@@ -10,6 +10,8 @@ use Rattle.values.specs.declared.failure.Failure.{Failure}
 use Rattle.values.specs.declared.failure.Failure.TheVariants.{Refused, Memory}
 use Rattle.code_server.specs.declared.error.CodeError.{CodeError}
 use Rattle.erl_forms.specs.Module.{Forms}
+use Rattle.process_ending.proofs.Alive.{passing}
+use Rattle.process_store.specs.declared.living.Living.{Living}
 use Rattle.process_store.specs.Table.{Table}
 use Rattle.code_loading.specs.Loading.{is_any, spared, spared_by}
 
@@ -19,34 +21,13 @@ some_none same = let never : ⊥ = cc in never
 true_false : {b : Bool} → b ≡ true → b ≡ false → ⊥
 true_false passes fails = let never : ⊥ = cc in never
 
--- of the numbers from one on
+-- of the processes that live, the first, which uses it or does not
 
-none_from : (test : ℕ → Bool) (a n : ℕ) → ((k : ℕ) → a ≤ k → k < a + n → test k ≡ false) → filter test (range_with_len a n) ≡ []
-none_from test a zero fails = refl
-none_from test a (suc n) fails =
-    ap (λ b. cond b (a ∷ filter test (range_with_len (a + 1) n)) (filter test (range_with_len (a + 1) n))) (fails a (omega arith) (omega arith)) ∙
-    none_from test (a + 1) n (λ k from below. fails k (omega (arith, from)) (omega (arith, below)))
+pub fails_first : (test : Option Living → Bool) (pid : ℕ) (l : Living) (es : List (ℕ × Living)) → test (Some l) ≡ false → passing test ((pid, l) ∷ es) ≡ passing test es
+fails_first test pid l es fails = ap (λ b. map (λ (e : ℕ × Living). e.0) (cond b ((pid, l) ∷ filter (λ e. test (Some e.1)) es) (filter (λ e. test (Some e.1)) es))) fails
 
-first_or_later : (test : ℕ → Bool) (a k : ℕ) (rest : List ℕ) (b : Bool) → test a ≡ b → (a < k → is_any rest ≡ true) → a ≤ k → test k ≡ true → is_any (cond b (a ∷ rest) rest) ≡ true
-first_or_later test a k rest true is later from passes = refl
-first_or_later test a k rest false is later from passes =
-    elim (cases_lt a k) [
-      | inl above ↦ later above
-      | inr past ↦ let same : k ≡ a = omega (arith, from, past) in absurd (true_false (ap test (sym same) ∙ passes) is)
-    ]
-
-one_from : (test : ℕ → Bool) (a n k : ℕ) → a ≤ k → k < a + n → test k ≡ true → is_any (filter test (range_with_len a n)) ≡ true
-one_from test a zero k from below passes = absurd (omega (arith, from, below))
-one_from test a (suc n) k from below passes =
-    first_or_later test a k (filter test (range_with_len (a + 1) n)) (test a) refl (λ above. one_from test (a + 1) n k (omega (arith, above)) (omega (arith, below)) passes) from passes
-
--- of all below one
-
-pub nobody : (test : ℕ → Bool) (n : ℕ) → ((k : ℕ) → k < n → test k ≡ false) → is_any (filter test (range_with_len 0 n)) ≡ false
-nobody test n fails = ap is_any (none_from test 0 n (λ k from below. fails k (omega (arith, below))))
-
-pub somebody : (test : ℕ → Bool) (n k : ℕ) → k < n → test k ≡ true → is_any (filter test (range_with_len 0 n)) ≡ true
-somebody test n k below passes = one_from test 0 n k (omega arith) (omega (arith, below)) passes
+pub passes_first : (test : Option Living → Bool) (pid : ℕ) (l : Living) (es : List (ℕ × Living)) → test (Some l) ≡ true → is_any (passing test ((pid, l) ∷ es)) ≡ true
+passes_first test pid l es passes = ap (λ b. is_any (map (λ (e : ℕ × Living). e.0) (cond b ((pid, l) ∷ filter (λ e. test (Some e.1)) es) (filter (λ e. test (Some e.1)) es)))) passes
 
 -- a load that is refused for want of memory finds no old code, and nobody is killed
 

@@ -2,8 +2,7 @@
 ghost use Rattle.std.specs.Prelude.{◌≡◌, IfErr, IfOk, MatchResult, None, OnErr, OnOk, false, option_map, true};
 ghost use Rattle.values.specs.Failure.{Tells};
 ghost use Rattle.code_server.specs.Modules.{load_refusal, loaded, old_of, purged};
-ghost use Rattle.process_ending.specs.Uses.{users, uses};
-ghost use Rattle.process_store.specs.Table.{living};
+ghost use Rattle.process_ending.specs.Uses.{users};
 ghost use Rattle.code_loading.specs.Loading.{is_any, is_lingered_in, lingering, purge_told, spared};
 ghost use Rattle.code_loading.specs.Undo.{KillsBack, TakesBack};
 
@@ -26,22 +25,12 @@ fn old_serial(modules: &Modules<Module>, name: &Atom) -> Option<u64>
     }
 }
 
-/// Whether the process of a pid uses the instance of a serial.
-fn uses_it(processes: &Processes, pid: u64, serial: u64) -> bool
-    ensures { result ≡ uses serial (living pid processes.now) }
-{
-    match processes.get(pid) {
-        Some(living) => uses(&living.process, serial),
-        None => false,
-    }
-}
-
 /// Whether a process uses the instance of a serial. Takes no memory.
 fn is_used(processes: &Processes, serial: u64) -> bool
     ensures { result ≡ is_any (users serial processes.now) }
 {
-    for pid in 0..processes.next_pid() {
-        if uses_it(processes, pid, serial) {
+    for (_, living) in processes.iter() {
+        if uses(&living.process, serial) {
             return true;
         }
     }

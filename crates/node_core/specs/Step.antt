@@ -20,7 +20,7 @@ use Rattle.process_ending.specs.declared.told.Reply.{Reply}
 use Rattle.process_store.specs.Table.{Table, living}
 use Rattle.process_table.specs.Commit.{CanCommit, RefusesCommit, commit_told, committed, normal}
 use Rattle.process_table.specs.Messages.{arrival_of, message_of}
-use Rattle.process_table.specs.Steps.{IsCodeOf, after_arrival, arrive_refusal, take_refusal, taken}
+use Rattle.process_table.specs.Steps.{IsCodeOf, after_arrival, arrive_refusal, kind_of, take_refusal, taken}
 use Rattle.process_table.specs.declared.body.Body.{Body}
 use Rattle.process_table.specs.declared.error.ProcError.{ProcError}
 use Rattle.app_table.specs.Applications.{Application, all_ended, child_of, revived}
@@ -51,7 +51,7 @@ unless (Some e) of a = Err (of e)
 -- Arrive: a message of a client comes for the process of a name; it is reported.
 
 abbrev pub arrived : ℕ → List ℕ → Body → NodeState → Outcome
-arrived client name body n = unless (arrive_refusal name body n.processes) OfProcesses (record {
+arrived client name body n = unless (arrive_refusal name (kind_of body) n.processes) OfProcesses (record {
   node = with_processes (after_arrival client name body n.processes) n;
   answer = answer.Unit;
   note = record { replies = []; arrival = arrival_of name (message_of body) };
@@ -166,7 +166,7 @@ Step n (SoftPurge name) r = r ≡ code_soft_purged name n
 -- Memory may be wanting where nothing stands against an event that is told without memory. A child that fails is told only once its
 -- start function was evaluated, which takes memory.
 abbrev pub MayRunOut : NodeState → Event → Type 0
-MayRunOut n (Arrive client name body) = arrive_refusal name body n.processes ≡ None
+MayRunOut n (Arrive client name body) = arrive_refusal name (kind_of body) n.processes ≡ None
 MayRunOut n (Take pid) = take_refusal pid n.processes ≡ None
 MayRunOut n (Commit done) = CanCommit done.job n.processes
 MayRunOut n (Revive app id) = IsDue app id n.apps

@@ -96,7 +96,7 @@ impl Reversible for Node {
     fn refusal(&self, event: &Event) -> Option<Refusal> {
         match event {
             Event::Arrive { name, body, .. } => of_processes(
-                self.processes.arrive_refusal(name, body),
+                self.processes.arrive_refusal(name.as_str(), body.kind()),
             ),
             Event::Take(pid) => of_processes(self.processes.take_refusal(*pid)),
             Event::Commit(done) => of_processes(self.processes.commit_refusal(done.job())),

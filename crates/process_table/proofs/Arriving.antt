@@ -1,11 +1,13 @@
 -- A message arrives for the process of a name, which lives; a call that is not repeated is of a number that is not open.
-use Rattle.std.proofs.Common.{◌≡◌, ℕ, zero, suc, true, false, List, ◌∷◌, map, replicate, Option, None, Some, IfSome, IsSome, refl, sym, ap, subst, ◌∙◌, arith}
+use Rattle.std.proofs.Common.{◌≡◌, ◌^◌, ℕ, zero, suc, Bool, true, false, cond, is_some, ltb, pos, List, ◌∷◌, map, replicate, Option, None, Some, IfSome, IsSome, refl, sym, ap, subst, ◌∙◌, arith}
 use Rattle.std.proofs.lemmas.Grind.{common_steps}
 use Rattle.std.proofs.lemmas.List.Quantifiers.{position-Some}
 use Rattle.process_index.specs.declared.calls.Call.{Call}
 use Rattle.process_store.proofs.Slots.{living_within}
 use Rattle.process_store.specs.Table.{Table, is_named, is_open, living, pid_of}
-use Rattle.process_table.specs.Steps.{call_of, is_repeated}
+use Rattle.process_table.specs.Steps.{arrive_refusal, call_of, kind_of}
+use Rattle.process_table.specs.Messages.{call_message, message_of}
+use Rattle.process_table.specs.declared.error.ProcError.TheVariants.{NoProc, DuplicateCall, CounterEnd}
 use Rattle.process_table.specs.declared.body.Body.{Body}
 use Rattle.process_table.specs.declared.body.Body.TheVariants as body
 use Rattle.process_table.specs.declared.error.ProcError.{ProcError}
@@ -25,14 +27,36 @@ named_lives name t pid is =
       | Some l ↦ λ e. refl
     ] named
 
--- a call that is not repeated is of a number that is not open
-pub unasked_call : (client : ℕ) (what : Body) (t : Table) (call : Option Call) → call ≡ call_of client what → is_repeated what t ≡ false → IfSome call (λ c. is_open c.number t ≡ false)
-unasked_call client what t call is fresh =
-    subst (λ o. IfSome o (λ c. is_open c.number t ≡ false)) (sym is) (elim what as (λ b. is_repeated b t ≡ false → IfSome (call_of client b) (λ c. is_open c.number t ≡ false)) [
-      | body.Call number term ↦ λ e. e
+-- what is not refused is for a process that is there, its message is one, and the call that it is, if it is one, is of a number that is not open
+
+stands : (there open below : Bool) → cond there (cond open (Some DuplicateCall) (cond below None (Some CounterEnd))) (Some NoProc) ≡ None → (there ≡ true) × (open ≡ false) × (below ≡ true)
+stands true false true is = (refl, refl, refl)
+stands true false false is = absurd cc
+stands true true below is = absurd cc
+stands false open below is = absurd cc
+
+there : (o : Bool) → cond o None (Some NoProc) ≡ None → o ≡ true
+there true is = refl
+there false is = absurd cc
+
+pub has_pid : (name : List ℕ) (what : Body) (t : Table) → arrive_refusal name (kind_of what) t ≡ None → is_some (pid_of name t) ≡ true
+has_pid name (body.Call number term) t free = (stands (is_some (pid_of name t)) (is_open number t) (ltb number (2 ^ 63)) free).0
+has_pid name (body.Cast term) t free = there (is_some (pid_of name t)) free
+has_pid name (body.Info term) t free = there (is_some (pid_of name t)) free
+
+pub has_message : (name : List ℕ) (what : Body) (t : Table) → arrive_refusal name (kind_of what) t ≡ None → is_some (message_of what) ≡ true
+has_message name (body.Call number term) t free =
+    ap (λ b. is_some (cond b (Some (call_message (pos number) term)) None)) (stands (is_some (pid_of name t)) (is_open number t) (ltb number (2 ^ 63)) free).2
+has_message name (body.Cast term) t free = refl
+has_message name (body.Info term) t free = refl
+
+pub unasked_call : (client : ℕ) (name : List ℕ) (what : Body) (t : Table) (call : Option Call) → call ≡ call_of client what → arrive_refusal name (kind_of what) t ≡ None → IfSome call (λ c. is_open c.number t ≡ false)
+unasked_call client name what t call is free =
+    subst (λ o. IfSome o (λ c. is_open c.number t ≡ false)) (sym is) (elim what as (λ b. arrive_refusal name (kind_of b) t ≡ None → IfSome (call_of client b) (λ c. is_open c.number t ≡ false)) [
+      | body.Call number term ↦ λ e. (stands (is_some (pid_of name t)) (is_open number t) (ltb number (2 ^ 63)) e).1
       | body.Cast term ↦ λ e. tt
       | body.Info term ↦ λ e. tt
-    ] fresh)
+    ] free)
 
 -- equal values, each of which is there
 pub all_there : {A : Type 0} (xs : List A) (x : A) (o : Option A) (n : ℕ) → xs ≡ replicate n x → Some x ≡ o → map Some xs ≡ replicate n o

@@ -1,2 +1,4 @@
 pub mod Arriving
 pub mod Jobs
+pub mod Runnable
+pub mod Starting

@@ -1,6 +1,6 @@
 -- Steps of processes: why each is refused, in order, and the table after it (Erlang Reference Manual, Processes; gen_server
 -- behaviour).
-use Rattle.std.specs.Prelude.{◌≡◌, ℕ, ◌^◌, ◌<◌, ◌==◌, Bool, true, false, if◌then◌else◌, List, [], map, replicate}
+use Rattle.std.specs.Prelude.{◌≡◌, ℕ, ◌^◌, ◌<◌, ◌==◌, nat_lt, Bool, true, false, if◌then◌else◌, List, [], map, replicate}
 use Rattle.std.specs.Prelude.{Option, None, Some, is_some, option_map}
 use Rattle.erl_term.specs.declared.term.Term.{Term}
 use Rattle.erl_eval.specs.declared.acts.Place.{Place}
@@ -39,23 +39,19 @@ with_process name at code t = added name at (rests_in at code) t
 -- Arrive: a message of a client comes for the process of a name. A call is open from then on; no two open calls have one
 -- number, whoever asked, and a number is an integer of Erlang.
 
--- its kind
 abbrev pub kind_of : Body → BodyKind
 kind_of (body.Call number term) = kinds.Call number
 kind_of (body.Cast term) = kinds.Cast
 kind_of (body.Info term) = kinds.Info
 
-abbrev pub is_repeated : Body → Table → Bool
-is_repeated (body.Call number term) t = is_open number t
-is_repeated (body.Cast term) t = false
-is_repeated (body.Info term) t = false
+abbrev pub kind_refusal : BodyKind → Table → Option ProcError
+kind_refusal (kinds.Call number) t =
+    if is_open number t then Some DuplicateCall else (if nat_lt number (2 ^ 63) then None else Some CounterEnd)
+kind_refusal kinds.Cast t = None
+kind_refusal kinds.Info t = None
 
-abbrev pub call_refusal : Body → Table → Option ProcError
-call_refusal what t =
-    if is_repeated what t then Some DuplicateCall else (if is_some (message_of what) then None else Some CounterEnd)
-
-abbrev pub arrive_refusal : List ℕ → Body → Table → Option ProcError
-arrive_refusal name what t = if is_some (pid_of name t) then call_refusal what t else Some NoProc
+abbrev pub arrive_refusal : List ℕ → BodyKind → Table → Option ProcError
+arrive_refusal name kind t = if is_some (pid_of name t) then kind_refusal kind t else Some NoProc
 
 abbrev pub call_of : ℕ → Body → Option Call
 call_of client (body.Call number term) = Some (record { client = client; number = number })

@@ -1,11 +1,14 @@
 // The processes of a node.
-ghost use Rattle.std.specs.Prelude.{◌≡◌, None, Some, IfOk, IfErr, OnOk, OnErr, map, replicate};
+ghost use Rattle.std.specs.Prelude.{◌≡◌, ◌+◌, ℕ, None, Some, IfOk, IfErr, OnOk, OnErr, map, replicate};
+ghost use Rattle.std.specs.Map.Iter.{ShowsInOrder, deref_pair};
 ghost use Rattle.std.specs.Option.{option_copied};
+ghost use Rattle.std.specs.Str.{chars};
+ghost use Rattle.process_index.specs.Standing.{alive};
 
 mod batching;
 mod committing;
 
-use crate::body::Body;
+use crate::body::{Body, BodyKind};
 use crate::error::ProcError;
 use crate::taking::{equal_values, job_for, next_of};
 use crate::undo::Undo;
@@ -21,6 +24,7 @@ use process_ending::{
 use process_store::{Living, ProcessStore};
 use reserved_box::{Boxed, Reserved};
 use std::alloc::{AllocError, Global};
+use std::collections::btree_map::Iter;
 use std::hash::RandomState;
 use std::marker::Model;
 use values::{Duplicate, Failure, Row};
@@ -48,8 +52,9 @@ impl Model for Processes {
 impl Processes {
     ghost use Rattle.values.specs.Failure.{Tells};
     ghost use Rattle.process_table.specs.Messages.{arrival_of, message_of};
-    ghost use Rattle.process_table.specs.Steps.{IsNextRunnable, Takes, after_arrival, arrive_refusal, is_repeated, is_runnable, missing, retake_refusal, start_refusal, take_refusal, with_process};
-    ghost use Rattle.process_store.specs.Table.{changed, empty_table, is_open, living, next_pid, pid_of};
+    ghost use Rattle.process_table.specs.declared.body.BodyKind.TheVariants as kinds;
+    ghost use Rattle.process_table.specs.Steps.{IsNextRunnable, Takes, after_arrival, arrive_refusal, kind_of, kind_refusal, missing, retake_refusal, start_refusal, take_refusal, with_process};
+    ghost use Rattle.process_store.specs.Table.{changed, empty_table, is_open, is_taken, living, next_pid, pid_of};
     ghost use Rattle.process_commit.specs.Commits.{job_at};
     ghost use Rattle.process_store.specs.Changes.{resume_living, suspend_living};
     ghost use Rattle.process_store.specs.Vacating.{vacated};
@@ -60,20 +65,14 @@ impl Processes {
     ghost use Rattle.process_store.specs.Pieces.{HoldsLost};
     ghost use Rattle.process_store.specs.Sound.{IsSound};
 
-    /// No process. Names and numbers are hashed by keys that nobody outside knows.
-    ///
-    /// # Errors
-    ///
-    /// `AllocError` where memory is refused.
-    pub fn new(
-        alloc: Global,
-        names: RandomState,
-        numbers: RandomState,
-    ) -> Result<Processes, AllocError>
-        ensures { IfOk result (λ it. it ≡ empty_table) }
+    /// No process. Names and numbers are hashed by keys that nobody outside knows. Takes no memory.
+    pub fn new(alloc: Global, names: RandomState, numbers: RandomState) -> Processes
+        ensures { result ≡ empty_table }
     {
-        let store = ProcessStore::new(alloc, names, numbers)?;
-        Ok(Processes { alloc, store })
+        Processes {
+            alloc,
+            store: ProcessStore::new(alloc, names, numbers),
+        }
     }
 
     /// The process of a pid, where it lives. Takes no memory.
@@ -83,17 +82,25 @@ impl Processes {
         self.store.get(pid)
     }
 
-    /// The pid that the next process gets. Takes no memory.
-    pub fn next_pid(&self) -> u64
-        ensures pid { result ≡ next_pid self.now }
+    /// The pid that was given last, or 0. Takes no memory.
+    pub fn last_pid(&self) -> u64
+        ensures pid { result + 1 ≡ next_pid self.now }
         ensures sound { IsSound self.now }
     {
-        self.store.next_pid()
+        self.store.last_pid()
     }
 
-    /// The process that is registered under a name, found by key. Takes no memory.
-    pub fn pid_of(&self, name: &Atom) -> Option<u64>
-        ensures { result ≡ pid_of name.now self.now }
+    /// The processes that live, with their pids, in order of pid. Takes no memory.
+    pub fn iter(&self) -> Iter<'_, u64, Living>
+        ensures rest { result ≡ alive self.now.slots }
+        ensures runs { ShowsInOrder (deref_pair {K = ℕ} {X = Living}) }
+    {
+        self.store.iter()
+    }
+
+    /// The process that is registered under the name that a text is, found by key. Takes no memory.
+    pub fn pid_of(&self, name: &str) -> Option<u64>
+        ensures { result ≡ pid_of (chars name.now) self.now }
     {
         self.store.pid_of(name)
     }
@@ -105,18 +112,34 @@ impl Processes {
         self.store.is_open(number)
     }
 
+    /// The process that is registered under a name.
+    fn pid_named(&self, name: &Atom) -> Option<u64>
+        ensures { result ≡ pid_of name.now self.now }
+    {
+        self.pid_of(name.as_str())
+    }
+
+    /// Whether a name, if it is one, is registered.
+    fn is_taken(&self, name: Option<&Atom>) -> bool
+        ensures { result ≡ is_taken (option_copied name.entry) self.now }
+    {
+        match name {
+            Some(name) => self.pid_named(name).is_some(),
+            None => false,
+        }
+    }
+
     /// Why a start under a name, or under none, would be refused, but for want of memory. Takes no memory.
     pub fn start_refusal(&self, name: Option<&Atom>) -> Option<ProcError>
         ensures { result ≡ start_refusal (option_copied name.entry) self.now }
     {
-        let _pids = self.next_pid();
-        match name {
-            Some(name) => match self.pid_of(name) {
-                Some(_) => Some(ProcError::NameTaken),
-                None => None,
-            },
-            None => None,
+        if self.is_taken(name) {
+            return Some(ProcError::NameTaken);
         }
+        if self.last_pid() == u64::MAX {
+            return Some(ProcError::CounterEnd);
+        }
+        None
     }
 
     /// A process starts: it rests at a place, under the next pid and under a name, if it is to have one. A loop function's place
@@ -144,28 +167,41 @@ impl Processes {
             return Err(Failure::Refused(refusal));
         }
         let rests_in = rests_in(self.alloc, &place, code)?;
+        // What bounds the next pid.
+        let _last = self.store.last_pid();
         let pid = self.store.add(name, place, rests_in)?;
         Ok((pid, Undo::Started))
     }
 
-    /// Whether it is a call of a number that is open already. Takes no memory.
-    fn is_repeated(&self, body: &Body) -> bool
-        ensures { result ≡ is_repeated body.now self.now }
+    /// Why what arrives for a process would be refused by its kind.
+    fn kind_refusal(&self, kind: BodyKind) -> Option<ProcError>
+        ensures { result ≡ kind_refusal kind self.now }
     {
-        match body {
-            Body::Call { number, .. } => self.is_open(*number),
-            Body::Cast(_) | Body::Info(_) => false,
+        match kind {
+            BodyKind::Call(number) => self.call_refusal(number),
+            BodyKind::Cast | BodyKind::Info => None,
         }
     }
 
-    /// Why the arrival of this for the process of a name would be refused, but for want of memory. Takes no memory.
-    pub fn arrive_refusal(&self, name: &Atom, body: &Body) -> Option<ProcError>
-        ensures { result ≡ arrive_refusal name.now body.now self.now }
+    /// Why a call of a number would be refused.
+    fn call_refusal(&self, number: u64) -> Option<ProcError>
+        ensures { result ≡ kind_refusal (kinds.Call number) self.now }
+    {
+        if self.is_open(number) {
+            return Some(ProcError::DuplicateCall);
+        }
+        match i64::try_from(number) {
+            Ok(_) => None,
+            Err(_) => Some(ProcError::CounterEnd),
+        }
+    }
+
+    /// Why the arrival of what is of this kind for the process of a name would be refused, but for want of memory. Takes no memory.
+    pub fn arrive_refusal(&self, name: &str, kind: BodyKind) -> Option<ProcError>
+        ensures { result ≡ arrive_refusal (chars name.now) kind self.now }
     {
         match self.pid_of(name) {
-            Some(_) if self.is_repeated(body) => Some(ProcError::DuplicateCall),
-            Some(_) if body.has_message() => None,
-            Some(_) => Some(ProcError::CounterEnd),
+            Some(_) => self.kind_refusal(kind),
             None => Some(ProcError::NoProc),
         }
     }
@@ -185,22 +221,22 @@ impl Processes {
         body: &Body,
         n: usize,
     ) -> Result<(Vec<(Atom, Term)>, Undo), Failure<ProcError>>
-        ensures ok { OnOk result (arrive_refusal name.now body.now self.old ≡ None) }
+        ensures ok { OnOk result (arrive_refusal name.now (kind_of body.now) self.old ≡ None) }
         ensures arrived { OnOk result (self.new ≡ after_arrival client name.now body.now self.old) }
         ensures told { IfOk result (λ it. map Some it.0.items ≡ replicate n (arrival_of name.now (message_of body.now))) }
         ensures inverse { IfOk result (λ it. TakesBack it.1 self.old self.new) }
         ensures pieces { IfOk result (λ it. HoldsLost (held it.1 self.new) self.old self.new) }
-        ensures refused { IfErr result (λ failure. Tells failure (arrive_refusal name.now body.now self.old)) }
+        ensures refused { IfErr result (λ failure. Tells failure (arrive_refusal name.now (kind_of body.now) self.old)) }
         ensures err { OnErr result (self.new ≡ self.old) }
     {
-        let Some(pid) = self.pid_of(name) else {
-            return Err(Failure::Refused(ProcError::NoProc));
-        };
-        if self.is_repeated(body) {
-            return Err(Failure::Refused(ProcError::DuplicateCall));
+        if let Some(refusal) = self.arrive_refusal(name.as_str(), body.kind()) {
+            return Err(Failure::Refused(refusal));
         }
+        let Some(pid) = self.pid_named(name) else {
+            unreachable!()
+        };
         let Some(message) = body.message(self.alloc)? else {
-            return Err(Failure::Refused(ProcError::CounterEnd));
+            unreachable!()
         };
         let arrival = (name.copy(self.alloc)?, message.copy(self.alloc)?);
         let arrivals = equal_values(self.alloc, arrival, n)?;
@@ -214,22 +250,12 @@ impl Processes {
     pub fn runnable(&self, after: u64) -> Option<u64>
         ensures { IsNextRunnable after result self.now }
     {
-        for pid in after..self.next_pid() {
-            if after < pid && self.can_run(pid) {
-                return Some(pid);
+        for (pid, living) in self.store.iter_from(after) {
+            if after < *pid && living.process.can_take().is_some() {
+                return Some(*pid);
             }
         }
         None
-    }
-
-    /// Whether the process of a pid could take a message now.
-    fn can_run(&self, pid: u64) -> bool
-        ensures { result ≡ is_runnable (living pid self.now) }
-    {
-        match self.get(pid) {
-            Some(living) => living.process.can_take().is_some(),
-            None => false,
-        }
     }
 
     /// Why a take by the process of a pid would be refused, but for want of memory. Takes no memory.
@@ -364,7 +390,7 @@ impl Processes {
         ensures { IfOk result (λ it. it.items ≡ downs reason.now (living pid self.now)) }
     {
         match self.store.get(pid) {
-            Some(living) => downs_of(self.alloc, living.calls.as_slice(), reason),
+            Some(living) => downs_of(self.alloc, &living.calls, reason),
             None => Ok(Vec::new(self.alloc)),
         }
     }

@@ -194,7 +194,7 @@ pub fn boot(alloc: Global, hashing: RandomState, release: &Release) -> Result<Bo
     load_all(&mut modules, alloc, release.apps.as_slice())?;
     let specs = specs_of(alloc, release.apps.as_slice(), release.rel.apps.as_slice())?;
     let mut apps = AppTable::new(alloc, specs)?;
-    let mut processes = Processes::new(alloc, hashing, hashing)?;
+    let mut processes = Processes::new(alloc, hashing, hashing);
     let code = current_code(alloc, &modules)?;
     start_all(
         &mut apps,

@@ -147,7 +147,7 @@ impl Holdings {
 
     /// Why an arrival is refused whatever its term is.
     fn arrival_refusal(&self, kind: Arrival, name: Name<'_>) -> Option<ProcError>
-        ensures { (t : Term) → result ≡ arrive_refusal (chars name.entry.text.now) (body_of kind (next_number self.now) t) (node_of self.now).processes }
+        ensures { (t : Term) → result ≡ arrive_refusal (chars name.entry.text.now) (kind_of (body_of kind (next_number self.now) t)) (node_of self.now).processes }
     {
         let kind = body_kind(kind, self.next_number());
         self.processes().arrive_refusal(name.as_str(), kind)

@@ -1,8 +1,9 @@
--- Nobody before the pid uses it.
-use Rattle.std.proofs.Common.{◌≡◌, ◌<◌, ℕ, false}
-use Rattle.process_ending.specs.Uses.{uses}
-use Rattle.process_store.specs.Table.{living}
+-- One of those that are left uses it, if one of all does.
+use Rattle.std.proofs.Common.{◌≡◌}
+use Rattle.process_ending.specs.Uses.{users, uses}
+use Rattle.process_ending.proofs.Alive.{passing}
+use Rattle.code_loading.specs.Loading.{is_any}
 use Rattle.code_loading.proofs.loading.is_used.Given as goal
 
-abbrev pub invariant-loop-pid : goal.invariant-loop-pid
-invariant-loop-pid l = (k : ℕ) → k < l.pid → uses l.serial (living k l.processes) ≡ false
+abbrev pub invariant-loop-living : goal.invariant-loop-living
+invariant-loop-living l = is_any (passing (uses l.serial) l.living-iterator) ≡ is_any (users l.serial l.processes)

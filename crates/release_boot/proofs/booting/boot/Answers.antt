@@ -19,7 +19,7 @@ returns-in_err-start_all-clause-failed c =
     c.in_ok-apps.ensures ∙ ap (map app_loaded) (c.in_ok-specs.ensures ∙ ap (λ (fs : List AppFiles). map (spec_of fs) c.as_slice-3.result.now) c.as_slice-2.ensures ∙ ap (λ (xs : List RelApp). map (spec_of r.apps) xs) c.as_slice-3.ensures.items) in
     let code : c.as_slice-4.result.now ≡ current_code (boot_modules r) = c.as_slice-4.ensures.value ∙ c.in_ok-code.ensures ∙ ap current_code modules in
     passed_on (λ e. BootFails e r) c.from_residual-in_err-start_all.result e c.from_residual-in_err-start_all.ensures (
-    fails_there e c.as_slice-4.result.now (current_code (boot_modules r)) (to_start c.as_slice-5.result.now) (to_start r.rel.apps) c.in_ok-apps.apps (boot_apps r) c.in_ok-processes.processes no_processes code (ap to_start c.as_slice-5.ensures.items) apps c.in_ok-processes.ensures c.in_err-start_all.ensures.failed
+    fails_there e c.as_slice-4.result.now (current_code (boot_modules r)) (to_start c.as_slice-5.result.now) (to_start r.rel.apps) c.in_ok-apps.apps (boot_apps r) c.new-processes.result no_processes code (ap to_start c.as_slice-5.ensures.items) apps c.new-processes.ensures c.in_err-start_all.ensures.failed
     )
 
 pub returns-clause-booted : goal.returns-clause-booted
@@ -31,5 +31,5 @@ returns-clause-booted c =
     c.in_ok-apps.ensures ∙ ap (map app_loaded) (c.in_ok-specs.ensures ∙ ap (λ (fs : List AppFiles). map (spec_of fs) c.as_slice-3.result.now) c.as_slice-2.ensures ∙ ap (λ (xs : List RelApp). map (spec_of r.apps) xs) c.as_slice-3.ensures.items) in
     let code : c.as_slice-4.result.now ≡ current_code (boot_modules r) = c.as_slice-4.ensures.value ∙ c.in_ok-code.ensures ∙ ap current_code modules in (
       modules,
-      all_there c.as_slice-4.result.now (current_code (boot_modules r)) (to_start c.as_slice-5.result.now) (to_start r.rel.apps) c.in_ok-apps.apps (boot_apps r) c.start_all.new.apps c.in_ok-processes.processes no_processes c.start_all.new.processes code (ap to_start c.as_slice-5.ensures.items) apps c.in_ok-processes.ensures c.in_ok-start_all.ensures.started,
+      all_there c.as_slice-4.result.now (current_code (boot_modules r)) (to_start c.as_slice-5.result.now) (to_start r.rel.apps) c.in_ok-apps.apps (boot_apps r) c.start_all.new.apps c.new-processes.result no_processes c.start_all.new.processes code (ap to_start c.as_slice-5.ensures.items) apps c.new-processes.ensures c.in_ok-start_all.ensures.started,
     )

@@ -1,7 +1,6 @@
--- None before the pid could run.
-use Rattle.std.proofs.Common.{◌<◌}
-use Rattle.process_table.specs.Steps.{NoneIsRunnable}
+-- Those that are left are the living from a place on, and none before it could run.
+use Rattle.process_table.proofs.Runnable.{Ahead}
 use Rattle.process_table.proofs.processes.Processes.runnable.Given as goal
 
 abbrev pub invariant-loop-pid : goal.invariant-loop-pid
-invariant-loop-pid l = NoneIsRunnable l.after (λ p. p < l.pid) l.self
+invariant-loop-pid l = Ahead l.after l.self l.pid-iterator
