@@ -15,8 +15,6 @@ use Rattle.erl_term.specs.declared.term.Term.TheVariants as term
 use Rattle.std.specs.Prelude.{option_and_then, option_map, position, slice_get}
 use Rattle.erl_term.specs.declared.term.Term.{Term}
 use Rattle.process.proofs.Places.{position_at, position_nowhere}
-use Rattle.process_store.specs.Table.{Table, is_named, living, pid_of}
-use Rattle.process_store.specs.declared.living.Living.{Living}
 use Rattle.app_table.specs.Applications.{Application, app_of, child_at, child_of, has_id, has_name, place_of, spot_in}
 use Rattle.shell_deeds.specs.Done.{child_called, is_id}
 
@@ -86,19 +84,6 @@ module _ {A : Type 0} where
     first xs n x none at passes =
         let here = within xs n x at in
         position_at test xs n x here.0 here.1 (λ k d below. none k (get_or xs k d) below (inside xs k d (omega (arith, below, here.0)))) passes
-
--- Processes.
-
-slot : (t : Table) (n : ℕ) (s : Option Living) → slice_get t.slots n ≡ Some s → living n t ≡ s
-slot t n s at = ap (λ o. option_and_then (λ l. l) o) at
-
-pub unnamed : (name : List ℕ) (t : Table) → ((k : ℕ) → k < length t.slots → is_named name (living k t) ≡ false) → pid_of name t ≡ None
-unnamed name t none = nowhere (is_named name) t.slots (λ k s below at. ap (is_named name) (sym (slot t k s at)) ∙ none k below)
-
-pub named : (name : List ℕ) (t : Table) (n : ℕ) → ((k : ℕ) → k < n → is_named name (living k t) ≡ false) → n < length t.slots → is_named name (living n t) ≡ true → pid_of name t ≡ Some n
-named name t n none below passes =
-    let at = inside t.slots n None below in
-    first (is_named name) t.slots n (get_or t.slots n None) (λ k s before is. ap (is_named name) (sym (slot t k s is)) ∙ none k before) at (ap (is_named name) (sym (slot t n (get_or t.slots n None) at)) ∙ passes)
 
 -- Applications.
 
