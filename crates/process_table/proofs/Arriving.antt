@@ -1,12 +1,11 @@
 -- A message arrives for the process of a name, which lives; a call that is not repeated is of a number that is not open.
-use Rattle.std.proofs.Common.{◌≡◌, ◌^◌, ℕ, zero, suc, Bool, true, false, cond, is_some, ltb, pos, List, ◌∷◌, map, replicate, Option, None, Some, IfSome, IsSome, refl, sym, ap, subst, ◌∙◌, arith}
+use Rattle.std.proofs.Common.{◌≡◌, ◌^◌, ℕ, zero, suc, Bool, true, false, cond, is_some, ltb, List, ◌∷◌, map, replicate, Option, None, Some, IfSome, IsSome, refl, sym, ap, subst, ◌∙◌, arith}
 use Rattle.std.proofs.lemmas.Grind.{common_steps}
 use Rattle.std.proofs.lemmas.List.Quantifiers.{position-Some}
 use Rattle.process_index.specs.declared.calls.Call.{Call}
 use Rattle.process_store.proofs.Slots.{living_within}
 use Rattle.process_store.specs.Table.{Table, is_named, is_open, living, pid_of}
 use Rattle.process_table.specs.Steps.{arrive_refusal, call_of, kind_of}
-use Rattle.process_table.specs.Messages.{call_message, message_of}
 use Rattle.process_table.specs.declared.error.ProcError.TheVariants.{NoProc, DuplicateCall, CounterEnd}
 use Rattle.process_table.specs.declared.body.Body.{Body}
 use Rattle.process_table.specs.declared.body.Body.TheVariants as body
@@ -27,28 +26,13 @@ named_lives name t pid is =
       | Some l ↦ λ e. refl
     ] named
 
--- what is not refused is for a process that is there, its message is one, and the call that it is, if it is one, is of a number that is not open
+-- the call that an arrival is which is not refused, if it is one, is of a number that is not open
 
-stands : (there open below : Bool) → cond there (cond open (Some DuplicateCall) (cond below None (Some CounterEnd))) (Some NoProc) ≡ None → (there ≡ true) × (open ≡ false) × (below ≡ true)
+stands : (there asked below : Bool) → cond there (cond asked (Some DuplicateCall) (cond below None (Some CounterEnd))) (Some NoProc) ≡ None → (there ≡ true) × (asked ≡ false) × (below ≡ true)
 stands true false true is = (refl, refl, refl)
 stands true false false is = absurd cc
 stands true true below is = absurd cc
-stands false open below is = absurd cc
-
-there : (o : Bool) → cond o None (Some NoProc) ≡ None → o ≡ true
-there true is = refl
-there false is = absurd cc
-
-pub has_pid : (name : List ℕ) (what : Body) (t : Table) → arrive_refusal name (kind_of what) t ≡ None → is_some (pid_of name t) ≡ true
-has_pid name (body.Call number term) t free = (stands (is_some (pid_of name t)) (is_open number t) (ltb number (2 ^ 63)) free).0
-has_pid name (body.Cast term) t free = there (is_some (pid_of name t)) free
-has_pid name (body.Info term) t free = there (is_some (pid_of name t)) free
-
-pub has_message : (name : List ℕ) (what : Body) (t : Table) → arrive_refusal name (kind_of what) t ≡ None → is_some (message_of what) ≡ true
-has_message name (body.Call number term) t free =
-    ap (λ b. is_some (cond b (Some (call_message (pos number) term)) None)) (stands (is_some (pid_of name t)) (is_open number t) (ltb number (2 ^ 63)) free).2
-has_message name (body.Cast term) t free = refl
-has_message name (body.Info term) t free = refl
+stands false asked below is = absurd cc
 
 pub unasked_call : (client : ℕ) (name : List ℕ) (what : Body) (t : Table) (call : Option Call) → call ≡ call_of client what → arrive_refusal name (kind_of what) t ≡ None → IfSome call (λ c. is_open c.number t ≡ false)
 unasked_call client name what t call is free =

@@ -1,5 +1,5 @@
 -- Commit: what a job gave is done, where its process runs it (gen_server behaviour).
-use Rattle.std.specs.Prelude.{ℕ, codes, List, Option, None, Some}
+use Rattle.std.specs.Prelude.{ℕ, codes, List}
 use Rattle.erl_term.specs.declared.term.Term.{Term}
 use Rattle.erl_term.specs.declared.term.Term.TheVariants as term
 use Rattle.erl_eval.specs.declared.acts.Act.{Act}
