@@ -1,8 +1,7 @@
 -- Replies that are left to give change neither names nor the next pid.
-use Rattle.std.proofs.Common.{◌≡◌, ℕ, Bool, true, false, List, [], ◌∷◌, length, Option, None, Some, is_some, option_map, refl, sym, ap, ◌∙◌}
+use Rattle.std.proofs.Common.{◌≡◌, ℕ, Bool, true, false, List, [], ◌∷◌, Option, None, Some, is_some, option_map, refl, sym, ap, ◌∙◌}
 use Rattle.std.proofs.lemmas.Option.{none-some}
 use Rattle.values.proofs.Edits.{length-changed_at}
-use Rattle.erl_term.specs.declared.term.Term.{Term}
 use Rattle.process_commit.proofs.Commuting.{names_kept}
 use Rattle.process_commit.specs.Acts.{answered, closed_at}
 use Rattle.process_commit.specs.Parted.{all_answered}
@@ -10,7 +9,7 @@ use Rattle.process_commit.specs.declared.answers.Answer.{Answer}
 use Rattle.process_index.specs.declared.calls.Call.{Call}
 use Rattle.process_store.specs.Changes.{closed_living, owner_of}
 use Rattle.process_store.specs.Table.{Table, is_taken, next_pid, pid_of}
-use Rattle.child_starts.specs.Results.{first_of, name_fault, taken_by}
+use Rattle.child_starts.specs.Results.{name_fault, taken_by}
 
 closed_names : (name : List ℕ) (o : Option (ℕ × Call)) (t : Table) → pid_of name (closed_at o t) ≡ pid_of name t
 closed_names name None t = refl

@@ -1,5 +1,5 @@
 -- Children start one after the other, each in the processes that the ones before it have left.
-use Rattle.std.proofs.Common.{◌≡◌, ◌⊎◌, inl, inr, ℕ, Bool, false, List, [], ◌∷◌, ◌++◌, map, Option, None, Some, option_map, refl, sym, ap, subst, ◌∙◌}
+use Rattle.std.proofs.Common.{◌≡◌, inl, inr, ℕ, Bool, false, List, [], ◌∷◌, ◌++◌, map, Option, None, Some, option_map, refl, sym, ap, subst, ◌∙◌}
 use Rattle.std.proofs.lemmas.List.{append-nil, append_assoc}
 use Rattle.std.proofs.lemmas.Option.{none-some}
 use Rattle.erl_term.specs.declared.term.Term.{Term}
@@ -16,11 +16,11 @@ use Rattle.process_commit.specs.declared.answers.Answer.{Answer}
 use Rattle.process_ending.specs.declared.told.Reply.{Reply}
 use Rattle.process_store.specs.Table.{Table, is_taken, next_pid}
 use Rattle.child_starts.proofs.Names.{fault_answered, free_name, pids_answered}
-use Rattle.child_starts.specs.Children.{AllStart, Fails, FirstFails, Starts, after_start, start_told}
+use Rattle.child_starts.specs.Children.{AllStart, FirstFails, Starts, after_start, start_told}
 use Rattle.child_starts.specs.Errors.{ChildFails, StartFails}
 use Rattle.child_starts.specs.Results.{end_fault, first_of, name_fault, name_in, start_fault, starts}
 use Rattle.child_starts.specs.declared.error.StartFailed.{StartFailed}
-use Rattle.values.specs.Failure.{Fails}
+use Rattle.values.specs.Failure.{Fails as FailsBy}
 use Rattle.values.specs.declared.failure.Failure.{Failure}
 use Rattle.values.specs.declared.failure.Failure.TheVariants.{Refused, Memory}
 use Rattle.process_batch.specs.Begins.{IsUnderWay, acts_begun, begun_told}
@@ -42,7 +42,7 @@ module _ (answers : List Answer) (now t : Table) (makes : t ≡ all_answered ans
   pub starts_there : start_fault pid o now ≡ None → Starts code c t o
   starts_there none = record { gives = gives_there; faultless = same_fault ∙ none }
 
-  pub fails_there : (e : Failure StartFailed) → Fails (λ failed. (failed.child ≡ c.id) × (start_fault pid o now ≡ Some failed.reason)) (Unit {0}) e → Fails (λ failed. ChildFails failed code c t) (Unit {0}) e
+  pub fails_there : (e : Failure StartFailed) → FailsBy (λ failed. (failed.child ≡ c.id) × (start_fault pid o now ≡ Some failed.reason)) (Unit {0}) e → FailsBy (λ failed. ChildFails failed code c t) (Unit {0}) e
   fails_there (Refused failed) tells = (tells.0, record { outcome = o; gives = gives_there; faulty = same_fault ∙ tells.1 })
   fails_there Memory tells = tt
 
@@ -84,7 +84,7 @@ all_reached code cs t rest pids now told none reached =
     let last : AllStart code rest now [] now [] = subst (λ xs. AllStart code xs now [] now []) (sym none) (refl, refl) in
     subst (λ qs. AllStart code cs t qs now told) (append-nil pids) (subst (AllStart code cs t (pids ++ []) now) (append-nil told) (reached.all [] now [] last))
 
-pub first_fails : (e : Failure StartFailed) (code : List Instance) (cs : List ChildSpec) (t : Table) (c : ChildSpec) (rest left : List ChildSpec) (pids : List ℕ) (now : Table) (told : List Reply) → left ≡ c ∷ rest → Reached code cs t left pids now told → Fails (λ failed. ChildFails failed code c now) (Unit {0}) e → Fails (λ failed. StartFails failed code cs t) (Unit {0}) e
+pub first_fails : (e : Failure StartFailed) (code : List Instance) (cs : List ChildSpec) (t : Table) (c : ChildSpec) (rest left : List ChildSpec) (pids : List ℕ) (now : Table) (told : List Reply) → left ≡ c ∷ rest → Reached code cs t left pids now told → FailsBy (λ failed. ChildFails failed code c now) (Unit {0}) e → FailsBy (λ failed. StartFails failed code cs t) (Unit {0}) e
 first_fails (Refused failed) code cs t c rest left pids now told is reached fails =
     (c, fails.0, reached.fails c failed.reason (subst (λ xs. FirstFails code xs now c failed.reason) (sym is) (inl (refl, fails.1))))
 first_fails Memory code cs t c rest left pids now told is reached fails = tt

@@ -1,7 +1,6 @@
 -- Whether anybody is among those who use an instance; who is spared where there is no old code; and the current code, module after module.
-use Rattle.std.proofs.Common.{◌≡◌, ◌<◌, ◌≤◌, ◌+◌, ◌∙◌, ℕ, zero, suc, Bool, true, false, cond, List, [], ◌∷◌, ◌++◌, Option, None, Some, refl, sym, ap, arith, inl, inr}
-use Rattle.std.proofs.lemmas.Bool.{cases_lt}
-use Rattle.std.specs.List.{cons_option, filter, range_with_len}
+use Rattle.std.proofs.Common.{◌≡◌, ◌+◌, ◌∙◌, ℕ, zero, suc, Bool, true, false, cond, List, [], ◌∷◌, ◌++◌, Option, None, Some, refl, sym, ap, arith}
+use Rattle.std.specs.List.{cons_option, filter}
 use Rattle.std.specs.Prelude.{drop, filter_map, map, option_and_then, option_to_list, slice_get}
 use Rattle.std.proofs.lemmas.List.{append_assoc}
 use Rattle.code_server.specs.Modules.{Table as Loaded, slots_of}

@@ -1,5 +1,5 @@
 -- What comes of the child in the processes as they are comes of it in those that the batch makes.
-use Rattle.std.proofs.Common.{◌≡◌, ◌+◌, ℕ, Bool, List, Option, option_map, ap, ◌∙◌}
+use Rattle.std.proofs.Common.{◌+◌, ℕ, Bool, List, option_map, ap, ◌∙◌}
 use Rattle.child_starts.proofs.Reached.{begun_there, fails_there, free_there, starts_there}
 use Rattle.child_starts.specs.Results.{name_in}
 use Rattle.child_starts.proofs.starting.start_child.Goals as goal

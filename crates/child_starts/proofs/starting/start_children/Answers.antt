@@ -1,5 +1,5 @@
 -- One child more has started, or it is the first that has failed.
-use Rattle.std.proofs.Common.{◌≡◌, ◌+◌, ◌++◌, List, drop, sym, ap, subst, ◌∙◌}
+use Rattle.std.proofs.Common.{◌+◌, ◌++◌, List, drop, sym, ap, subst, ◌∙◌}
 use Rattle.std.proofs.lemmas.List.{append_assoc, drop_all}
 use Rattle.erl_eval.proofs.Tests.{from_here}
 use Rattle.child_starts.proofs.Names.{pids_answered}

@@ -1,5 +1,5 @@
 -- Whatever is under way, the children so far have started on top of it, and what starts the rest from there starts all.
-use Rattle.std.proofs.Common.{◌≡◌, ◌++◌, List, drop}
+use Rattle.std.proofs.Common.{◌++◌, List, drop}
 use Rattle.process_batch.specs.Begins.{CanGiveUp, IsUnderWay}
 use Rattle.process_ending.specs.declared.told.Reply.{Reply}
 use Rattle.process_store.specs.Table.{Table}
