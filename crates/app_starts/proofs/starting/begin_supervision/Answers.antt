@@ -1,6 +1,8 @@
 -- The children start in the processes that `init` has left.
 use Rattle.std.proofs.Common.{◌++◌, List, None, refl, sym, subst, ◌∙◌}
 use Rattle.std.proofs.lemmas.List.{append_assoc}
+use Rattle.values.specs.Failure.{Fails}
+use Rattle.child_starts.specs.Errors.{StartFails}
 use Rattle.app_starts.specs.Starts.{initialized}
 use Rattle.process_batch.specs.Begins.{IsUnderWay, begun_told}
 use Rattle.process_ending.specs.declared.told.Reply.{Reply}
@@ -24,16 +26,17 @@ returns-in-Ok-clause-started c =
 pub returns-in-Ok-clause-back : goal.returns-in-Ok-clause-back
 returns-in-Ok-clause-back c = λ before way. c.begin_children.ensures.back before (c.begin.ensures.back before way)
 
-pub returns-in-Refused-clause-failed : goal.returns-in-Refused-clause-failed
-returns-in-Refused-clause-failed c =
+pub returns-in-Err-Refused-clause-failed : goal.returns-in-Err-Refused-clause-failed
+returns-in-Err-Refused-clause-failed c =
     λ before t told way.
     let o = c.in_ok-outcome.outcome in
     let said = begun_told None c.args.code.now o.acts t in
-    let fails = c.in-Refused.ensures.failed before (initialized c.args.code.now o t) (told ++ said) (c.in_ok-begin.ensures.begun before t told way) in
-    (o, c.in_ok-outcome.ensures, (c.in-Some.specs, sym c.in_ok-specs.ensures ∙ c.in-Some.is, fails))
+    let fails = c.in-Err-Refused.ensures.failed before (initialized c.args.code.now o t) (told ++ said) (c.in_ok-begin.ensures.begun before t told way) in
+    let failed = subst (Fails (λ failed. StartFails failed c.args.code.now c.in-Some.specs (initialized c.args.code.now o t)) (Unit {0})) c.in-Err-Refused.field-0-is fails in
+    (o, c.in_ok-outcome.ensures, (c.in-Some.specs, sym c.in_ok-specs.ensures ∙ c.in-Some.is, failed))
 
-pub returns-in-Refused-clause-back : goal.returns-in-Refused-clause-back
-returns-in-Refused-clause-back c = λ before way. c.begin_children.ensures.back before (c.begin.ensures.back before way)
+pub returns-in-Err-Refused-clause-back : goal.returns-in-Err-Refused-clause-back
+returns-in-Err-Refused-clause-back c = λ before way. c.begin_children.ensures.back before (c.begin.ensures.back before way)
 
 pub returns-clause-back : goal.returns-clause-back
 returns-clause-back c = λ before way. c.begin_children.ensures.back before (c.begin.ensures.back before way)
