@@ -9,8 +9,6 @@ use Rattle.process_table.specs.Steps.{after_arrival, arrive_refusal, kind_of}
 use Rattle.undo_journal.specs.Reversible.{Accepted}
 use Rattle.undo_journal.specs.declared.reversible.Told.{Told}
 use Rattle.node_core.proofs.Accepting.{accepted_of, all_told, unless_none}
-use Rattle.node_core.proofs.Refusing.{arrival-refused}
-use Rattle.node_core.specs.Errors.{error_of}
 use Rattle.node_core.specs.Node.{NodeState, with_processes}
 use Rattle.node_core.specs.declared.event.Answer.{Answer}
 use Rattle.node_core.specs.declared.event.Answer.TheVariants as answer
@@ -36,4 +34,4 @@ returns-clause-accepted c =
     let a : Accepted NodeState Answer Note = record { node = with_processes (after_arrival c.args.client name body t) n; answer = answer.Unit; note = record { replies = []; arrival = came } } in
     let new : NodeState = record { modules = m; processes = c.arrive.new.self; apps = apps } in
     let said : Option (List ℕ × Term) → Told Answer Note = λ o. record { answer = answer.Unit; note = record { replies = []; arrival = o } } in
-    accepted_of n c.args.self.now (event.Arrive c.args.client name body) a new k c.tell_arrivals.result.items c.self.view_is (unless_none (arrive_refusal name (kind_of body) t) OfProcesses a c.in-Ok-arrive.ensures.ok) (ap (λ (u : Table). with_processes u n) c.in-Ok-arrive.ensures.arrived) (c.tell_arrivals.ensures ∙ all_told said c.in-Ok-arrive.arrived.0.items came k c.in-Ok-arrive.ensures.told)
+    accepted_of n c.args.self.now (event.Arrive c.args.client name body) a new k c.tell_arrivals.result.items c.self.view_is (unless_none (arrive_refusal name (kind_of body) t) OfProcesses a c.in-Ok-arrive.ensures.ok) (ap (λ (u : Table). with_processes u n) c.in-Ok-arrive.ensures.arrived) (c.tell_arrivals.ensures ∙ all_told said c.in-Ok-arrive.arrivals.items came k c.in-Ok-arrive.ensures.told)

@@ -1,14 +1,13 @@
 -- What the job has done is done.
-use Rattle.std.proofs.Common.{◌≡◌, ◌∙◌, List, MatchOption, None, map, sym, subst, ap, refl}
+use Rattle.std.proofs.Common.{◌≡◌, ◌∙◌, List, None, map, sym, subst, ap, refl}
 use Rattle.code_loading.proofs.Stepping.{steps_keep_code}
 use Rattle.code_loading.specs.Consistent.{IsConsistent}
 use Rattle.process_ending.specs.declared.told.Reply.{Reply}
 use Rattle.process_store.specs.Table.{Table}
-use Rattle.process_table.specs.Commit.{CanCommit, RefusesCommit, commit_told, committed}
+use Rattle.process_table.specs.Commit.{commit_told, committed}
 use Rattle.undo_journal.specs.Reversible.{Accepted}
 use Rattle.undo_journal.specs.declared.reversible.Told.{Told}
 use Rattle.node_core.proofs.Accepting.{accepted_of, each_of}
-use Rattle.node_core.proofs.Refusing.{commit-refused}
 use Rattle.node_core.specs.Node.{NodeState}
 use Rattle.node_core.specs.Step.{ended_by, reporting}
 use Rattle.node_core.specs.declared.event.Answer.{Answer}

@@ -8,9 +8,6 @@ use Rattle.process_store.specs.Table.{Table, living}
 use Rattle.undo_journal.specs.Reversible.{Accepted}
 use Rattle.undo_journal.specs.declared.reversible.Told.{Told}
 use Rattle.node_core.proofs.Accepting.{accepted_of, each_of}
-use Rattle.process_table.specs.Steps.{take_refusal}
-use Rattle.node_core.proofs.Refusing.{take-refused}
-use Rattle.node_core.specs.Errors.{error_of}
 use Rattle.node_core.specs.Node.{NodeState, with_processes}
 use Rattle.node_core.specs.Step.{reporting, run_taken}
 use Rattle.node_core.specs.declared.event.Answer.{Answer}

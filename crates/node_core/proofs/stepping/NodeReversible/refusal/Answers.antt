@@ -24,6 +24,6 @@ returns-in-Arrive c =
     let n : NodeState = record { modules = c.self.inside.modules; processes = t; apps = c.self.inside.apps } in
     let a : Accepted NodeState Answer Note = record { node = with_processes (after_arrival client name body t) n; answer = answer.Unit; note = record { replies = []; arrival = arrival_of name (message_of body) } } in
     let r = c.of_processes.result in
-    let told = refused_or_not (arrive_refusal name (kind_of body) t) r a (c.of_processes.ensures ∙ ap (option_map OfProcesses) c.arrive_refusal.ensures) in
+    let told = refused_or_not (arrive_refusal name (kind_of body) t) r a (c.of_processes.ensures ∙ ap (option_map OfProcesses) (c.arrive_refusal.ensures ∙ (λ i. arrive_refusal (c.as_str.ensures.chars i) (c.kind.ensures i) t))) in
     let here = subst (λ (x : NodeState). MatchOption r (MayRunOut x (event.Arrive client name body)) (λ (it : Refusal). Step x (event.Arrive client name body) (Err it))) c.self.view_is told in
     subst (λ (e : Event). MatchOption r (MayRunOut c.args.self.now e) (λ (it : Refusal). Step c.args.self.now e (Err it))) (sym c.in-Arrive.is) here
