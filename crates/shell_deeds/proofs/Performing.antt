@@ -1,5 +1,5 @@
 -- Lemmas on events that were performed, and on those that were not.
-use Rattle.std.proofs.Common.{◌≡◌, ◌+◌, ◌^◌, ◌↔◌, ℕ, Bool, true, false, IsTrue, ltb, pos, Result, Ok, Err, cond, is_some, length, [], ◌∷◌, List, ◌++◌, Option, None, Some, refl, sym, ap, subst, ◌∙◌}
+use Rattle.std.proofs.Common.{◌≡◌, ◌+◌, ◌↔◌, ℕ, Bool, false, IsTrue, Result, Ok, Err, cond, is_some, length, [], ◌∷◌, List, ◌++◌, Option, None, Some, refl, sym, ap, subst, ◌∙◌}
 use Rattle.code_server.specs.declared.error.CodeError.{CodeError}
 use Rattle.erl_term.specs.Term.{trees}
 use Rattle.erl_term.specs.declared.term.Term.{Term}
@@ -9,9 +9,7 @@ use Rattle.undo_journal.specs.declared.error.JournalError.{JournalError}
 use Rattle.undo_journal.specs.declared.error.JournalError.TheVariants as error
 use Rattle.erl_machine.specs.declared.jobs.Job.{Job}
 use Rattle.process_commit.specs.Commits.{job_at}
-use Rattle.process_store.specs.Table.{Table, is_open, living}
-use Rattle.process_table.specs.Messages.{call_message}
-use Rattle.process_table.specs.declared.body.Body.TheVariants as body
+use Rattle.process_store.specs.Table.{living}
 use Rattle.process_store.specs.declared.living.Living.{Living}
 use Rattle.process_table.specs.Steps.{retake_refusal, retake_refusal_of}
 use Rattle.process_table.specs.declared.error.ProcError.{ProcError}
