@@ -56,7 +56,7 @@ module _ (s : ShellState) where
 
   loads : (name path : List ℕ) (fate : Option Fate) (d : Deed) → deeds.Loads s name path fate d → IsLed s d
   loads name path _ _ (deeds.missing is) = refl
-  loads name path _ _ (deeds.no_source bytes why found kind says none) = refl
+  loads name path _ _ (deeds.no_source bytes why found says none) = refl
   loads name path _ _ (deeds.another bytes m found source other) = refl
   loads name path _ _ (deeds.read bytes m fate d found source same does) =
       performs s (event.Load m) _ fate d refl (carried (event.Load m)) does
