@@ -1,5 +1,5 @@
 -- What is appended in several steps.
-use Rattle.std.proofs.Common.{◌≡◌, ℕ, ◌+◌, ◌≤◌, List, ◌++◌, length, take, Result, Ok, Err, IsErr, append_assoc, subst, sym, ap, ◌∙◌, arith}
+use Rattle.std.proofs.Common.{◌≡◌, ℕ, ◌≤◌, List, ◌++◌, length, take, Result, Ok, Err, IsErr, OnErr, append_assoc, subst, sym, ap, ◌∙◌, arith}
 use Rattle.std.proofs.Math.Seq.{take-append_seam}
 use Rattle.std.proofs.lemmas.List.{length-append, take-take}
 use Rattle.erl_term.specs.Appending.{Appends}
@@ -29,3 +29,9 @@ last (Err x) old mid new bs cs ds one other is = kept old mid new bs one other
 pub stopped : {T E : Type 0} (r : Result T E) (old mid new bs ds : List ℕ) → IsErr r → mid ≡ old ++ bs → take (length mid) new ≡ mid → Appends r ds old new
 stopped (Ok x) old mid new bs ds is one other = absurd (let no : ⊥ = cc in no)
 stopped (Err x) old mid new bs ds is one other = kept old mid new bs one other
+
+-- what is cut off again where memory was refused
+pub settled_back : {S T E F : Type 0} (a : Result S E) (r : Result T F) (old mid new bs : List ℕ) (n : ℕ) → Appends a bs old mid → n ≡ length old → OnErr r (IsErr a × (new ≡ take n mid)) → OnErr r (new ≡ old)
+settled_back a (Ok x) old mid new bs n appends is cut = cut
+settled_back (Ok y) (Err x) old mid new bs n appends is cut = absurd (let no : ⊥ = (let same = cut.0 in cc) in no)
+settled_back (Err y) (Err x) old mid new bs n appends is cut = cut.1 ∙ ap (λ m. take m mid) is ∙ appends

@@ -6,5 +6,6 @@ pub mod Accessing
 pub mod Appending
 pub mod Rows
 pub mod Spelled
+pub mod StringTexts
 pub mod Texts
 pub mod Written

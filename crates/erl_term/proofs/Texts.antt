@@ -115,7 +115,7 @@ quoted-more cs c =
 name_char-ascii : (c : ℕ) → is_name_char c ≡ true → c < 128
 name_char-ascii c is = grind (arith, nat_tests)
 
-and_parts : (a b : Bool) → (a && b) ≡ true → (a ≡ true) × (b ≡ true)
+pub and_parts : (a b : Bool) → (a && b) ≡ true → (a ≡ true) × (b ≡ true)
 and_parts true b e = (refl, e)
 and_parts false b e = absurd (let no : ⊥ = cc in no)
 

@@ -1,5 +1,5 @@
 -- The laws of spelling: a text that spells an atom is written as it is, and spells that one alone.
-use Rattle.std.proofs.Common.{◌≡◌, ℕ, ◌&&◌, List, IsTrue, ap, sym, ◌∙◌}
+use Rattle.std.proofs.Common.{◌≡◌, ℕ, List, IsTrue, ap, sym, ◌∙◌}
 use Rattle.std.specs.Bool.{Decides}
 use Rattle.std.specs.Hash as fed
 use Rattle.std.specs.Str.{bytes_eq, chars}

@@ -19,3 +19,17 @@ has_chars (Some (c ∷ cs)) = true
 -- whether a text is as short as the words that get quotes, and of lower-case letters alone
 abbrev pub is_like_word : List ℕ → Bool
 is_like_word bs = nat_le (length bs) 7 && list_all is_lower bs
+
+-- whether a character is printable: from 32 to 126
+abbrev pub is_printable : ℕ → Bool
+is_printable c = nat_le 32 c && nat_le c 126
+
+-- whether there are characters, and all are printable
+abbrev pub is_string : List ℕ → Bool
+is_string [] = false
+is_string (c ∷ cs) = list_all is_printable (c ∷ cs)
+
+-- what stands before an element: a comma, unless it is the first
+abbrev pub comma : Bool → List ℕ
+comma true = []
+comma false = 44 ∷ []

@@ -17,7 +17,8 @@
 //! - `Ord` is the order of the Erlang Reference Manual (Term Comparisons), total, and equal exactly for
 //!   equal terms. `Same` decides equality, and `Duplicate` gives an equal term.
 //! - [`print`] appends exactly the bytes of the term's text, and leaves the output as it was where memory
-//!   is refused; [`print_atom`] does so of an atom.
+//!   is refused; [`print_atom`] does so of an atom, [`print_list`] of the list of terms that stand in two rows, and
+//!   [`print_string`] of the list of a text's characters.
 //! - [`Term::has_pids`] tells whether a process identifier stands in the term, and [`Term::is_readable`] whether none
 //!   does and the term is nested at most 256 deep: the crate `erl_consult` proves that its text is then read back.
 //! - The accessors ([`Term::as_int`] and its neighbours, [`first`], [`one`] to [`four`], [`string`],
@@ -33,7 +34,7 @@
 //! last of a row's deepest terms, or past more than can be counted ([`Terms::rest`]), which copies what is left, each
 //! term by sharing. A row is made in the time of its own terms: [`Terms::joined`] asks those in front for depth and size, and
 //! shares those behind them one by one. A predefined atom takes neither time nor memory. Comparing, ordering and printing
-//! are linear in the terms; [`print`] and [`print_atom`] take no memory but the output's, and none where that has room. So a
+//! are linear in the terms; printing takes no memory but the output's, and none where that has room. So a
 //! `rest` that never shares and a row that keeps room that it does not need would be proved too; `bench/terms/measure` sees
 //! them.
 //!
@@ -48,11 +49,12 @@ mod conversions;
 mod predefined;
 mod printing;
 mod spelling;
+mod strings;
 mod term;
 
 pub use accessors::{character, first, four, one, string, three, two};
 pub use atom::{Atom, AtomError};
 pub use conversions::{FromTerm, ToTerm};
 pub use predefined::Predefined;
-pub use printing::{print, print_atom};
+pub use printing::{print, print_atom, print_list, print_string};
 pub use term::{Term, Terms};

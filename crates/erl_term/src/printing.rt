@@ -1,15 +1,18 @@
 // The text of terms.
-ghost use Rattle.std.specs.Prelude.{◌≡◌, ◌<◌, ◌++◌, ◌∷◌, [], codes, OnOk, OnErr};
+ghost use Rattle.std.specs.Prelude.{◌≡◌, ◌<◌, ◌++◌, ◌∷◌, [], codes, take, IsOk, IsErr, OnOk, OnErr};
 ghost use Rattle.std.specs.Str.{chars};
 ghost use Rattle.std.specs.Fmt.{decimal, signed_decimal};
 ghost use Rattle.std.specs.List.{flat_map, list_all};
-ghost use Rattle.erl_term.specs.Term.{tree};
+ghost use Rattle.erl_term.specs.Rows.{integers};
+ghost use Rattle.erl_term.specs.Term.{tree, trees};
+ghost use Rattle.erl_term.specs.Tree.{list};
 ghost use Rattle.erl_term.specs.Appending.{Appends};
 ghost use Rattle.erl_term.specs.Text.{utf8, text, atom_text, begins_lower, hex, hex_digit, is_lower, is_name_char, is_plain, is_quoted_word, quoted_char};
 ghost use Rattle.erl_term.specs.Strings.{is_like_word};
 
 use crate::atom::Atom;
-use crate::term::Term;
+use crate::strings::append_string;
+use crate::term::{Term, append_list};
 use itoa::Buffer;
 use std::alloc::AllocError;
 
@@ -33,13 +36,38 @@ pub fn print(term: &Term, out: &mut Vec<u8>) -> Result<(), AllocError>
     ensures err { OnErr result (out.new.items ≡ out.old.items) }
 {
     let start = out.as_slice().len();
-    match term.append_text(out) {
-        Ok(()) => Ok(()),
-        Err(refused) => {
-            out.truncate(start);
-            Err(refused)
-        }
-    }
+    let appended = term.append_text(out);
+    settled(appended, start, out)
+}
+
+/// Appends the text of the list of two rows' terms, one row behind the other, as [`print`] appends that of a list. So a queue is
+/// printed from where it stands: takes no memory but the output's.
+///
+/// # Errors
+///
+/// `AllocError` where memory is refused; the output is then as it was.
+pub fn print_list(front: &[Term], back: &[Term], out: &mut Vec<u8>) -> Result<(), AllocError>
+    ensures printed { OnOk result (out.new.items ≡ out.old.items ++ utf8 (text (list (trees (front.now ++ back.now))))) }
+    ensures err { OnErr result (out.new.items ≡ out.old.items) }
+{
+    let start = out.as_slice().len();
+    let appended = append_list(front, back, out);
+    settled(appended, start, out)
+}
+
+/// Appends the text of the list of a text's characters, as [`print`] appends that of a list: between double quotes where all are
+/// printable. Takes no memory but the output's.
+///
+/// # Errors
+///
+/// `AllocError` where memory is refused; the output is then as it was.
+pub fn print_string(characters: &str, out: &mut Vec<u8>) -> Result<(), AllocError>
+    ensures printed { OnOk result (out.new.items ≡ out.old.items ++ utf8 (text (list (integers (chars characters.now))))) }
+    ensures err { OnErr result (out.new.items ≡ out.old.items) }
+{
+    let start = out.as_slice().len();
+    let appended = append_string(characters, out);
+    settled(appended, start, out)
 }
 
 /// Appends the text of an atom, as [`print`] does.
@@ -52,13 +80,23 @@ pub fn print_atom(name: &Atom, out: &mut Vec<u8>) -> Result<(), AllocError>
     ensures err { OnErr result (out.new.items ≡ out.old.items) }
 {
     let start = out.as_slice().len();
-    match append_atom(name.as_str(), out) {
-        Ok(()) => Ok(()),
-        Err(refused) => {
-            out.truncate(start);
-            Err(refused)
-        }
+    let appended = append_atom(name.as_str(), out);
+    settled(appended, start, out)
+}
+
+/// What was appended to an output that had `start` bytes: where memory was refused, it is cut off again.
+fn settled(
+    appended: Result<(), AllocError>,
+    start: usize,
+    out: &mut Vec<u8>,
+) -> Result<(), AllocError>
+    ensures ok { OnOk result (IsOk appended × (out.new.items ≡ out.old.items)) }
+    ensures err { OnErr result (IsErr appended × (out.new.items ≡ take start out.old.items)) }
+{
+    if appended.is_err() {
+        out.truncate(start);
     }
+    appended
 }
 
 /// Appends bytes.

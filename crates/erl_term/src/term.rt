@@ -11,6 +11,7 @@ mod storage;
 mod told;
 
 use crate::atom::Atom;
+pub(crate) use printing::append_list;
 use std::alloc::{AllocError, Global};
 use std::marker::Model;
 use std::sync::Arc;

@@ -1,5 +1,5 @@
 // The text of terms with elements.
-ghost use Rattle.std.specs.Prelude.{◌≡◌, ◌∷◌};
+ghost use Rattle.std.specs.Prelude.{◌≡◌, ◌∷◌, ◌++◌, is_some};
 ghost use Rattle.std.specs.List.{flat_map};
 ghost use Rattle.erl_term.specs.Term.{tree, trees};
 ghost use Rattle.erl_term.specs.Tree.{int, tuple, list};
@@ -8,7 +8,8 @@ ghost use Rattle.erl_term.specs.Text.{utf8, text, elements_text, others_text, pr
 ghost use Rattle.erl_term.specs.Strings.{printable_chars, has_chars};
 
 use super::{Term, Terms};
-use crate::printing::{append_atom, append_integer, append_pid, put, put_char};
+use crate::printing::{append_atom, append_integer, append_pid, put};
+use crate::strings::append_string_char;
 use std::alloc::AllocError;
 
 impl Term {
@@ -64,17 +65,41 @@ impl Terms {
     fn append_as_list(&self, out: &mut Vec<u8>) -> Result<(), AllocError>
         ensures { Appends result (utf8 (text (list self.now))) out.old.items out.new.items }
     {
-        let terms = self.as_slice();
-        if is_string(terms) {
-            put(b"\"", out)?;
-            append_chars(terms, out)?;
-            put(b"\"", out)
-        } else {
-            put(b"[", out)?;
-            append_elements(terms, out)?;
-            put(b"]", out)
-        }
+        append_list(self.as_slice(), &[], out)
     }
+}
+
+/// Appends the list of two rows' terms, one row behind the other.
+#[cycle(print)]
+pub(crate) fn append_list(
+    front: &[Term],
+    back: &[Term],
+    out: &mut Vec<u8>,
+) -> Result<(), AllocError>
+    ensures { Appends result (utf8 (text (list (trees (front.now ++ back.now))))) out.old.items out.new.items }
+{
+    if is_string(front, back) {
+        put(b"\"", out)?;
+        append_chars(front, out)?;
+        append_chars(back, out)?;
+        put(b"\"", out)
+    } else {
+        put(b"[", out)?;
+        append_both(front, back, out)?;
+        put(b"]", out)
+    }
+}
+
+/// Appends the texts of two rows' terms, with commas between them.
+#[cycle(print)]
+fn append_both(front: &[Term], back: &[Term], out: &mut Vec<u8>) -> Result<(), AllocError>
+    ensures { Appends result (utf8 (elements_text (trees (front.now ++ back.now)))) out.old.items out.new.items }
+{
+    if front.is_empty() {
+        return append_elements(back, out);
+    }
+    append_elements(front, out)?;
+    append_others(back, out)
 }
 
 /// Appends the terms' texts, with commas between them.
@@ -109,16 +134,26 @@ fn append_other(term: &Term, out: &mut Vec<u8>) -> Result<(), AllocError>
     term.append_text(out)
 }
 
-/// Whether there are terms, and each is an integer from 32 to 126.
-fn is_string(terms: &[Term]) -> bool
-    ensures { result ≡ has_chars (printable (trees terms.now)) }
+/// Whether there are terms in two rows, and each is an integer from 32 to 126.
+fn is_string(front: &[Term], back: &[Term]) -> bool
+    ensures { result ≡ has_chars (printable (trees (front.now ++ back.now))) }
+{
+    if front.is_empty() {
+        return !back.is_empty() && is_printable(back);
+    }
+    is_printable(front) && is_printable(back)
+}
+
+/// Whether each term is an integer from 32 to 126.
+fn is_printable(terms: &[Term]) -> bool
+    ensures { result ≡ is_some (printable (trees terms.now)) }
 {
     for term in terms {
         if term.printable_char().is_none() {
             return false;
         }
     }
-    !terms.is_empty()
+    true
 }
 
 /// Appends the characters of those terms that are integers from 32 to 126, as they stand between double quotes.
@@ -127,19 +162,8 @@ fn append_chars(terms: &[Term], out: &mut Vec<u8>) -> Result<(), AllocError>
 {
     for term in terms {
         if let Some(c) = term.printable_char() {
-            append_string_char(c, out)?;
+            append_string_char(char::from(c), out)?;
         }
     }
     Ok(())
-}
-
-/// Appends a character as it stands between double quotes.
-fn append_string_char(c: u8, out: &mut Vec<u8>) -> Result<(), AllocError>
-    ensures { Appends result (utf8 (string_char c)) out.old.items out.new.items }
-{
-    if c == b'"' || c == b'\\' {
-        put(&[b'\\', c], out)
-    } else {
-        put_char(char::from(c), out)
-    }
 }

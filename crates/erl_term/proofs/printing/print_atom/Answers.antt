@@ -1,7 +1,8 @@
 -- What was there before stands before what is cut off.
-use Rattle.std.proofs.Common.{length, take, ap, ◌∙◌}
+use Rattle.std.proofs.Common.{length, ap}
+use Rattle.erl_term.proofs.Appending.{settled_back}
 use Rattle.erl_term.proofs.printing.print_atom.Goals as goal
 
-pub returns-in-Err-clause-err : goal.returns-in-Err-clause-err
-returns-in-Err-clause-err c =
-    c.truncate.ensures.items ∙ ap (λ n. take n c.append_atom.new.out.items) (ap length c.as_slice-start.ensures.value) ∙ c.in-Err.ensures
+pub returns-clause-err : goal.returns-clause-err
+returns-clause-err c =
+    settled_back c.append_atom-appended.result c.settled.result c.args.out.now.items c.append_atom-appended.new.out.items c.settled.new.out.items _ (length c.as_slice-start.result.now) c.append_atom-appended.ensures (ap length c.as_slice-start.ensures.value) c.settled.ensures.err

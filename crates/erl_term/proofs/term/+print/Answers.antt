@@ -1,5 +1,5 @@
 -- Brackets round the elements, and a comma before each but the first.
-use Rattle.std.proofs.Common.{◌≡◌, [], ◌∷◌, ◌++◌, ◌+◌, max, ap, sym, ◌∙◌, arith, rules}
+use Rattle.std.proofs.Common.{◌≡◌, [], ◌∷◌, ◌++◌, max, ap, sym, ◌∙◌, arith, rules}
 use Rattle.std.specs.List.{flat_map}
 use Rattle.std.proofs.lemmas.List.{take_all}
 use Rattle.erl_term.specs.Tree.{tuple, list, depth, greatest_depth}
@@ -8,36 +8,49 @@ use Rattle.erl_term.specs.Text.{utf8, text, elements_text, others_text, string_c
 use Rattle.erl_term.specs.Strings.{printable_chars}
 use Rattle.erl_term.proofs.Appending.{joined, joined_as, last, stopped}
 use Rattle.erl_term.proofs.Rows.{depth_in}
+use Rattle.erl_term.proofs.StringTexts.{chars-both, elements-both, some-terms}
 use Rattle.erl_term.proofs.Texts.{between-bytes, list-string, list-elements, no-elements, nothing-yet, others-more, utf8-append, utf8-cons-byte}
 use Rattle.erl_term.proofs.term.+print.Goals as goal
 
-pub Terms::append_as_list-returns-in_err-append_chars : goal.Terms::append_as_list-returns-in_err-append_chars
-Terms::append_as_list-returns-in_err-append_chars t c =
+pub printing::append_list-returns-in_err-append_chars : goal.printing::append_list-returns-in_err-append_chars
+printing::append_list-returns-in_err-append_chars t c =
     stopped c.from_residual-in_err-append_chars.result c.args.out.now.items c.put.new.out.items c.append_chars.new.out.items _ _ c.from_residual-in_err-append_chars.ensures.0 c.in_ok-put.ensures c.in_err-append_chars.ensures
 
-pub Terms::append_as_list-returns-in_ok-append_chars : goal.Terms::append_as_list-returns-in_ok-append_chars
-Terms::append_as_list-returns-in_ok-append_chars t c =
+pub printing::append_list-returns-in_err-append_chars-2 : goal.printing::append_list-returns-in_err-append_chars-2
+printing::append_list-returns-in_err-append_chars-2 t c =
+    let old = c.args.out.now.items in
+    let mid = c.append_chars.new.out.items in
+    stopped c.from_residual-in_err-append_chars-2.result old mid c.append_chars-then-is_string.new.out.items _ _ c.from_residual-in_err-append_chars-2.ensures.0 (joined old c.put.new.out.items mid _ _ c.in_ok-put.ensures c.in_ok-append_chars.ensures) c.in_err-append_chars-2.ensures
+
+pub printing::append_list-returns-in_ok-append_chars-2 : goal.printing::append_list-returns-in_ok-append_chars-2
+printing::append_list-returns-in_ok-append_chars-2 t c =
     let old = c.args.out.now.items in
     let first = c.put.new.out.items in
-    let mid = c.append_chars.new.out.items in
-    let ts = trees c.as_slice-terms.result.now in
+    let mid = c.append_chars-then-is_string.new.out.items in
+    let row = c.args.front.now ++ c.args.back.now in
     let end = c.put-then-is_string in
-    last end.result old mid end.new.out.items _ _ (utf8 (text (list c.args.self.now))) (joined old first mid _ _ c.in_ok-put.ensures c.in_ok-append_chars.ensures) end.ensures
-    (between-bytes 34 34 (flat_map string_char (printable_chars ts)) (omega arith) (omega arith) ∙ ap utf8 (sym (list-string ts (sym c.is_string.ensures ∙ c.if-is_string.true))) ∙ ap (λ us. utf8 (text (list us))) c.as_slice-terms.ensures)
+    let written = joined_as first c.append_chars.new.out.items mid _ _ _ c.in_ok-append_chars.ensures c.in_ok-append_chars-2.ensures (chars-both c.args.front.now c.args.back.now) in
+    last end.result old mid end.new.out.items _ _ (utf8 (text (list (trees row)))) (joined old first mid _ _ c.in_ok-put.ensures written) end.ensures
+    (between-bytes 34 34 (flat_map string_char (printable_chars (trees row))) (omega arith) (omega arith) ∙ ap utf8 (sym (list-string (trees row) (sym c.is_string.ensures ∙ c.if-is_string.true))))
 
-pub Terms::append_as_list-returns-in_err-append_elements : goal.Terms::append_as_list-returns-in_err-append_elements
-Terms::append_as_list-returns-in_err-append_elements t c =
-    stopped c.from_residual-in_err-append_elements.result c.args.out.now.items c.put-else-is_string.new.out.items c.append_elements.new.out.items _ _ c.from_residual-in_err-append_elements.ensures.0 c.in_ok-put-2.ensures c.in_err-append_elements.ensures
+pub printing::append_list-returns-in_err-append_both : goal.printing::append_list-returns-in_err-append_both
+printing::append_list-returns-in_err-append_both t c =
+    stopped c.from_residual-in_err-append_both.result c.args.out.now.items c.put-else-is_string.new.out.items c.append_both.new.out.items _ _ c.from_residual-in_err-append_both.ensures.0 c.in_ok-put-2.ensures c.in_err-append_both.ensures
 
-pub Terms::append_as_list-returns-in_ok-append_elements : goal.Terms::append_as_list-returns-in_ok-append_elements
-Terms::append_as_list-returns-in_ok-append_elements t c =
+pub printing::append_list-returns-in_ok-append_both : goal.printing::append_list-returns-in_ok-append_both
+printing::append_list-returns-in_ok-append_both t c =
     let old = c.args.out.now.items in
     let first = c.put-else-is_string.new.out.items in
-    let mid = c.append_elements.new.out.items in
-    let ts = trees c.as_slice-terms.result.now in
+    let mid = c.append_both.new.out.items in
+    let ts = trees (c.args.front.now ++ c.args.back.now) in
     let end = c.put-else-is_string-2 in
-    last end.result old mid end.new.out.items _ _ (utf8 (text (list c.args.self.now))) (joined old first mid _ _ c.in_ok-put-2.ensures c.in_ok-append_elements.ensures) end.ensures
-    (between-bytes 91 93 (elements_text ts) (omega arith) (omega arith) ∙ ap utf8 (sym (list-elements ts (sym c.is_string.ensures ∙ c.if-is_string.false))) ∙ ap (λ us. utf8 (text (list us))) c.as_slice-terms.ensures)
+    last end.result old mid end.new.out.items _ _ (utf8 (text (list ts))) (joined old first mid _ _ c.in_ok-put-2.ensures c.in_ok-append_both.ensures) end.ensures
+    (between-bytes 91 93 (elements_text ts) (omega arith) (omega arith) ∙ ap utf8 (sym (list-elements ts (sym c.is_string.ensures ∙ c.if-is_string.false))))
+
+pub printing::append_both-returns : goal.printing::append_both-returns
+printing::append_both-returns t c =
+    last c.append_others.result c.args.out.now.items c.append_elements-2.new.out.items c.append_others.new.out.items _ _ (utf8 (elements_text (trees (c.args.front.now ++ c.args.back.now)))) c.in_ok-append_elements.ensures c.append_others.ensures
+    (elements-both c.args.front.now c.args.back.now (some-terms c.args.front.now (sym c.is_empty.ensures ∙ c.if-is_empty.false)))
 
 pub Terms::append_as_tuple-returns-in_err-append_elements : goal.Terms::append_as_tuple-returns-in_err-append_elements
 Terms::append_as_tuple-returns-in_err-append_elements t c =

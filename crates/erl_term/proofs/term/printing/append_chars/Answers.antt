@@ -21,7 +21,7 @@ loop-term-preserved c =
     let new = c.match-printable_char.out.items in
     let added : new ≡ out ++ utf8 (flat_map string_char (option_to_list (printable_char (tree term)))) = elim c.match-printable_char.branch [
       | in-Some+in_ok-append_string_char w ↦
-          ap (λ o. o.items) w.out-is ∙ w.in_ok-append_string_char.ensures ∙ ap (λ bs. out ++ bs) (char-added (printable_char (tree term)) w.in-Some.c (sym c.printable_char.ensures ∙ w.in-Some.is))
+          ap (λ o. o.items) w.out-is ∙ w.in_ok-append_string_char.ensures ∙ ap (λ d. out ++ utf8 (string_char d)) w.from.ensures ∙ ap (λ bs. out ++ bs) (char-added (printable_char (tree term)) w.in-Some.c (sym c.printable_char.ensures ∙ w.in-Some.is))
       | in_default w ↦
           ap (λ o. o.items) w.out-is ∙ sym (append-nil out) ∙ ap (λ bs. out ++ bs) (none-added (printable_char (tree term)) (sym c.printable_char.ensures ∙ w.in_default.is))
     ] in

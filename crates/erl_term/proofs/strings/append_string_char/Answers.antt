@@ -1,9 +1,9 @@
 -- A backslash first, where the character needs it.
-use Rattle.std.proofs.Common.{◌≡◌, [], ◌∷◌, ◌⊎◌, inl, inr, ap, sym, ◌∙◌}
+use Rattle.std.proofs.Common.{◌≡◌, [], ◌∷◌, ◌⊎◌, inl, inr, sym}
 use Rattle.erl_term.specs.Text.{utf8, string_char}
 use Rattle.erl_term.proofs.Appending.{renamed}
 use Rattle.erl_term.proofs.Texts.{string-escaped-bytes, string-plain-bytes}
-use Rattle.erl_term.proofs.term.printing.append_string_char.Goals as goal
+use Rattle.erl_term.proofs.strings.append_string_char.Goals as goal
 
 pub returns-then-c-eq92 : goal.returns-then-c-eq92
 returns-then-c-eq92 c =
@@ -14,4 +14,4 @@ returns-then-c-eq92 c =
 pub returns-else-c-eq92 : goal.returns-else-c-eq92
 returns-else-c-eq92 c =
     let ch = c.args.c in
-    renamed c.put_char.result c.args.out.now.items c.put_char.new.out.items (utf8 (c.from.result ∷ [])) (utf8 (string_char ch)) c.put_char.ensures (ap (λ d. utf8 (d ∷ [])) c.from.ensures ∙ string-plain-bytes ch c.if-c-eq92.false.0 c.if-c-eq92.false.1)
+    renamed c.put_char.result c.args.out.now.items c.put_char.new.out.items (utf8 (ch ∷ [])) (utf8 (string_char ch)) c.put_char.ensures (string-plain-bytes ch c.if-c-eq92.false.0 c.if-c-eq92.false.1)
