@@ -1,5 +1,5 @@
 // A process.
-ghost use Rattle.std.specs.Prelude.{◌≡◌, ◌<◌, ◌≤◌, ◌+◌, ◌^◌, ◌↔◌, IfOk, OnOk, OnErr, IsTrue, None, Some, length, slice_get};
+ghost use Rattle.std.specs.Prelude.{◌≡◌, ◌<◌, ◌≤◌, ◌+◌, ◌++◌, ◌^◌, ◌↔◌, IfOk, OnOk, OnErr, IsTrue, None, Some, length, slice_get};
 ghost use Rattle.std.specs.Option.{option_copied};
 ghost use Rattle.process.specs.Process.{awaited, IsRunning, can_take, delivered, first_taken, job_of, rested, resumed, run_at, started, suspended, takes_at, undelivered, unrested, untaken};
 
@@ -174,6 +174,13 @@ impl Process {
         ensures { option_copied result ≡ slice_get self.now.mailbox position }
     {
         self.mailbox.get(position)
+    }
+
+    /// The messages of its mailbox, first come first: those of the first row, and behind them those of the second. Takes no memory.
+    pub fn messages(&self) -> (&[Term], &[Term])
+        ensures { result.0.now ++ result.1.now ≡ self.now.mailbox }
+    {
+        self.mailbox.as_slices()
     }
 
     /// The position of the message that it would take now: none while it runs, while it is suspended, and where it takes

@@ -33,6 +33,10 @@ pub counter_at_end-line : line_of (fixed it.CounterAtEnd) ≡ codes "{error,coun
 unfolding utf8 is_quoted_word encode
 counter_at_end-line = refl
 
+pub forgotten-line : line_of (fixed it.Forgotten) ≡ codes "{error,forgotten}\n"
+unfolding utf8 is_quoted_word encode
+forgotten-line = refl
+
 pub dead_mark-line : line_of (fixed it.DeadMark) ≡ codes "{error,dead_mark}\n"
 unfolding utf8 is_quoted_word encode
 dead_mark-line = refl

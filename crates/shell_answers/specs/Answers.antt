@@ -22,7 +22,7 @@ use Rattle.undo_journal.specs.declared.report.Report.{Report}
 use Rattle.node_core.specs.Note.{Note}
 use Rattle.shell_answers.specs.declared.fixed.Fixed.{Fixed}
 use Rattle.shell_answers.specs.declared.fixed.Fixed.TheVariants.{Done, True, False, BadCommand, LineTooLong, SerialEnd, CounterAtEnd}
-use Rattle.shell_answers.specs.declared.fixed.Fixed.TheVariants.{DeadMark, Memory, NoJob, NoProc, Suspended, Running, Idle as IsIdle, NotRunning}
+use Rattle.shell_answers.specs.declared.fixed.Fixed.TheVariants.{Forgotten, DeadMark, Memory, NoJob, NoProc, Suspended, Running, Idle as IsIdle, NotRunning}
 use Rattle.shell_answers.specs.declared.fixed.Fixed.TheVariants.{Stale, DuplicateCall, NameTaken, NoChild, NotDue}
 
 -- the line of a term
@@ -49,6 +49,7 @@ fixed BadCommand = error (codes "bad_command")
 fixed LineTooLong = error (codes "line_too_long")
 fixed SerialEnd = error (codes "serial_end")
 fixed CounterAtEnd = error (codes "counter_end")
+fixed Forgotten = error (codes "forgotten")
 fixed DeadMark = error (codes "dead_mark")
 fixed Memory = error (codes "memory")
 fixed NoJob = error (codes "no_job")

@@ -5,7 +5,7 @@ ghost use Rattle.erl_term.specs.Tree.{list};
 ghost use Rattle.shell_answers.specs.Answers.{app_of, apps_of, line_of};
 
 use crate::bytes::{put, put_separator};
-use erl_term::{ToTerm, print, print_atom};
+use erl_term::{print_atom, print_string};
 use std::alloc::AllocError;
 use sys_protocol::{App, AppTable};
 
@@ -37,10 +37,9 @@ fn put_app(app: &App, out: &mut Vec<u8>) -> Result<(), AllocError>
     ensures { OnOk result (out.new.items ≡ out.old.items ++ utf8 (text (app_of app.now))) }
 {
     let spec = app.spec();
-    let vsn = spec.vsn.to_term(*out.allocator())?;
     put(b"{", out)?;
     print_atom(&spec.name, out)?;
     put(b",", out)?;
-    print(&vsn, out)?;
+    print_string(spec.vsn.as_str(), out)?;
     put(b"}", out)
 }

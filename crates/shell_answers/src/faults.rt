@@ -8,7 +8,7 @@ ghost use Rattle.shell_answers.specs.Faults.{fault_of, kind_word, lang_fault, so
 use crate::bytes::{put, put_number};
 use erl_parse::LangError;
 use erl_scan::Fault;
-use erl_term::{Term, ToTerm, print};
+use erl_term::{Term, print, print_string};
 use std::alloc::AllocError;
 
 /// What stands against the source of a module.
@@ -85,9 +85,8 @@ pub fn write_source_fault(
 ) -> Result<(), AllocError>
     ensures { OnOk result (out.new.items ≡ out.old.items ++ line_of (source_fault path.now fault)) }
 {
-    let shown = path.to_term(*out.allocator())?;
     put(b"{error,{file,", out)?;
-    print(&shown, out)?;
+    print_string(path, out)?;
     put(b",", out)?;
     put_fault(fault, out)?;
     put(b"}}\n", out)

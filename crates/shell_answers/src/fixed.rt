@@ -22,6 +22,8 @@ pub enum Fixed {
     SerialEnd,
     /// `{error,counter_end}`
     CounterAtEnd,
+    /// `{error,forgotten}`
+    Forgotten,
     /// `{error,dead_mark}`
     DeadMark,
     /// `{error,memory}`
@@ -63,6 +65,7 @@ impl Fixed {
             Fixed::LineTooLong => b"{error,line_too_long}\n",
             Fixed::SerialEnd => b"{error,serial_end}\n",
             Fixed::CounterAtEnd => b"{error,counter_end}\n",
+            Fixed::Forgotten => b"{error,forgotten}\n",
             Fixed::DeadMark => b"{error,dead_mark}\n",
             Fixed::Memory => b"{error,memory}\n",
             Fixed::NoJob => b"{error,no_job}\n",

@@ -1,16 +1,15 @@
 // Processes, as answers.
-ghost use Rattle.std.specs.Prelude.{◌≡◌, ◌++◌, IfOk, OnOk};
+ghost use Rattle.std.specs.Prelude.{◌≡◌, ◌++◌, OnOk};
 ghost use Rattle.erl_term.specs.Term.{tree, trees};
 ghost use Rattle.erl_term.specs.Text.{text, utf8};
-ghost use Rattle.erl_term.specs.Tree.{list, Trees};
+ghost use Rattle.erl_term.specs.Tree.{list};
 ghost use Rattle.shell_answers.specs.Answers.{activity_of, line_of, place_of, process_of};
 
 use crate::bytes::{put, put_number, put_pid};
 use erl_eval::Place;
-use erl_term::{Atom, Term, Terms, print, print_atom};
+use erl_term::{Atom, Term, Terms, print, print_atom, print_list};
 use process::{Activity, Process};
-use std::alloc::{AllocError, Global};
-use values::Duplicate;
+use std::alloc::AllocError;
 
 /// Appends `{proc,Pid,Place,State,Turn,Mailbox}`.
 pub fn write_process(process: &Process, out: &mut Vec<u8>) -> Result<(), AllocError>
@@ -92,40 +91,16 @@ fn put_loop(
     put(b",", out)?;
     print_atom(function, out)?;
     put(b",", out)?;
-    put_list(args, out)?;
+    print_list(args.as_slice(), &[], out)?;
     put(b",", out)?;
     put_number(serial, out)?;
     put(b"}", out)
-}
-
-/// Appends a row of terms as a list.
-fn put_list(row: &Terms, out: &mut Vec<u8>) -> Result<(), AllocError>
-    ensures { OnOk result (out.new.items ≡ out.old.items ++ utf8 (text (list row.now))) }
-{
-    let whole = Term::List(row.copy(*out.allocator())?);
-    print(&whole, out)
 }
 
 /// Appends the messages that wait for a process, as a list.
 fn put_mailbox(process: &Process, out: &mut Vec<u8>) -> Result<(), AllocError>
     ensures { OnOk result (out.new.items ≡ out.old.items ++ utf8 (text (list (trees process.now.mailbox)))) }
 {
-    let messages = messages_of(*out.allocator(), process)?;
-    let whole = Term::List(messages);
-    print(&whole, out)
-}
-
-/// The messages that wait for a process.
-fn messages_of(alloc: Global, process: &Process) -> Result<Terms, AllocError>
-    ensures { IfOk result (λ row. row ≡ trees process.now.mailbox) }
-{
-    let mut messages = Vec::with_capacity(alloc, process.len())?;
-    for position in 0..process.len() {
-        let Some(message) = process.message(position) else {
-            unreachable!()
-        };
-        let message = message.copy(alloc)?;
-        messages.push(message)?;
-    }
-    Terms::new(alloc, messages)
+    let (front, back) = process.messages();
+    print_list(front, back, out)
 }

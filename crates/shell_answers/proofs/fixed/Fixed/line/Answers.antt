@@ -1,7 +1,7 @@
 -- Each line is its term's.
 use Rattle.std.proofs.Common.{sym, ap, ◌∙◌}
 use Rattle.shell_answers.specs.Answers.{line_of, fixed}
-use Rattle.shell_answers.proofs.FixedLines.{done-line, true-line, false-line, bad_command-line, line_too_long-line, serial_end-line, counter_at_end-line, dead_mark-line, memory-line, no_job-line, no_proc-line, suspended-line, running-line, idle-line, not_running-line, stale-line, duplicate_call-line, name_taken-line, no_child-line, not_due-line}
+use Rattle.shell_answers.proofs.FixedLines.{done-line, true-line, false-line, bad_command-line, line_too_long-line, serial_end-line, counter_at_end-line, forgotten-line, dead_mark-line, memory-line, no_job-line, no_proc-line, suspended-line, running-line, idle-line, not_running-line, stale-line, duplicate_call-line, name_taken-line, no_child-line, not_due-line}
 use Rattle.shell_answers.proofs.fixed.Fixed.line.Goals as goal
 
 pub returns-in-Done : goal.returns-in-Done
@@ -24,6 +24,9 @@ returns-in-SerialEnd c = sym serial_end-line ∙ ap (λ f. line_of (fixed f)) (s
 
 pub returns-in-CounterAtEnd : goal.returns-in-CounterAtEnd
 returns-in-CounterAtEnd c = sym counter_at_end-line ∙ ap (λ f. line_of (fixed f)) (sym c.in-CounterAtEnd.is)
+
+pub returns-in-Forgotten : goal.returns-in-Forgotten
+returns-in-Forgotten c = sym forgotten-line ∙ ap (λ f. line_of (fixed f)) (sym c.in-Forgotten.is)
 
 pub returns-in-DeadMark : goal.returns-in-DeadMark
 returns-in-DeadMark c = sym dead_mark-line ∙ ap (λ f. line_of (fixed f)) (sym c.in-DeadMark.is)
