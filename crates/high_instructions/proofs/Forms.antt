@@ -1,5 +1,5 @@
 -- What is read as an instruction is written in one of its forms, and each form of an instruction is read as it.
-use Rattle.std.proofs.Common.{◌≡◌, true, false, [], ◌∷◌, Option, Some, option_map, refl, sym, ap, subst, ◌∙◌, inl, inr}
+use Rattle.std.proofs.Common.{◌≡◌, true, [], ◌∷◌, Option, Some, None, option_map, refl, sym, ap, subst, ◌∙◌, inl, inr}
 use Rattle.std.specs.Prelude.{codes}
 use Rattle.erl_term.specs.Accessors.{atom_of, tuple_of}
 use Rattle.erl_term.specs.Conversions.{given, row}
@@ -11,8 +11,8 @@ use Rattle.release_words.specs.declared.timeout.Timeout.{Timeout}
 use Rattle.release_words.specs.declared.timeout.Timeout.TheVariants.{Default}
 use Rattle.release_words.specs.Reading.{alone_of, leading_of, named, start_type_of, timeout_of}
 use Rattle.release_words.specs.Words.{is_timeout, names_tree, purge_tree, timeout_tree}
-use Rattle.release_words.proofs.Parts.{either_is, given_is, map_is, tuple_is}
-use Rattle.release_words.proofs.Tables.{OfEach, alone_is, atoms, named_is, result_table}
+use Rattle.release_words.proofs.Parts.{either_is, given_is, map_is, none_some, tuple_is}
+use Rattle.release_words.proofs.Tables.{OfEach, alone_is, atoms, named_is}
 use Rattle.release_words.proofs.Words.{names, purges, start_types, timeouts}
 use Rattle.high_instructions.specs.declared.high.ApplicationWork.{ApplicationWork}
 use Rattle.high_instructions.specs.declared.high.ApplicationWork.TheVariants as works
@@ -24,10 +24,10 @@ use Rattle.high_instructions.specs.declared.words.Change.TheVariants.{Soft}
 use Rattle.high_instructions.specs.declared.words.ModuleType.{ModuleType}
 use Rattle.high_instructions.specs.declared.words.ModuleType.TheVariants.{Dynamic}
 use Rattle.high_instructions.specs.Forms.{Name, Names, IsHigh, on, onto, change_tree, module_type_tree}
-use Rattle.high_instructions.specs.Forms.{update, update_by, update_behind, update_by_behind, update_purging, update_timed, update_whole, load, load_behind, load_purging, add, add_behind, delete, delete_behind, add_application, add_typed, remove, restart}
-use Rattle.high_instructions.specs.Laws.{is_high, HighTable}
-use Rattle.high_instructions.specs.Reading.{add_application_of, application_forms, bare_of, change_of, changed_of, dependencies_of, headed_of, high_in, high_of, high_result, is_supervisor_update, load_of, loaded_of, module_forms, module_type_of, purged_of, timed_of, typed_of, update_of}
-use Rattle.high_instructions.proofs.Parts.{bare_is, by_dependencies, by_leading, by_loaded, by_purges, change_no_names, change_no_supervisor, changes, module_types, supervisor_back, supervisor_is, timeout_no_change, type_no_change, type_no_timeout}
+use Rattle.high_instructions.specs.Forms.{update, update_by, update_behind, update_by_behind, update_purging, update_timed, update_whole, update_supervisor, load, load_behind, load_purging, add, add_behind, delete, delete_behind, add_application, add_typed, remove, restart}
+use Rattle.high_instructions.specs.Laws.{is_high, HighReads, HighTable}
+use Rattle.high_instructions.specs.Reading.{add_application_of, application_forms, bare_of, change_of, changed_of, dependencies_of, headed_of, high_in, high_of, load_of, loaded_of, module_forms, module_type_of, purged_of, supervisor_of, timed_of, typed_of, update_of}
+use Rattle.high_instructions.proofs.Parts.{bare_is, by_dependencies, by_leading, by_loaded, by_purges, by_supervisor, change_no_names, change_no_supervisor, changes, module_types, timeout_no_change, type_no_change, type_no_timeout}
 
 -- an instruction, in one of its forms
 abbrev Is : Tree → High → Type 0
@@ -91,12 +91,15 @@ update_is ts w e =
           let ms = map_is _ (dependencies_of ts) w alone in
           subst (IsUpdate ts) ms.2 (by_dependencies (λ us ms. IsUpdate us (Update Dynamic Default Soft Brutal Brutal, ms))
           (λ m. (update m refl refl, refl)) (λ ms m. (update_behind m ms refl refl, refl)) ts ms.0 ms.1)
-      | inr more_terms ↦ elim (either_is (changed_of ts) _ w more_terms) [
-        | inl changed ↦ changed_is ts w changed
-        | inr timed_or_typed ↦ elim (either_is (timed_of Dynamic ts) (typed_of ts) w timed_or_typed) [
-          | inl timed ↦
-              by_timed Dynamic IsUpdate (λ o c pre post ms above m. (update_timed m o c pre post ms refl refl, above)) ts w timed
-          | inr typed ↦ typed_is ts w typed
+      | inr more_terms ↦ elim (either_is (supervisor_of ts) _ w more_terms) [
+        | inl supervisor ↦ by_supervisor IsUpdate (λ m. (update_supervisor m refl refl, refl)) ts w supervisor
+        | inr words ↦ elim (either_is (changed_of ts) _ w words) [
+          | inl changed ↦ changed_is ts w changed
+          | inr timed_or_typed ↦ elim (either_is (timed_of Dynamic ts) (typed_of ts) w timed_or_typed) [
+            | inl timed ↦
+                by_timed Dynamic IsUpdate (λ o c pre post ms above m. (update_timed m o c pre post ms refl refl, above)) ts w timed
+            | inr typed ↦ typed_is ts w typed
+          ]
         ]
       ]
     ]
@@ -189,39 +192,40 @@ high_is t h e =
 
 -- and back
 
-abbrev IsBack : Tree → High → Type 0
-IsBack t h = (is_supervisor_update t ≡ false) × (high_of t ≡ Some h)
+formed : (t u : Tree) (h i : High) → t ≡ u → h ≡ i → high_of u ≡ Some i → high_of t ≡ Some h
+formed t u h i is means back = ap high_of is ∙ back ∙ ap Some (sym means)
 
-formed : (t u : Tree) (h i : High) → t ≡ u → h ≡ i → is_supervisor_update u ≡ false → high_of u ≡ Some i → IsBack t h
-formed t u h i is means other back = (ap is_supervisor_update is ∙ other, ap high_of is ∙ back ∙ ap Some (sym means))
-
-form_back : (t : Tree) (h : High) → is_high h ≡ true → IsHigh t h → IsBack t h
-unfolding high_of is_supervisor_update update_of changed_of timed_of typed_of load_of loaded_of purged_of dependencies_of add_application_of
-form_back t h fine (update m is means) = formed t _ h _ is means refl refl
+form_back : (t : Tree) (h : High) → is_high h ≡ true → IsHigh t h → high_of t ≡ Some h
+unfolding high_of update_of supervisor_of changed_of timed_of typed_of load_of loaded_of purged_of dependencies_of add_application_of
+form_back t h fine (update m is means) = formed t _ h _ is means refl
 form_back t h fine (update_by m c is means) =
-    formed t _ h _ is means (rw (change_no_supervisor c) refl) (rw (change_no_names c, changes.back c tt) refl)
-form_back t h fine (update_behind m ms is means) = formed t _ h _ is means refl (rw (names.back ms tt) refl)
+    formed t _ h _ is means (rw (change_no_names c, change_no_supervisor c, changes.back c tt) refl)
+form_back t h fine (update_behind m ms is means) = formed t _ h _ is means (rw (names.back ms tt) refl)
 form_back t h fine (update_by_behind m c ms is means) =
-    formed t _ h _ is means refl (rw (changes.back c tt, names.back ms tt) refl)
+    formed t _ h _ is means (rw (changes.back c tt, names.back ms tt) refl)
 form_back t h fine (update_purging m c pre post ms is means) =
-    formed t _ h _ is means refl (rw (changes.back c tt, purges.back pre tt, purges.back post tt, names.back ms tt) refl)
+    formed t _ h _ is means (rw (changes.back c tt, purges.back pre tt, purges.back post tt, names.back ms tt) refl)
 form_back t h fine (update_timed m o c pre post ms is means) =
-    formed t _ h _ is means refl (rw (timeout_no_change o, timeouts.back o (ap is_high (sym means) ∙ fine), changes.back c tt, purges.back pre tt, purges.back post tt, names.back ms tt) refl)
+    formed t _ h _ is means (rw (timeout_no_change o, timeouts.back o (ap is_high (sym means) ∙ fine), changes.back c tt, purges.back pre tt, purges.back post tt, names.back ms tt) refl)
 form_back t h fine (update_whole m type o c pre post ms is means) =
-    formed t _ h _ is means refl (rw (type_no_change type, type_no_timeout type, module_types.back type tt, timeouts.back o (ap is_high (sym means) ∙ fine), changes.back c tt, purges.back pre tt, purges.back post tt, names.back ms tt) refl)
-form_back t h fine (load m is means) = formed t _ h _ is means refl refl
-form_back t h fine (load_behind m ms is means) = formed t _ h _ is means refl (rw (names.back ms tt) refl)
+    formed t _ h _ is means (rw (type_no_change type, type_no_timeout type, module_types.back type tt, timeouts.back o (ap is_high (sym means) ∙ fine), changes.back c tt, purges.back pre tt, purges.back post tt, names.back ms tt) refl)
+form_back t h fine (update_supervisor m is means) = formed t _ h _ is means refl
+form_back t h fine (load m is means) = formed t _ h _ is means refl
+form_back t h fine (load_behind m ms is means) = formed t _ h _ is means (rw (names.back ms tt) refl)
 form_back t h fine (load_purging m pre post ms is means) =
-    formed t _ h _ is means refl (rw (purges.back pre tt, purges.back post tt, names.back ms tt) refl)
-form_back t h fine (add m is means) = formed t _ h _ is means refl refl
-form_back t h fine (add_behind m ms is means) = formed t _ h _ is means refl (rw (names.back ms tt) refl)
-form_back t h fine (delete m is means) = formed t _ h _ is means refl refl
-form_back t h fine (delete_behind m ms is means) = formed t _ h _ is means refl (rw (names.back ms tt) refl)
-form_back t h fine (add_application a is means) = formed t _ h _ is means refl refl
-form_back t h fine (add_typed a type is means) = formed t _ h _ is means refl (rw (start_types.back type tt) refl)
-form_back t h fine (remove a is means) = formed t _ h _ is means refl refl
-form_back t h fine (restart a is means) = formed t _ h _ is means refl refl
+    formed t _ h _ is means (rw (purges.back pre tt, purges.back post tt, names.back ms tt) refl)
+form_back t h fine (add m is means) = formed t _ h _ is means refl
+form_back t h fine (add_behind m ms is means) = formed t _ h _ is means (rw (names.back ms tt) refl)
+form_back t h fine (delete m is means) = formed t _ h _ is means refl
+form_back t h fine (delete_behind m ms is means) = formed t _ h _ is means (rw (names.back ms tt) refl)
+form_back t h fine (add_application a is means) = formed t _ h _ is means refl
+form_back t h fine (add_typed a type is means) = formed t _ h _ is means (rw (start_types.back type tt) refl)
+form_back t h fine (remove a is means) = formed t _ h _ is means refl
+form_back t h fine (restart a is means) = formed t _ h _ is means refl
+
+judged : (t : Tree) (read : Option High) → high_of t ≡ read → HighReads t read
+judged t (Some h) e = high_is t h e
+judged t None e = λ h fine is. none_some h (sym e ∙ form_back t h fine is)
 
 pub table : HighTable
-unfolding high_result
-table = result_table is_supervisor_update high_of high_is supervisor_is supervisor_back form_back
+table = record { sound = λ t. judged t (high_of t) refl; complete = form_back }

@@ -1,10 +1,10 @@
 -- The words of high-level instructions and what stands behind a name, written and read.
-use Rattle.std.proofs.Common.{◌≡◌, true, [], ◌∷◌, Option, Some, None, option_map, refl, sym, ap, subst, ◌∙◌, inl, inr}
+use Rattle.std.proofs.Common.{◌≡◌, [], ◌∷◌, Option, Some, None, option_map, refl, sym, ap, subst, ◌∙◌, inl, inr}
 use Rattle.std.specs.Prelude.{codes}
 use Rattle.std.specs.Str.{bytes_eq}
 use Rattle.std.proofs.lemmas.Option.{same_Some}
 use Rattle.std.proofs.lemmas.Slice.Eq.{bytes_eq-Decides}
-use Rattle.erl_term.specs.Accessors.{atom_of}
+use Rattle.erl_term.specs.Accessors.{atom_of, one_of}
 use Rattle.erl_term.specs.Conversions.{pair_of, row}
 use Rattle.erl_term.specs.Term.{tree, term_of, term_of-tree}
 use Rattle.erl_term.specs.Tree.{Tree, Trees, atom, tuple, none, more}
@@ -14,15 +14,17 @@ use Rattle.release_words.specs.declared.timeout.Timeout.{Timeout}
 use Rattle.release_words.specs.declared.timeout.Timeout.TheVariants.{Default, Infinity, Finite}
 use Rattle.release_words.specs.Reading.{alone_of, leading_of, names_of, purge_of, timeout_of, word_of}
 use Rattle.release_words.specs.Words.{names_tree, purge_tree, timeout_tree, word}
-use Rattle.release_words.proofs.Parts.{atom_is, choice, either_is, given_is, map_is, none_some}
-use Rattle.release_words.proofs.Tables.{Reads, alone_is, atoms, leading_is, named_is, pairs, terms, triples, words}
+use Rattle.release_words.proofs.Parts.{atom_is, choice, either_is, given_is, map_is, none_some, one_is}
+use Rattle.release_words.proofs.Tables.{Reads, alone_is, atoms, leading_is, named_is, pairs, terms, words}
 use Rattle.release_words.proofs.Words.{names, purges}
 use Rattle.high_instructions.specs.declared.words.Change.{Change}
 use Rattle.high_instructions.specs.declared.words.Change.TheVariants.{Soft, Advanced}
 use Rattle.high_instructions.specs.declared.words.ModuleType.{ModuleType}
 use Rattle.high_instructions.specs.declared.words.ModuleType.TheVariants.{Static, Dynamic}
-use Rattle.high_instructions.specs.Forms.{Name, Names, IsSupervisorUpdate, change_tree, module_type_tree}
-use Rattle.high_instructions.specs.Reading.{bare_of, change_of, change_words, dependencies_of, is_supervisor_update, is_there, loaded_of, module_type_of, module_type_words, purged_of, supervisor_of, word_alone}
+use Rattle.high_instructions.specs.declared.high.ModuleWork.{ModuleWork}
+use Rattle.high_instructions.specs.declared.high.ModuleWork.TheVariants.{Update}
+use Rattle.high_instructions.specs.Forms.{Names, change_tree, empty_list, module_type_tree}
+use Rattle.high_instructions.specs.Reading.{bare_of, change_of, change_words, dependencies_of, loaded_of, module_type_of, module_type_words, purged_of, supervisor_of, supervisor_words}
 
 -- Words
 
@@ -61,7 +63,7 @@ pub change_no_names : (c : Change) → names_of (change_tree c) ≡ None
 change_no_names Soft = refl
 change_no_names (Advanced extra) = refl
 
-pub change_no_supervisor : (c : Change) → word_of (word_alone (codes "supervisor")) (change_tree c) ≡ None
+pub change_no_supervisor : (c : Change) → word_of supervisor_words (change_tree c) ≡ None
 change_no_supervisor Soft = refl
 change_no_supervisor (Advanced extra) = refl
 
@@ -97,6 +99,15 @@ by_dependencies P nothing behind ts ms e =
       | inr one ↦ subst (λ us. P us ms) (sym (alone_is names ts ms one).0) (behind ms)
     ]
 
+pub by_supervisor : (P : Trees → ModuleWork × Names → Type 0) → P (row (word (codes "supervisor") ∷ [])) (Update Static Default (Advanced empty_list) Brutal Brutal, []) → (ts : Trees) (w : ModuleWork × Names) → supervisor_of ts ≡ Some w → P ts w
+unfolding supervisor_of
+by_supervisor P alone ts w e =
+    let work = map_is _ (alone_of (word_of supervisor_words) ts) w e in
+    let one = given_is (one_of ts) _ work.0 work.1 in
+    let name = given_is (atom_of one.0) _ work.0 one.2 in
+    let said : P (row (atom name.0 ∷ [])) (work.0, []) = named_is (λ cs v. P (row (atom cs ∷ [])) (v, [])) supervisor_words (alone, tt) name.0 work.0 name.2 in
+    subst (P ts) work.2 (subst (λ us. P us (work.0, [])) (sym (one_is ts one.0 one.1 ∙ ap (λ t. more t none) (atom_is one.0 name.0 name.1))) said)
+
 -- of a row that begins with a value
 pub by_leading : {A : Type 0} {read : Tree → Option A} {write : A → Tree} {Holds : A → Type 0} → Reads read write Holds → (P : Trees → Type 0) (ts : Trees) (p : A × Trees) → leading_of read ts ≡ Some p → (Holds p.0 → P (more (write p.0) p.1)) → P ts
 by_leading reads P ts p e then =
@@ -125,25 +136,3 @@ by_loaded P nothing behind purging ts l e =
           subst (P ts) ms.2 (by_dependencies (λ us ms. P us (Brutal, Brutal, ms)) nothing behind ts ms.0 ms.1)
       | inr purged ↦ by_purges P purging ts l purged
     ]
-
--- The updates of supervisors
-
-pub there : {A : Type 0} (o : Option A) → is_there o ≡ true → (x : A) × (o ≡ Some x)
-there None e = absurd (let no : ⊥ = cc in no)
-there (Some x) e = (x, refl)
-
-lone_word : (cs : Name) → Reads (word_of (word_alone cs)) (λ u. atom cs) (λ u. Unit {0})
-lone_word cs = record {
-  is = λ t u e. (let name = given_is (atom_of t) _ u e in atom_is t name.0 name.1 ∙ named_is (λ ds u. atom ds ≡ atom cs) (word_alone cs) (refl, tt) name.0 u name.2, tt);
-  back = λ u holds. rw ((bytes_eq-Decides cs cs).1 refl) refl;
-}
-
-pub supervisor_is : (t : Tree) → is_supervisor_update t ≡ true → IsSupervisorUpdate t
-unfolding is_supervisor_update
-supervisor_is t e =
-    let p = there (supervisor_of t) e in
-    record { name = p.0.1; is = ((triples (lone_word (codes "update")) atoms (lone_word (codes "supervisor"))).is t p.0 p.1).0 }
-
-pub supervisor_back : (t : Tree) → IsSupervisorUpdate t → is_supervisor_update t ≡ true
-unfolding is_supervisor_update
-supervisor_back t u = ap is_supervisor_update u.is

@@ -1,10 +1,13 @@
 -- High-level instructions as they are written, and what they mean (appup(4), High-Level Instructions): what a form
 -- leaves out has its default, which is `soft` for a change, `brutal_purge` for each purge, `default` for a timeout,
--- `dynamic` for the kind of a module, `permanent` for the start of an application, and no modules to depend on.
+-- `dynamic` for the kind of a module, `permanent` for the start of an application, and no modules to depend on. The update
+-- of a supervisor has a form of its own, which stands for one of the whole forms.
 use Rattle.std.specs.Prelude.{◌≡◌, ℕ, List, [], ◌∷◌, codes}
 use Rattle.erl_term.specs.Conversions.{row}
+use Rattle.erl_term.specs.declared.term.Term.{Term}
+use Rattle.erl_term.specs.declared.term.Term.TheVariants.{List as ListOf}
 use Rattle.erl_term.specs.Term.{tree}
-use Rattle.erl_term.specs.Tree.{Tree, atom, tuple}
+use Rattle.erl_term.specs.Tree.{Tree, atom, tuple, none}
 use Rattle.release_words.specs.declared.purge.Purge.{Purge}
 use Rattle.release_words.specs.declared.purge.Purge.TheVariants.{Brutal}
 use Rattle.release_words.specs.declared.start_type.StartType.{StartType}
@@ -32,6 +35,10 @@ module_type_tree Dynamic = word (codes "dynamic")
 abbrev pub change_tree : Change → Tree
 change_tree Soft = word (codes "soft")
 change_tree (Advanced extra) = tuple (row (word (codes "advanced") ∷ tree extra ∷ []))
+
+-- the term `[]`
+abbrev pub empty_list : Term
+empty_list = ListOf none
 
 -- Instructions
 
@@ -70,6 +77,10 @@ pub data IsHigh (t : Tree) (h : High) : Type 0 where
   update_whole : (m : Name) (type : ModuleType) (timeout : Timeout) (change : Change) (pre post : Purge) (ms : Names) →
       t ≡ form (codes "update") (atom m ∷ module_type_tree type ∷ timeout_tree timeout ∷ change_tree change ∷
       purge_tree pre ∷ purge_tree post ∷ names_tree ms ∷ []) → h ≡ on m (Update type timeout change pre post) ms → IsHigh t h
+  -- `{update,Mod,supervisor}`, where a supervisor's `init` changes: it stands for
+  -- `{update,Mod,static,default,{advanced,[]},brutal_purge,brutal_purge,[]}`, as which systools translates it
+  update_supervisor : (m : Name) → t ≡ form (codes "update") (atom m ∷ word (codes "supervisor") ∷ []) →
+      h ≡ on m (Update Static Default (Advanced empty_list) Brutal Brutal) [] → IsHigh t h
   -- `{load_module,Mod,..}`
   load : (m : Name) → t ≡ form (codes "load_module") (atom m ∷ []) → h ≡ on m (Load Brutal Brutal) [] → IsHigh t h
   load_behind : (m : Name) (ms : Names) → t ≡ form (codes "load_module") (atom m ∷ names_tree ms ∷ []) →
@@ -90,8 +101,3 @@ pub data IsHigh (t : Tree) (h : High) : Type 0 where
       h ≡ onto a (works.Add type) → IsHigh t h
   remove : (a : Name) → t ≡ form (codes "remove_application") (atom a ∷ []) → h ≡ onto a works.Remove → IsHigh t h
   restart : (a : Name) → t ≡ form (codes "restart_application") (atom a ∷ []) → h ≡ onto a works.Restart → IsHigh t h
-
--- Instructions that OTP has and a node of this kind has not, yet: `{update,Mod,supervisor}`
-pub record IsSupervisorUpdate (t : Tree) : Type 0 where
-  pub name : Name
-  pub is : t ≡ form (codes "update") (atom name ∷ word (codes "supervisor") ∷ [])

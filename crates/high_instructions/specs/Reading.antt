@@ -1,18 +1,16 @@
 -- High-level instructions as they are read: one line a form.
-use Rattle.std.specs.Prelude.{ℕ, Bool, true, false, if◌then◌else◌, List, [], ◌∷◌, codes, Option, Some, None, Result}
-use Rattle.std.specs.Prelude.{option_map}
+use Rattle.std.specs.Prelude.{ℕ, if◌then◌else◌, List, [], ◌∷◌, codes, Option, Some, None, option_map}
 use Rattle.std.specs.Str.{bytes_eq}
 use Rattle.erl_term.specs.Accessors.{atom_of, first_of, tuple_of}
-use Rattle.erl_term.specs.Conversions.{given, pair_of, triple_of}
+use Rattle.erl_term.specs.Conversions.{given, pair_of}
 use Rattle.erl_term.specs.Term.{term_of}
 use Rattle.erl_term.specs.Tree.{Tree, Trees}
-use Rattle.release_words.specs.declared.fault.InstructionFault.{InstructionFault}
 use Rattle.release_words.specs.declared.purge.Purge.{Purge}
 use Rattle.release_words.specs.declared.purge.Purge.TheVariants.{Brutal}
 use Rattle.release_words.specs.declared.start_type.StartType.TheVariants.{Permanent}
 use Rattle.release_words.specs.declared.timeout.Timeout.TheVariants.{Default}
-use Rattle.release_words.specs.Reading.{alone_of, either_of, leading_of, named, names_of, purge_of, result_of, start_type_of}
-use Rattle.release_words.specs.Reading.{timeout_of, word_of}
+use Rattle.release_words.specs.Reading.{alone_of, either_of, leading_of, named, names_of, purge_of, start_type_of, timeout_of}
+use Rattle.release_words.specs.Reading.{word_of}
 use Rattle.high_instructions.specs.declared.high.ApplicationWork.{ApplicationWork}
 use Rattle.high_instructions.specs.declared.high.ApplicationWork.TheVariants as works
 use Rattle.high_instructions.specs.declared.high.High.{High}
@@ -22,7 +20,7 @@ use Rattle.high_instructions.specs.declared.words.Change.{Change}
 use Rattle.high_instructions.specs.declared.words.Change.TheVariants.{Soft, Advanced}
 use Rattle.high_instructions.specs.declared.words.ModuleType.{ModuleType}
 use Rattle.high_instructions.specs.declared.words.ModuleType.TheVariants.{Static, Dynamic}
-use Rattle.high_instructions.specs.Forms.{Name, Names, on, onto}
+use Rattle.high_instructions.specs.Forms.{Name, Names, empty_list, on, onto}
 
 -- Words
 
@@ -80,10 +78,17 @@ timed_of type ts =
 unfoldable pub typed_of : Trees → Option (ModuleWork × Names)
 typed_of ts = given (leading_of module_type_of ts) (λ p. timed_of p.0 p.1)
 
+abbrev pub supervisor_words : List (List ℕ × ModuleWork)
+supervisor_words = (codes "supervisor", Update Static Default (Advanced empty_list) Brutal Brutal) ∷ []
+
+-- `supervisor` alone
+unfoldable pub supervisor_of : Trees → Option (ModuleWork × Names)
+supervisor_of ts = option_map (λ work. (work, [])) (alone_of (word_of supervisor_words) ts)
+
 unfoldable pub update_of : Trees → Option (ModuleWork × Names)
 update_of ts =
     either_of (option_map (λ ms. (Update Dynamic Default Soft Brutal Brutal, ms)) (dependencies_of ts))
-    (either_of (changed_of ts) (either_of (timed_of Dynamic ts) (typed_of ts)))
+    (either_of (supervisor_of ts) (either_of (changed_of ts) (either_of (timed_of Dynamic ts) (typed_of ts))))
 
 unfoldable pub load_of : Trees → Option (ModuleWork × Names)
 load_of ts = option_map (λ l. (Load l.0 l.1, l.2)) (loaded_of ts)
@@ -114,23 +119,6 @@ headed_of head name ts =
 abbrev pub high_in : Trees → Option High
 high_in ts = given (leading_of atom_of ts) (λ p. given (leading_of atom_of p.1) (λ q. headed_of p.0 q.0 q.1))
 
+-- the instruction that a term is, if it is one
 unfoldable pub high_of : Tree → Option High
 high_of t = given (tuple_of t) high_in
-
--- `{update,Mod,supervisor}`
-abbrev pub word_alone : Name → List (Name × Unit {0})
-word_alone cs = (cs, tt) ∷ []
-
-abbrev pub supervisor_of : Tree → Option (Unit {0} × Name × Unit {0})
-supervisor_of t = triple_of (word_of (word_alone (codes "update"))) atom_of (word_of (word_alone (codes "supervisor"))) t
-
-abbrev pub is_there : {A : Type 0} → Option A → Bool
-is_there None = false
-is_there (Some x) = true
-
-unfoldable pub is_supervisor_update : Tree → Bool
-is_supervisor_update t = is_there (supervisor_of t)
-
--- the instruction that a term is, or why it is none
-unfoldable pub high_result : Tree → Result High InstructionFault
-high_result t = result_of (is_supervisor_update t) (high_of t)

@@ -2,8 +2,8 @@
 //!
 //! # What is proved
 //!
-//! - [`read_high`] gives the instruction that a term is, with the defaults of what its form leaves out, or tells that it
-//!   is none, or one that is out of the profile.
+//! - [`read_high`] gives the instruction that a term is, with the defaults of what its form leaves out, if it is
+//!   one.
 //! - [`high_forms_are_read`]: what is read is written in one of the forms of the instruction, and each form of an
 //!   instruction is read as it.
 #![tactic(auto)]

@@ -4,58 +4,22 @@ ghost use Rattle.erl_term.specs.Conversions.{given};
 ghost use Rattle.erl_term.specs.Term.{tree, trees};
 ghost use Rattle.release_words.specs.Reading.{named};
 ghost use Rattle.high_instructions.specs.Laws.{HighTable};
-ghost use Rattle.high_instructions.specs.Reading.{add_application_of, application_forms, high_of, high_result, is_supervisor_update, module_forms};
+ghost use Rattle.high_instructions.specs.Reading.{add_application_of, application_forms, high_of, module_forms};
 
 use crate::high::{ApplicationInstruction, ApplicationWork, High, ModuleInstruction, ModuleWork};
 use crate::update::{bare, dependencies, load, update};
-use erl_term::{Atom, Term, three};
-use release_words::{InstructionFault, StartType, alone, leading};
+use erl_term::{Atom, Term};
+use release_words::{StartType, alone, leading};
 use std::alloc::{AllocError, Global};
 use values::Row;
 
-/// The high-level instruction that a term is, or why it is none.
+/// The high-level instruction that a term is, if it is one.
 ///
 /// # Errors
 ///
 /// `AllocError` where memory is refused.
-#[tactic(auto, unfolding(crate::specs::Reading::high_result))]
-pub fn read_high(alloc: Global, term: &Term) -> Result<Result<High, InstructionFault>, AllocError>
-    ensures { IfOk result (λ read. read ≡ high_result (tree term.now)) }
-{
-    if updates_supervisor(term) {
-        return Ok(Err(InstructionFault::OutOfProfile));
-    }
-    match high(alloc, term)? {
-        Some(high) => Ok(Ok(high)),
-        None => Ok(Err(InstructionFault::Bad)),
-    }
-}
-
-/// A law: the table of the forms and that of their reading say the same.
-pub fn high_forms_are_read()
-    ensures { HighTable }
-{}
-
-/// Whether a term is `{update,Mod,supervisor}`.
-#[tactic(auto, unfolding(crate::specs::Reading::is_supervisor_update))]
-fn updates_supervisor(term: &Term) -> bool
-    ensures { result ≡ is_supervisor_update (tree term.now) }
-{
-    let Some(terms) = term.as_tuple() else {
-        return false;
-    };
-    let Some((head, name, kind)) = three(terms.as_slice()) else {
-        return false;
-    };
-    match (head.as_atom(), name.as_atom(), kind.as_atom()) {
-        (Some(head), Some(_), Some(kind)) => head.is("update") && kind.is("supervisor"),
-        (_, _, _) => false,
-    }
-}
-
-/// The instruction that a term is, if it is one.
 #[tactic(auto, unfolding(crate::specs::Reading::high_of))]
-fn high(alloc: Global, term: &Term) -> Result<Option<High>, AllocError>
+pub fn read_high(alloc: Global, term: &Term) -> Result<Option<High>, AllocError>
     ensures { IfOk result (λ found. found ≡ high_of (tree term.now)) }
 {
     let Some(row) = term.as_tuple() else {
@@ -79,6 +43,11 @@ fn high(alloc: Global, term: &Term) -> Result<Option<High>, AllocError>
         None => Ok(None),
     }
 }
+
+/// A law: the table of the forms and that of their reading say the same.
+pub fn high_forms_are_read()
+    ensures { HighTable }
+{}
 
 /// What is done to a module, and the modules that it depends on, where an instruction on a module begins with this name.
 fn module_work(

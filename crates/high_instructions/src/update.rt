@@ -2,11 +2,12 @@
 // modules to depend on.
 ghost use Rattle.std.specs.Prelude.{◌≡◌, IfOk};
 ghost use Rattle.erl_term.specs.Term.{trees};
-ghost use Rattle.high_instructions.specs.Reading.{bare_of, changed_of, dependencies_of, load_of, loaded_of, purged_of, timed_of, typed_of, update_of};
+ghost use Rattle.high_instructions.specs.Reading.{bare_of, changed_of, dependencies_of, load_of, loaded_of, purged_of};
+ghost use Rattle.high_instructions.specs.Reading.{supervisor_of, timed_of, typed_of, update_of};
 
 use crate::high::ModuleWork;
 use crate::words::{Change, ModuleType};
-use erl_term::{Atom, Term, first};
+use erl_term::{Atom, Term, Terms, first, one};
 use release_words::{Purge, Timeout, alone, leading};
 use std::alloc::{AllocError, Global};
 use values::Row;
@@ -22,6 +23,9 @@ pub(crate) fn update(
     if let Some(dependencies) = dependencies(alloc, rest)? {
         let work = updated(Change::Soft, Purge::Brutal, Purge::Brutal);
         return Ok(Some((work, dependencies)));
+    }
+    if let Some(found) = supervisor(alloc, rest)? {
+        return Ok(Some(found));
     }
     if let Some(found) = changed(alloc, rest)? {
         return Ok(Some(found));
@@ -107,6 +111,30 @@ fn changed(alloc: Global, rest: &[Term]) -> Result<Option<(ModuleWork, Row<Atom>
         return Ok(None);
     };
     Ok(Some((updated(change, pre_purge, post_purge), dependencies)))
+}
+
+/// `supervisor` alone, which is translated as `static,default,{advanced,[]},brutal_purge,brutal_purge,[]`
+#[tactic(auto, unfolding(crate::specs::Reading::supervisor_of))]
+fn supervisor(alloc: Global, rest: &[Term]) -> Result<Option<(ModuleWork, Row<Atom>)>, AllocError>
+    ensures { IfOk result (λ found. found ≡ supervisor_of (trees rest.now)) }
+{
+    let Some(word) = one(rest) else {
+        return Ok(None);
+    };
+    let Some(word) = word.as_atom() else {
+        return Ok(None);
+    };
+    if !word.is("supervisor") {
+        return Ok(None);
+    }
+    let work = ModuleWork::Update {
+        module_type: ModuleType::Static,
+        timeout: Timeout::Default,
+        change: Change::Advanced(Term::List(Terms::new(alloc, Vec::new(alloc))?)),
+        pre_purge: Purge::Brutal,
+        post_purge: Purge::Brutal,
+    };
+    Ok(Some((work, Row::new(Vec::new(alloc)))))
 }
 
 /// `Timeout,Change,Pre,Post,DepMods`

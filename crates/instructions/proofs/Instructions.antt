@@ -1,5 +1,5 @@
 -- The law of the instructions of an appup, from those of the two levels: no term is written as both.
-use Rattle.std.proofs.Common.{◌≡◌, inl, inr, true, Result, Ok, Err, refl, ap, ◌∙◌}
+use Rattle.std.proofs.Common.{◌≡◌, true, Option, Some, None, Result, Ok, Err, refl, ap, ◌∙◌}
 use Rattle.erl_term.specs.Tree.{Tree}
 use Rattle.release_words.specs.declared.fault.InstructionFault.{InstructionFault}
 use Rattle.release_words.specs.declared.fault.InstructionFault.TheVariants.{Bad, OutOfProfile}
@@ -11,15 +11,15 @@ use Rattle.low_instructions.specs.Laws.{LowReads, LowTable}
 use Rattle.low_instructions.specs.Reading.{low_result}
 use Rattle.high_instructions.specs.declared.high.High.{High}
 use Rattle.high_instructions.specs.Laws.{HighReads, HighTable}
-use Rattle.high_instructions.specs.Reading.{high_of, high_result, is_supervisor_update}
+use Rattle.high_instructions.specs.Reading.{high_of}
 use Rattle.instructions.specs.declared.instruction.Instruction.{Instruction}
 use Rattle.instructions.specs.declared.instruction.Instruction.TheVariants as levels
-use Rattle.instructions.specs.Instructions.{IsInstruction, IsOut, InstructionReads, InstructionTable, instruction_result, is_instruction, of_high, of_low}
+use Rattle.instructions.specs.Instructions.{IsInstruction, InstructionReads, InstructionTable, instruction_result, is_instruction, of_high, of_low}
 
 -- no form of a low-level instruction begins as one of a high-level one
 
-printed_not_high : (l : Low) → high_result (low_tree l) ≡ Err Bad
-unfolding high_result high_of is_supervisor_update
+printed_not_high : (l : Low) → high_of (low_tree l) ≡ None
+unfolding high_of
 printed_not_high (LoadObjectCode application version modules) = refl
 printed_not_high PointOfNoReturn = refl
 printed_not_high (Load name pre post) = refl
@@ -33,27 +33,22 @@ printed_not_high (Stop modules) = refl
 printed_not_high (Start modules) = refl
 printed_not_high (Apply name function arguments) = refl
 
-low_not_high : (t : Tree) (l : Low) → IsLow t l → high_result t ≡ Err Bad
-unfolding high_result high_of is_supervisor_update
-low_not_high t l (printed is) = ap high_result is ∙ printed_not_high l
-low_not_high t l (undirected changes is means) = ap high_result is
-low_not_high t l (suspending modules is means) = ap high_result is
+low_not_high : (t : Tree) (l : Low) → IsLow t l → high_of t ≡ None
+unfolding high_of
+low_not_high t l (printed is) = ap high_of is ∙ printed_not_high l
+low_not_high t l (undirected changes is means) = ap high_of is
+low_not_high t l (suspending modules is means) = ap high_of is
 
 -- What is read is what it is
 
-joined : (t : Tree) (r : Result High InstructionFault) (s : Result Low InstructionFault) → HighReads t r → LowReads t s → InstructionReads t (of_high r s)
-joined t (Ok h) s high low = high
-joined t (Err OutOfProfile) s high low = inr high
-joined t (Err Bad) (Ok l) high low = low
-joined t (Err Bad) (Err OutOfProfile) high low = inl low
-joined t (Err Bad) (Err Bad) high low = (within, no_form)
+joined : (t : Tree) (r : Option High) (s : Result Low InstructionFault) → HighReads t r → LowReads t s → InstructionReads t (of_high r s)
+joined t (Some h) s high low = high
+joined t None (Ok l) high low = low
+joined t None (Err OutOfProfile) high low = low
+joined t None (Err Bad) high low = (low.0, no_form)
   where
-    within : IsOut t → ⊥
-    within (inl out) = low.0 out
-    within (inr update) = high.0 update
-
     no_form : (i : Instruction) → is_instruction i ≡ true → IsInstruction t i → ⊥
-    no_form (levels.High h) fine is = high.1 h fine is
+    no_form (levels.High h) fine is = high h fine is
     no_form (levels.Low l) fine is = low.1 l fine is
 
 -- and each form is read as its instruction
@@ -67,6 +62,6 @@ complete high low t (levels.Low l) fine is =
 pub table : HighTable → LowTable → InstructionTable
 unfolding instruction_result
 table high low = record {
-  sound = λ t. joined t (high_result t) (low_result t) (high.sound t) (low.sound t);
+  sound = λ t. joined t (high_of t) (low_result t) (high.sound t) (low.sound t);
   complete = complete high low;
 }

@@ -22,10 +22,8 @@ pub fn read_instruction(
 ) -> Result<Result<Instruction, InstructionFault>, AllocError>
     ensures { IfOk result (λ read. read ≡ instruction_result (tree term.now)) }
 {
-    match read_high(alloc, term)? {
-        Ok(high) => return Ok(Ok(Instruction::High(high))),
-        Err(InstructionFault::OutOfProfile) => return Ok(Err(InstructionFault::OutOfProfile)),
-        Err(InstructionFault::Bad) => {}
+    if let Some(high) = read_high(alloc, term)? {
+        return Ok(Ok(Instruction::High(high)));
     }
     match read_low(alloc, term)? {
         Ok(low) => Ok(Ok(Instruction::Low(low))),

@@ -11,7 +11,7 @@ use Rattle.low_instructions.specs.Forms.{IsLow, is_out_of_profile, low_tree}
 use Rattle.low_instructions.specs.Laws.{is_low}
 use Rattle.release_words.specs.Words.{is_version, string_tree}
 use Rattle.instructions.specs.declared.instruction.Instruction.{Instruction}
-use Rattle.instructions.specs.Instructions.{IsInstruction, IsOut, is_instruction}
+use Rattle.instructions.specs.Instructions.{IsInstruction, is_instruction}
 use Rattle.otp_files.specs.declared.error.FileError.{FileError}
 use Rattle.otp_files.specs.declared.error.FileError.TheVariants.{Shape, BadInstruction, OutOfProfile}
 use Rattle.otp_files.specs.declared.upgrade.Entry.{Entry}
@@ -24,14 +24,12 @@ use Rattle.otp_files.specs.Parts.{Each, IsAny, IsList, IsListOf, IsMisshapen, Is
 abbrev pub IsAppupInstruction : Tree → Instruction → Type 0
 IsAppupInstruction t i = IsInstruction t i × (is_instruction i ≡ true)
 
-abbrev pub IsOutOfAppups : Tree → Type 0
-IsOutOfAppups t = IsOut t
-
 abbrev pub IsRelupInstruction : Tree → Low → Type 0
 IsRelupInstruction t low = IsLow t low × (is_low low ≡ true)
 
-abbrev pub IsOutOfRelups : Tree → Type 0
-IsOutOfRelups t = is_out_of_profile t ≡ true
+-- out of the profile, in either file
+abbrev pub IsExcluded : Tree → Type 0
+IsExcluded t = is_out_of_profile t ≡ true
 
 -- Entries before their instructions are looked at: a version, what describes it, and the terms of the instructions
 
@@ -110,13 +108,13 @@ abbrev pub IsAppup : Tree → Upgrades ⊤ Instruction → Type 0
 IsAppup = AreUpgrades IsAppupDraft IsAppupInstruction
 
 abbrev pub AppupRefused : Tree → FileError → Type 0
-AppupRefused = UpgradesRefused IsAppupDraft IsAppupInstruction IsOutOfAppups
+AppupRefused = UpgradesRefused IsAppupDraft IsAppupInstruction IsExcluded
 
 abbrev pub IsRelup : Tree → Upgrades Term Low → Type 0
 IsRelup = AreUpgrades IsRelupDraft IsRelupInstruction
 
 abbrev pub RelupRefused : Tree → FileError → Type 0
-RelupRefused = UpgradesRefused IsRelupDraft IsRelupInstruction IsOutOfRelups
+RelupRefused = UpgradesRefused IsRelupDraft IsRelupInstruction IsExcluded
 
 -- How a relup is printed: each instruction in its printed form
 

@@ -4,7 +4,7 @@ use Rattle.instructions.specs.Instructions.{instruction_result}
 use Rattle.otp_files.specs.Apps.{AppRefused, IsApp}
 use Rattle.otp_files.specs.Reading.{app_of, appup_draft_of, rel_of, relup_draft_of, upgrades_of}
 use Rattle.otp_files.specs.Rels.{IsRel, RelRefused}
-use Rattle.otp_files.specs.Upgrades.{AppupRefused, IsAppup, IsAppupDraft, IsAppupInstruction, IsOutOfAppups, IsOutOfRelups, IsRelup, IsRelupDraft, IsRelupInstruction, RelupRefused}
+use Rattle.otp_files.specs.Upgrades.{AppupRefused, IsAppup, IsAppupDraft, IsAppupInstruction, IsExcluded, IsRelup, IsRelupDraft, IsRelupInstruction, RelupRefused}
 use Rattle.otp_files.proofs.Applied.{app_done, app_judged, app_refused}
 use Rattle.otp_files.proofs.Files.{one_of}
 use Rattle.otp_files.proofs.Released.{rel_done, rel_judged, rel_refused}
@@ -19,6 +19,6 @@ returns c = λ t.
     record {
       app = one_of IsApp AppRefused app_of app_judged app_done app_refused t;
       rel = one_of IsRel RelRefused rel_of rel_judged rel_done rel_refused t;
-      appup = one_of IsAppup AppupRefused (upgrades_of appup_draft_of instruction_result) (upgrades_judged appup_draft_of instruction_result IsAppupDraft IsAppupInstruction IsOutOfAppups appup_draft_reads high) (upgrades_done appup_draft_of instruction_result IsAppupDraft IsAppupInstruction IsOutOfAppups appup_draft_reads high) (upgrades_refused appup_draft_of instruction_result IsAppupDraft IsAppupInstruction IsOutOfAppups appup_draft_reads high) t;
-      relup = one_of IsRelup RelupRefused (upgrades_of relup_draft_of low_result) (upgrades_judged relup_draft_of low_result IsRelupDraft IsRelupInstruction IsOutOfRelups relup_draft_reads low) (upgrades_done relup_draft_of low_result IsRelupDraft IsRelupInstruction IsOutOfRelups relup_draft_reads low) (upgrades_refused relup_draft_of low_result IsRelupDraft IsRelupInstruction IsOutOfRelups relup_draft_reads low) t;
+      appup = one_of IsAppup AppupRefused (upgrades_of appup_draft_of instruction_result) (upgrades_judged appup_draft_of instruction_result IsAppupDraft IsAppupInstruction IsExcluded appup_draft_reads high) (upgrades_done appup_draft_of instruction_result IsAppupDraft IsAppupInstruction IsExcluded appup_draft_reads high) (upgrades_refused appup_draft_of instruction_result IsAppupDraft IsAppupInstruction IsExcluded appup_draft_reads high) t;
+      relup = one_of IsRelup RelupRefused (upgrades_of relup_draft_of low_result) (upgrades_judged relup_draft_of low_result IsRelupDraft IsRelupInstruction IsExcluded relup_draft_reads low) (upgrades_done relup_draft_of low_result IsRelupDraft IsRelupInstruction IsExcluded relup_draft_reads low) (upgrades_refused relup_draft_of low_result IsRelupDraft IsRelupInstruction IsExcluded relup_draft_reads low) t;
     }
