@@ -11,7 +11,10 @@ use std::alloc::Global;
 use std::process::Abort;
 use std::test::Fail;
 use table::Table;
-use undo_journal::{Command, Journal, Replayed, commands_have_one_end, marks_name_nodes, replay};
+use undo_journal::{
+    Command, Journal, Replayed, commands_have_one_end, forgets_drop_the_front, marks_name_nodes,
+    replay,
+};
 
 /// Gives a journal the command of each line, and sees what is answered.
 fn expect_script<S: Scripted>(
@@ -75,6 +78,56 @@ fn serials_go_on_and_dead_marks_stay_dead(rt: HostRuntime) -> Result<(), Fail> {
     expect_script(&rt, alloc, &mut journal, DEAD_MARKS)
 }
 
+/// A forgotten mark is told apart from a dead one, before it and after it.
+const FORGOTTEN: &str = "\
+perform 5 0 ⟶ @1 5
+forget 1 ⟶ @1 5
+undo 0 1 ⟶ Forgotten @1 5
+undo 1 1 ⟶ 0 @1 5
+perform 7 0 ⟶ @2 12
+undo 5 1 ⟶ DeadMark @2 12
+forget 0 ⟶ Forgotten @2 12
+forget 9 ⟶ DeadMark @2 12
+undo 1 1 ⟶ 1:7 @1 5";
+
+#[test]
+fn a_forgotten_mark_is_not_dead(rt: HostRuntime) -> Result<(), Fail> {
+    let alloc = rt.alloc();
+    let mut journal = counting(alloc, &Budget::refusing(alloc, 0)?)?;
+    assert_eq!(rt; journal.mark(), 0);
+    expect_script(&rt, alloc, &mut journal, FORGOTTEN)
+}
+
+/// What is behind the mark of a forget can be undone as before. A mark that was cut is forgotten too, once it is below
+/// the first station's.
+const LATER_STATIONS: &str = "\
+perform 5 0 ⟶ @1 5
+perform 7 0 ⟶ @2 12
+undo 1 0 ⟶ @1 5
+perform 9 0 ⟶ @3 14
+perform 4 0 ⟶ @4 18
+perform 1 0 ⟶ @5 19
+forget 2 ⟶ DeadMark @5 19
+forget 3 ⟶ @5 19
+forget 3 ⟶ @5 19
+undo 2 1 ⟶ Forgotten @5 19
+undo 1 1 ⟶ Forgotten @5 19
+undo 4 1 ⟶ 1:1 @4 18
+forget 5 ⟶ DeadMark @4 18
+perform 18446744073709551615 1 ⟶ Overflow @4 18
+undo 3 2 ⟶ 1:4 1:4 @3 14
+perform 2 0 ⟶ @6 16
+forget 6 ⟶ @6 16
+undo 3 1 ⟶ Forgotten @6 16
+undo 6 1 ⟶ 0 @6 16";
+
+#[test]
+fn later_stations_stay_behind_a_forget(rt: HostRuntime) -> Result<(), Fail> {
+    let alloc = rt.alloc();
+    let mut journal = counting(alloc, &Budget::refusing(alloc, 0)?)?;
+    expect_script(&rt, alloc, &mut journal, LATER_STATIONS)
+}
+
 /// What is taken out of a table comes back to its place.
 const REMOVAL: &str = "\
 perform push:10 0 ⟶ @1 10,
@@ -99,6 +152,7 @@ fn command(word: &str) -> Result<Command<u64>, Fail> {
     let n = number.parse::<u64>()?;
     match name {
         "undo" => Ok(Command::Undo(n)),
+        "forget" => Ok(Command::Forget(n)),
         _ => Ok(Command::Perform(n)),
     }
 }
@@ -112,20 +166,40 @@ fn commands(alloc: Global, text: &str) -> Result<Vec<Command<u64>>, Fail> {
     Ok(items)
 }
 
-const LIST: &str = "perform:5 perform:7 undo:1 perform:9 undo:2 perform:18446744073709551615";
-
-#[test]
-fn a_list_of_commands_is_replayed(rt: HostRuntime) -> Result<(), Fail> {
-    let alloc = rt.alloc();
+/// Gives a list of commands to a new journal, and then the command of each line.
+fn expect_replay(rt: &impl Abort, alloc: Global, list: &str, script: &str) -> Result<(), Fail> {
     let counter = Counter::new(alloc, Budget::refusing(alloc, 0)?);
-    let list = commands(alloc, LIST)?;
+    let list = commands(alloc, list)?;
     let Replayed {
         mut journal,
         missed,
     } = replay(alloc, counter, list.as_slice())?;
     assert_eq!(rt; missed, 0);
-    assert_eq!(rt; (journal.mark(), journal.state().value()), (3, 14));
-    expect_script(&rt, alloc, &mut journal, "undo 0 2 ⟶ 2:5:9 2:5:9 @0 0")
+    expect_script(rt, alloc, &mut journal, script)
+}
+
+/// Lists of commands, each with what is answered behind it.
+const LISTS: [(&str, &str); 3] = [
+    (
+        "perform:5 perform:7 undo:1 perform:9 undo:2 perform:18446744073709551615",
+        "undo 3 0 ⟶ @3 14\nundo 0 2 ⟶ 2:5:9 2:5:9 @0 0",
+    ),
+    (
+        "perform:5 perform:7 forget:1 undo:0 perform:9",
+        "undo 3 0 ⟶ @3 21\nundo 1 1 ⟶ 2:7:9 @1 5",
+    ),
+    (
+        "perform:5 perform:7 forget:2 undo:1 forget:0 forget:9",
+        "undo 2 0 ⟶ @2 12\nundo 1 0 ⟶ Forgotten @2 12",
+    ),
+];
+
+#[test]
+fn lists_of_commands_are_replayed(rt: HostRuntime) -> Result<(), Fail> {
+    for (list, script) in LISTS {
+        expect_replay(&rt, rt.alloc(), list, script)?;
+    }
+    Ok(())
 }
 
 /// The laws are functions that do nothing.
@@ -133,6 +207,7 @@ fn a_list_of_commands_is_replayed(rt: HostRuntime) -> Result<(), Fail> {
 fn laws(_rt: HostRuntime) {
     marks_name_nodes::<Counter>();
     commands_have_one_end::<Counter>();
+    forgets_drop_the_front::<Counter>();
 }
 
 /// Commands, four steps and an undo of three, each with the lines of what it may answer: first, and, where memory was

@@ -16,6 +16,11 @@ module _ {S R N : Type 0} (undoes : R → S → S → Type 0) where
   Chained-push first [] p state h u = (subst (λ s. undoes p.trace s p.node.value) h u, refl)
   Chained-push first (q ∷ ps) p state h u = (h.0, Chained-push q.node.value ps p state h.1 u)
 
+  -- what stands behind an entry is a chain from its node
+  pub Chained-behind : (first : S) (front : List (Entry S R N)) (p : Entry S R N) (ps : List (Entry S R N)) (state : S) → Chained undoes first (front ++ p ∷ ps) state → Chained undoes p.node.value ps state
+  Chained-behind first [] p ps state h = h.1
+  Chained-behind first (q ∷ qs) p ps state h = Chained-behind q.node.value qs p ps state h.1
+
   -- the state is the last station's node
   pub state_of-Chained : (s : Station S N) (ps : List (Entry S R N)) (state : S) → Chained undoes s.node ps state → state ≡ (newest s (stations ps)).node
   state_of-Chained s [] state h = h

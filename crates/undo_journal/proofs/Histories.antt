@@ -1,26 +1,24 @@
 -- Lemmas on whole lists of commands: what stays ordered, which steps are live, what marks name.
 use Rattle.std.proofs.Common.{◌≡◌, ◌≢◌, ℕ, suc, Bool, true, false, ◌+◌, ◌<◌, ◌≤◌, cond, eqb, leb, List, [], ◌∷◌, ◌++◌, length, take, drop, Option, Some, None, is_some, unwrap_or, option_map, Result, Ok, Err, ◌⊎◌, inl, inr, sym, ap, subst, ◌∙◌, refl, arith}
 use Rattle.std.specs.List.{filter}
+use Rattle.std.specs.Result.{IfErr, OnOk, OnErr}
 use Rattle.std.proofs.lemmas.Bool.{cond-true, cond-false, ne_eqb, eqb-true, le-leb, lt-leb, cases_lt}
-use Rattle.std.proofs.lemmas.List.{take_at}
+use Rattle.std.proofs.lemmas.List.{append_assoc}
 use Rattle.undo_journal.specs.declared.history.Command.{Command}
-use Rattle.undo_journal.specs.declared.history.Command.TheVariants.{Perform, Undo}
+use Rattle.undo_journal.specs.declared.history.Command.TheVariants.{Perform, Undo, Forget}
 use Rattle.undo_journal.specs.declared.reversible.Told.{Told}
-use Rattle.undo_journal.specs.Journal.{Performs}
+use Rattle.undo_journal.specs.declared.error.JournalError.{JournalError}
+use Rattle.undo_journal.specs.declared.error.JournalError.TheVariants.{Step, Forgotten, DeadMark, SerialEnd, Memory}
+use Rattle.undo_journal.specs.Journal.{HasNoStation, Performs}
 use Rattle.undo_journal.specs.Reversible.{Accepted}
-use Rattle.undo_journal.specs.Timeline.{Station, Timeline, newest, here, opened, appended, kept_to, cut_to, node_at, Rises, IsOrdered}
-use Rattle.undo_journal.specs.History.{Rule, Live, after_event, IsAfter, AreAfter, live_after_event, live_after_undo, IsLiveAfter, Runs, FoldsTo, IsMadeBy, Makes, CarriedOut, none, done, left_out, stopped, IsMissed, IsReplayOf}
-use Rattle.undo_journal.proofs.Stations.{kept_to-cases, kept_to-one_more, kept_to-names, newest-push, newest-take, Rises-push, Rises-take}
+use Rattle.undo_journal.specs.Timeline.{Station, Timeline, newest, here, opened, appended, kept_to, cut_to, forgotten_to, node_at, Rises, IsOrdered}
+use Rattle.undo_journal.specs.History.{Rule, Live, after_event, IsAfter, AreAfter, live_after_event, live_after_undo, IsLiveAfter, Runs, FoldsTo, IsMadeBy, Makes, MakesKept, CarriedOut, none, done, left_out, stopped, IsMissed, IsReplayOf}
+use Rattle.undo_journal.proofs.Forgets.{Forgets, Forgets-of, forgotten_to-mark, forgotten_to-front, forgotten_to-uncut, IsOrdered-forgotten}
+use Rattle.undo_journal.proofs.Stations.{kept_to-above, kept_to-behind, kept_to-cases, kept_to-one_more, kept_to-take, newest-above, newest-append, newest-push, newest-take, Rises-behind, Rises-front, Rises-push, Rises-take}
 
 -- Order
 
 module _ {S N : Type 0} where
-  -- what an undo keeps is a front
-  pub kept_to-take : (m : ℕ) (s : Station S N) (ss kept : List (Station S N)) → kept_to m s ss ≡ Some kept → take (length kept) ss ≡ kept
-  kept_to-take m s ss kept is =
-      let names = kept_to-names m s ss kept is in
-      ap (λ us. take (length kept) us) names.1 ∙ take_at kept (drop (length kept) ss) (length kept) refl
-
   pub IsOrdered-opened : (node : S) → IsOrdered (opened {N = N} node)
   IsOrdered-opened node = record { rises = tt; given = omega arith }
 
@@ -58,11 +56,17 @@ module _ {S E A N F : Type 0} (rule : Rule S E A N F) where
   IsOrdered-undo m t None is ordered = ordered
   IsOrdered-undo m t (Some u) is ordered = IsOrdered-cut m t u is ordered
 
+  IsOrdered-forget : (m : ℕ) (t : Timeline S N) (o : Option (Timeline S N)) → forgotten_to m t ≡ o → IsOrdered t → IsOrdered (unwrap_or o t)
+  IsOrdered-forget m t None is ordered = ordered
+  IsOrdered-forget m t (Some u) is ordered = IsOrdered-forgotten m t u is ordered
+
   pub IsOrdered-command : (t u : Timeline S N) (c : Command E) → IsAfter rule t c u → IsOrdered t → IsOrdered u
   IsOrdered-command t u (Perform e) is ordered =
       subst (λ (v : Timeline S N). IsOrdered v) (sym is.2) (IsOrdered-event t is.0 ordered)
   IsOrdered-command t u (Undo m) is ordered =
       subst (λ (v : Timeline S N). IsOrdered v) (sym is) (IsOrdered-undo m t (cut_to m t) refl ordered)
+  IsOrdered-command t u (Forget m) is ordered =
+      subst (λ (v : Timeline S N). IsOrdered v) (sym is) (IsOrdered-forget m t (forgotten_to m t) refl ordered)
 
   pub IsOrdered-after : (cs : List (Command E)) (t u : Timeline S N) → AreAfter rule cs t u → IsOrdered t → IsOrdered u
   IsOrdered-after [] t u are ordered = subst (λ (v : Timeline S N). IsOrdered v) (sym are) ordered
@@ -78,6 +82,21 @@ module _ {S E A N F : Type 0} (rule : Rule S E A N F) where
   pub IsAfter-refused : (t u : Timeline S N) (c : Command E) (e : E) (f : F) → c ≡ Perform e → rule (here t).node e (Err f) → u ≡ t → IsAfter rule t c u
   IsAfter-refused t u c e f is refused same = subst (λ d. IsAfter rule t d u) (sym is) (Err f, refused, same)
 
+  -- and a forget, where it found the mark's station and where it found none
+
+  IsAfter-unforgotten : (t u : Timeline S N) (m : ℕ) (e : JournalError F N) → HasNoStation m t e → u ≡ t → u ≡ unwrap_or (forgotten_to m t) t
+  IsAfter-unforgotten t u m (Step f) dead same = absurd dead
+  IsAfter-unforgotten t u m Forgotten dead same = rw (forgotten_to-uncut m t dead.1) same
+  IsAfter-unforgotten t u m DeadMark dead same = rw (forgotten_to-uncut m t dead.1) same
+  IsAfter-unforgotten t u m SerialEnd dead same = absurd dead
+  IsAfter-unforgotten t u m (Memory mark reports) dead same = absurd dead
+
+  pub IsAfter-forgotten : {X : Type 0} (t u : Timeline S N) (c : Command E) (m : ℕ) (result : Result X (JournalError F N)) → c ≡ Forget m → OnOk result (forgotten_to m t ≡ Some u) → IfErr result (HasNoStation m t) → OnErr result (u ≡ t) → IsAfter rule t c u
+  IsAfter-forgotten t u c m (Ok x) is found dead same =
+      subst (λ d. IsAfter rule t d u) (sym is) (rw found refl)
+  IsAfter-forgotten t u c m (Err e) is found dead same =
+      subst (λ d. IsAfter rule t d u) (sym is) (IsAfter-unforgotten t u m e dead same)
+
   -- serials go on by one at most, and never back
   last-event : (t : Timeline S N) (ruled : Result (Accepted S A N) F) → (t.last ≤ (after_event t ruled).last) × ((after_event t ruled).last ≤ t.last + 1)
   last-event t (Ok a) = (omega arith, omega arith)
@@ -87,31 +106,21 @@ module _ {S E A N F : Type 0} (rule : Rule S E A N F) where
   last-undo m t None is = refl
   last-undo m t (Some u) is = (cut_to-parts m t u is).2
 
+  last-forget : (m : ℕ) (t : Timeline S N) (o : Option (Timeline S N)) → forgotten_to m t ≡ o → (unwrap_or o t).last ≡ t.last
+  last-forget m t None is = refl
+  last-forget m t (Some u) is = (Forgets-of m t u is).last
+
   pub last-command : (t u : Timeline S N) (c : Command E) → IsAfter rule t c u → (t.last ≤ u.last) × (u.last ≤ t.last + 1)
   last-command t u (Perform e) is =
       subst (λ (v : Timeline S N). (t.last ≤ v.last) × (v.last ≤ t.last + 1)) (sym is.2) (last-event t is.0)
   last-command t u (Undo m) is =
       let same = ap (λ (v : Timeline S N). v.last) is ∙ last-undo m t (cut_to m t) refl in
       (omega (arith, same), omega (arith, same))
+  last-command t u (Forget m) is =
+      let same = ap (λ (v : Timeline S N). v.last) is ∙ last-forget m t (forgotten_to m t) refl in
+      (omega (arith, same), omega (arith, same))
 
 -- Live steps
-
-module _ {S N : Type 0} where
-  -- a mark that keeps anything isn't below the first station
-  pub kept_to-above : (m : ℕ) (s : Station S N) (ss kept : List (Station S N)) → Rises s.serial ss → kept_to m s ss ≡ Some kept → s.serial ≤ m
-  kept_to-above m s [] kept rises is =
-      elim (kept_to-cases (eqb m s.serial) None kept is) [
-        | inl h ↦ omega (arith, eqb-true m s.serial h.0)
-        | inr h ↦ absurd (let no : ⊥ = cc in no)
-      ]
-  kept_to-above m s (t ∷ ts) kept rises is =
-      elim (kept_to-cases (eqb m s.serial) (option_map (λ ks. t ∷ ks) (kept_to m t ts)) kept is) [
-        | inl h ↦ omega (arith, eqb-true m s.serial h.0)
-        | inr h ↦
-            let more = kept_to-one_more t (kept_to m t ts) kept h in
-            let above = kept_to-above m t ts more.0 rises.1 more.1 in
-            omega (arith, above, rises.0)
-      ]
 
 module _ {S E A N F : Type 0} (rule : Rule S E A N F) where
   -- one live step more makes one station more
@@ -157,22 +166,34 @@ module _ {S E A N F : Type 0} (rule : Rule S E A N F) where
             rw (more.2, live) (makes.0, makes.1, Makes-kept m t xs ts more.0 rises.1 makes.2 more.1)
       ]
 
-  -- the steps so far make the stations so far
+  -- The steps so far make the stations so far, behind a front of them that is forgotten.
   pub record Follows (node : S) (t : Timeline S N) (steps : List (Live E)) : Type 0 where
-    pub ordered : IsOrdered t
-    pub first_node : t.first.node ≡ node
-    pub makes : Makes rule t.first.node steps t.later
+    pub front : List (Station S N)
+    pub first : t.first ≡ newest (opened {N = N} node).first front
+    pub ordered : IsOrdered record { first = (opened {N = N} node).first; later = front ++ t.later; last = t.last }
+    pub makes : Makes rule node steps (front ++ t.later)
 
   pub Follows-opened : (node : S) → Follows node (opened node) []
-  Follows-opened node = record { ordered = IsOrdered-opened node; first_node = refl; makes = tt }
+  Follows-opened node = record { front = []; first = refl; ordered = IsOrdered-opened node; makes = tt }
+
+  -- where it stands, without what is forgotten and with it
+  newest-whole : (node : S) (t : Timeline S N) (steps : List (Live E)) → (follows : Follows node t steps) → newest (opened {N = N} node).first (follows.front ++ t.later) ≡ here t
+  newest-whole node t steps follows =
+      newest-append (opened {N = N} node).first follows.front t.later ∙ ap (λ s. newest s t.later) (sym follows.first)
 
   Follows-event : (node : S) (t : Timeline S N) (steps : List (Live E)) (e : E) (r : Result (Accepted S A N) F) → rule (here t).node e r → Follows node t steps → Follows node (after_event t r) (live_after_event t e r steps)
   Follows-event node t steps e (Ok a) is follows =
       let station : Station S N = record { serial = t.last + 1; node = a.node; note = Some a.note } in
+      let begun = (opened {N = N} node).first in
+      let front = follows.front in
+      let more = append_assoc front t.later (station ∷ []) in
+      let ruled = subst (λ (s : Station S N). rule s.node e (Ok a)) (sym (newest-whole node t steps follows)) is in
+      let whole : Timeline S N = record { first = begun; later = front ++ t.later; last = t.last } in
       record {
-        ordered = IsOrdered-appended t a.node a.note follows.ordered;
-        first_node = follows.first_node;
-        makes = Makes-push t.first steps t.later record { serial = t.last + 1; event = e } station follows.makes refl (a, is, refl, refl);
+        front = front;
+        first = follows.first;
+        ordered = subst (λ ss. IsOrdered record { first = begun; later = ss; last = t.last + 1 }) more (IsOrdered-appended whole a.node a.note follows.ordered);
+        makes = subst (λ ss. Makes rule node (steps ++ record { serial = t.last + 1; event = e } ∷ []) ss) more (Makes-push begun steps (front ++ t.later) record { serial = t.last + 1; event = e } station follows.makes refl (a, ruled, refl, refl));
       }
   Follows-event node t steps e (Err f) is follows = follows
 
@@ -180,10 +201,36 @@ module _ {S E A N F : Type 0} (rule : Rule S E A N F) where
   Follows-undo node t steps m None is follows = follows
   Follows-undo node t steps m (Some u) is follows =
       let parts = cut_to-parts m t u is in
+      let begun = (opened {N = N} node).first in
+      let front = follows.front in
+      let rises = follows.ordered.rises in
+      let first_serial : t.first.serial ≡ (newest begun front).serial = ap (λ (s : Station S N). s.serial) follows.first in
+      let above = kept_to-above m t.first t.later u.later (subst (λ n. Rises n t.later) (sym first_serial) (Rises-behind begun front t.later rises)) parts.0 in
+      let behind = kept_to-behind m begun front t.later (Rises-front begun front t.later rises) (omega (arith, above, first_serial)) in
+      let keeps : kept_to m begun (front ++ t.later) ≡ Some (front ++ u.later) = behind ∙ ap (λ o. option_map (λ ks. front ++ ks) o) (ap (λ s. kept_to m s t.later) (sym follows.first) ∙ parts.0) in
+      let whole : Timeline S N = record { first = begun; later = front ++ t.later; last = t.last } in
+      let left : Timeline S N = record { first = begun; later = front ++ u.later; last = t.last } in
+      let cut : cut_to m whole ≡ Some left = ap (λ o. option_map (λ ks. record { first = begun; later = ks; last = t.last }) o) keeps in
       record {
-        ordered = IsOrdered-cut m t u is follows.ordered;
-        first_node = rw parts.1 follows.first_node;
-        makes = rw parts.1 (Makes-kept m t.first steps t.later u.later follows.ordered.rises follows.makes parts.0);
+        front = front;
+        first = parts.1 ∙ follows.first;
+        ordered = subst (λ n. IsOrdered record { first = begun; later = front ++ u.later; last = n }) (sym parts.2) (IsOrdered-cut m whole left cut follows.ordered);
+        makes = Makes-kept m begun steps (front ++ t.later) (front ++ u.later) rises follows.makes keeps;
+      }
+
+  -- a forget adds to what is forgotten
+  Follows-forget : (node : S) (t : Timeline S N) (steps : List (Live E)) (m : ℕ) (o : Option (Timeline S N)) → forgotten_to m t ≡ o → Follows node t steps → Follows node (unwrap_or o t) steps
+  Follows-forget node t steps m None is follows = follows
+  Follows-forget node t steps m (Some u) is follows =
+      let parts = Forgets-of m t u is in
+      let begun = (opened {N = N} node).first in
+      let front = follows.front in
+      let more : front ++ t.later ≡ (front ++ parts.front) ++ u.later = ap (λ ss. front ++ ss) parts.later ∙ sym (append_assoc front parts.front u.later) in
+      record {
+        front = front ++ parts.front;
+        first = parts.first ∙ ap (λ s. newest s parts.front) follows.first ∙ sym (newest-append begun front parts.front);
+        ordered = subst (λ n. IsOrdered record { first = begun; later = (front ++ parts.front) ++ u.later; last = n }) (sym parts.last) (subst (λ ss. IsOrdered record { first = begun; later = ss; last = t.last }) more follows.ordered);
+        makes = subst (λ ss. Makes rule node steps ss) more follows.makes;
       }
 
   pub Follows-command : (node : S) (t u : Timeline S N) (steps live : List (Live E)) (c : Command E) → IsLiveAfter rule t steps c u live → Follows node t steps → Follows node u live
@@ -191,6 +238,8 @@ module _ {S E A N F : Type 0} (rule : Rule S E A N F) where
       subst (λ xs. Follows node u xs) (sym is.3) (subst (λ v. Follows node v (live_after_event t e is.0 steps)) (sym is.2) (Follows-event node t steps e is.0 is.1 follows))
   Follows-command node t u steps live (Undo m) is follows =
       subst (λ xs. Follows node u xs) (sym is.1) (subst (λ v. Follows node v (live_after_undo m t steps)) (sym is.0) (Follows-undo node t steps m (cut_to m t) refl follows))
+  Follows-command node t u steps live (Forget m) is follows =
+      subst (λ xs. Follows node u xs) (sym is.1) (subst (λ v. Follows node v steps) (sym is.0) (Follows-forget node t steps m (forgotten_to m t) refl follows))
 
   pub Follows-after : (node : S) (cs : List (Command E)) (t u : Timeline S N) (steps live : List (Live E)) → Runs rule cs t steps u live → Follows node t steps → Follows node u live
   Follows-after node [] t u steps live runs follows =
@@ -207,22 +256,29 @@ module _ {S E A N F : Type 0} (rule : Rule S E A N F) where
       let made = makes.1 in
       (made.0, made.1, subst (λ n. FoldsTo rule n xs (newest t ts).node) made.2 (FoldsTo-made t xs ts makes.2))
 
-  -- the live steps of a whole list make its stations, and their fold is its node
-  pub Makes-live : (node : S) (cs : List (Command E)) (t : Timeline S N) (live : List (Live E)) → Runs rule cs (opened node) [] t live → Makes rule node live t.later
+  -- the live steps of a whole list make its stations and those that are forgotten, and their fold is its node
+  pub Makes-live : (node : S) (cs : List (Command E)) (t : Timeline S N) (live : List (Live E)) → Runs rule cs (opened node) [] t live → MakesKept rule node live t
   Makes-live node cs t live runs =
       let follows = Follows-after node cs (opened node) t [] live runs (Follows-opened node) in
-      subst (λ n. Makes rule n live t.later) follows.first_node follows.makes
+      record {
+        whole = record { first = (opened {N = N} node).first; later = follows.front ++ t.later; last = t.last };
+        ordered = follows.ordered;
+        begun = refl;
+        makes = follows.makes;
+        kept = forgotten_to-front (opened {N = N} node).first follows.front t follows.ordered.rises follows.first;
+      }
 
   pub FoldsTo-live : (node : S) (cs : List (Command E)) (t : Timeline S N) (live : List (Live E)) → Runs rule cs (opened node) [] t live → FoldsTo rule node live (here t).node
   FoldsTo-live node cs t live runs =
       let follows = Follows-after node cs (opened node) t [] live runs (Follows-opened node) in
-      subst (λ n. FoldsTo rule n live (here t).node) follows.first_node (FoldsTo-made t.first live t.later follows.makes)
+      subst (λ (s : Station S N). FoldsTo rule node live s.node) (newest-whole node t live follows) (FoldsTo-made (opened {N = N} node).first live (follows.front ++ t.later) follows.makes)
 
   -- commands with their live steps, and without them
 
   pub IsAfter-live : (t u : Timeline S N) (steps live : List (Live E)) (c : Command E) → IsLiveAfter rule t steps c u live → IsAfter rule t c u
   IsAfter-live t u steps live (Perform e) is = (is.0, is.1, is.2)
   IsAfter-live t u steps live (Undo m) is = is.0
+  IsAfter-live t u steps live (Forget m) is = is.0
 
   pub AreAfter-runs : (cs : List (Command E)) (t u : Timeline S N) (steps live : List (Live E)) → Runs rule cs t steps u live → AreAfter rule cs t u
   AreAfter-runs [] t u steps live runs = runs.0
@@ -232,6 +288,7 @@ module _ {S E A N F : Type 0} (rule : Rule S E A N F) where
   IsLiveAfter-of : (t u : Timeline S N) (steps : List (Live E)) (c : Command E) → IsAfter rule t c u → (live : List (Live E)) × IsLiveAfter rule t steps c u live
   IsLiveAfter-of t u steps (Perform e) is = (live_after_event t e is.0 steps, (is.0, is.1, is.2, refl))
   IsLiveAfter-of t u steps (Undo m) is = (live_after_undo m t steps, (is, refl))
+  IsLiveAfter-of t u steps (Forget m) is = (steps, (is, refl))
 
   pub Runs-of : (cs : List (Command E)) (t u : Timeline S N) (steps : List (Live E)) → AreAfter rule cs t u → (live : List (Live E)) × Runs rule cs t steps u live
   Runs-of [] t u steps are = (steps, (are, refl))
@@ -252,6 +309,7 @@ module _ {S E A N F : Type 0} (rule : Rule S E A N F) (one : (node : S) (event :
   IsAfter-one t u v (Perform e) first second =
       first.2 ∙ ap (λ r. after_event t r) (one (here t).node e first.0 second.0 first.1 second.1) ∙ sym second.2
   IsAfter-one t u v (Undo m) first second = first ∙ sym second
+  IsAfter-one t u v (Forget m) first second = first ∙ sym second
 
   pub AreAfter-one : (cs : List (Command E)) (t u v : Timeline S N) → AreAfter rule cs t u → AreAfter rule cs t v → u ≡ v
   AreAfter-one [] t u v first second = first ∙ sym second
@@ -266,6 +324,8 @@ module _ {S E A N F : Type 0} (rule : Rule S E A N F) (one : (node : S) (event :
         first.3 ∙ ap (λ r. live_after_event t e r steps) same ∙ sym second.3,
       )
   IsLiveAfter-one t u v steps live others (Undo m) first second =
+      (first.0 ∙ sym second.0, first.1 ∙ sym second.1)
+  IsLiveAfter-one t u v steps live others (Forget m) first second =
       (first.0 ∙ sym second.0, first.1 ∙ sym second.1)
 
   pub Runs-one : (cs : List (Command E)) (t u v : Timeline S N) (steps live others : List (Live E)) → Runs rule cs t steps u live → Runs rule cs t steps v others → (u ≡ v) × (live ≡ others)
@@ -324,6 +384,15 @@ module _ {S N : Type 0} where
             rw more.2 (λ below. ap (λ o. cond (eqb m s.serial) (Some s.node) o) (rest.0 below), λ above. cond-false (eqb m s.serial) (Some s.node) (node_in m (t ∷ more.0)) (ne_eqb m s.serial (λ e. absurd (omega (arith, low, rises.0, e, above)))) ∙ rest.1 above)
       ]
 
+  -- of the stations behind a front that is forgotten
+  node_in-behind : (m : ℕ) (s : Station S N) (front ss : List (Station S N)) → Rises s.serial (front ++ ss) → ((newest s front).serial ≤ m → node_in m (newest s front ∷ ss) ≡ node_in m (s ∷ (front ++ ss))) × (m < (newest s front).serial → node_in m (newest s front ∷ ss) ≡ None)
+  node_in-behind m s [] ss rises =
+      (λ from. refl, λ below. cond-false (eqb m s.serial) (Some s.node) (node_in m ss) (ne_eqb m s.serial (λ e. absurd (omega (arith, e, below)))) ∙ node_in-below m ss s.serial (omega (arith, below)) rises)
+  node_in-behind m s (t ∷ ts) ss rises =
+      let rest = node_in-behind m t ts ss rises.1 in
+      let above = newest-above t ts (Rises-front t ts ss rises.1) in
+      (λ from. rest.0 from ∙ sym (cond-false (eqb m s.serial) (Some s.node) (node_in m (t ∷ (ts ++ ss))) (ne_eqb m s.serial (λ e. absurd (omega (arith, rises.0, above, from, e))))), rest.1)
+
   -- that node is where an undo to the serial ends
   node_in-undo : (m : ℕ) (s : Station S N) (ss : List (Station S N)) → option_map (λ ks. (newest s ks).node) (kept_to m s ss) ≡ node_in m (s ∷ ss)
   node_in-undo m s [] =
@@ -355,6 +424,16 @@ module _ {S N : Type 0} where
       let left = node_at-in m u ∙ ap (λ s. node_in m (s ∷ u.later)) parts.1 in
       (λ below. left ∙ kept.0 below ∙ sym (node_at-in m t), λ above. left ∙ kept.1 above)
 
+  -- and what a forget leaves
+  pub node_at-forgotten : (floor m : ℕ) (t u : Timeline S N) → IsOrdered t → forgotten_to floor t ≡ Some u → (floor ≤ m → node_at m u ≡ node_at m t) × (m < floor → node_at m u ≡ None)
+  node_at-forgotten floor m t u ordered is =
+      let parts = Forgets-of floor t u is in
+      let serial : (newest t.first parts.front).serial ≡ floor = ap (λ (s : Station S N). s.serial) (sym parts.first) ∙ forgotten_to-mark floor t u is in
+      let behind = node_in-behind m t.first parts.front u.later (subst (λ ss. Rises t.first.serial ss) parts.later ordered.rises) in
+      let left = node_at-in m u ∙ ap (λ s. node_in m (s ∷ u.later)) parts.first in
+      let whole = ap (λ ss. node_in m (t.first ∷ ss)) (sym parts.later) ∙ sym (node_at-in m t) in
+      (λ from. left ∙ behind.0 (omega (arith, serial, from)) ∙ whole, λ below. left ∙ behind.1 (omega (arith, serial, below)))
+
 module _ {S E A N F : Type 0} (rule : Rule S E A N F) where
   -- what an event leaves of them
   pub node_at-event : (m : ℕ) (t : Timeline S N) (ruled : Result (Accepted S A N) F) → m ≤ t.last → node_at m (after_event t ruled) ≡ node_at m t
@@ -368,11 +447,19 @@ module _ {S E A N F : Type 0} (rule : Rule S E A N F) where
       let left = node_at-cut end m t u ordered is in
       elim (cases_lt end m) [ inl above ↦ inr (left.1 above) | inr below ↦ inl (left.0 below) ]
 
+  node_at-forget : (m floor : ℕ) (t : Timeline S N) (o : Option (Timeline S N)) → IsOrdered t → forgotten_to floor t ≡ o → (node_at m (unwrap_or o t) ≡ node_at m t) ⊎ (node_at m (unwrap_or o t) ≡ None)
+  node_at-forget m floor t None ordered is = inl refl
+  node_at-forget m floor t (Some u) ordered is =
+      let left = node_at-forgotten floor m t u ordered is in
+      elim (cases_lt m floor) [ inl below ↦ inr (left.1 below) | inr from ↦ inl (left.0 from) ]
+
   node_at-command : (m : ℕ) (t u : Timeline S N) (c : Command E) → IsAfter rule t c u → IsOrdered t → m ≤ t.last → (node_at m u ≡ node_at m t) ⊎ (node_at m u ≡ None)
   node_at-command m t u (Perform e) is ordered given =
       inl (ap (λ (v : Timeline S N). node_at m v) is.2 ∙ node_at-event m t is.0 given)
   node_at-command m t u (Undo end) is ordered given =
       subst (λ (v : Timeline S N). (node_at m v ≡ node_at m t) ⊎ (node_at m v ≡ None)) (sym is) (node_at-undo m end t (cut_to end t) ordered refl)
+  node_at-command m t u (Forget floor) is ordered given =
+      subst (λ (v : Timeline S N). (node_at m v ≡ node_at m t) ⊎ (node_at m v ≡ None)) (sym is) (node_at-forget m floor t (forgotten_to floor t) ordered refl)
 
   -- a mark that is alive after commands names what it named before them
   pub node_at-after : (m : ℕ) (cs : List (Command E)) (t u : Timeline S N) (n : S) → AreAfter rule cs t u → IsOrdered t → m ≤ t.last → node_at m u ≡ Some n → node_at m t ≡ Some n
@@ -441,10 +528,12 @@ module _ {S E A N F : Type 0} (rule : Rule S E A N F) where
     carried_out = CarriedOut-stopped m is.0 is.1 on.carried_out;
     leads = AreAfter-push on.carried (Undo is.0) begun t u on.leads is.2;
   }
+  CarriedOn-missed begun t u asked missed (Forget m) on is = absurd is
 
   pub last-missed : (t u : Timeline S N) (c : Command E) → IsMissed t c u → u.last ≤ t.last + 1
   last-missed t u (Perform e) is = let same = ap (λ (v : Timeline S N). v.last) is in omega (arith, same)
   last-missed t u (Undo m) is = (last-command rule t u (Undo is.0) is.2).1
+  last-missed t u (Forget m) is = absurd is
 
   -- at the end
   pub IsReplayOf-all : (node : S) (commands : List (Command E)) (missed : ℕ) (t : Timeline S N) → CarriedOn (opened node) t commands missed → IsReplayOf rule node commands missed t

@@ -1,9 +1,10 @@
 -- Lemmas on stations whose serials rise: where a mark stands, and what a cut keeps and removes.
-use Rattle.std.proofs.Common.{◌≡◌, ◌≢◌, ℕ, zero, suc, ◌-◌, ◌<◌, ◌≤◌, cond, eqb, true, false, Bool, List, [], ◌∷◌, ◌++◌, length, get_or, take, drop, map, Option, Some, None, option_map, ◌⊎◌, inl, inr, sym, ap, ◌∙◌, refl, arith}
+use Rattle.std.proofs.Common.{◌≡◌, ◌≢◌, ℕ, zero, suc, ◌-◌, ◌<◌, ◌≤◌, cond, eqb, true, false, Bool, List, [], ◌∷◌, ◌++◌, length, get_or, take, drop, map, Option, Some, None, option_map, ◌⊎◌, inl, inr, sym, ap, subst, ◌∙◌, refl, arith}
 use Rattle.std.proofs.lemmas.Bool.{cond-true, cond-false, eq-eqb, ne_eqb, eqb-true}
+use Rattle.std.proofs.lemmas.List.{take_at}
 use Rattle.undo_journal.specs.declared.past.Entry.{Entry}
 use Rattle.undo_journal.specs.Past.{station_of, stations}
-use Rattle.undo_journal.specs.Timeline.{Station, newest, kept_to, notes_of, Rises}
+use Rattle.undo_journal.specs.Timeline.{Station, newest, kept_to, from_mark, notes_of, Rises}
 
 module _ {S N : Type 0} where
   -- a mark at the first of the stations
@@ -81,6 +82,92 @@ module _ {S N : Type 0} where
             let names = kept_to-names m t ts more.0 more.1 in
             (rw more.2 names.0, rw more.2 (ap (λ us. t ∷ us) names.1))
       ]
+
+  -- what an undo keeps is a front
+  pub kept_to-take : (m : ℕ) (s : Station S N) (ss kept : List (Station S N)) → kept_to m s ss ≡ Some kept → take (length kept) ss ≡ kept
+  kept_to-take m s ss kept is =
+      let names = kept_to-names m s ss kept is in
+      ap (λ us. take (length kept) us) names.1 ∙ take_at kept (drop (length kept) ss) (length kept) refl
+
+  -- a mark that keeps anything isn't below the first station
+  pub kept_to-above : (m : ℕ) (s : Station S N) (ss kept : List (Station S N)) → Rises s.serial ss → kept_to m s ss ≡ Some kept → s.serial ≤ m
+  kept_to-above m s [] kept rises is =
+      elim (kept_to-cases (eqb m s.serial) None kept is) [
+        | inl h ↦ omega (arith, eqb-true m s.serial h.0)
+        | inr h ↦ absurd (let no : ⊥ = cc in no)
+      ]
+  kept_to-above m s (t ∷ ts) kept rises is =
+      elim (kept_to-cases (eqb m s.serial) (option_map (λ ks. t ∷ ks) (kept_to m t ts)) kept is) [
+        | inl h ↦ omega (arith, eqb-true m s.serial h.0)
+        | inr h ↦
+            let more = kept_to-one_more t (kept_to m t ts) kept h in
+            let above = kept_to-above m t ts more.0 rises.1 more.1 in
+            omega (arith, above, rises.0)
+      ]
+
+  -- a list of stations behind another
+  pub newest-append : (s : Station S N) (front ss : List (Station S N)) → newest s (front ++ ss) ≡ newest (newest s front) ss
+  newest-append s [] ss = refl
+  newest-append s (t ∷ ts) ss = newest-append t ts ss
+
+  -- behind a front serials rise from its newest, and up to that they rise too
+  pub Rises-behind : (s : Station S N) (front ss : List (Station S N)) → Rises s.serial (front ++ ss) → Rises (newest s front).serial ss
+  Rises-behind s [] ss h = h
+  Rises-behind s (t ∷ ts) ss h = Rises-behind t ts ss h.1
+
+  pub Rises-front : (s : Station S N) (front ss : List (Station S N)) → Rises s.serial (front ++ ss) → Rises s.serial front
+  Rises-front s [] ss h = tt
+  Rises-front s (t ∷ ts) ss h = (h.0, Rises-front t ts ss h.1)
+
+  -- serials rise along a front and what stands behind it
+  pub Rises-joined : (s : Station S N) (front ss : List (Station S N)) → Rises s.serial front → Rises (newest s front).serial ss → Rises s.serial (front ++ ss)
+  Rises-joined s [] ss front_rises h = h
+  Rises-joined s (t ∷ ts) ss front_rises h = (front_rises.0, Rises-joined t ts ss front_rises.1 h)
+
+  -- a mark that isn't below a front's newest keeps the front, and of what stands behind what it keeps of that
+  pub kept_to-behind : (m : ℕ) (s : Station S N) (front ss : List (Station S N)) → Rises s.serial front → (newest s front).serial ≤ m → kept_to m s (front ++ ss) ≡ option_map (λ ks. front ++ ks) (kept_to m (newest s front) ss)
+  kept_to-behind m s [] ss rises from = same (kept_to m s ss) where
+    same : (o : Option (List (Station S N))) → o ≡ option_map (λ ks. ks) o
+    same None = refl
+    same (Some ks) = refl
+  kept_to-behind m s (t ∷ ts) ss rises from =
+      let above = newest-above t ts rises.1 in
+      kept_to-later m s t (ts ++ ss) (λ e. absurd (omega (arith, rises.0, above, from, e))) ∙ ap (λ o. option_map (λ ks. t ∷ ks) o) (kept_to-behind m t ts ss rises.1 from) ∙ both (kept_to m (newest t ts) ss)
+    where
+      both : (o : Option (List (Station S N))) → option_map (λ ks. t ∷ ks) (option_map (λ ks. ts ++ ks) o) ≡ option_map (λ ks. t ∷ (ts ++ ks)) o
+      both None = refl
+      both (Some ks) = refl
+
+  -- a mark that keeps some of a front keeps the same of more stations
+  pub kept_to-more : (m : ℕ) (s : Station S N) (front ss kept : List (Station S N)) → kept_to m s front ≡ Some kept → kept_to m s (front ++ ss) ≡ Some kept
+  kept_to-more m s [] ss kept is =
+      elim (kept_to-cases (eqb m s.serial) None kept is) [
+        | inl h ↦ rw (h.1, eqb-true m s.serial h.0) (kept_to-first s ss)
+        | inr h ↦ absurd (let no : ⊥ = cc in no)
+      ]
+  kept_to-more m s (t ∷ ts) ss kept is =
+      at (λ ks. kept_to-more m t ts ss ks) (eqb m s.serial) is where
+        at : ((ks : List (Station S N)) → kept_to m t ts ≡ Some ks → kept_to m t (ts ++ ss) ≡ Some ks) → (b : Bool) → cond b (Some []) (option_map (λ ks. t ∷ ks) (kept_to m t ts)) ≡ Some kept → cond b (Some []) (option_map (λ ks. t ∷ ks) (kept_to m t (ts ++ ss))) ≡ Some kept
+        at rest true keeps = keeps
+        at rest false keeps =
+            let more = kept_to-one_more t (kept_to m t ts) kept keeps in
+            ap (λ o. option_map (λ ks. t ∷ ks) o) (rest more.0 more.1) ∙ ap (λ ks. Some ks) (sym more.2)
+
+  -- a forget finds the station where an undo ends, and those that an undo cuts
+  pub from_mark-kept : (m : ℕ) (s : Station S N) (ss : List (Station S N)) → from_mark m s ss ≡ option_map (λ kept. (newest s kept, drop (length kept) ss)) (kept_to m s ss)
+  from_mark-kept m s [] = at (eqb m s.serial) where
+    at : (b : Bool) → cond {A = Option (Station S N × List (Station S N))} b (Some (s, [])) None ≡ option_map (λ kept. (newest s kept, drop (length kept) [])) (cond b (Some []) None)
+    at true = refl
+    at false = refl
+  from_mark-kept m s (t ∷ ts) =
+      at (from_mark-kept m t ts) (eqb m s.serial) where
+        later : (o : Option (List (Station S N))) → option_map {U = Station S N × List (Station S N)} (λ kept. (newest t kept, drop (length kept) ts)) o ≡ option_map (λ kept. (newest s kept, drop (length kept) (t ∷ ts))) (option_map (λ ks. t ∷ ks) o)
+        later None = refl
+        later (Some ks) = refl
+
+        at : from_mark m t ts ≡ option_map (λ kept. (newest t kept, drop (length kept) ts)) (kept_to m t ts) → (b : Bool) → cond {A = Option (Station S N × List (Station S N))} b (Some (s, t ∷ ts)) (from_mark m t ts) ≡ option_map (λ kept. (newest s kept, drop (length kept) (t ∷ ts))) (cond b (Some []) (option_map (λ ks. t ∷ ks) (kept_to m t ts)))
+        at rest true = refl
+        at rest false = rest ∙ later (kept_to m t ts)
 
   -- one station more, above them all
   pub newest-push : (s : Station S N) (ss : List (Station S N)) (t : Station S N) → newest s (ss ++ t ∷ []) ≡ t

@@ -1,20 +1,21 @@
 -- Lemmas on what a call of a journal does to its timeline.
 use Rattle.std.proofs.Common.{◌≡◌, ℕ, zero, suc, ◌+◌, ◌-◌, ◌<◌, ◌≤◌, List, [], ◌∷◌, ◌++◌, length, take, drop, map, replicate, Some, Option, Result, option_map, sym, ap, subst, ◌∙◌, refl, inl, inr, add-one, arith}
-use Rattle.std.proofs.lemmas.List.{append-nil, map_push, take-map, drop-map, take_all, drop_all, take-take, length-take-le, length-drop, length-map, drop-drop, take-append-drop, drop-append-le, take_rest}
-use Rattle.std.proofs.Math.Seq.{take-length, drop-length}
+use Rattle.std.proofs.lemmas.List.{append-nil, append_assoc, map-append, map_push, length-append, take-map, drop-map, take_all, drop_all, take-take, length-take-le, length-drop, length-map, drop-drop, take-append-drop, drop-append-le, take_rest}
+use Rattle.std.proofs.Math.Seq.{take-length, drop-length, take-append_seam}
 use Rattle.std.proofs.lemmas.Bool.{cases_lt}
 use Rattle.undo_journal.specs.declared.past.Entry.{Entry}
 use Rattle.undo_journal.specs.declared.report.Report.{Report}
 use Rattle.undo_journal.specs.declared.reversible.Told.{Told}
 use Rattle.undo_journal.specs.declared.error.JournalError.{JournalError}
-use Rattle.undo_journal.specs.declared.error.JournalError.TheVariants.{Step, DeadMark, SerialEnd, Memory}
+use Rattle.undo_journal.specs.declared.error.JournalError.TheVariants.{Step, Forgotten, DeadMark, SerialEnd, Memory}
 use Rattle.undo_journal.specs.Past.{Chained, station_of, stations, timeline_of, shortened}
 use Rattle.undo_journal.specs.Reversible.{Accepted, Accepts, Refuses, told_of}
 use Rattle.values.specs.declared.failure.Failure.{Failure}
 use Rattle.values.specs.declared.failure.Failure.TheVariants as failure
-use Rattle.undo_journal.specs.Timeline.{Station, Timeline, newest, here, appended, kept_to, cut_to, cut_stations, notes_of, report_of, Rises, IsFront, IsOrdered}
+use Rattle.undo_journal.specs.Timeline.{Station, Timeline, newest, here, appended, kept_to, from_mark, cut_to, forgotten_to, cut_stations, notes_of, report_of, Rises, IsFront, IsOrdered}
 use Rattle.undo_journal.specs.Journal.{FailsBy, IsOutOfMemoryAt, Performs, PerformFails, UndoFails, Stopped, stopped_reports}
-use Rattle.undo_journal.proofs.Chains.{Chained-push}
+use Rattle.undo_journal.proofs.Chains.{Chained-push, Chained-behind}
+use Rattle.undo_journal.proofs.Forgets.{IsOrdered-forgotten, from_mark-front}
 use Rattle.undo_journal.proofs.Stations.{newest-push, Rises-push, Rises-take, newest-take, newest-take-le, newest-take-lt, kept_to-newest, kept_to-names, notes_of-stations}
 
 -- a step more: the entry's station is appended
@@ -60,6 +61,7 @@ Performs-aside {S} {A} {N} {F} IsRuled node n count told rest aside old new same
 -- want of memory that changed nothing, in `perform`
 pub PerformFails-from_want : {S A N F : Type 0} (IsRuled : Result (Accepted S A N) F → Type 0) (MayRunOut : Type 0) (old : Timeline S N) (e : JournalError F N) → MayRunOut → IsOutOfMemoryAt (here old).serial e → PerformFails IsRuled MayRunOut old e
 PerformFails-from_want IsRuled MayRunOut old (Step f) may want = absurd want
+PerformFails-from_want IsRuled MayRunOut old Forgotten may want = absurd want
 PerformFails-from_want IsRuled MayRunOut old DeadMark may want = absurd want
 PerformFails-from_want IsRuled MayRunOut old SerialEnd may want = absurd want
 PerformFails-from_want IsRuled MayRunOut old (Memory mark reports) may want = (may, want.0, want.1)
@@ -127,6 +129,7 @@ cut_to-here t ordered =
 -- want of memory before the first cut
 pub UndoFails-from_want : {S N F : Type 0} (mark n : ℕ) (t : Timeline S N) (e : JournalError F N) → Stopped mark n t t (here t).serial [] → IsOutOfMemoryAt (here t).serial e → UndoFails mark n t t e
 UndoFails-from_want mark n t (Step f) stopped want = absurd want
+UndoFails-from_want mark n t Forgotten stopped want = absurd want
 UndoFails-from_want mark n t DeadMark stopped want = absurd want
 UndoFails-from_want mark n t SerialEnd stopped want = absurd want
 UndoFails-from_want mark n t (Memory reached reports) stopped want =
@@ -183,10 +186,12 @@ pub told-behind : {S R N : Type 0} (past lent : List (Entry S R N)) (keep n : �
 told-behind past lent keep n reports same told =
     told ∙ ap (λ ps. replicate n (report_of (stations ps))) (take_rest lent keep ∙ ap (λ ps. drop keep ps) same)
 
--- what the search for the mark found, of the entries that it was lent
-pub kept-lent : {S R N : Type 0} (past lent : List (Entry S R N)) (first : Station S N) (mark keep : ℕ) → lent ≡ past → kept_to mark first (stations lent) ≡ Some (take keep (stations lent)) → kept_to mark first (stations past) ≡ Some (take keep (stations past))
-kept-lent past lent first mark keep same kept =
-    subst (λ ps. kept_to mark first (stations ps) ≡ Some (take keep (stations ps))) same kept
+-- there are as many entries as stations behind the first
+pub kept-within : {S R N : Type 0} (past : List (Entry S R N)) (keep : ℕ) (t : Timeline S N) (floor : ℕ) (node : S) (noted : Option N) (last : ℕ) → timeline_of floor node noted past last ≡ t → keep ≤ length t.later → keep ≤ length past
+kept-within past keep t floor node noted last is within =
+    let count = ap (λ u. length u.later) is in
+    let same = length-map past station_of in
+    omega (arith, count, same, within)
 
 -- where an undo stands that met want of memory before its first cut
 pub stopped-before : {S R N : Type 0} (floor : ℕ) (node : S) (noted : Option N) (past : List (Entry S R N)) (last mark n keep : ℕ) (t : Timeline S N) → IsOrdered (timeline_of floor node noted past last) → kept_to mark record { serial = floor; node = node; note = noted } (stations past) ≡ Some (take keep (stations past)) → keep ≤ length past → timeline_of floor node noted past last ≡ t → Stopped mark n t t (here t).serial []
@@ -232,3 +237,26 @@ noted-front floor node noted past items last k t within front is =
 pub PerformFails-by : {S A N F : Type 0} (IsRuled : Result (Accepted S A N) F → Type 0) (MayRunOut : Type 0) (old : Timeline S N) (error : Failure F) (e : JournalError F N) → Refuses IsRuled MayRunOut error → FailsBy error (here old).serial e → PerformFails IsRuled MayRunOut old e
 PerformFails-by IsRuled MayRunOut old (failure.Refused f) e refuses is = subst (λ x. PerformFails IsRuled MayRunOut old x) (sym is) refuses
 PerformFails-by IsRuled MayRunOut old failure.Memory e may want = PerformFails-from_want IsRuled MayRunOut old e may want
+
+-- Where the mark's station is an entry's, a forget makes it the first, and keeps the entries behind it.
+pub forgotten-front : {S R N : Type 0} (floor : ℕ) (node : S) (noted : Option N) (past dropped items : List (Entry S R N)) (last mark keep : ℕ) (p : Entry S R N) → kept_to mark record { serial = floor; node = node; note = noted } (stations past) ≡ Some (take keep (stations past)) → past ≡ dropped ++ p ∷ items → length dropped + 1 ≡ keep → forgotten_to mark (timeline_of floor node noted past last) ≡ Some (timeline_of p.serial p.node.value (Some p.note) items last)
+forgotten-front {S} {R} {N} floor node noted past dropped items last mark keep p kept parts count =
+    let first : Station S N = record { serial = floor; node = node; note = noted } in
+    let front = stations dropped ++ station_of p ∷ [] in
+    let behind = stations items in
+    let whole : stations past ≡ front ++ behind = ap stations parts ∙ map-append station_of dropped (p ∷ items) ∙ sym (append_assoc (stations dropped) (station_of p ∷ []) behind) in
+    let many : keep ≡ length front = sym count ∙ ap (λ n. n + 1) (sym (length-map dropped station_of)) ∙ sym (length-append (stations dropped) (station_of p ∷ [])) in
+    let seam : take keep (front ++ behind) ≡ front = ap (λ n. take n (front ++ behind)) many ∙ take-append_seam front behind in
+    let keeps : kept_to mark first (front ++ behind) ≡ Some front = subst (λ ss. kept_to mark first ss ≡ Some (take keep ss)) whole kept ∙ ap (λ ss. Some ss) seam in
+    let found : from_mark mark first (stations past) ≡ Some (station_of p, behind) = ap (λ ss. from_mark mark first ss) whole ∙ from_mark-front mark first front behind keeps ∙ ap (λ (s : Station S N). Some (s, behind)) (newest-push first (stations dropped) (station_of p)) in
+    ap (λ o. option_map (λ p. record { first = p.0; later = p.1; last = last }) o) found
+
+-- What the journal keeps after a forget.
+pub kept-forgotten : {S R N : Type 0} (undoes : R → S → S → Type 0) (floor : ℕ) (node : S) (noted : Option N) (past dropped items : List (Entry S R N)) (last mark : ℕ) (p : Entry S R N) (state : S) → past ≡ dropped ++ p ∷ items → forgotten_to mark (timeline_of floor node noted past last) ≡ Some (timeline_of p.serial p.node.value (Some p.note) items last) → Chained undoes node past state → IsOrdered (timeline_of floor node noted past last) → Chained undoes p.node.value items state × IsOrdered (timeline_of p.serial p.node.value (Some p.note) items last)
+kept-forgotten undoes floor node noted past dropped items last mark p state parts found chain ordered =
+    (Chained-behind undoes node dropped p items state (subst (λ ps. Chained undoes node ps state) parts chain), IsOrdered-forgotten mark (timeline_of floor node noted past last) (timeline_of p.serial p.node.value (Some p.note) items last) found ordered)
+
+-- Where it is the first station's, a forget changes nothing.
+pub forgotten-same : {S N : Type 0} (mark : ℕ) (t : Timeline S N) → kept_to mark t.first t.later ≡ Some [] → forgotten_to mark t ≡ Some t
+forgotten-same mark t kept =
+    ap (λ o. option_map (λ p. record { first = p.0; later = p.1; last = t.last }) o) (from_mark-front mark t.first [] t.later kept)

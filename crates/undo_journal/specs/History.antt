@@ -3,9 +3,9 @@ use Rattle.std.specs.Prelude.{◌≡◌, ℕ, ◌+◌, ◌≤◌, nat_le, List, 
 use Rattle.std.specs.Prelude.{Ok, Err, unwrap_or}
 use Prim.Native.Nat.{suc}
 use Rattle.undo_journal.specs.declared.history.Command.{Command}
-use Rattle.undo_journal.specs.declared.history.Command.TheVariants.{Perform, Undo}
+use Rattle.undo_journal.specs.declared.history.Command.TheVariants.{Perform, Undo, Forget}
 use Rattle.undo_journal.specs.Reversible.{Accepted}
-use Rattle.undo_journal.specs.Timeline.{Station, Timeline, here, opened, appended, cut_to}
+use Rattle.undo_journal.specs.Timeline.{Station, Timeline, here, opened, appended, cut_to, forgotten_to, IsOrdered}
 
 -- A rule says what an event does to a node, or why it is refused: it relates them with the outcome.
 -- That of a reversible machine gives one outcome at most.
@@ -17,9 +17,13 @@ abbrev pub after_event : {S A N F : Type 0} → Timeline S N → Result (Accepte
 after_event t (Ok a) = appended t a.node a.note
 after_event t (Err f) = t
 
--- an undo to a mark; one to a dead mark changes nothing
+-- an undo to a mark; one to a mark without a station changes nothing
 abbrev pub after_undo : {S N : Type 0} → ℕ → Timeline S N → Timeline S N
 after_undo m t = unwrap_or (cut_to m t) t
+
+-- a forget up to a mark; one up to a mark without a station changes nothing
+abbrev pub after_forget : {S N : Type 0} → ℕ → Timeline S N → Timeline S N
+after_forget m t = unwrap_or (forgotten_to m t) t
 
 -- One command, from the one timeline to the other. No list of commands in a memory is so long that a
 -- journal that begins with it runs out of serials.
@@ -27,6 +31,7 @@ abbrev pub IsAfter : {S E A N F : Type 0} → Rule S E A N F → Timeline S N �
 IsAfter {S} {E} {A} {N} {F} rule old (Perform e) new =
     (r : Result (Accepted S A N) F) × rule (here old).node e r × (new ≡ after_event old r)
 IsAfter {S} {E} {A} {N} {F} rule old (Undo m) new = new ≡ after_undo m old
+IsAfter {S} {E} {A} {N} {F} rule old (Forget m) new = new ≡ after_forget m old
 
 -- a list of commands, in order
 abbrev pub AreAfter : {S E A N F : Type 0} → Rule S E A N F → List (Command E) → Timeline S N → Timeline S N → Type 0
@@ -35,18 +40,19 @@ AreAfter {S} {E} {A} {N} {F} rule (c ∷ cs) old new =
     (mid : Timeline S N) × IsAfter rule old c mid × AreAfter rule cs mid new
 
 -- A command that met want of memory: an event changes nothing, and an undo stops at a mark at or
--- after its own.
+-- after its own. A forget never does.
 abbrev pub IsMissed : {S E N : Type 0} → Timeline S N → Command E → Timeline S N → Type 0
 IsMissed old (Perform e) new = new ≡ old
 IsMissed old (Undo m) new = (reached : ℕ) × (m ≤ reached) × (new ≡ after_undo reached old)
+IsMissed old (Forget m) new = ⊥
 
 -- an accepted event with the serial of its step
 pub record Live (E : Type 0) : Type 0 where
   pub serial : ℕ
   pub event : E
 
--- The live steps after one command: an accepted event is added under the next serial, and an undo
--- takes away those with a serial above its mark, unless the mark is dead.
+-- The live steps after one command: an accepted event is added under the next serial, an undo takes away
+-- those with a serial above its mark, unless the mark has no station, and a forget takes none away.
 abbrev pub live_after_event : {S E A N F : Type 0} → Timeline S N → E → Result (Accepted S A N) F → List (Live E) → List (Live E)
 live_after_event t e (Ok a) steps = steps ++ record { serial = t.last + 1; event = e } ∷ []
 live_after_event t e (Err f) steps = steps
@@ -60,6 +66,7 @@ IsLiveAfter {S} {E} {A} {N} {F} rule old steps (Perform e) new live =
     (r : Result (Accepted S A N) F) × rule (here old).node e r × (new ≡ after_event old r) × (live ≡ live_after_event old e r steps)
 IsLiveAfter {S} {E} {A} {N} {F} rule old steps (Undo m) new live =
     (new ≡ after_undo m old) × (live ≡ live_after_undo m old steps)
+IsLiveAfter {S} {E} {A} {N} {F} rule old steps (Forget m) new live = (new ≡ after_forget m old) × (live ≡ steps)
 
 -- a list of commands, in order, with its live steps
 abbrev pub Runs : {S E A N F : Type 0} → Rule S E A N F → List (Command E) → Timeline S N → List (Live E) → Timeline S N → List (Live E) → Type 0
@@ -87,8 +94,25 @@ Makes rule node (x ∷ xs) [] = ⊥
 Makes rule node (x ∷ xs) (s ∷ ss) =
     (s.serial ≡ x.serial) × IsMadeBy (rule node x.event) s × Makes rule s.node xs ss
 
+-- The live steps make the stations of a whole timeline, in turn from the node that it begins with, and
+-- the timeline `t` is that one from its first station on: the stations before are forgotten, and where
+-- `t` begins with serial 0 there are none.
+pub record MakesKept {S E A N F : Type 0} (rule : Rule S E A N F) (node : S) (live : List (Live E)) (t : Timeline S N) : Type 0 where
+  pub whole : Timeline S N
+  pub ordered : IsOrdered whole
+  pub begun : whole.first ≡ (opened node).first
+  pub makes : Makes rule node live whole.later
+  pub kept : forgotten_to t.first.serial whole ≡ Some t
+
+-- none of the commands is a forget
+abbrev pub HasNoForget : {E : Type 0} → List (Command E) → Type 0
+HasNoForget [] = Unit {0}
+HasNoForget (Perform e ∷ cs) = HasNoForget cs
+HasNoForget (Undo m ∷ cs) = HasNoForget cs
+HasNoForget (Forget m ∷ cs) = ⊥
+
 -- The commands as a journal carried them out, of which `missed` met want of memory: such an event is
--- left out, and such an undo is one to a mark at or after its own.
+-- left out, and such an undo is one to a mark at or after its own. A forget is never missed.
 pub data CarriedOut {E : Type 0} : ℕ → List (Command E) → List (Command E) → Type 0 where
   none : CarriedOut 0 [] []
   done : {missed : ℕ} {asked carried : List (Command E)} (c : Command E) → CarriedOut missed asked carried →
@@ -99,12 +123,13 @@ pub data CarriedOut {E : Type 0} : ℕ → List (Command E) → List (Command E)
       CarriedOut (suc missed) (Undo m ∷ asked) (Undo reached ∷ carried)
 
 -- A journal that began at a node and was given commands: what it carried out leads to its timeline,
--- the live steps of that make its stations, and the fold of the rule over them is its node.
+-- the live steps of that make its stations and those that are forgotten, and the fold of the rule over
+-- them is its node.
 pub record IsReplayOf {S E A N F : Type 0} (rule : Rule S E A N F) (node : S) (commands : List (Command E)) (missed : ℕ)
     (t : Timeline S N) : Type 0 where
   pub carried : List (Command E)
   pub carried_out : CarriedOut missed commands carried
   pub live : List (Live E)
   pub runs : Runs rule carried (opened node) [] t live
-  pub stations : Makes rule node live t.later
+  pub stations : MakesKept rule node live t
   pub fold : FoldsTo rule node live (here t).node

@@ -3,11 +3,11 @@ use Rattle.std.specs.Prelude.{◌≡◌, ℕ, ◌^◌, ◌-◌, ◌≤◌, ◌++
 use Rattle.undo_journal.specs.declared.reversible.Told.{Told}
 use Rattle.undo_journal.specs.declared.report.Report.{Report}
 use Rattle.undo_journal.specs.declared.error.JournalError.{JournalError}
-use Rattle.undo_journal.specs.declared.error.JournalError.TheVariants.{Step, DeadMark, SerialEnd, Memory}
+use Rattle.undo_journal.specs.declared.error.JournalError.TheVariants.{Step, Forgotten, DeadMark, SerialEnd, Memory}
 use Rattle.values.specs.declared.failure.Failure.{Failure}
 use Rattle.values.specs.declared.failure.Failure.TheVariants as failure
 use Rattle.undo_journal.specs.Reversible.{Accepted, told_of}
-use Rattle.undo_journal.specs.Timeline.{Station, Timeline, here, appended, cut_to, cut_stations, report_of}
+use Rattle.undo_journal.specs.Timeline.{Station, Timeline, here, appended, cut_to, cut_stations, report_of, IsForgotten, IsDead}
 
 -- the rule accepted the event, its station is appended, and n equal values tell of it
 abbrev pub Performs : {S A N F : Type 0} → (Result (Accepted S A N) F → Type 0) → ℕ → Timeline S N → List (Told A N) → Timeline S N → Type 0
@@ -17,6 +17,7 @@ Performs {S} {A} {N} {F} IsRuled n old told new =
 -- want of memory that changed nothing, where the journal stands at this mark
 abbrev pub IsOutOfMemoryAt : {F N : Type 0} → ℕ → JournalError F N → Type 0
 IsOutOfMemoryAt at (Step refusal) = ⊥
+IsOutOfMemoryAt at Forgotten = ⊥
 IsOutOfMemoryAt at DeadMark = ⊥
 IsOutOfMemoryAt at SerialEnd = ⊥
 IsOutOfMemoryAt at (Memory mark reports) = (mark ≡ at) × (reports.items ≡ [])
@@ -29,10 +30,19 @@ FailsBy failure.Memory at e = IsOutOfMemoryAt at e
 -- Why an event was not performed. Want of memory is told only where memory may run out.
 abbrev pub PerformFails : {S A N F : Type 0} → (Result (Accepted S A N) F → Type 0) → Type 0 → Timeline S N → JournalError F N → Type 0
 PerformFails IsRuled MayRunOut old (Step refusal) = IsRuled (Err refusal)
+PerformFails IsRuled MayRunOut old Forgotten = ⊥
 PerformFails IsRuled MayRunOut old DeadMark = ⊥
 PerformFails IsRuled MayRunOut old SerialEnd = old.last ≡ 2 ^ 64 - 1
 PerformFails IsRuled MayRunOut old (Memory mark reports) =
     MayRunOut × (mark ≡ (here old).serial) × (reports.items ≡ [])
+
+-- why a call finds no station for a mark
+abbrev pub HasNoStation : {S N F : Type 0} → ℕ → Timeline S N → JournalError F N → Type 0
+HasNoStation mark t (Step refusal) = ⊥
+HasNoStation mark t Forgotten = IsForgotten mark t
+HasNoStation mark t DeadMark = IsDead mark t
+HasNoStation mark t SerialEnd = ⊥
+HasNoStation mark t (Memory reached reports) = ⊥
 
 -- What an undo that stopped reports of the stations that it cut: n equal reports, but none where it cut nothing.
 abbrev pub stopped_reports : {S N : Type 0} → ℕ → List (Station S N) → List (Report N)
@@ -56,6 +66,7 @@ pub record Stopped {S N : Type 0} (mark n : ℕ) (old new : Timeline S N) (reach
 -- Why an undo did not reach its mark.
 abbrev pub UndoFails : {S N F : Type 0} → ℕ → ℕ → Timeline S N → Timeline S N → JournalError F N → Type 0
 UndoFails mark n old new (Step refusal) = ⊥
-UndoFails mark n old new DeadMark = (cut_to mark old ≡ None) × (new ≡ old)
+UndoFails mark n old new Forgotten = IsForgotten mark old × (new ≡ old)
+UndoFails mark n old new DeadMark = IsDead mark old × (new ≡ old)
 UndoFails mark n old new SerialEnd = ⊥
 UndoFails mark n old new (Memory reached reports) = Stopped mark n old new reached reports.items

@@ -43,9 +43,29 @@ kept_to m s [] = if m == s.serial then Some [] else None
 kept_to m s (t ∷ ts) = if m == s.serial then Some [] else option_map (λ kept. t ∷ kept) (kept_to m t ts)
 
 -- An undo to a mark removes every station after the one whose serial the mark is, and nothing else:
--- serials go on. Where there is no such station, the mark is dead.
+-- serials go on. Where there is no such station, the mark is forgotten or dead.
 abbrev pub cut_to : {S N : Type 0} → ℕ → Timeline S N → Option (Timeline S N)
 cut_to m t = option_map (λ kept. record { first = t.first; later = kept; last = t.last }) (kept_to m t.first t.later)
+
+-- of the stations s, ts the one with serial m and those behind it, if it is there
+abbrev pub from_mark : {S N : Type 0} → ℕ → Station S N → List (Station S N) → Option (Station S N × List (Station S N))
+from_mark m s [] = if m == s.serial then Some (s, []) else None
+from_mark m s (t ∷ ts) = if m == s.serial then Some (s, t ∷ ts) else from_mark m t ts
+
+-- The timeline from a station on: a forget up to a mark removes every station before the one whose serial
+-- the mark is, which is then the first, and nothing else. Where there is no such station, the mark is
+-- forgotten or dead.
+abbrev pub forgotten_to : {S N : Type 0} → ℕ → Timeline S N → Option (Timeline S N)
+forgotten_to m t = option_map (λ p. record { first = p.0; later = p.1; last = t.last }) (from_mark m t.first t.later)
+
+-- A mark without a station is forgotten where it is below the first station's, also where its station was
+-- cut before that.
+abbrev pub IsForgotten : {S N : Type 0} → ℕ → Timeline S N → Type 0
+IsForgotten m t = (m < t.first.serial) × (cut_to m t ≡ None)
+
+-- It is dead where it is any other: its station was cut, or the mark was never given.
+abbrev pub IsDead : {S N : Type 0} → ℕ → Timeline S N → Type 0
+IsDead m t = (t.first.serial ≤ m) × (cut_to m t ≡ None)
 
 -- the node that a mark names: the one where an undo to it ends
 abbrev pub node_at : {S N : Type 0} → ℕ → Timeline S N → Option S

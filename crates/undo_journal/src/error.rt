@@ -5,15 +5,19 @@ use std::fmt::{Debug, Display};
 use thiserror::Error;
 
 /// Why a call of a journal is refused. [`Journal::perform`](crate::Journal::perform) looks for
-/// `SerialEnd`, then `Step`, then `Memory`; [`Journal::undo`](crate::Journal::undo) for `DeadMark`,
-/// then `Memory`.
+/// `SerialEnd`, then `Step`, then `Memory`; [`Journal::undo`](crate::Journal::undo) for `Forgotten`,
+/// then `DeadMark`, then `Memory`; [`Journal::forget`](crate::Journal::forget) for `Forgotten`, then
+/// `DeadMark`.
 #[derive(Drop, Error)]
 #[error_bound(F: Debug + Display + Drop, N: Debug + Drop)]
 pub enum JournalError<F, N> {
     /// The machine's rule refuses the event.
     #[error("the step is refused: {0}")]
     Step(F),
-    /// The mark's station was cut, or the mark was never given.
+    /// The mark is below the first station's: if its station wasn't cut before, it was forgotten.
+    #[error("the stations at this mark and before are forgotten")]
+    Forgotten,
+    /// Any other mark without a station: the station was cut, or the mark was never given.
     #[error("no station has this mark")]
     DeadMark,
     /// The last serial is `2^64 - 1`: there is none for another step.

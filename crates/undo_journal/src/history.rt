@@ -1,9 +1,10 @@
 // Whole lists of commands.
-ghost use Rattle.std.specs.Prelude.{◌≡◌, ◌<◌, ◌≤◌, ◌-◌, ◌^◌, List, ℕ, Result, IfOk, IfSome, Some, None};
+ghost use Rattle.std.specs.Prelude.{◌≡◌, ◌<◌, ◌≤◌, ◌-◌, ◌^◌, ◌++◌, List, ℕ, All, Result, IfOk, IfSome, Some, None, is_some};
+ghost use Rattle.std.specs.Option.{option_and_then};
 ghost use Rattle.std.specs.Bool.{OnTrue, OnFalse};
 ghost use Rattle.undo_journal.specs.Reversible.{Accepted};
-ghost use Rattle.undo_journal.specs.Timeline.{Timeline, here, cut_to, node_at, IsOrdered};
-ghost use Rattle.undo_journal.specs.History.{Live, after_event, IsAfter, AreAfter, Runs, FoldsTo, IsMissed, IsReplayOf};
+ghost use Rattle.undo_journal.specs.Timeline.{Timeline, here, cut_to, forgotten_to, node_at, cut_stations, IsOrdered};
+ghost use Rattle.undo_journal.specs.History.{Live, after_event, IsAfter, AreAfter, Runs, FoldsTo, Makes, MakesKept, HasNoForget, IsMissed, IsReplayOf};
 ghost use Rattle.undo_journal.specs.declared.history.Command.{Command};
 
 use crate::error::JournalError;
@@ -18,6 +19,8 @@ pub enum Command<E> {
     Perform(E),
     /// Undo to a mark.
     Undo(Mark),
+    /// Make a mark's station the first.
+    Forget(Mark),
 }
 
 /// A journal that was given a list of commands.
@@ -34,8 +37,9 @@ pub struct Replayed<S: Reversible> {
 /// next one follows all the same.
 ///
 /// So the journal's timeline is where the commands lead as they were carried out, and with none missed
-/// these are all of them. Its stations behind the first are those that the live steps make, in turn:
-/// the accepted events that no undo took away. Its node is the fold of the rule over the live steps.
+/// these are all of them. Its stations behind the first are the last ones that the live steps make, in
+/// turn: the accepted events that no undo took away. The stations that these make before are forgotten,
+/// and without a forget there are none. Its node is the fold of the rule over all of the live steps.
 /// Each of these is the only one ([`commands_have_one_end`]).
 ///
 /// # Errors
@@ -69,19 +73,27 @@ fn carry_out<S: Reversible>(journal: &mut Journal<S>, command: &Command<S::Event
         Command::Perform(event) => match journal.perform(event, 0) {
             Ok(_) => true,
             Err(JournalError::Step(_)) => true,
-            Err(JournalError::DeadMark | JournalError::SerialEnd) => unreachable!(),
+            Err(JournalError::Forgotten | JournalError::DeadMark | JournalError::SerialEnd) => {
+                unreachable!()
+            }
             Err(JournalError::Memory { .. }) => false,
         },
         Command::Undo(mark) => match journal.undo(*mark, 0) {
-            Ok(_) | Err(JournalError::DeadMark) => true,
+            Ok(_) | Err(JournalError::Forgotten | JournalError::DeadMark) => true,
             Err(JournalError::Step(_) | JournalError::SerialEnd) => unreachable!(),
             Err(JournalError::Memory { .. }) => false,
+        },
+        Command::Forget(mark) => match journal.forget(*mark) {
+            Ok(()) | Err(JournalError::Forgotten | JournalError::DeadMark) => true,
+            Err(JournalError::Step(_) | JournalError::SerialEnd | JournalError::Memory { .. }) => {
+                unreachable!()
+            }
         },
     }
 }
 
 /// A law, and so a function whose body is empty on purpose: a mark names its node until its station
-/// is cut, and never again after that.
+/// is cut or forgotten, and none after that.
 ///
 /// It is proved of every machine, of every timeline whose serials rise, as those of journals do
 /// ([`Journal::mark`]), and of every mark given by then:
@@ -89,6 +101,7 @@ fn carry_out<S: Reversible>(journal: &mut Journal<S>, command: &Command<S::Event
 /// - `steps_keep`: an event, accepted or refused, leaves the node that the mark names, whatever
 ///   outcome the rule gives.
 /// - `undos_cut`: an undo leaves it where the mark isn't after its own, and else kills the mark.
+/// - `forgets_drop`: a forget leaves it where the mark isn't before its own, and else kills the mark.
 /// - `never_again`: whatever commands follow, and wherever they lead, a mark that is alive after them
 ///   names the node that it named before them; so a dead mark stays dead.
 pub fn marks_name_nodes<S: Reversible>()
@@ -99,6 +112,9 @@ pub fn marks_name_nodes<S: Reversible>()
     ensures undos_cut { (t : Timeline S S.Note) (end mark : ℕ)
         → IsOrdered t → IfSome (cut_to end t) (λ u. (mark ≤ end → node_at mark u ≡ node_at mark t)
         × (end < mark → node_at mark u ≡ None)) }
+    ensures forgets_drop { (t : Timeline S S.Note) (floor mark : ℕ)
+        → IsOrdered t → IfSome (forgotten_to floor t) (λ u. (floor ≤ mark → node_at mark u ≡ node_at mark t)
+        × (mark < floor → node_at mark u ≡ None)) }
     ensures never_again { (t u : Timeline S S.Note) (commands : List (Command S.Event)) (mark : ℕ)
         → IsOrdered t → mark ≤ t.last → AreAfter S.rule commands t u
         → IfSome (node_at mark u) (λ n. node_at mark t ≡ Some n) }
@@ -124,4 +140,34 @@ pub fn commands_have_one_end<S: Reversible>()
         → (u ≡ v) × (live ≡ others) }
     ensures node { (begun end other : S) (steps : List (Live S.Event))
         → FoldsTo S.rule begun steps end → FoldsTo S.rule begun steps other → end ≡ other }
+{}
+
+/// A law, and so a function whose body is empty on purpose: to forget takes away what is before the
+/// mark, and nothing else.
+///
+/// It is proved of every machine, and of every timeline whose serials rise, as those of journals do:
+///
+/// - `same_marks`: a mark has a station for a forget exactly where it has one for an undo.
+/// - `exchanged`: forgetting up to a mark, and undoing to that one or a later one, may be exchanged.
+/// - `same_cut`: the undo then cuts the same stations, and so reports the same.
+/// - `split`: of the live steps that make the stations of a timeline, and those forgotten before it, the
+///   first ones have serials up to its first station's and lead to the node there, and the others make
+///   the stations behind it.
+/// - `unforgotten`: where no command was a forget, the live steps of a journal make all of its stations.
+pub fn forgets_drop_the_front<S: Reversible>()
+    ensures same_marks { (t : Timeline S S.Note) (mark : ℕ)
+        → is_some (forgotten_to mark t) ≡ is_some (cut_to mark t) }
+    ensures exchanged { (t : Timeline S S.Note) (floor mark : ℕ) → IsOrdered t → floor ≤ mark
+        → option_and_then (cut_to mark) (forgotten_to floor t)
+        ≡ option_and_then (forgotten_to floor) (cut_to mark t) }
+    ensures same_cut { (t u v w : Timeline S S.Note) (floor mark : ℕ) → IsOrdered t → floor ≤ mark
+        → forgotten_to floor t ≡ Some u → cut_to mark t ≡ Some v → cut_to mark u ≡ Some w
+        → cut_stations u w ≡ cut_stations t v }
+    ensures split { (node : S) (live : List (Live S.Event)) (t : Timeline S S.Note)
+        → MakesKept S.rule node live t → (before kept : List (Live S.Event)) × (live ≡ before ++ kept)
+        × All (λ step. step.serial ≤ t.first.serial) before × FoldsTo S.rule node before t.first.node
+        × Makes S.rule t.first.node kept t.later }
+    ensures unforgotten { (node : S) (commands : List (Command S.Event)) (missed : ℕ)
+        (t : Timeline S S.Note) (replay : IsReplayOf S.rule node commands missed t)
+        → HasNoForget commands → Makes S.rule node replay.live t.later }
 {}

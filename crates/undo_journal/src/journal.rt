@@ -1,12 +1,12 @@
 // The journal.
-ghost use Rattle.std.specs.Prelude.{◌≡◌, ◌↔◌, ◌-◌, ◌^◌, [], length, Some, Err, IfOk, IfErr, IsTrue, OnOk, OnErr, replicate};
+ghost use Rattle.std.specs.Prelude.{◌≡◌, ◌≤◌, ◌↔◌, ◌-◌, ◌^◌, [], length, take, Some, Err, IfOk, IfErr, IsTrue, OnOk, OnErr, replicate};
 ghost use Rattle.std.specs.Option.{option_copied};
-ghost use Rattle.undo_journal.specs.Journal.{FailsBy, Performs, PerformFails, UndoFails, IsOutOfMemoryAt};
-ghost use Rattle.undo_journal.specs.Timeline.{here, opened, cut_to, cut_stations, node_at, notes_of, report_of, IsFront, IsOrdered};
+ghost use Rattle.undo_journal.specs.Journal.{FailsBy, Performs, PerformFails, UndoFails, HasNoStation, IsOutOfMemoryAt};
+ghost use Rattle.undo_journal.specs.Timeline.{here, opened, kept_to, cut_to, forgotten_to, cut_stations, node_at, notes_of, report_of, IsFront, IsOrdered};
 
 use crate::error::JournalError;
 use crate::past::{
-    Entry, enter, keep_newest, kept_entries, newest_serial, reports_on, take_back_to,
+    Entry, drop_before, enter, keep_newest, kept_entries, newest_serial, reports_on, take_back_to,
 };
 use crate::report::Report;
 use crate::reversible::{Reversible, Stepped, Told};
@@ -139,10 +139,11 @@ impl<S: Reversible> Journal<S> {
     ///
     /// # Errors
     ///
-    /// `DeadMark` where no station has the mark, which leaves the journal as it was. `Memory` where
-    /// memory is refused, and then the journal stands at a station at or after the mark: the error
-    /// names that station and has `n` reports of what was cut up to there, but none where nothing
-    /// was. The same undo may be called again, and with memory it ends at the mark.
+    /// In this order: `Forgotten` where the mark is below the first station's, and `DeadMark` where it
+    /// is any other without a station, which leave the journal as it was. `Memory` where memory is
+    /// refused, and then the journal stands at a station at or after the mark: the error names that
+    /// station and has `n` reports of what was cut up to there, but none where nothing was. The same
+    /// undo may be called again, and with memory it ends at the mark.
     pub fn undo(
         &mut self,
         mark: Mark,
@@ -157,9 +158,7 @@ impl<S: Reversible> Journal<S> {
         ensures noted { length (notes_of (cut_stations self.old self.new))
             ≡ length (cut_stations self.old self.new) }
     {
-        let Some(keep) = kept_entries(self.past.as_slice(), self.floor, mark) else {
-            return Err(JournalError::DeadMark);
-        };
+        let keep = self.entries_to(mark)?;
         let Ok(mut reports) = reports_on(self.alloc, &self.past[keep..], n) else {
             return Err(self.out_of_memory());
         };
@@ -173,6 +172,59 @@ impl<S: Reversible> Journal<S> {
             mark: self.mark(),
             reports,
         })
+    }
+
+    /// Makes the mark's station the first, and drops the records of the steps up to it: no undo goes
+    /// back behind it any more. The machine stands where it stood, and each mark from this one on names
+    /// the node that it named. Takes no memory. It costs a binary search, the drops of those records,
+    /// and a move of each other one.
+    ///
+    /// # Errors
+    ///
+    /// In this order: `Forgotten` where the mark is below the first station's, and `DeadMark` where it
+    /// is any other without a station. Each leaves the journal as it was.
+    pub fn forget(&mut self, mark: Mark) -> Result<(), JournalError<S::Refusal, S::Note>>
+        ensures forgotten { OnOk result (forgotten_to mark self.old ≡ Some self.new) }
+        ensures at_mark { OnOk result (self.new.first.serial ≡ mark) }
+        ensures here { here self.new ≡ here self.old }
+        ensures refused { IfErr result (HasNoStation mark self.old) }
+        ensures err { OnErr result (self.new ≡ self.old) }
+    {
+        let count = self.entries_to(mark)?;
+        if count == 0 {
+            return Ok(());
+        }
+        let Entry {
+            serial,
+            trace: _,
+            note,
+            node,
+        } = drop_before(&mut self.past, count);
+        self.floor = serial;
+        self.first_note = Some(note);
+        self.first = node;
+        Ok(())
+    }
+
+    /// How many entries stand up to the mark's station. A binary search.
+    ///
+    /// # Errors
+    ///
+    /// In this order: `Forgotten` where the mark is below the first station's, and `DeadMark` where it
+    /// is any other without a station.
+    fn entries_to(&self, mark: Mark) -> Result<usize, JournalError<S::Refusal, S::Note>>
+        ensures within { IfOk result (λ count. count ≤ length self.now.later) }
+        ensures kept { IfOk result
+            (λ count. kept_to mark self.now.first self.now.later ≡ Some (take count self.now.later)) }
+        ensures err { IfErr result (HasNoStation mark self.now) }
+    {
+        if mark < self.floor {
+            return Err(JournalError::Forgotten);
+        }
+        match kept_entries(self.past.as_slice(), self.floor, mark) {
+            Some(count) => Ok(count),
+            None => Err(JournalError::DeadMark),
+        }
     }
 
     /// Why an event isn't performed for which there is no memory: the rule refuses it, as is told without memory, or memory is wanting.

@@ -43,7 +43,9 @@ mod report;
 mod reversible;
 
 pub use error::JournalError;
-pub use history::{Command, Replayed, commands_have_one_end, marks_name_nodes, replay};
+pub use history::{
+    Command, Replayed, commands_have_one_end, forgets_drop_the_front, marks_name_nodes, replay,
+};
 pub use journal::{Journal, Mark};
 pub use report::Report;
 pub use reversible::{Reversible, Stepped, Told};

@@ -1,5 +1,5 @@
 // A journal's entries, by which its steps are taken back.
-ghost use Rattle.std.specs.Prelude.{◌≡◌, ℕ, ◌<◌, ◌≤◌, ◌-◌, ◌++◌, [], ◌∷◌, Option, option_map, length, take, map, replicate, vec_len, vec_capacity, IfOk, IfSome};
+ghost use Rattle.std.specs.Prelude.{◌≡◌, ℕ, ◌<◌, ◌≤◌, ◌+◌, ◌-◌, ◌++◌, List, [], ◌∷◌, Option, option_map, length, take, map, replicate, vec_len, vec_capacity, IfOk, IfSome};
 ghost use Rattle.std.specs.Bool.{OnTrue, OnFalse};
 ghost use Rattle.undo_journal.specs.Past.{stations, shortened, Chained};
 ghost use Rattle.undo_journal.specs.Timeline.{Station, Rises, kept_to, newest, report_of};
@@ -62,6 +62,26 @@ pub(crate) fn kept_entries<S, R, N>(past: &[Entry<S, R, N>], floor: u64, mark: u
     let keep = past.partition_point(|entry| entry.serial <= mark);
     let reached = newest_serial(&past[..keep], floor);
     if reached == mark { Some(keep) } else { None }
+}
+
+/// Hands out the last of the first `count` entries, and drops those before it. Takes no memory, and
+/// time for each entry.
+pub(crate) fn drop_before<S: Reversible>(
+    past: &mut Vec<Entry<S, S::Record, S::Note>>,
+    count: usize,
+) -> Entry<S, S::Record, S::Note>
+    requires nonempty { 0 < count }
+    requires within { count ≤ vec_len past.old }
+    ensures { (dropped : List (Entry S S.Record S.Note)) × (past.old.items ≡ dropped ++ result ∷ past.new.items)
+        × (length dropped + 1 ≡ count) }
+{
+    past.rotate_left(count);
+    let Some(entry) = past.pop() else {
+        unreachable!()
+    };
+    let dropped = count - 1;
+    past.truncate(past.len() - dropped);
+    entry
 }
 
 /// Takes the newest entry's step back, and answers whether it did: where memory is refused, all is

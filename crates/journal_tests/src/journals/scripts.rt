@@ -1,6 +1,6 @@
 // Commands to a journal as texts, and as a text what is answered and where the journal stands then.
 //
-// `perform EVENT N` and `undo MARK N` are commands, and N is how often an answer is told. Each value that is told of a step is
+// `perform EVENT N`, `undo MARK N` and `forget MARK` are commands, and N is how often an answer is told. Each value that is told of a step is
 // its answer and its note, as `12:7`, and each report of an undo is how many steps it cut, with their notes, as `2:7:9`. A
 // refusal has its name, and `Memory` the mark that it names and its reports. Behind `@` stand the journal's mark and its
 // machine.
@@ -68,6 +68,7 @@ fn error_text<S: Scripted>(
 ) -> Result<String, Fail> {
     match error {
         JournalError::Step(refusal) => Ok(format!(in alloc; "{} ", S::refused(refusal))?),
+        JournalError::Forgotten => Ok(String::from_str(alloc, "Forgotten ")?),
         JournalError::DeadMark => Ok(String::from_str(alloc, "DeadMark ")?),
         JournalError::SerialEnd => Ok(String::from_str(alloc, "SerialEnd ")?),
         JournalError::Memory { mark, reports } => {
@@ -103,6 +104,36 @@ fn undone<S: Scripted>(
     }
 }
 
+/// What is answered when a journal forgets what is before a mark.
+fn forgotten<S: Scripted>(
+    alloc: Global,
+    journal: &mut Journal<S>,
+    mark: u64,
+) -> Result<String, Fail> {
+    match journal.forget(mark) {
+        Ok(()) => Ok(String::new(alloc)),
+        Err(error) => error_text::<S>(alloc, &error),
+    }
+}
+
+/// What is answered when a journal is given a command that is told so often.
+fn told_often<S: Scripted>(
+    alloc: Global,
+    journal: &mut Journal<S>,
+    name: &str,
+    rest: &str,
+) -> Result<String, Fail>
+where
+    S::Event: Drop,
+{
+    let (target, count) = head(rest)?;
+    let n = count.parse::<u8>()?;
+    match name {
+        "undo" => undone(alloc, journal, target.parse::<u64>()?, n),
+        _ => performed(alloc, journal, &S::event(target)?, n),
+    }
+}
+
 /// Where a journal stands.
 fn place<S: Scripted>(alloc: Global, journal: &Journal<S>) -> Result<String, Fail> {
     let node = journal.state().shown(alloc)?;
@@ -119,11 +150,9 @@ where
     S::Event: Drop,
 {
     let (name, rest) = head(command)?;
-    let (target, count) = head(rest)?;
-    let n = count.parse::<u8>()?;
     let answer = match name {
-        "undo" => undone(alloc, journal, target.parse::<u64>()?, n)?,
-        _ => performed(alloc, journal, &S::event(target)?, n)?,
+        "forget" => forgotten(alloc, journal, rest.parse::<u64>()?)?,
+        _ => told_often(alloc, journal, name, rest)?,
     };
     let place = place(alloc, journal)?;
     Ok([answer.as_str(), place.as_str()].concat(alloc)?)

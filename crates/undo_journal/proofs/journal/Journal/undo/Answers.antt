@@ -1,20 +1,19 @@
 -- What stays is a front of the entries: up to the mark, or to where memory was refused.
-use Rattle.std.proofs.Common.{◌≡◌, ◌≤◌, ◌-◌, vec_len, length, take, replicate, subst, sym, ap, ◌∙◌, refl, arith}
+use Rattle.std.proofs.Common.{◌≡◌, ◌≤◌, ◌-◌, vec_len, length, take, replicate, Some, subst, sym, ap, ◌∙◌, refl, arith}
 use Rattle.undo_journal.specs.Past.{timeline_of}
 use Rattle.undo_journal.specs.Journal.{Stopped}
-use Rattle.undo_journal.specs.Timeline.{Station, here, cut_stations, cut_to, report_of}
-use Rattle.undo_journal.proofs.Timelines.{UndoFails-from_want, kept-front, undone-front, reported-front, reported-stopped, stopped-front, told-behind, kept-lent, stopped-before, IsFront-front, at_mark-front, noted-front}
+use Rattle.undo_journal.specs.Timeline.{here, cut_stations, kept_to, cut_to, report_of}
+use Rattle.undo_journal.proofs.Timelines.{UndoFails-from_want, kept-front, undone-front, reported-front, reported-stopped, stopped-front, told-behind, kept-within, stopped-before, IsFront-front, at_mark-front, noted-front}
 use Rattle.undo_journal.proofs.journal.Journal.undo.Goals as goal
 
-pub returns-in_default-reports_on-clause-err : goal.returns-in_default-reports_on-clause-err
-returns-in_default-reports_on-clause-err g c =
+pub returns-in_default-clause-err : goal.returns-in_default-clause-err
+returns-in_default-clause-err g c =
     let j = c.self.inside in
     let t = c.args.self.now in
     let past = j.past.items in
-    let first : Station g.row.S.Denot g.row.S-Note.Denot = record { serial = j.floor; node = j.first.value; note = j.first_note } in
-    let kept = kept-lent past c.as_slice.result.now first c.args.mark c.in-Some.keep c.as_slice.ensures.value (c.in-Some.ensures.kept first refl) in
-    let within : c.in-Some.keep ≤ length past = subst (λ ps. c.in-Some.keep ≤ length ps) c.as_slice.ensures.value c.in-Some.ensures.within in
-    UndoFails-from_want c.args.mark c.args.n t c.out_of_memory.result (stopped-before j.floor j.first.value j.first_note past j.last c.args.mark c.args.n c.in-Some.keep t c.self.invariant.1 kept within c.self.view_is) c.out_of_memory.ensures
+    let kept = subst (λ u. kept_to c.args.mark u.first u.later ≡ Some (take c.in_ok-keep.keep u.later)) (sym c.self.view_is) c.in_ok-keep.ensures.kept in
+    let within = kept-within past c.in_ok-keep.keep c.args.self.now j.floor j.first.value j.first_note j.last c.self.view_is c.in_ok-keep.ensures.within in
+    UndoFails-from_want c.args.mark c.args.n t c.out_of_memory.result (stopped-before j.floor j.first.value j.first_note past j.last c.args.mark c.args.n c.in_ok-keep.keep t c.self.invariant.1 kept within c.self.view_is) c.out_of_memory.ensures
 
 pub invariant_of-self : goal.invariant_of-self
 invariant_of-self g c =
@@ -25,20 +24,19 @@ pub returns-then-len-keep-clause-undone : goal.returns-then-len-keep-clause-undo
 returns-then-len-keep-clause-undone g c =
     let j = c.self.inside in
     let past = j.past.items in
-    let first : Station g.row.S.Denot g.row.S-Note.Denot = record { serial = j.floor; node = j.first.value; note = j.first_note } in
-    let kept = kept-lent past c.as_slice.result.now first c.args.mark c.in-Some.keep c.as_slice.ensures.value (c.in-Some.ensures.kept first refl) in
+    let kept = subst (λ u. kept_to c.args.mark u.first u.later ≡ Some (take c.in_ok-keep.keep u.later)) (sym c.self.view_is) c.in_ok-keep.ensures.kept in
     let front = c.take_back_to.ensures.front ∙ ap (λ k. take k past) (sym c.len.ensures ∙ c.if-len-keep.true) in
-    ap (λ t. cut_to c.args.mark t) (sym c.self.view_is) ∙ undone-front j.floor j.first.value j.first_note past c.take_back_to.new.past.items j.last c.args.mark c.in-Some.keep kept front
+    ap (λ t. cut_to c.args.mark t) (sym c.self.view_is) ∙ undone-front j.floor j.first.value j.first_note past c.take_back_to.new.past.items j.last c.args.mark c.in_ok-keep.keep kept front
 
 pub returns-then-len-keep-clause-reported : goal.returns-then-len-keep-clause-reported
 returns-then-len-keep-clause-reported g c =
     let j = c.self.inside in
     let past = j.past.items in
     let items = c.take_back_to.new.past.items in
-    let within : c.in-Some.keep ≤ length past = subst (λ ps. c.in-Some.keep ≤ length ps) c.as_slice.ensures.value c.in-Some.ensures.within in
+    let within = kept-within past c.in_ok-keep.keep c.args.self.now j.floor j.first.value j.first_note j.last c.self.view_is c.in_ok-keep.ensures.within in
     let front = c.take_back_to.ensures.front ∙ ap (λ k. take k past) (sym c.len.ensures ∙ c.if-len-keep.true) in
-    let told = told-behind past c.deref.result.now c.in-Some.keep c.args.n c.in-Ok.reports.items c.deref.ensures.value c.in-Ok.ensures in
-    reported-front j.floor j.first.value j.first_note past items j.last c.in-Some.keep c.args.n c.in-Ok.reports.items within front told ∙ ap (λ t. replicate c.args.n (report_of (cut_stations t (timeline_of j.floor j.first.value j.first_note items j.last)))) c.self.view_is
+    let told = told-behind past c.deref.result.now c.in_ok-keep.keep c.args.n c.in-Ok.reports.items c.deref.ensures.value c.in-Ok.ensures in
+    reported-front j.floor j.first.value j.first_note past items j.last c.in_ok-keep.keep c.args.n c.in-Ok.reports.items within front told ∙ ap (λ t. replicate c.args.n (report_of (cut_stations t (timeline_of j.floor j.first.value j.first_note items j.last)))) c.self.view_is
 
 pub invariant_of-self-2 : goal.invariant_of-self-2
 invariant_of-self-2 g c =
@@ -50,26 +48,24 @@ returns-clause-err g c =
     let j = c.self.inside in
     let past = j.past.items in
     let items = c.take_back_to.new.past.items in
-    let first : Station g.row.S.Denot g.row.S-Note.Denot = record { serial = j.floor; node = j.first.value; note = j.first_note } in
-    let kept = kept-lent past c.as_slice.result.now first c.args.mark c.in-Some.keep c.as_slice.ensures.value (c.in-Some.ensures.kept first refl) in
-    let told = told-behind past c.deref.result.now c.in-Some.keep c.args.n c.in-Ok.reports.items c.deref.ensures.value c.in-Ok.ensures in
+    let kept = subst (λ u. kept_to c.args.mark u.first u.later ≡ Some (take c.in_ok-keep.keep u.later)) (sym c.self.view_is) c.in_ok-keep.ensures.kept in
+    let told = told-behind past c.deref.result.now c.in_ok-keep.keep c.args.n c.in-Ok.reports.items c.deref.ensures.value c.in-Ok.ensures in
     let new = timeline_of j.floor j.first.value j.first_note items j.last in
     let k = vec_len c.take_back_to.new.past in
     let shorter : k ≤ length past = omega (arith, c.take_back_to.ensures.shorter, j.past.ok.0) in
     let cut : c.len-stood.result - c.len-2.result ≡ length past - k = omega (arith, c.len-stood.ensures, c.len-2.ensures, j.past.ok.0) in
-    let reports = reported-stopped past c.in-Some.keep k c.args.n _ c.in-Ok.reports.items c.keep_newest.new.reports.items c.take_back_to.ensures.kept shorter cut told c.keep_newest.ensures.none c.keep_newest.ensures.some in
-    let uncut = λ (is : k ≡ c.in-Some.keep). absurd (c.if-len-keep.false (c.len.ensures ∙ is)) in
-    let stopped = stopped-front j.floor j.first.value j.first_note past items j.last c.args.mark c.args.n c.in-Some.keep k c.keep_newest.new.reports.items c.self.invariant.1 kept c.take_back_to.ensures.kept shorter uncut c.take_back_to.ensures.front reports in
+    let reports = reported-stopped past c.in_ok-keep.keep k c.args.n _ c.in-Ok.reports.items c.keep_newest.new.reports.items c.take_back_to.ensures.kept shorter cut told c.keep_newest.ensures.none c.keep_newest.ensures.some in
+    let uncut = λ (is : k ≡ c.in_ok-keep.keep). absurd (c.if-len-keep.false (c.len.ensures ∙ is)) in
+    let stopped = stopped-front j.floor j.first.value j.first_note past items j.last c.args.mark c.args.n c.in_ok-keep.keep k c.keep_newest.new.reports.items c.self.invariant.1 kept c.take_back_to.ensures.kept shorter uncut c.take_back_to.ensures.front reports in
     subst (λ m. Stopped c.args.mark c.args.n c.args.self.now new m c.keep_newest.new.reports.items) (sym c.mark.ensures.serial) (subst (λ t. Stopped c.args.mark c.args.n t new (here new).serial c.keep_newest.new.reports.items) c.self.view_is stopped)
 
 pub returns-then-len-keep-clause-at_mark : goal.returns-then-len-keep-clause-at_mark
 returns-then-len-keep-clause-at_mark g c =
     let j = c.self.inside in
     let past = j.past.items in
-    let first : Station g.row.S.Denot g.row.S-Note.Denot = record { serial = j.floor; node = j.first.value; note = j.first_note } in
-    let kept = kept-lent past c.as_slice.result.now first c.args.mark c.in-Some.keep c.as_slice.ensures.value (c.in-Some.ensures.kept first refl) in
+    let kept = subst (λ u. kept_to c.args.mark u.first u.later ≡ Some (take c.in_ok-keep.keep u.later)) (sym c.self.view_is) c.in_ok-keep.ensures.kept in
     let front = c.take_back_to.ensures.front ∙ ap (λ k. take k past) (sym c.len.ensures ∙ c.if-len-keep.true) in
-    at_mark-front j.floor j.first.value j.first_note past c.take_back_to.new.past.items j.last c.args.mark c.in-Some.keep kept front
+    at_mark-front j.floor j.first.value j.first_note past c.take_back_to.new.past.items j.last c.args.mark c.in_ok-keep.keep kept front
 
 pub returns-then-len-keep-clause-front : goal.returns-then-len-keep-clause-front
 returns-then-len-keep-clause-front g c =
