@@ -18,7 +18,7 @@ abbrev pub IsKept : NodeState → Type 0
 IsKept n = IsConsistent n.modules n.processes
 
 abbrev pub with_processes : Table → NodeState → NodeState
-with_processes t n = record { modules = n.modules; processes = t; apps = n.apps }
+with_processes t n = record n { processes = t }
 
 abbrev pub with_modules : Loaded Forms → NodeState → NodeState
-with_modules m n = record { modules = m; processes = n.processes; apps = n.apps }
+with_modules m n = record n { modules = m }

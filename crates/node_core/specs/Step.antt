@@ -78,11 +78,7 @@ ended_by pid (Exit reason) apps = all_ended reason (pid ∷ []) apps
 abbrev pub Commits : Done → NodeState → Outcome → Type 0
 Commits done n (Err e) = (it : ProcError) × RefusesCommit it done.job n.processes × (e ≡ OfProcesses it)
 Commits done n (Ok a) = CanCommit done.job n.processes × (a ≡ record {
-  node = record {
-    modules = n.modules;
-    processes = committed done n.processes;
-    apps = ended_by done.job.pid done.outcome.end n.apps;
-  };
+  node = record n { processes = committed done n.processes; apps = ended_by done.job.pid done.outcome.end n.apps };
   answer = answer.Unit;
   note = reporting (commit_told done n.processes);
 })
@@ -91,7 +87,7 @@ Commits done n (Ok a) = CanCommit done.job n.processes × (a ≡ record {
 
 abbrev pub revived_as : List ℕ → Term → ℕ → Table → List Reply → NodeState → Accepted NodeState Answer Note
 revived_as app id pid after told n = record {
-  node = record { modules = n.modules; processes = after; apps = revived app id pid n.apps };
+  node = record n { processes = after; apps = revived app id pid n.apps };
   answer = answer.Revived pid;
   note = reporting told;
 }
@@ -113,7 +109,7 @@ Revives app id n (Ok a) = IsRevived app id n a
 -- Load and purge: those who linger in what is purged are killed, and their children are due, or not.
 
 abbrev pub without_lingering : List ℕ → NodeState → NodeState
-without_lingering name n = record {
+without_lingering name n = record n {
   modules = purged name n.modules;
   processes = spared name n.modules n.processes;
   apps = all_ended killed (lingering name n.modules n.processes) n.apps;

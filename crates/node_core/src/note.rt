@@ -6,7 +6,7 @@ use erl_term::{Atom, Term};
 use process_ending::Reply;
 use std::alloc::{AllocError, Global};
 use std::marker::Model;
-use values::{Duplicate, Row};
+use values::{Duplicate, Row, Same};
 
 /// How a note is kept: an arrival sends no replies, so one place serves for both.
 #[derive(Drop)]
@@ -93,5 +93,15 @@ impl Duplicate for Note {
             Reported::Arrival(arrival) => Reported::Arrival(arrival.copy(alloc)?),
         };
         Ok(Note { reported })
+    }
+}
+
+impl Same for Note {
+    fn same(&self, other: &Note) -> bool {
+        match (&self.reported, &other.reported) {
+            (Reported::Replies(replies), Reported::Replies(with)) => replies.same(with),
+            (Reported::Arrival(arrival), Reported::Arrival(with)) => arrival.same(with),
+            (_, _) => false,
+        }
     }
 }

@@ -24,6 +24,32 @@ pub enum Body {
     Info(Term),
 }
 
+impl Same for Body {
+    fn same(&self, other: &Body) -> bool {
+        match (self, other) {
+            (Body::Call { number, term }, Body::Call { number: n, term: t }) => {
+                *number == *n && term.same(t)
+            }
+            (Body::Cast(term), Body::Cast(with)) => term.same(with),
+            (Body::Info(term), Body::Info(with)) => term.same(with),
+            (_, _) => false,
+        }
+    }
+}
+
+impl Duplicate for Body {
+    fn copy(&self, alloc: Global) -> Result<Body, AllocError> {
+        match self {
+            Body::Call { number, term } => Ok(Body::Call {
+                number: *number,
+                term: term.copy(alloc)?,
+            }),
+            Body::Cast(term) => Ok(Body::Cast(term.copy(alloc)?)),
+            Body::Info(term) => Ok(Body::Info(term.copy(alloc)?)),
+        }
+    }
+}
+
 /// What kind of message arrives: all that a refusal looks at.
 #[derive(Clone, Copy, Debug, Drop, PartialEq, Eq)]
 pub enum BodyKind {

@@ -20,7 +20,7 @@
 //! - [`Processes::kill_users`] takes each user of an instance out, and nobody else (`without_users` of
 //!   [`process_ending`]).
 //! - [`Processes::arrive_refusal`], [`Processes::take_refusal`] and [`Processes::commit_refusal`] tell without memory why a step would be
-//!   refused, but for want of it (`IsCommitRefusal`).
+//!   refused, but for want of it (`RefusesCommit`, `CanCommit`).
 //! - What an undo gives back is the table before the step, whole (`undone`, `TakesBack`). A process that has ended and a job that was
 //!   committed are kept without code, so of a commit, an end and a kill this is said over the tables of modules in which the instances
 //!   that the processes use stand (`TakesBackEnds`). An undo that is done loses no process and no job, whatever the table of modules
@@ -37,8 +37,8 @@
 //!
 //! That there is memory, and what a call costs: a step costs what its elementary change costs ([`process_store`]), and for each
 //! equal value that is asked for what a copy of the message, of the job or of what is told costs, where copies of terms and of code
-//! share; an end copies names of modules, and its undo looks for their instances. `runnable` walks over the slots, and evaluates
-//! nothing.
+//! share; an end copies names of modules, and its undo looks for their instances. `runnable` walks over the living processes, and
+//! evaluates nothing.
 #![tactic(auto)]
 
 mod body;
