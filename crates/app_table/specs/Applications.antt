@@ -23,7 +23,7 @@ loaded spec = record { spec = spec; is_started = false; children = [] }
 
 -- with these children, started or not
 abbrev pub with_children : Bool → List Child → Application → Application
-with_children is_started children a = record { spec = a.spec; is_started = is_started; children = children }
+with_children is_started children a = record a { is_started = is_started; children = children }
 
 -- The application of a name.
 
@@ -55,7 +55,7 @@ child_at spot apps = option_and_then (λ a. slice_get a.children spot.child) (sl
 -- It is changed, by whether its application is started.
 
 abbrev pub with_child : (Bool → Child → Child) → ℕ → Application → Application
-with_child f place a = record { spec = a.spec; is_started = a.is_started; children = changed_at (f a.is_started) a.children place }
+with_child f place a = record a { children = changed_at (f a.is_started) a.children place }
 
 abbrev pub changed_child : (Bool → Child → Child) → Spot → List Application → List Application
 changed_child f spot apps = changed_at (with_child f spot.child) apps spot.app

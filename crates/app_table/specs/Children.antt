@@ -37,7 +37,7 @@ is_due_after reason Temporary = false
 
 -- a child in this state
 abbrev pub in_state : ChildState → Child → Child
-in_state s c = record { spec = c.spec; state = s }
+in_state s c = record c { state = s }
 
 -- a child that runs as the process of a pid
 abbrev pub running : ChildSpec → ℕ → Child
