@@ -8,6 +8,7 @@ use Rattle.undo_journal.specs.History.{AreAfter}
 use Rattle.undo_journal.specs.Reversible.{Accepted}
 use Rattle.undo_journal.specs.Timeline.{appended, cut_stations, cut_to, here, report_of}
 use Rattle.undo_journal.specs.declared.history.Command.TheVariants as command
+use Rattle.undo_journal.proofs.Histories.{cut_to-parts}
 use Rattle.node_core.specs.Node.{NodeState}
 use Rattle.node_core.specs.Step.{Step}
 use Rattle.node_core.specs.declared.event.Answer.{Answer}
@@ -29,24 +30,24 @@ use Rattle.shell_deeds.specs.declared.fate.Fate.{Fate}
 use Rattle.shell_deeds.specs.declared.fate.Fate.TheVariants.{StoppedAt}
 use Rattle.node_shell.specs.Replay.{Stops}
 
--- the command of a deed leads to the journal after it
+-- the command of a deed leads to the journal after it, which begins where the one before does
 abbrev pub IsLed : ShellState → Deed → Type 0
-IsLed s d = AreAfter Step (option_to_list d.command) s.timeline d.after.timeline
+IsLed s d = AreAfter Step (option_to_list d.command) s.timeline d.after.timeline × (d.after.timeline.first ≡ s.timeline.first)
 
 module _ (s : ShellState) where
   performs : (tried : ShellState) (e : Event) (done : Accepted NodeState Answer Note → Deed) (fate : Option Fate) (d : Deed) → tried.timeline ≡ s.timeline → ((a : Accepted NodeState Answer Note) → Step (node_of s) e (Ok a) → IsLed s (done a)) → deeds.Performs s tried e done fate d → IsLed s d
-  performs tried e done _ _ same each (deeds.full is) = same
+  performs tried e done _ _ same each (deeds.full is) = (same, ap (λ t. t.first) same)
   performs tried e done _ _ same each (deeds.accepted room a rule) = each a rule
-  performs tried e done _ _ same each (deeds.refused room why rule) = same
-  performs tried e done _ _ same each (deeds.no_memory room may) = refl
+  performs tried e done _ _ same each (deeds.refused room why rule) = (same, ap (λ t. t.first) same)
+  performs tried e done _ _ same each (deeds.no_memory room may) = (refl, refl)
 
   misses : {X : Type 0} (e : X → Event) (fate : Option Fate) (d : Deed) → deeds.Misses s e fate d → IsLed s d
-  misses e _ _ (deeds.unread_full is) = refl
-  misses e _ _ (deeds.unread_refused room why rule) = refl
-  misses e _ _ (deeds.no_memory_to_read room may) = refl
+  misses e _ _ (deeds.unread_full is) = (refl, refl)
+  misses e _ _ (deeds.unread_refused room why rule) = (refl, refl)
+  misses e _ _ (deeds.no_memory_to_read room may) = (refl, refl)
 
-  carried : (e : Event) (a : Accepted NodeState Answer Note) → Step (node_of s) e (Ok a) → AreAfter Step (option_to_list (Some (command.Perform e))) s.timeline (appended s.timeline a.node a.note)
-  carried e a rule = (appended s.timeline a.node a.note, (Ok a, rule, refl), refl)
+  carried : (e : Event) (a : Accepted NodeState Answer Note) → Step (node_of s) e (Ok a) → AreAfter Step (option_to_list (Some (command.Perform e))) s.timeline (appended s.timeline a.node a.note) × ((appended s.timeline a.node a.note).first ≡ s.timeline.first)
+  carried e a rule = ((appended s.timeline a.node a.note, (Ok a, rule, refl), refl), refl)
 
   took : (pid : ℕ) (a : Accepted NodeState Answer Note) (told : Answer) → Step (node_of s) (event.Take pid) (Ok a) → IsLed s (deeds.took (stepped a s) pid told)
   took pid a (tells.Job job) rule = carried (event.Take pid) a rule
@@ -55,9 +56,9 @@ module _ (s : ShellState) where
   took pid a tells.Unit rule = carried (event.Take pid) a rule
 
   loads : (name path : List ℕ) (fate : Option Fate) (d : Deed) → deeds.Loads s name path fate d → IsLed s d
-  loads name path _ _ (deeds.missing is) = refl
-  loads name path _ _ (deeds.no_source bytes why found says none) = refl
-  loads name path _ _ (deeds.another bytes m found source other) = refl
+  loads name path _ _ (deeds.missing is) = (refl, refl)
+  loads name path _ _ (deeds.no_source bytes why found says none) = (refl, refl)
+  loads name path _ _ (deeds.another bytes m found source other) = (refl, refl)
   loads name path _ _ (deeds.read bytes m fate d found source same does) =
       performs s (event.Load m) _ fate d refl (carried (event.Load m)) does
   loads name path _ _ (deeds.unread bytes fate d found does) = misses event.Load fate d does
@@ -73,8 +74,8 @@ module _ (s : ShellState) where
   arrived arrivals.Info e answer a rule = carried e a rule
 
   arrives : (kind : Arrival) (name text : List ℕ) (fate : Option Fate) (d : Deed) → deeds.Arrives s kind name text fate d → IsLed s d
-  arrives kind name text _ _ (deeds.no_text fault at is) = refl
-  arrives kind name text _ _ (deeds.several is) = refl
+  arrives kind name text _ _ (deeds.no_text fault at is) = (refl, refl)
+  arrives kind name text _ _ (deeds.several is) = (refl, refl)
   arrives kind name text _ _ (deeds.read t fate d is does) =
       let e = deeds.arrival_event s kind name t in
       let answer = deeds.arrival_answer kind (next_number s) in
@@ -82,12 +83,12 @@ module _ (s : ShellState) where
   arrives kind name text _ _ (deeds.unread fate d does) = misses _ fate d does
 
   retakes : (pid : ℕ) (fate : Option Fate) (d : Deed) → deeds.Retakes s pid fate d → IsLed s d
-  retakes pid _ _ (deeds.kept_again job is) = refl
-  retakes pid _ _ (deeds.not_running why is) = refl
-  retakes pid _ _ (deeds.no_memory_to_keep is) = refl
+  retakes pid _ _ (deeds.kept_again job is) = (refl, refl)
+  retakes pid _ _ (deeds.not_running why is) = (refl, refl)
+  retakes pid _ _ (deeds.no_memory_to_keep is) = (refl, refl)
 
   told : (answer : Tree) (fate : Option Fate) (d : Deed) → (fate ≡ None) × (d ≡ answered s answer) → IsLed s d
-  told answer fate d is = subst (λ e. IsLed s e) (sym is.1) refl
+  told answer fate d is = subst (λ e. IsLed s e) (sym is.1) (refl, refl)
 
   serves : (service : Service) (pid : Option ℕ) (fate : Option Fate) (d : Deed) → deeds.ServesAs s service pid fate d → IsLed s d
   serves services.Take None fate d does = told (fixed words.NoProc) fate d does
@@ -100,14 +101,15 @@ module _ (s : ShellState) where
   commits : (job : Option Job) (fate : Option Fate) (d : Deed) → deeds.CommitsKept s job fate d → IsLed s d
   commits None fate d does = told (fixed words.NoJob) fate d does
   commits (Some job) _ _ (deeds.ran done fate d is does) = performs s (event.Commit done) _ fate d refl (carried (event.Commit done)) does
-  commits (Some job) _ _ (deeds.not_run_full is) = refl
-  commits (Some job) _ _ (deeds.not_run room why refuses) = refl
-  commits (Some job) _ _ (deeds.no_memory_to_run room may) = refl
+  commits (Some job) _ _ (deeds.not_run_full is) = (refl, refl)
+  commits (Some job) _ _ (deeds.not_run room why refuses) = (refl, refl)
+  commits (Some job) _ _ (deeds.no_memory_to_run room may) = (refl, refl)
 
   undoes : (mark : ℕ) (fate : Option Fate) (d : Deed) → deeds.Undoes s mark fate d → IsLed s d
-  undoes mark _ _ (deeds.dead is) = refl
-  undoes mark _ _ (deeds.cut end is) = (end, ap (λ o. unwrap_or o s.timeline) (sym is), refl)
-  undoes mark _ _ (deeds.stopped reached end alive behind is uncut) = (end, ap (λ o. unwrap_or o s.timeline) (sym is), refl)
+  undoes mark _ _ (deeds.forgotten is) = (refl, refl)
+  undoes mark _ _ (deeds.dead is) = (refl, refl)
+  undoes mark _ _ (deeds.cut end is) = ((end, ap (λ o. unwrap_or o s.timeline) (sym is), refl), (cut_to-parts mark s.timeline end is).1)
+  undoes mark _ _ (deeds.stopped reached end alive behind is uncut) = ((end, ap (λ o. unwrap_or o s.timeline) (sym is), refl), (cut_to-parts reached s.timeline end is).1)
 
   obeys : (fate : Option Fate) (request : Request) (d : Deed) → deeds.Obeys fate s request d → IsLed s d
   obeys fate (ask question) d does = told (deeds.told s question) fate d does
@@ -122,14 +124,15 @@ module _ (s : ShellState) where
 -- what may be done of what is said in a line
 pub Does-led : (fate : Option Fate) (s : ShellState) (line : Spoken) (d : Deed) → deeds.Does fate s line d → IsLed s d
 Does-led fate s too_long d does = told s (fixed words.LineTooLong) fate d does
-Does-led fate s silent d does = subst (λ e. IsLed s e) (sym does.1) refl
+Does-led fate s silent d does = subst (λ e. IsLed s e) (sym does.1) (refl, refl)
 Does-led fate s unknown d does = told s (fixed words.BadCommand) fate d does
 Does-led fate s (asks request) d does = obeys s fate request d does
 
 -- An undo at which no memory was refused cuts what it should.
 
 undo-cuts : (s : ShellState) (mark : ℕ) (end : NodeTimeline) (fate : Option Fate) (d : Deed) → fate ≡ None → cut_to mark s.timeline ≡ Some end → deeds.Undoes s mark fate d → d ≡ deeds.undone_to s mark end (undone_steps (report_of (cut_stations s.timeline end)))
-undo-cuts s mark end _ _ whole is (deeds.dead gone) = absurd (let never : ⊥ = cc in never)
+undo-cuts s mark end _ _ whole is (deeds.forgotten none) = absurd (let gone = none.1 in let never : ⊥ = cc in never)
+undo-cuts s mark end _ _ whole is (deeds.dead none) = absurd (let gone = none.1 in let never : ⊥ = cc in never)
 undo-cuts s mark end _ _ whole is (deeds.cut at stands) =
     let same : at ≡ end = cc in ap (λ t. deeds.undone_to s mark t (undone_steps (report_of (cut_stations s.timeline t)))) same
 undo-cuts s mark end _ _ whole is (deeds.stopped reached at alive behind stands uncut) = absurd (let never : ⊥ = cc in never)
@@ -138,7 +141,8 @@ pub Does-cuts : (s : ShellState) (mark : ℕ) (end : NodeTimeline) (fate : Optio
 Does-cuts s mark end fate line d whole says is does = undo-cuts s mark end fate d whole is (subst (λ l. deeds.Does fate s l d) says does)
 
 undo-stops : (s : ShellState) (mark reached : ℕ) (fate : Option Fate) (d : Deed) → fate ≡ Some (StoppedAt reached) → deeds.Undoes s mark fate d → Stops s.timeline d mark reached
-undo-stops s mark reached _ _ is (deeds.dead gone) = absurd (let never : ⊥ = cc in never)
+undo-stops s mark reached _ _ is (deeds.forgotten none) = absurd (let never : ⊥ = cc in never)
+undo-stops s mark reached _ _ is (deeds.dead none) = absurd (let never : ⊥ = cc in never)
 undo-stops s mark reached _ _ is (deeds.cut end stands) = absurd (let never : ⊥ = cc in never)
 undo-stops s mark reached _ _ is (deeds.stopped at end alive behind stands uncut) =
     let same : at ≡ reached = cc in

@@ -1,3 +1,4 @@
+mod Kept
 mod Led
 mod Replays
 mod Turns

@@ -18,13 +18,20 @@ use Rattle.shell_deeds.specs.declared.fate.Fate.TheVariants.{StoppedAt}
 use Rattle.node_shell.specs.Replay.{Obeyed, AreObeyed, IsReplayed, IsHeadline, IsNamed, MarksName, Stops, Undoes, commands_in, shell_behind, timeline_behind}
 use Rattle.node_shell.specs.Run.{Runs, RunsWhole, Starts}
 use Rattle.node_shell.specs.Shell.{shell_turn}
+use Rattle.node_shell.proofs.Kept.{all-made}
 use Rattle.node_shell.proofs.Led.{Does-cuts, Does-led, Does-stops}
 use Rattle.node_shell.proofs.Turns.{obeyed-from_answered, unrefused-obeyed}
 
 after-obeyed : (s : ShellState) (obeyed : List Obeyed) → AreObeyed s obeyed → AreAfter Step (commands_in obeyed) s.timeline (timeline_behind s obeyed)
 after-obeyed s [] in_turn = refl
 after-obeyed s (o ∷ others) in_turn =
-    AreAfter-append Step (option_to_list o.deed.command) (commands_in others) s.timeline o.deed.after.timeline (timeline_behind o.deed.after others) (Does-led o.fate s (spoken (heard o.line)) o.deed in_turn.0) (after-obeyed o.deed.after others in_turn.1)
+    AreAfter-append Step (option_to_list o.deed.command) (commands_in others) s.timeline o.deed.after.timeline (timeline_behind o.deed.after others) (Does-led o.fate s (spoken (heard o.line)) o.deed in_turn.0).0 (after-obeyed o.deed.after others in_turn.1)
+
+-- no line forgets a station
+first-kept : (s : ShellState) (obeyed : List Obeyed) → AreObeyed s obeyed → (timeline_behind s obeyed).first ≡ s.timeline.first
+first-kept s [] in_turn = refl
+first-kept s (o ∷ others) in_turn =
+    first-kept o.deed.after others in_turn.1 ∙ (Does-led o.fate s (spoken (heard o.line)) o.deed in_turn.0).1
 
 -- some lines and more
 AreObeyed-parts : (s : ShellState) (front more : List Obeyed) → AreObeyed s (front ++ more) → AreObeyed s front × AreObeyed (shell_behind s front) more
@@ -53,7 +60,7 @@ module _ (node : NodeState) (start : ShellState) (begun : start.timeline ≡ ope
       record {
         live = runs.0;
         runs = runs.1;
-        stations = Makes-live Step node commands end runs.0 runs.1;
+        stations = all-made Step node runs.0 end (Makes-live Step node commands end runs.0 runs.1) (ap (λ f. f.serial) (first-kept start obeyed in_turn ∙ ap (λ t. t.first) begun));
         fold = FoldsTo-live Step node commands end runs.0 runs.1;
       }
 

@@ -4,7 +4,8 @@ use Rattle.undo_journal.specs.declared.error.JournalError.{JournalError}
 use Rattle.undo_journal.specs.declared.error.JournalError.TheVariants as error
 use Rattle.undo_journal.specs.declared.report.Report.{Report}
 use Rattle.undo_journal.specs.Journal.{UndoFails, stopped_reports}
-use Rattle.undo_journal.specs.Timeline.{Station, cut_stations, cut_to, report_of}
+use Rattle.undo_journal.specs.Timeline.{IsFront, Station, cut_stations, cut_to, report_of}
+use Rattle.std.proofs.lemmas.List.{append-nil}
 use Rattle.erl_term.specs.Rows.{append_trees}
 use Rattle.erl_term.specs.Tree.{more}
 use Rattle.process_ending.specs.declared.told.Reply.{Reply}
@@ -12,8 +13,8 @@ use Rattle.shell_answers.specs.Answers.{line_of, replied, replies_in, rows_of, s
 use Rattle.node_core.specs.Node.{NodeState}
 use Rattle.node_core.specs.Note.{Note}
 use Rattle.node_core.specs.declared.event.Refusal.{Refusal}
-use Rattle.shell_deeds.specs.Deeds.{Undoes, cut, dead, stopped}
-use Rattle.shell_deeds.specs.Done.{IsDone, first_of, undo_answer, undo_fate, unfinished_answer, unfinished_fate}
+use Rattle.shell_deeds.specs.Deeds.{Undoes, cut, forgotten, dead, stopped}
+use Rattle.shell_deeds.specs.Done.{IsDone, IsUnbegun, first_of, undo_answer, undo_fate, unfinished_answer, unfinished_fate}
 use Rattle.shell_deeds.specs.State.{NodeTimeline, ShellState, joined, with_timeline}
 use Rattle.shell_deeds.specs.declared.fate.Fate.{Fate}
 
@@ -34,6 +35,8 @@ first_stopped (s ∷ ss) = refl
 pub unfinished : (s : ShellState) (mark : ℕ) (new : NodeTimeline) (e : JournalError Refusal Note) (fate : Option Fate) (text appended : List ℕ) → UndoFails mark 1 s.timeline new e → (fate ≡ unfinished_fate e) × (appended ≡ text ++ line_of (unfinished_answer e)) → IsDone (Undoes s mark fate) (with_timeline new s) text appended
 unfinished s mark new (error.Step why) fate text appended fails told = absurd fails
 unfinished s mark new error.SerialEnd fate text appended fails told = absurd fails
+unfinished s mark new error.Forgotten fate text appended fails told =
+    subst (λ f. IsDone (Undoes s mark f) (with_timeline new s) text appended) (sym told.0) (_, forgotten fails.0, ap (λ t. with_timeline t s) fails.1, told.1)
 unfinished s mark new error.DeadMark fate text appended fails told =
     subst (λ f. IsDone (Undoes s mark f) (with_timeline new s) text appended) (sym told.0) (_, dead fails.0, ap (λ t. with_timeline t s) fails.1, told.1)
 unfinished s mark new (error.Memory reached reports) fate text appended fails told =
@@ -42,6 +45,23 @@ unfinished s mark new (error.Memory reached reports) fate text appended fails to
 pub undo-done : (s : ShellState) (mark : ℕ) (new : NodeTimeline) (r : Result (Vec (Report Note) Global) (JournalError Refusal Note)) (fate : Option Fate) (text appended : List ℕ) → OnOk r (cut_to mark s.timeline ≡ Some new) → IfOk r (λ reports. reports.items ≡ replicate 1 (report_of (cut_stations s.timeline new))) → IfErr r (UndoFails mark 1 s.timeline new) → (fate ≡ undo_fate r) × (appended ≡ text ++ line_of (undo_answer r)) → IsDone (Undoes s mark fate) (with_timeline new s) text appended
 undo-done s mark new (Ok reports) fate text appended is reported fails told = undone s mark new reports.items fate text appended is reported told
 undo-done s mark new (Err e) fate text appended is reported fails told = unfinished s mark new e fate text appended fails told
+
+-- an undo that cut nothing leaves the timeline as it was
+
+none_cut : (cut : List (Station NodeState Note)) → [] ≡ stopped_reports 1 cut → cut ≡ []
+none_cut [] e = refl
+none_cut (s ∷ ss) e = absurd (let no : ⊥ = cc in no)
+
+pub as_it_was : (mark : ℕ) (old new : NodeTimeline) (r : Result (Vec (Report Note) Global) (JournalError Refusal Note)) → IsUnbegun r → IfErr r (UndoFails mark 1 old new) → IsFront old new → new ≡ old
+as_it_was mark old new (Ok reports) unbegun fails front = absurd unbegun
+as_it_was mark old new (Err (error.Step why)) unbegun fails front = absurd unbegun
+as_it_was mark old new (Err error.Forgotten) unbegun fails front = absurd unbegun
+as_it_was mark old new (Err error.DeadMark) unbegun fails front = absurd unbegun
+as_it_was mark old new (Err error.SerialEnd) unbegun fails front = absurd unbegun
+as_it_was mark old new (Err (error.Memory reached reports)) unbegun fails front =
+    let none = none_cut (cut_stations old new) (sym unbegun ∙ fails.reported) in
+    let later : new.later ≡ old.later = sym (front.front ∙ ap (λ cut. new.later ++ cut) none ∙ append-nil new.later) in
+    λ i. record { first = front.same_first i; later = later i; last = front.same_last i }
 
 -- the replies of rows are told as those of one row
 

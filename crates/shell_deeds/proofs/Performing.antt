@@ -91,6 +91,7 @@ pub failed : {X : Type 0} (s : ShellState) (e : Event) (r : Result X (JournalErr
 failed s e r (error.Step refusal) is at_end fails =
     ((λ full. let ends : r ≡ Err error.SerialEnd = at_end full in let never : ⊥ = cc in never), fails)
 failed s e r error.SerialEnd is at_end fails = fails
+failed s e r error.Forgotten is at_end fails = absurd fails
 failed s e r error.DeadMark is at_end fails = absurd fails
 failed s e r (error.Memory mark reports) is at_end fails =
     ((λ full. let ends : r ≡ Err error.SerialEnd = at_end full in let never : ⊥ = cc in never), fails.0)

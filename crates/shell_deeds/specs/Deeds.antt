@@ -20,7 +20,7 @@ use Rattle.process_table.specs.declared.body.Body.{Body}
 use Rattle.process_table.specs.declared.body.Body.TheVariants as body
 use Rattle.undo_journal.specs.declared.history.Command.TheVariants.{Undo}
 use Rattle.undo_journal.specs.Reversible.{Accepted}
-use Rattle.undo_journal.specs.Timeline.{cut_stations, cut_to, here, report_of}
+use Rattle.undo_journal.specs.Timeline.{IsDead, IsForgotten, cut_stations, cut_to, here, report_of}
 use Rattle.node_core.specs.Node.{NodeState}
 use Rattle.node_core.specs.Step.{MayRunOut, Step}
 use Rattle.node_core.specs.declared.event.Answer.{Answer}
@@ -189,14 +189,15 @@ abbrev pub RevivesChild : ShellState → List ℕ → List ℕ → Option Fate �
 RevivesChild s app id fate d =
     Performs s s (event.Revive app (Atom id)) (λ a. carried (stepped a s) (event.Revive app (Atom id)) (revived_in a.answer)) fate d
 
--- `undo K`: the stations after the mark are cut; an undo that found no memory stands at a living mark from its own on, at its own only where
--- it cut nothing.
+-- `undo K`: a mark below the first station's is forgotten, any other without a station dead. Else the stations after it are cut; an undo
+-- that found no memory stops at a living mark, its own or a later one, and at its own only where it cut nothing.
 
 abbrev pub undone_to : ShellState → ℕ → NodeTimeline → Tree → Deed
 undone_to s mark end answer = record { text = line_of answer; after = with_timeline end s; command = Some (Undo mark) }
 
 pub data Undoes (s : ShellState) (mark : ℕ) : Option Fate → Deed → Type 0 where
-  dead : cut_to mark s.timeline ≡ None → Undoes s mark None (answered s (fixed words.DeadMark))
+  forgotten : IsForgotten mark s.timeline → Undoes s mark None (answered s (fixed words.Forgotten))
+  dead : IsDead mark s.timeline → Undoes s mark None (answered s (fixed words.DeadMark))
   cut : (end : NodeTimeline) → cut_to mark s.timeline ≡ Some end →
       Undoes s mark None (undone_to s mark end (undone_steps (report_of (cut_stations s.timeline end))))
   stopped : (reached : ℕ) (end : NodeTimeline) → IsSome (cut_to mark s.timeline) → mark ≤ reached → cut_to reached s.timeline ≡ Some end →

@@ -50,12 +50,14 @@ first_of (r ∷ rs) = r
 
 abbrev pub unfinished_fate : JournalError Refusal Note → Option Fate
 unfinished_fate (error.Step why) = None
+unfinished_fate error.Forgotten = None
 unfinished_fate error.DeadMark = None
 unfinished_fate error.SerialEnd = None
 unfinished_fate (error.Memory mark reports) = Some (fates.StoppedAt mark)
 
 abbrev pub unfinished_answer : JournalError Refusal Note → Tree
 unfinished_answer (error.Step why) = fixed words.DeadMark
+unfinished_answer error.Forgotten = fixed words.Forgotten
 unfinished_answer error.DeadMark = fixed words.DeadMark
 unfinished_answer error.SerialEnd = fixed words.DeadMark
 unfinished_answer (error.Memory mark reports) = stopped_undo mark (first_of reports.items)
@@ -69,6 +71,15 @@ undo_fate (Err e) = unfinished_fate e
 abbrev pub undo_answer : Result (Vec (Report Note) Global) (JournalError Refusal Note) → Tree
 undo_answer (Ok reports) = undone_steps (first_of reports.items)
 undo_answer (Err e) = unfinished_answer e
+
+-- Of an undo that was to report once: it found no memory and cut nothing, for it has no report.
+abbrev pub IsUnbegun : Result (Vec (Report Note) Global) (JournalError Refusal Note) → Type 0
+IsUnbegun (Ok reports) = ⊥
+IsUnbegun (Err (error.Step why)) = ⊥
+IsUnbegun (Err error.Forgotten) = ⊥
+IsUnbegun (Err error.DeadMark) = ⊥
+IsUnbegun (Err error.SerialEnd) = ⊥
+IsUnbegun (Err (error.Memory mark reports)) = reports.items ≡ []
 
 -- A job was kept, and its number told; or memory was refused.
 abbrev pub IsKept : ℕ → Job → Option Fate → ShellState → ShellState → List ℕ → List ℕ → Type 0

@@ -35,10 +35,11 @@ HaltsBy Refuses MayRun Memory s = (IsFull s → ⊥) × MayRun
 abbrev pub Halts : Halt → ShellState → Event → Type 0
 Halts halt s e = HaltsBy (λ why. Step (node_of s) e (Err why)) (MayRunOut (node_of s) e) halt s
 
--- by the journal's error; no event has a dead mark
+-- by the journal's error; no event has a mark
 abbrev pub halt_by : JournalError Refusal Note → Halt
 halt_by (error.Step why) = Refused why
 halt_by error.SerialEnd = Full
+halt_by error.Forgotten = Memory
 halt_by error.DeadMark = Memory
 halt_by (error.Memory mark reports) = Memory
 

@@ -40,11 +40,11 @@ abbrev pub node_of : ShellState → NodeState
 node_of s = (here s.timeline).node
 
 abbrev pub with_timeline : NodeTimeline → ShellState → ShellState
-with_timeline t s = record { files = s.files; timeline = t; jobs = s.jobs; calls = s.calls; sent = s.sent }
+with_timeline t s = record s { timeline = t }
 
 -- one job more is kept
 abbrev pub with_job : Job → ShellState → ShellState
-with_job job s = record { files = s.files; timeline = s.timeline; jobs = s.jobs ++ job ∷ []; calls = s.calls; sent = s.sent }
+with_job job s = record s { jobs = s.jobs ++ job ∷ [] }
 
 -- The number of the next call: that of the calls that were tried, and one more, as far as numbers go.
 abbrev pub next_number : ShellState → ℕ
@@ -52,17 +52,11 @@ next_number s = if nat_lt (s.calls + 1) (2 ^ 64) then s.calls + 1 else s.calls
 
 -- one call more is tried
 abbrev pub with_call : ShellState → ShellState
-with_call s = record { files = s.files; timeline = s.timeline; jobs = s.jobs; calls = next_number s; sent = s.sent }
+with_call s = record s { calls = next_number s }
 
 -- an event is accepted: one station more, and its replies are sent
 abbrev pub stepped : Accepted NodeState Answer Note → ShellState → ShellState
-stepped a s = record {
-  files = s.files;
-  timeline = appended s.timeline a.node a.note;
-  jobs = s.jobs;
-  calls = s.calls;
-  sent = s.sent ++ a.note.replies;
-}
+stepped a s = record s { timeline = appended s.timeline a.node a.note; sent = s.sent ++ a.note.replies }
 
 -- What a line does: its answer, the shell after it, and the command to the journal that made it so, if one was carried out.
 pub record Deed : Type 0 where

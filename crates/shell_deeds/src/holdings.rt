@@ -12,6 +12,9 @@ use std::marker::Model;
 use undo_journal::Journal;
 use values::Row;
 
+/// How many bytes are kept back for an undo that finds no other memory.
+pub(crate) const SPARE: usize = 65_536;
+
 /// What the shell holds from one line to the next: the files, the journal of the node, the jobs whose results can be committed, how many
 /// calls were tried, and all replies that were ever sent.
 #[derive(Drop)]
@@ -24,6 +27,8 @@ pub struct Holdings {
     pub(crate) calls: u64,
     /// All replies, in one row, or in several where memory was refused to join them. Contracts see them as one list.
     pub(crate) sent: Vec<Row<Reply>>,
+    /// Room that nothing is written to: memory for an undo that finds no other.
+    pub(crate) spare: Vec<u8>,
 }
 
 impl Model for Holdings {
@@ -62,6 +67,7 @@ impl Holdings {
         ensures { IfOk result (λ held. held ≡ opened_shell files node) }
     {
         let journal = Journal::new(alloc, node)?;
+        let spare = Vec::with_capacity(alloc, SPARE)?;
         Ok(Holdings {
             alloc,
             hashing,
@@ -70,6 +76,7 @@ impl Holdings {
             jobs: Vec::new(alloc),
             calls: 0,
             sent: Vec::new(alloc),
+            spare,
         })
     }
 

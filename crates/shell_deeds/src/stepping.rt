@@ -96,7 +96,9 @@ fn halt_by(error: JournalError<Refusal, Note>) -> Halt
     match error {
         JournalError::Step(why) => Halt::Refused(why),
         JournalError::SerialEnd => Halt::Full,
-        JournalError::Memory { .. } | JournalError::DeadMark => Halt::Memory,
+        JournalError::Memory { .. } | JournalError::Forgotten | JournalError::DeadMark => {
+            Halt::Memory
+        }
     }
 }
 

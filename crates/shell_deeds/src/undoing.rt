@@ -1,21 +1,23 @@
 // Undos, and questions.
-ghost use Rattle.std.specs.Prelude.{◌≡◌, ◌++◌, [], IfOk, None, OnOk, Some};
+ghost use Rattle.std.specs.Prelude.{◌≡◌, ◌++◌, ◌↔◌, [], IfErr, IfOk, IsTrue, None, OnOk, Some, replicate};
 ghost use Rattle.erl_term.specs.Tree.{list};
 ghost use Rattle.shell_answers.specs.Answers.{line_of, replies_in, stopped_undo, undone_steps};
+ghost use Rattle.undo_journal.specs.Journal.{UndoFails};
+ghost use Rattle.undo_journal.specs.Timeline.{cut_stations, cut_to, report_of};
 ghost use Rattle.shell_deeds.specs.Deeds.{Undoes, told};
-ghost use Rattle.shell_deeds.specs.Done.{IsDone, first_of, undo_answer, undo_fate, unfinished_answer, unfinished_fate};
+ghost use Rattle.shell_deeds.specs.Done.{IsDone, IsUnbegun, first_of, undo_answer, undo_fate, unfinished_answer, unfinished_fate};
 ghost use Rattle.shell_deeds.specs.declared.fate.Fate.TheVariants.{StoppedAt};
 
 use crate::fate::Fate;
-use crate::holdings::Holdings;
+use crate::holdings::{Holdings, SPARE};
 use crate::telling::{Said, say};
-use node_core::{Note, Refusal};
+use node_core::{Node, Note, Refusal};
 use shell_answers::{
     Fixed, write_apps, write_mark, write_modules, write_replies, write_stopped, write_undone,
 };
 use shell_requests::Question;
 use std::alloc::{AllocError, Global};
-use undo_journal::{JournalError, Mark, Report};
+use undo_journal::{Journal, JournalError, Mark, Report};
 use values::Row;
 
 /// How an undo ends.
@@ -42,12 +44,41 @@ impl Holdings {
         write_replies(self.sent.as_slice(), out)
     }
 
-    /// Undoes every step after a mark, and tells what was undone.
+    /// Undoes every step after a mark, and tells what was undone. Behind it memory is kept back again for the next one, where it is there.
     pub(crate) fn undo(&mut self, mark: Mark, out: &mut Vec<u8>) -> Said
         ensures { IfOk result (λ fate. IsDone (Undoes self.old mark fate) self.new out.old.items out.new.items) }
     {
-        let done = self.journal.undo(mark, 1);
-        tell_undo(self.alloc, &done, out)
+        let said = {
+            let done = undo_steps(self.alloc, &mut self.journal, &mut self.spare, mark);
+            tell_undo(self.alloc, &done, out)
+        };
+        let _ = self.spare.reserve(SPARE);
+        said
+    }
+}
+
+/// Undoes every step after a mark, and reports it once. Where it finds no memory, and has cut nothing, it is tried once more with what was
+/// kept back for it.
+fn undo_steps(alloc: Global, journal: &mut Journal<Node>, spare: &mut Vec<u8>, mark: Mark) -> Undone
+    ensures undone { OnOk result (cut_to mark journal.old ≡ Some journal.new) }
+    ensures reported { IfOk result (λ reports. reports.items ≡ replicate 1 (report_of (cut_stations journal.old journal.new))) }
+    ensures err { IfErr result (UndoFails mark 1 journal.old journal.new) }
+{
+    let done = journal.undo(mark, 1);
+    if !is_unbegun(&done) {
+        return done;
+    }
+    *spare = Vec::new(alloc);
+    journal.undo(mark, 1)
+}
+
+/// Whether an undo found no memory, and cut nothing.
+fn is_unbegun(done: &Undone) -> bool
+    ensures { IsTrue result ↔ IsUnbegun done.now }
+{
+    match done {
+        Err(JournalError::Memory { reports, .. }) => reports.is_empty(),
+        _ => false,
     }
 }
 
@@ -83,7 +114,7 @@ fn tell_stopped(alloc: Global, mark: Mark, reports: &[Report<Note>], out: &mut V
     Ok(Some(Fate::StoppedAt(mark)))
 }
 
-/// Tells why an undo did not reach its mark. No other error is one of an undo.
+/// Tells why an undo did not reach its mark. `Step` and `SerialEnd` are no errors of an undo.
 fn tell_unfinished(alloc: Global, error: &JournalError<Refusal, Note>, out: &mut Vec<u8>) -> Said
     ensures { IfOk result (λ fate. (fate ≡ unfinished_fate error.now) × (out.new.items ≡ out.old.items ++ line_of (unfinished_answer error.now))) }
 {
@@ -92,6 +123,7 @@ fn tell_unfinished(alloc: Global, error: &JournalError<Refusal, Note>, out: &mut
             let mark = *mark;
             tell_stopped(alloc, mark, reports.as_slice(), out)
         }
+        JournalError::Forgotten => say(Fixed::Forgotten, out),
         JournalError::DeadMark | JournalError::Step(_) | JournalError::SerialEnd => {
             say(Fixed::DeadMark, out)
         }
