@@ -1,4 +1,6 @@
-# make test: the merge gate. Its last line is 'N passed, M failed'.
+# make test: the merge gate, and then the transcripts on the program that it has built. Its last line is 'N passed, M failed'.
+# make transcripts: plays the sessions of transcripts/ on the program, which it builds first (tools/transcripts);
+#   make transcripts NAME=name plays one file of them. Its last line is 'N passed, M failed'.
 # make check: proves the crates alone, over what earlier checks kept, and tries no edit and no test: for the working day.
 # make edits: sees that the prover refuses each must-fail edit, those of edits/ too, many in one check (tools/edits);
 #   make edits CRATE=name tries one crate's. Its last line is 'N passed, M failed'.
@@ -8,10 +10,14 @@
 # make demo: the program on the example tree.
 RT ?= rt
 
-.PHONY: test check edits trials demo relnode
+.PHONY: test transcripts check edits trials demo relnode
 
 test:
 	@$(RT) ci
+	@tools/transcripts
+
+transcripts: relnode
+	@tools/transcripts $(NAME)
 
 check:
 	@$(RT) all check

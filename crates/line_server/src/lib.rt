@@ -6,7 +6,7 @@
 //!
 //! A line may have 65,536 bytes without its newline. Of a longer one the session hears that it is too long.
 //!
-//! No contract can say that a fault is a real one, nor that answers are written before the next read: `node_tests`
+//! No contract can say that a fault is a real one, nor that answers are written before the next read: `line_tests`
 //! looks at both.
 #![tactic(auto)]
 

@@ -5,7 +5,7 @@
 //!
 //! What is proved of it is the contract of [`node_shell::run`], that the program ends as the run ended ([`ending::run_to_end`]), and
 //! the status of each end ([`ending::exit_code`]). The rest of this file, the command line and the reading of the files
-//! are proved safe and to return, and are tested by hand.
+//! are proved safe and to return, and are tested by transcripts and by hand.
 #![tactic(auto)]
 
 mod ending;

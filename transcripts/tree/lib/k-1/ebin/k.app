@@ -1,0 +1,1 @@
+{application,k,[{vsn,"1"},{modules,[k]},{mod,{k,sup}}]}.

@@ -1,0 +1,1 @@
+-module(k). -export([start/1,init/1]). start(_N) -> gen_server:start_link({local,b},k,0,[]). init(S) -> {ok,S}.
