@@ -3,7 +3,7 @@ ghost use Rattle.std.specs.Prelude.{◌≡◌, ◌++◌, ◌∷◌, [], IfOk, On
 ghost use Rattle.app_starts.specs.Children.{all_running};
 ghost use Rattle.app_table.specs.Children.{running};
 
-use app_table::{Child, ChildState};
+use app_table::{Child, ChildState, Children};
 use child_specs::ChildSpec;
 use std::alloc::{AllocError, Global};
 use values::Row;
@@ -24,12 +24,13 @@ pub(crate) fn all_running(
     alloc: Global,
     specs: Row<ChildSpec>,
     pids: &[u64],
-) -> Result<Row<Child>, AllocError>
+) -> Result<Children, AllocError>
     ensures { IfOk result (λ it. it ≡ all_running specs pids.now) }
 {
     let mut children = Vec::with_capacity(alloc, pids.len())?;
     for (spec, pid) in specs.into_vec().into_iter().zip(pids) {
         push_running(&mut children, spec, *pid)?;
     }
-    Ok(Row::new(children))
+    let running = Children::new(alloc, Row::new(children))?;
+    Ok(running)
 }

@@ -15,7 +15,7 @@ ghost use Rattle.app_starts.specs.Starts.{AllRun, AppFails, AppStarts, InitGives
 
 use crate::child::all_running;
 use crate::error::AppError;
-use app_table::Child;
+use app_table::Children;
 use callback_lang::evaluate;
 use child_specs::{ChildSpec, read_children};
 use child_starts::{StartFailed, start_children};
@@ -84,7 +84,7 @@ fn children_in(alloc: Global, end: &End) -> Result<Option<Row<ChildSpec>>, Alloc
 #[derive(Drop)]
 pub struct Supervised {
     /// The children of its supervisor, in order, each of which runs.
-    pub children: Row<Child>,
+    pub children: Children,
     /// What clients are told, in as many equal values as were asked for.
     pub told: Vec<Row<Reply>>,
     /// What takes the starts back.
@@ -98,7 +98,7 @@ fn begin_children(
     batch: &mut Batch,
     code: &[Instance],
     specs: Row<ChildSpec>,
-) -> Result<Row<Child>, Failure<StartFailed>>
+) -> Result<Children, Failure<StartFailed>>
     ensures started { IfOk result (λ it. (before t : Table) (told : List Told) → IsUnderWay batch.old.changes.items batch.old.answers.items before processes.old t told → (after : Table) × (others : List Told) × AllRun code.now specs t it after others × IsUnderWay batch.new.changes.items batch.new.answers.items before processes.new after (told ++ others)) }
     ensures failed { IfErr result (λ failure. (before t : Table) (told : List Told) → IsUnderWay batch.old.changes.items batch.old.answers.items before processes.old t told → Fails (λ failed. StartFails failed code.now specs t) (Unit {0}) failure) }
     ensures back { (before : Table) → CanGiveUp batch.old.changes.items before processes.old → CanGiveUp batch.new.changes.items before processes.new }
@@ -117,7 +117,7 @@ fn begin_supervision(
     batch: &mut Batch,
     code: &[Instance],
     module: &StartModule,
-) -> Result<Row<Child>, Failure<AppError>>
+) -> Result<Children, Failure<AppError>>
     ensures started { IfOk result (λ it. (before t : Table) (told : List Told) → IsUnderWay batch.old.changes.items batch.old.answers.items before processes.old t told → (after : Table) × (others : List Told) × AppStarts code.now module.now t it after others × IsUnderWay batch.new.changes.items batch.new.answers.items before processes.new after (told ++ others)) }
     ensures failed { IfErr result (λ failure. (before t : Table) (told : List Told) → IsUnderWay batch.old.changes.items batch.old.answers.items before processes.old t told → Fails (AppFails code.now module.now t) (Unit {0}) failure) }
     ensures back { (before : Table) → CanGiveUp batch.old.changes.items before processes.old → CanGiveUp batch.new.changes.items before processes.new }

@@ -1,4 +1,6 @@
 pub mod Backs
+pub mod Keys
 pub mod Options
+pub mod Places
 pub mod Spots
 pub mod Writes

@@ -12,7 +12,7 @@ use Rattle.erl_term.specs.declared.term.Term.{Term}
 use Rattle.app_table.specs.declared.spot.Spot.{Spot}
 
 module _ {A : Type 0} where
-  got : (xs : List A) (k : ℕ) (d : A) → k < length xs → slice_get xs k ≡ Some (get_or xs k d)
+  pub got : (xs : List A) (k : ℕ) (d : A) → k < length xs → slice_get xs k ≡ Some (get_or xs k d)
   got [] k d within = absurd (omega (arith, within))
   got (x ∷ xs) zero d within = refl
   got (x ∷ xs) (suc k) d within = got xs k d (omega (arith, within))

@@ -1,5 +1,5 @@
 -- A write at a place is a change there.
-use Rattle.std.proofs.Common.{◌≡◌, ℕ, zero, suc, ◌<◌, ◌≤◌, List, [], ◌∷◌, length, slice_set, get_or, refl, ap, ◌∙◌, arith}
+use Rattle.std.proofs.Common.{◌≡◌, ℕ, zero, suc, ◌<◌, ◌≤◌, List, [], ◌∷◌, length, slice_set, get_or, refl, ap, ◌∙◌, arith, subst}
 use Rattle.values.specs.Edits.{changed_at}
 
 module _ {A : Type 0} where
@@ -13,3 +13,9 @@ module _ {A : Type 0} where
   changed_past f [] place past = refl
   changed_past f (x ∷ xs) zero past = absurd (omega (arith, past))
   changed_past f (x ∷ xs) (suc place) past = ap (λ ys. x ∷ ys) (changed_past f xs place (omega (arith, past)))
+
+  -- two changes that do the same to what stands there
+  pub changed_there : (f g : A → A) (xs : List A) (place : ℕ) (x : A) → x ≡ get_or xs place x → f x ≡ g x → changed_at f xs place ≡ changed_at g xs place
+  changed_there f g [] place x is same = refl
+  changed_there f g (y ∷ xs) zero x is same = ap (λ z. z ∷ xs) (subst (λ z. f z ≡ g z) is same)
+  changed_there f g (y ∷ xs) (suc place) x is same = ap (λ ys. y ∷ ys) (changed_there f g xs place x is same)

@@ -1,3 +1,4 @@
 pub mod Applications
 pub mod Children
+pub mod Ordered
 pub mod Undo

@@ -1,6 +1,7 @@
 // Children of supervisors.
 ghost use Rattle.std.specs.Prelude.{◌≡◌};
 ghost use Rattle.app_table.specs.Children.{in_state, is_due, runs_as};
+ghost use Rattle.app_table.specs.Ordered.{pid_in};
 
 use child_specs::ChildSpec;
 
@@ -39,6 +40,16 @@ impl Child {
         match self.state {
             ChildState::Due => true,
             ChildState::Running(_) | ChildState::Stopped => false,
+        }
+    }
+
+    /// The pid of the process that it runs as.
+    pub(crate) fn pid(&self) -> Option<u64>
+        ensures { result ≡ pid_in self.now.state }
+    {
+        match self.state {
+            ChildState::Running(its) => Some(its),
+            ChildState::Due | ChildState::Stopped => None,
         }
     }
 

@@ -10,6 +10,7 @@ ghost use Rattle.values.specs.Edits.{changed_at};
 
 use crate::app::App;
 use crate::child::{Child, ChildState};
+use crate::children::Children;
 use crate::spot::Spot;
 use crate::undo::{Ended, Undo};
 use erl_term::{Atom, Term};
@@ -134,7 +135,7 @@ impl AppTable {
     /// The application at a place is started, or not, and has these children. Those that it had are handed out; where there is none at
     /// the place, these.
     #[tactic(auto, using(crate::proofs::Writes::changed_from_write, crate::proofs::Writes::changed_past))]
-    fn set_children(&mut self, app: usize, is_started: bool, children: Row<Child>) -> Row<Child>
+    fn set_children(&mut self, app: usize, is_started: bool, children: Children) -> Children
         ensures set { self.new ≡ changed_at (with_children is_started children) self.old app }
         ensures before { IfSome (slice_get self.old app) (λ a. result ≡ a.children) }
     {
@@ -165,7 +166,7 @@ impl AppTable {
     }
 
     /// The application at a place, counted from 0, is started, and has these children. Takes no memory.
-    pub fn start(&mut self, app: usize, children: Row<Child>) -> Undo
+    pub fn start(&mut self, app: usize, children: Children) -> Undo
         requires { (a : Application) × (slice_get self.old app ≡ Some a) × (a.is_started ≡ false) }
         ensures started { self.new ≡ changed_at (with_children true children) self.old app }
         ensures inverse { undone result self.new ≡ self.old }

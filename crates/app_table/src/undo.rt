@@ -1,5 +1,5 @@
 // What takes a step of applications back.
-use crate::child::Child;
+use crate::children::Children;
 use crate::spot::Spot;
 use values::Row;
 
@@ -16,7 +16,7 @@ pub struct Ended {
 #[derive(Drop)]
 pub enum Undo {
     /// The application at a place, counted from 0, was started, and had these children before.
-    Started(usize, Row<Child>),
+    Started(usize, Children),
     /// The child at a spot was due, and runs.
     Revived(Spot),
     /// Children have ended, in this order.

@@ -29,7 +29,7 @@ mod error;
 mod running;
 
 pub use app_starts::AppError;
-pub use app_table::{App, AppTable, Child, ChildState, Ended, Undo};
+pub use app_table::{App, AppTable, Child, ChildState, Children, Ended, Undo};
 pub use apps::{AppStart, Revival, revive, revive_refusal, start_app};
 pub use child_starts::StartFailed;
 pub use error::SysError;

@@ -6,7 +6,7 @@ ghost use Rattle.process_ending.specs.declared.told.Reply.{Reply as Told};
 ghost use Rattle.sys_protocol.specs.Refusals.{FailsToRun, Runs, StartsBack};
 
 use app_starts::{AppError, Supervised, supervise};
-use app_table::Child;
+use app_table::Children;
 use erl_machine::Instance;
 use otp_files::StartModule;
 use process_ending::Reply;
@@ -17,7 +17,7 @@ use values::{Failure, Row};
 /// What the start of an application's processes has come to.
 pub(crate) struct Running {
     /// The children of its supervisor, in order, each of which runs.
-    pub(crate) children: Row<Child>,
+    pub(crate) children: Children,
     /// What clients are told, in as many equal values as were asked for.
     pub(crate) told: Vec<Row<Reply>>,
     /// What takes the starts back, if there are any.
@@ -54,7 +54,7 @@ pub(crate) fn run(
 {
     let Some(module) = module else {
         return Ok(Running {
-            children: Row::new(Vec::new(alloc)),
+            children: Children::none(alloc),
             told: nothing_told(alloc, n)?,
             undo: None,
         });

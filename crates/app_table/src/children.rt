@@ -1,0 +1,97 @@
+// The children of a supervisor, which are found by their Ids and by their pids.
+ghost use Rattle.std.specs.Prelude.{◌≡◌, IfOk, [], position};
+ghost use Rattle.app_table.specs.Applications.{has_id};
+ghost use Rattle.app_table.specs.Children.{in_state, runs_as};
+ghost use Rattle.values.specs.Edits.{changed_at};
+
+use crate::child::{Child, ChildState};
+use crate::orders::{first_of_id, first_of_pid, order_by_id, order_by_pid, set_state};
+use erl_term::Term;
+use std::alloc::{AllocError, Global};
+use std::marker::Model;
+use values::Row;
+
+/// The children of a supervisor, in order, each of which is found by its Id and by the pid that it runs as.
+///
+/// To find one takes the logarithm of their number. One whose state is set moves in the order of pids, and with it those between, 8 bytes
+/// each.
+#[derive(Drop)]
+pub struct Children {
+    row: Vec<Child>,
+    ids: Vec<usize>,
+    pids: Vec<usize>,
+}
+
+impl Model for Children {
+    ghost use Rattle.std.specs.Prelude.{List};
+    ghost use Rattle.std.specs.Coded.{codes};
+    ghost use Rattle.erl_term.specs.contracts.term.Terms as terms;
+    ghost use Rattle.app_table.specs.declared.child.Child.{Child as OneChild};
+    ghost use Rattle.app_table.specs.Ordered.{AreOrdersOf};
+
+    ghost Value = { List OneChild };
+
+    ghost coded = { Prim.hlevel (codes, terms.the_row.coded) };
+
+    ghost view = { λ c. c.row.items };
+
+    ghost invariant = { λ c. AreOrdersOf c.row.items c.ids.items c.pids.items };
+}
+
+impl Children {
+    /// These children. Each place is put in where it belongs, so those that come in order take the least time, and others move those that
+    /// stand behind them: at worst all that are there already, 8 bytes each.
+    ///
+    /// # Errors
+    ///
+    /// `AllocError` where memory is refused: it takes two words a child.
+    pub fn new(alloc: Global, row: Row<Child>) -> Result<Children, AllocError>
+        ensures { IfOk result (λ children. children ≡ row) }
+    {
+        let row = row.into_vec();
+        let ids = order_by_id(alloc, row.as_slice())?;
+        let pids = order_by_pid(alloc, row.as_slice())?;
+        Ok(Children { row, ids, pids })
+    }
+
+    /// No child. Takes no memory.
+    pub fn none(alloc: Global) -> Children
+        ensures { result ≡ [] }
+    {
+        Children {
+            row: Vec::new(alloc),
+            ids: Vec::new(alloc),
+            pids: Vec::new(alloc),
+        }
+    }
+
+    /// The children, in order. Takes no memory.
+    pub fn as_slice(&self) -> &[Child]
+        ensures { result.now ≡ self.now }
+    {
+        self.row.as_slice()
+    }
+
+    /// Where the child of an Id stands: the first, if there are several. Takes no memory.
+    pub fn place_of(&self, id: &Term) -> Option<usize>
+        ensures { result ≡ position (has_id id.now) self.now }
+    {
+        first_of_id(self.row.as_slice(), self.ids.as_slice(), id)
+    }
+
+    /// Where the child stands that runs as the process of a pid: the first, if there are several. Takes no memory.
+    pub fn place_by_pid(&self, pid: u64) -> Option<usize>
+        ensures { result ≡ position (runs_as pid) self.now }
+    {
+        first_of_pid(self.row.as_slice(), self.pids.as_slice(), pid)
+    }
+
+    /// The child at a place, if there is one, is in this state. Takes no memory.
+    pub(crate) fn set(&mut self, place: usize, state: ChildState)
+        ensures { self.new ≡ changed_at (in_state state) self.old place }
+    {
+        if place < self.row.as_slice().len() {
+            set_state(&mut self.row, self.pids.as_mut_slice(), place, state);
+        }
+    }
+}
