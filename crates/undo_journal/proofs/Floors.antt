@@ -1,5 +1,5 @@
 -- Lemmas on what may still be undone behind a forget, and on the steps whose stations are forgotten.
-use Rattle.std.proofs.Common.{◌≡◌, ℕ, ◌+◌, ◌≤◌, List, [], ◌∷◌, ◌++◌, length, take, drop, eqb, All, Option, Some, None, option_map, unwrap_or, Result, Ok, Err, sym, ap, subst, ◌∙◌, refl, arith}
+use Rattle.std.proofs.Common.{◌≡◌, ℕ, ◌≤◌, List, [], ◌∷◌, ◌++◌, length, drop, eqb, All, Option, Some, None, option_map, unwrap_or, Result, Ok, Err, sym, ap, subst, ◌∙◌, refl, arith}
 use Rattle.std.specs.Option.{option_and_then}
 use Rattle.std.proofs.lemmas.List.{length-append}
 use Rattle.std.proofs.lemmas.List.Elements.{All-nil, All-cons}
@@ -9,9 +9,9 @@ use Rattle.undo_journal.specs.Timeline.{Station, Timeline, opened, newest, kept_
 use Rattle.undo_journal.specs.declared.history.Command.{Command}
 use Rattle.undo_journal.specs.declared.history.Command.TheVariants.{Perform, Undo, Forget}
 use Rattle.undo_journal.specs.Reversible.{Accepted}
-use Rattle.undo_journal.specs.History.{Rule, Live, after_event, AreAfter, Makes, MakesKept, FoldsTo, HasNoForget, CarriedOut, none, done, left_out, stopped, IsReplayOf}
+use Rattle.undo_journal.specs.History.{Rule, Live, after_event, IsAfter, AreAfter, Makes, MakesKept, FoldsTo, HasNoForget, CarriedOut, none, done, left_out, stopped, IsReplayOf}
 use Rattle.undo_journal.proofs.Forgets.{Forgets, Forgets-of, forgotten_to-mark, forgotten_to-dead, kept_to-dead, forgotten_to-front}
-use Rattle.undo_journal.proofs.Histories.{cut_to-parts, AreAfter-runs, FoldsTo-made}
+use Rattle.undo_journal.proofs.Histories.{cut_to-parts, IsOrdered-command, AreAfter-runs, FoldsTo-made}
 use Rattle.undo_journal.proofs.Stations.{kept_to-behind, kept_to-more, kept_to-names, kept_to-take, newest-above, Rises-behind, Rises-front, Rises-joined, Rises-take}
 
 module _ {S N : Type 0} where
@@ -141,16 +141,46 @@ module _ {S E A N F : Type 0} (rule : Rule S E A N F) where
   first-after (Forget m ∷ cs) t u unforgotten are = absurd unforgotten
 
   -- what is carried out of them has none either
-  HasNoForget-carried : (missed : ℕ) (asked carried : List (Command E)) → CarriedOut missed asked carried → HasNoForget asked → HasNoForget carried
-  HasNoForget-carried _ _ _ none unforgotten = tt
-  HasNoForget-carried missed _ _ (done {asked = asked} {carried = carried} (Perform e) h) unforgotten = HasNoForget-carried missed asked carried h unforgotten
-  HasNoForget-carried missed _ _ (done {asked = asked} {carried = carried} (Undo m) h) unforgotten = HasNoForget-carried missed asked carried h unforgotten
-  HasNoForget-carried missed _ _ (done (Forget m) h) unforgotten = absurd unforgotten
-  HasNoForget-carried _ _ _ (left_out {missed = missed} {asked = asked} {carried = carried} e h) unforgotten = HasNoForget-carried missed asked carried h unforgotten
-  HasNoForget-carried _ _ _ (stopped {missed = missed} {asked = asked} {carried = carried} m reached above h) unforgotten = HasNoForget-carried missed asked carried h unforgotten
+  HasNoForget-carried : {may_run_out : S → E → Type 0} {missed : ℕ} {asked carried : List (Command E)} {t u : Timeline S N} → CarriedOut rule may_run_out missed asked carried t u → HasNoForget asked → HasNoForget carried
+  HasNoForget-carried none unforgotten = tt
+  HasNoForget-carried (done (Perform e) first h) unforgotten = HasNoForget-carried h unforgotten
+  HasNoForget-carried (done (Undo m) first h) unforgotten = HasNoForget-carried h unforgotten
+  HasNoForget-carried (done (Forget m) first h) unforgotten = absurd unforgotten
+  HasNoForget-carried (left_out e want h) unforgotten = HasNoForget-carried h unforgotten
+  HasNoForget-carried (stopped m reached stop h) unforgotten = HasNoForget-carried h unforgotten
 
-  pub Makes-unforgotten : (node : S) (commands : List (Command E)) (missed : ℕ) (t : Timeline S N) → (replay : IsReplayOf rule node commands missed t) → HasNoForget commands → Makes rule node replay.live t.later
-  Makes-unforgotten node commands missed t replay unforgotten =
-      let carried = HasNoForget-carried missed commands replay.carried replay.carried_out unforgotten in
+  pub Makes-unforgotten : (may_run_out : S → E → Type 0) (node : S) (commands : List (Command E)) (missed : ℕ) (t : Timeline S N) → (replay : IsReplayOf rule may_run_out node commands missed t) → HasNoForget commands → (t.first ≡ (opened {N = N} node).first) × Makes rule node replay.live t.later
+  Makes-unforgotten may_run_out node commands missed t replay unforgotten =
+      let carried = HasNoForget-carried replay.carried_out unforgotten in
       let first = first-after replay.carried (opened node) t carried (AreAfter-runs rule replay.carried (opened node) t [] replay.live replay.runs) in
-      MakesKept-unforgotten node replay.live t replay.stations (ap (λ (s : Station S N). s.serial) first)
+      (first, MakesKept-unforgotten node replay.live t replay.stations (ap (λ (s : Station S N). s.serial) first))
+
+  -- the first station's serial never falls
+
+  floor-forget : (m : ℕ) (t : Timeline S N) (o : Option (Timeline S N)) → forgotten_to m t ≡ o → IsOrdered t → t.first.serial ≤ (unwrap_or o t).first.serial
+  floor-forget m t None is ordered = omega arith
+  floor-forget m t (Some u) is ordered =
+      let parts = Forgets-of m t u is in
+      let rises = Rises-front t.first parts.front u.later (subst (λ ss. Rises t.first.serial ss) parts.later ordered.rises) in
+      let above = newest-above t.first parts.front rises in
+      let serial = ap (λ (s : Station S N). s.serial) parts.first in
+      omega (arith, above, serial)
+
+  floor-command : (t u : Timeline S N) (c : Command E) → IsAfter rule t c u → IsOrdered t → t.first.serial ≤ u.first.serial
+  floor-command t u (Perform e) is ordered =
+      let same = ap (λ (v : Timeline S N). v.first.serial) is.2 ∙ ap (λ (s : Station S N). s.serial) (first-event t is.0) in
+      omega (arith, same)
+  floor-command t u (Undo m) is ordered =
+      let same = ap (λ (v : Timeline S N). v.first.serial) is ∙ ap (λ (s : Station S N). s.serial) (first-undo m t (cut_to m t) refl) in
+      omega (arith, same)
+  floor-command t u (Forget m) is ordered =
+      subst (λ (v : Timeline S N). t.first.serial ≤ v.first.serial) (sym is) (floor-forget m t (forgotten_to m t) refl ordered)
+
+  pub floor-after : (cs : List (Command E)) (t u : Timeline S N) → AreAfter rule cs t u → IsOrdered t → t.first.serial ≤ u.first.serial
+  floor-after [] t u are ordered =
+      let same = ap (λ (v : Timeline S N). v.first.serial) are in
+      omega (arith, same)
+  floor-after (c ∷ cs) t u are ordered =
+      let next = floor-command t are.0 c are.1 ordered in
+      let rest = floor-after cs are.0 u are.2 (IsOrdered-command rule t are.0 c are.1 ordered) in
+      omega (arith, next, rest)

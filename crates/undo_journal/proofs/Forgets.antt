@@ -1,9 +1,8 @@
 -- Lemmas on what a forget leaves of a timeline: its order, the station where it stands, and its parts.
-use Rattle.std.proofs.Common.{◌≡◌, ℕ, ◌+◌, ◌<◌, ◌≤◌, List, [], ◌∷◌, ◌++◌, length, take, drop, Option, Some, None, is_some, option_map, sym, ap, subst, ◌∙◌, refl, arith}
-use Rattle.std.proofs.lemmas.List.{length-append}
+use Rattle.std.proofs.Common.{◌≡◌, ℕ, ◌<◌, List, ◌++◌, length, drop, Option, Some, None, is_some, option_map, sym, ap, subst, ◌∙◌, refl, arith}
 use Rattle.std.proofs.Math.Seq.{take-append_seam, drop-append_seam}
 use Rattle.undo_journal.specs.Timeline.{Station, Timeline, newest, here, kept_to, from_mark, cut_to, forgotten_to, Rises, IsOrdered}
-use Rattle.undo_journal.proofs.Stations.{kept_to-above, kept_to-names, kept_to-newest, newest-append, newest-push, Rises-behind, from_mark-kept}
+use Rattle.undo_journal.proofs.Stations.{kept_to-above, kept_to-names, kept_to-newest, newest-append, Rises-behind, from_mark-kept}
 
 module _ {S N : Type 0} where
   -- What a forget makes of a timeline: the stations before its first are the front that an undo to the mark keeps.

@@ -1,5 +1,5 @@
 -- Lemmas on whole lists of commands: what stays ordered, which steps are live, what marks name.
-use Rattle.std.proofs.Common.{◌≡◌, ◌≢◌, ℕ, suc, Bool, true, false, ◌+◌, ◌<◌, ◌≤◌, cond, eqb, leb, List, [], ◌∷◌, ◌++◌, length, take, drop, Option, Some, None, is_some, unwrap_or, option_map, Result, Ok, Err, ◌⊎◌, inl, inr, sym, ap, subst, ◌∙◌, refl, arith}
+use Rattle.std.proofs.Common.{◌≡◌, ◌≢◌, ℕ, suc, Bool, true, false, ◌+◌, ◌<◌, ◌≤◌, cond, eqb, leb, List, [], ◌∷◌, ◌++◌, length, Option, Some, None, is_some, unwrap_or, option_map, Result, Ok, Err, ◌⊎◌, inl, inr, sym, ap, subst, ◌∙◌, refl, arith}
 use Rattle.std.specs.List.{filter}
 use Rattle.std.specs.Result.{IfErr, OnOk, OnErr}
 use Rattle.std.proofs.lemmas.Bool.{cond-true, cond-false, ne_eqb, eqb-true, le-leb, lt-leb, cases_lt}
@@ -9,11 +9,11 @@ use Rattle.undo_journal.specs.declared.history.Command.TheVariants.{Perform, Und
 use Rattle.undo_journal.specs.declared.reversible.Told.{Told}
 use Rattle.undo_journal.specs.declared.error.JournalError.{JournalError}
 use Rattle.undo_journal.specs.declared.error.JournalError.TheVariants.{Step, Forgotten, DeadMark, SerialEnd, Memory}
-use Rattle.undo_journal.specs.Journal.{HasNoStation, Performs}
+use Rattle.undo_journal.specs.Journal.{HasNoStation, Performs, Stopped}
 use Rattle.undo_journal.specs.Reversible.{Accepted}
 use Rattle.undo_journal.specs.Timeline.{Station, Timeline, newest, here, opened, appended, kept_to, cut_to, forgotten_to, node_at, Rises, IsOrdered}
 use Rattle.undo_journal.specs.History.{Rule, Live, after_event, IsAfter, AreAfter, live_after_event, live_after_undo, IsLiveAfter, Runs, FoldsTo, IsMadeBy, Makes, MakesKept, CarriedOut, none, done, left_out, stopped, IsMissed, IsReplayOf}
-use Rattle.undo_journal.proofs.Forgets.{Forgets, Forgets-of, forgotten_to-mark, forgotten_to-front, forgotten_to-uncut, IsOrdered-forgotten}
+use Rattle.undo_journal.proofs.Forgets.{Forgets-of, forgotten_to-mark, forgotten_to-front, forgotten_to-uncut, IsOrdered-forgotten}
 use Rattle.undo_journal.proofs.Stations.{kept_to-above, kept_to-behind, kept_to-cases, kept_to-one_more, kept_to-take, newest-above, newest-append, newest-push, newest-take, Rises-behind, Rises-front, Rises-push, Rises-take}
 
 -- Order
@@ -475,70 +475,73 @@ module _ {S E A N F : Type 0} (rule : Rule S E A N F) where
 
 -- Commands as they are carried out
 
-module _ {E : Type 0} where
-  CarriedOut-done : {missed : ℕ} {asked carried : List (Command E)} (c : Command E) → CarriedOut missed asked carried → CarriedOut missed (asked ++ c ∷ []) (carried ++ c ∷ [])
-  CarriedOut-done c none = done c none
-  CarriedOut-done c (done d h) = done d (CarriedOut-done c h)
-  CarriedOut-done c (left_out e h) = left_out e (CarriedOut-done c h)
-  CarriedOut-done c (stopped m r above h) = stopped m r above (CarriedOut-done c h)
-
-  CarriedOut-left_out : {missed : ℕ} {asked carried : List (Command E)} (e : E) → CarriedOut missed asked carried → CarriedOut (suc missed) (asked ++ Perform e ∷ []) carried
-  CarriedOut-left_out e none = left_out e none
-  CarriedOut-left_out e (done d h) = done d (CarriedOut-left_out e h)
-  CarriedOut-left_out e (left_out f h) = left_out f (CarriedOut-left_out e h)
-  CarriedOut-left_out e (stopped m r above h) = stopped m r above (CarriedOut-left_out e h)
-
-  CarriedOut-stopped : {missed : ℕ} {asked carried : List (Command E)} (m r : ℕ) → m ≤ r → CarriedOut missed asked carried → CarriedOut (suc missed) (asked ++ Undo m ∷ []) (carried ++ Undo r ∷ [])
-  CarriedOut-stopped m r above none = stopped m r above none
-  CarriedOut-stopped m r above (done d h) = done d (CarriedOut-stopped m r above h)
-  CarriedOut-stopped m r above (left_out e h) = left_out e (CarriedOut-stopped m r above h)
-  CarriedOut-stopped m r above (stopped l q over h) = stopped l q over (CarriedOut-stopped m r above h)
-
-module _ {S E A N F : Type 0} (rule : Rule S E A N F) where
+module _ {S E A N F : Type 0} (rule : Rule S E A N F) (may_run_out : S → E → Type 0) where
   -- one command more
-  AreAfter-push : (cs : List (Command E)) (c : Command E) (t u v : Timeline S N) → AreAfter rule cs t u → IsAfter rule u c v → AreAfter rule (cs ++ c ∷ []) t v
-  AreAfter-push cs c t u v are is = AreAfter-append rule cs (c ∷ []) t u v are (v, is, refl)
+
+  CarriedOut-done : {missed : ℕ} {asked carried : List (Command E)} {begun t u : Timeline S N} (c : Command E) → CarriedOut rule may_run_out missed asked carried begun t → IsAfter rule t c u → CarriedOut rule may_run_out missed (asked ++ c ∷ []) (carried ++ c ∷ []) begun u
+  CarriedOut-done c none is = done c is none
+  CarriedOut-done c (done d first h) is = done d first (CarriedOut-done c h is)
+  CarriedOut-done c (left_out e want h) is = left_out e want (CarriedOut-done c h is)
+  CarriedOut-done c (stopped m r stop h) is = stopped m r stop (CarriedOut-done c h is)
+
+  CarriedOut-left_out : {missed : ℕ} {asked carried : List (Command E)} {begun t : Timeline S N} (e : E) → CarriedOut rule may_run_out missed asked carried begun t → may_run_out (here t).node e → CarriedOut rule may_run_out (suc missed) (asked ++ Perform e ∷ []) carried begun t
+  CarriedOut-left_out e none wants = left_out e wants none
+  CarriedOut-left_out e (done d first h) wants = done d first (CarriedOut-left_out e h wants)
+  CarriedOut-left_out e (left_out f want h) wants = left_out f want (CarriedOut-left_out e h wants)
+  CarriedOut-left_out e (stopped m r stop h) wants = stopped m r stop (CarriedOut-left_out e h wants)
+
+  CarriedOut-stopped : {missed : ℕ} {asked carried : List (Command E)} {begun t u : Timeline S N} (m r : ℕ) → CarriedOut rule may_run_out missed asked carried begun t → Stopped m 0 t u r [] → CarriedOut rule may_run_out (suc missed) (asked ++ Undo m ∷ []) (carried ++ Undo r ∷ []) begun u
+  CarriedOut-stopped m r none stops = stopped m r stops none
+  CarriedOut-stopped m r (done d first h) stops = done d first (CarriedOut-stopped m r h stops)
+  CarriedOut-stopped m r (left_out e want h) stops = left_out e want (CarriedOut-stopped m r h stops)
+  CarriedOut-stopped m r (stopped l q stop h) stops = stopped l q stop (CarriedOut-stopped m r h stops)
+
+  -- where what is carried out leads
+  AreAfter-carried : {missed : ℕ} {asked carried : List (Command E)} {t u : Timeline S N} → CarriedOut rule may_run_out missed asked carried t u → AreAfter rule carried t u
+  AreAfter-carried none = refl
+  AreAfter-carried (done {mid = mid} c first h) = (mid, first, AreAfter-carried h)
+  AreAfter-carried (left_out e want h) = AreAfter-carried h
+  AreAfter-carried (stopped {old = old} {mid = mid} m r stop h) =
+      (mid, ap (λ o. unwrap_or o old) (sym stop.at_reached), AreAfter-carried h)
 
   -- what is known of a journal after some of the commands
   pub record CarriedOn (begun t : Timeline S N) (asked : List (Command E)) (missed : ℕ) : Type 0 where
     pub carried : List (Command E)
-    pub carried_out : CarriedOut missed asked carried
-    pub leads : AreAfter rule carried begun t
+    pub carried_out : CarriedOut rule may_run_out missed asked carried begun t
 
   pub CarriedOn-none : (t : Timeline S N) → CarriedOn t t [] 0
-  CarriedOn-none t = record { carried = []; carried_out = none; leads = refl }
+  CarriedOn-none t = record { carried = []; carried_out = none }
 
   -- a command more that was carried out
   pub CarriedOn-done : (begun t u : Timeline S N) (asked : List (Command E)) (missed : ℕ) (c : Command E) → CarriedOn begun t asked missed → IsAfter rule t c u → CarriedOn begun u (asked ++ c ∷ []) missed
   CarriedOn-done begun t u asked missed c on is = record {
     carried = on.carried ++ c ∷ [];
-    carried_out = CarriedOut-done c on.carried_out;
-    leads = AreAfter-push on.carried c begun t u on.leads is;
+    carried_out = CarriedOut-done c on.carried_out is;
   }
 
   -- or that met want of memory
-  pub CarriedOn-missed : (begun t u : Timeline S N) (asked : List (Command E)) (missed : ℕ) (c : Command E) → CarriedOn begun t asked missed → IsMissed t c u → CarriedOn begun u (asked ++ c ∷ []) (suc missed)
+  pub CarriedOn-missed : (begun t u : Timeline S N) (asked : List (Command E)) (missed : ℕ) (c : Command E) → CarriedOn begun t asked missed → IsMissed may_run_out t c u → CarriedOn begun u (asked ++ c ∷ []) (suc missed)
   CarriedOn-missed begun t u asked missed (Perform e) on is = record {
     carried = on.carried;
-    carried_out = CarriedOut-left_out e on.carried_out;
-    leads = subst (λ v. AreAfter rule on.carried begun v) (sym is) on.leads;
+    carried_out = subst (λ v. CarriedOut rule may_run_out (suc missed) (asked ++ Perform e ∷ []) on.carried begun v) (sym is.1) (CarriedOut-left_out e on.carried_out is.0);
   }
   CarriedOn-missed begun t u asked missed (Undo m) on is = record {
     carried = on.carried ++ Undo is.0 ∷ [];
-    carried_out = CarriedOut-stopped m is.0 is.1 on.carried_out;
-    leads = AreAfter-push on.carried (Undo is.0) begun t u on.leads is.2;
+    carried_out = CarriedOut-stopped m is.0 on.carried_out is.1;
   }
   CarriedOn-missed begun t u asked missed (Forget m) on is = absurd is
 
-  pub last-missed : (t u : Timeline S N) (c : Command E) → IsMissed t c u → u.last ≤ t.last + 1
-  last-missed t u (Perform e) is = let same = ap (λ (v : Timeline S N). v.last) is in omega (arith, same)
-  last-missed t u (Undo m) is = (last-command rule t u (Undo is.0) is.2).1
+  pub last-missed : (t u : Timeline S N) (c : Command E) → IsMissed may_run_out t c u → u.last ≤ t.last + 1
+  last-missed t u (Perform e) is = let same = ap (λ (v : Timeline S N). v.last) is.1 in omega (arith, same)
+  last-missed t u (Undo m) is =
+      let same = (cut_to-parts is.0 t u is.1.at_reached).2 in
+      omega (arith, same)
   last-missed t u (Forget m) is = absurd is
 
   -- at the end
-  pub IsReplayOf-all : (node : S) (commands : List (Command E)) (missed : ℕ) (t : Timeline S N) → CarriedOn (opened node) t commands missed → IsReplayOf rule node commands missed t
+  pub IsReplayOf-all : (node : S) (commands : List (Command E)) (missed : ℕ) (t : Timeline S N) → CarriedOn (opened node) t commands missed → IsReplayOf rule may_run_out node commands missed t
   IsReplayOf-all node commands missed t on =
-      let runs = Runs-of rule on.carried (opened node) t [] on.leads in
+      let runs = Runs-of rule on.carried (opened node) t [] (AreAfter-carried on.carried_out) in
       record {
         carried = on.carried;
         carried_out = on.carried_out;

@@ -1,9 +1,10 @@
 -- Whole lists of commands: what they leave of a timeline, and which of their steps are live.
-use Rattle.std.specs.Prelude.{◌≡◌, ℕ, ◌+◌, ◌≤◌, nat_le, List, [], ◌∷◌, ◌++◌, filter, is_some, if◌then◌else◌, Some, Result}
+use Rattle.std.specs.Prelude.{◌≡◌, ℕ, ◌+◌, nat_le, List, [], ◌∷◌, ◌++◌, filter, is_some, if◌then◌else◌, Some, Result}
 use Rattle.std.specs.Prelude.{Ok, Err, unwrap_or}
 use Prim.Native.Nat.{suc}
 use Rattle.undo_journal.specs.declared.history.Command.{Command}
 use Rattle.undo_journal.specs.declared.history.Command.TheVariants.{Perform, Undo, Forget}
+use Rattle.undo_journal.specs.Journal.{Stopped}
 use Rattle.undo_journal.specs.Reversible.{Accepted}
 use Rattle.undo_journal.specs.Timeline.{Station, Timeline, here, opened, appended, cut_to, forgotten_to, IsOrdered}
 
@@ -26,7 +27,7 @@ abbrev pub after_forget : {S N : Type 0} → ℕ → Timeline S N → Timeline S
 after_forget m t = unwrap_or (forgotten_to m t) t
 
 -- One command, from the one timeline to the other. No list of commands in a memory is so long that a
--- journal that begins with it runs out of serials.
+-- journal that begins with that list runs out of serials.
 abbrev pub IsAfter : {S E A N F : Type 0} → Rule S E A N F → Timeline S N → Command E → Timeline S N → Type 0
 IsAfter {S} {E} {A} {N} {F} rule old (Perform e) new =
     (r : Result (Accepted S A N) F) × rule (here old).node e r × (new ≡ after_event old r)
@@ -39,12 +40,13 @@ AreAfter {S} {E} {A} {N} {F} rule [] old new = new ≡ old
 AreAfter {S} {E} {A} {N} {F} rule (c ∷ cs) old new =
     (mid : Timeline S N) × IsAfter rule old c mid × AreAfter rule cs mid new
 
--- A command that met want of memory: an event changes nothing, and an undo stops at a mark at or
--- after its own. A forget never does.
-abbrev pub IsMissed : {S E N : Type 0} → Timeline S N → Command E → Timeline S N → Type 0
-IsMissed old (Perform e) new = new ≡ old
-IsMissed old (Undo m) new = (reached : ℕ) × (m ≤ reached) × (new ≡ after_undo reached old)
-IsMissed old (Forget m) new = ⊥
+-- A command that met want of memory. An event met it where memory may run out, and changed nothing; an
+-- undo has a mark with a station, and stopped there or at a station after it, as `Stopped` says of one
+-- that is to report nothing. A forget never meets it.
+abbrev pub IsMissed : {S E N : Type 0} → (S → E → Type 0) → Timeline S N → Command E → Timeline S N → Type 0
+IsMissed may_run_out old (Perform e) new = may_run_out (here old).node e × (new ≡ old)
+IsMissed may_run_out old (Undo m) new = (reached : ℕ) × Stopped m 0 old new reached []
+IsMissed may_run_out old (Forget m) new = ⊥
 
 -- an accepted event with the serial of its step
 pub record Live (E : Type 0) : Type 0 where
@@ -61,18 +63,22 @@ abbrev pub live_after_undo : {S E N : Type 0} → ℕ → Timeline S N → List 
 live_after_undo m t steps = if is_some (cut_to m t) then filter (λ step. nat_le step.serial m) steps else steps
 
 -- one command with its live steps: those before it are `steps`, and those after it are `live`
-abbrev pub IsLiveAfter : {S E A N F : Type 0} → Rule S E A N F → Timeline S N → List (Live E) → Command E → Timeline S N → List (Live E) → Type 0
+abbrev pub IsLiveAfter : {S E A N F : Type 0} → Rule S E A N F → Timeline S N → List (Live E) → Command E → Timeline S N →
+    List (Live E) → Type 0
 IsLiveAfter {S} {E} {A} {N} {F} rule old steps (Perform e) new live =
-    (r : Result (Accepted S A N) F) × rule (here old).node e r × (new ≡ after_event old r) × (live ≡ live_after_event old e r steps)
+    (r : Result (Accepted S A N) F) × rule (here old).node e r × (new ≡ after_event old r)
+    × (live ≡ live_after_event old e r steps)
 IsLiveAfter {S} {E} {A} {N} {F} rule old steps (Undo m) new live =
     (new ≡ after_undo m old) × (live ≡ live_after_undo m old steps)
 IsLiveAfter {S} {E} {A} {N} {F} rule old steps (Forget m) new live = (new ≡ after_forget m old) × (live ≡ steps)
 
 -- a list of commands, in order, with its live steps
-abbrev pub Runs : {S E A N F : Type 0} → Rule S E A N F → List (Command E) → Timeline S N → List (Live E) → Timeline S N → List (Live E) → Type 0
+abbrev pub Runs : {S E A N F : Type 0} → Rule S E A N F → List (Command E) → Timeline S N → List (Live E) → Timeline S N →
+    List (Live E) → Type 0
 Runs {S} {E} {A} {N} {F} rule [] old steps new live = (new ≡ old) × (live ≡ steps)
 Runs {S} {E} {A} {N} {F} rule (c ∷ cs) old steps new live =
-    (mid : Timeline S N) × (between : List (Live E)) × IsLiveAfter rule old steps c mid between × Runs rule cs mid between new live
+    (mid : Timeline S N) × (between : List (Live E)) × IsLiveAfter rule old steps c mid between
+    × Runs rule cs mid between new live
 
 -- from the node the rule accepts the event of each step, in turn, and they lead to the end
 abbrev pub FoldsTo : {S E A N F : Type 0} → Rule S E A N F → S → List (Live E) → S → Type 0
@@ -97,7 +103,8 @@ Makes rule node (x ∷ xs) (s ∷ ss) =
 -- The live steps make the stations of a whole timeline, in turn from the node that it begins with, and
 -- the timeline `t` is that one from its first station on: the stations before are forgotten, and where
 -- `t` begins with serial 0 there are none.
-pub record MakesKept {S E A N F : Type 0} (rule : Rule S E A N F) (node : S) (live : List (Live E)) (t : Timeline S N) : Type 0 where
+pub record MakesKept {S E A N F : Type 0} (rule : Rule S E A N F) (node : S) (live : List (Live E))
+    (t : Timeline S N) : Type 0 where
   pub whole : Timeline S N
   pub ordered : IsOrdered whole
   pub begun : whole.first ≡ (opened node).first
@@ -111,24 +118,29 @@ HasNoForget (Perform e ∷ cs) = HasNoForget cs
 HasNoForget (Undo m ∷ cs) = HasNoForget cs
 HasNoForget (Forget m ∷ cs) = ⊥
 
--- The commands as a journal carried them out, of which `missed` met want of memory: such an event is
--- left out, and such an undo is one to a mark at or after its own. A forget is never missed.
-pub data CarriedOut {E : Type 0} : ℕ → List (Command E) → List (Command E) → Type 0 where
-  none : CarriedOut 0 [] []
-  done : {missed : ℕ} {asked carried : List (Command E)} (c : Command E) → CarriedOut missed asked carried →
-      CarriedOut missed (c ∷ asked) (c ∷ carried)
-  left_out : {missed : ℕ} {asked carried : List (Command E)} (e : E) → CarriedOut missed asked carried →
-      CarriedOut (suc missed) (Perform e ∷ asked) carried
-  stopped : {missed : ℕ} {asked carried : List (Command E)} (m reached : ℕ) → m ≤ reached → CarriedOut missed asked carried →
-      CarriedOut (suc missed) (Undo m ∷ asked) (Undo reached ∷ carried)
+-- The commands that were asked, as a journal carries them out from one timeline to another, of which
+-- `missed` meet want of memory in the timeline that they find (`IsMissed`): such an event is left out, and
+-- such an undo is one to the mark where it stopped. A forget is never missed.
+pub data CarriedOut {S E A N F : Type 0} (rule : Rule S E A N F) (may_run_out : S → E → Type 0) :
+    ℕ → List (Command E) → List (Command E) → Timeline S N → Timeline S N → Type 0 where
+  none : {t : Timeline S N} → CarriedOut rule may_run_out 0 [] [] t t
+  done : {missed : ℕ} {asked carried : List (Command E)} {old mid new : Timeline S N} (c : Command E) →
+      IsAfter rule old c mid → CarriedOut rule may_run_out missed asked carried mid new →
+      CarriedOut rule may_run_out missed (c ∷ asked) (c ∷ carried) old new
+  left_out : {missed : ℕ} {asked carried : List (Command E)} {old new : Timeline S N} (e : E) →
+      may_run_out (here old).node e → CarriedOut rule may_run_out missed asked carried old new →
+      CarriedOut rule may_run_out (suc missed) (Perform e ∷ asked) carried old new
+  stopped : {missed : ℕ} {asked carried : List (Command E)} {old mid new : Timeline S N} (m reached : ℕ) →
+      Stopped m 0 old mid reached [] → CarriedOut rule may_run_out missed asked carried mid new →
+      CarriedOut rule may_run_out (suc missed) (Undo m ∷ asked) (Undo reached ∷ carried) old new
 
 -- A journal that began at a node and was given commands: what it carried out leads to its timeline,
 -- the live steps of that make its stations and those that are forgotten, and the fold of the rule over
--- them is its node.
-pub record IsReplayOf {S E A N F : Type 0} (rule : Rule S E A N F) (node : S) (commands : List (Command E)) (missed : ℕ)
-    (t : Timeline S N) : Type 0 where
+-- the live steps is its node.
+pub record IsReplayOf {S E A N F : Type 0} (rule : Rule S E A N F) (may_run_out : S → E → Type 0) (node : S)
+    (commands : List (Command E)) (missed : ℕ) (t : Timeline S N) : Type 0 where
   pub carried : List (Command E)
-  pub carried_out : CarriedOut missed commands carried
+  pub carried_out : CarriedOut rule may_run_out missed commands carried (opened node) t
   pub live : List (Live E)
   pub runs : Runs rule carried (opened node) [] t live
   pub stations : MakesKept rule node live t

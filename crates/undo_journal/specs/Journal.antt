@@ -1,5 +1,5 @@
 -- What each call of a journal does to its timeline, and what it answers.
-use Rattle.std.specs.Prelude.{◌≡◌, ℕ, ◌^◌, ◌-◌, ◌≤◌, ◌++◌, List, [], ◌∷◌, Some, None, IsSome, Result, Ok, Err, replicate}
+use Rattle.std.specs.Prelude.{◌≡◌, ℕ, ◌^◌, ◌-◌, ◌≤◌, ◌++◌, List, [], ◌∷◌, Some, IsSome, Result, Ok, Err, replicate}
 use Rattle.undo_journal.specs.declared.reversible.Told.{Told}
 use Rattle.undo_journal.specs.declared.report.Report.{Report}
 use Rattle.undo_journal.specs.declared.error.JournalError.{JournalError}
@@ -10,7 +10,8 @@ use Rattle.undo_journal.specs.Reversible.{Accepted, told_of}
 use Rattle.undo_journal.specs.Timeline.{Station, Timeline, here, appended, cut_to, cut_stations, report_of, IsForgotten, IsDead}
 
 -- the rule accepted the event, its station is appended, and n equal values tell of it
-abbrev pub Performs : {S A N F : Type 0} → (Result (Accepted S A N) F → Type 0) → ℕ → Timeline S N → List (Told A N) → Timeline S N → Type 0
+abbrev pub Performs : {S A N F : Type 0} → (Result (Accepted S A N) F → Type 0) → ℕ → Timeline S N → List (Told A N) →
+    Timeline S N → Type 0
 Performs {S} {A} {N} {F} IsRuled n old told new =
     (a : Accepted S A N) × IsRuled (Ok a) × (new ≡ appended old a.node a.note) × (told ≡ replicate n (told_of a))
 
@@ -28,7 +29,8 @@ FailsBy (failure.Refused refusal) at e = e ≡ Step refusal
 FailsBy failure.Memory at e = IsOutOfMemoryAt at e
 
 -- Why an event was not performed. Want of memory is told only where memory may run out.
-abbrev pub PerformFails : {S A N F : Type 0} → (Result (Accepted S A N) F → Type 0) → Type 0 → Timeline S N → JournalError F N → Type 0
+abbrev pub PerformFails : {S A N F : Type 0} → (Result (Accepted S A N) F → Type 0) → Type 0 → Timeline S N →
+    JournalError F N → Type 0
 PerformFails IsRuled MayRunOut old (Step refusal) = IsRuled (Err refusal)
 PerformFails IsRuled MayRunOut old Forgotten = ⊥
 PerformFails IsRuled MayRunOut old DeadMark = ⊥

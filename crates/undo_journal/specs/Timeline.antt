@@ -58,8 +58,7 @@ from_mark m s (t ∷ ts) = if m == s.serial then Some (s, t ∷ ts) else from_ma
 abbrev pub forgotten_to : {S N : Type 0} → ℕ → Timeline S N → Option (Timeline S N)
 forgotten_to m t = option_map (λ p. record { first = p.0; later = p.1; last = t.last }) (from_mark m t.first t.later)
 
--- A mark without a station is forgotten where it is below the first station's, also where its station was
--- cut before that.
+-- A mark below the first station's is forgotten, also where its station was cut before.
 abbrev pub IsForgotten : {S N : Type 0} → ℕ → Timeline S N → Type 0
 IsForgotten m t = (m < t.first.serial) × (cut_to m t ≡ None)
 

@@ -14,8 +14,8 @@ pub enum JournalError<F, N> {
     /// The machine's rule refuses the event.
     #[error("the step is refused: {0}")]
     Step(F),
-    /// The mark is below the first station's: if its station wasn't cut before, it was forgotten.
-    #[error("the stations at this mark and before are forgotten")]
+    /// The mark is below the first station's. Its station was forgotten, or cut before that.
+    #[error("the mark is below the first station's")]
     Forgotten,
     /// Any other mark without a station: the station was cut, or the mark was never given.
     #[error("no station has this mark")]

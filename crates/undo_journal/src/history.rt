@@ -3,8 +3,9 @@ ghost use Rattle.std.specs.Prelude.{◌≡◌, ◌<◌, ◌≤◌, ◌-◌, ◌^
 ghost use Rattle.std.specs.Option.{option_and_then};
 ghost use Rattle.std.specs.Bool.{OnTrue, OnFalse};
 ghost use Rattle.undo_journal.specs.Reversible.{Accepted};
-ghost use Rattle.undo_journal.specs.Timeline.{Timeline, here, cut_to, forgotten_to, node_at, cut_stations, IsOrdered};
-ghost use Rattle.undo_journal.specs.History.{Live, after_event, IsAfter, AreAfter, Runs, FoldsTo, Makes, MakesKept, HasNoForget, IsMissed, IsReplayOf};
+ghost use Rattle.undo_journal.specs.Timeline.{Timeline, here, opened, cut_to, forgotten_to, node_at, cut_stations, IsOrdered};
+ghost use Rattle.undo_journal.specs.History.{Live, after_event, IsAfter, AreAfter, Runs, FoldsTo, Makes, MakesKept};
+ghost use Rattle.undo_journal.specs.History.{HasNoForget, IsMissed, IsReplayOf};
 ghost use Rattle.undo_journal.specs.declared.history.Command.{Command};
 
 use crate::error::JournalError;
@@ -37,10 +38,12 @@ pub struct Replayed<S: Reversible> {
 /// next one follows all the same.
 ///
 /// So the journal's timeline is where the commands lead as they were carried out, and with none missed
-/// these are all of them. Its stations behind the first are the last ones that the live steps make, in
-/// turn: the accepted events that no undo took away. The stations that these make before are forgotten,
-/// and without a forget there are none. Its node is the fold of the rule over all of the live steps.
-/// Each of these is the only one ([`commands_have_one_end`]).
+/// these are all of them. The live steps are the accepted events that no undo took away. The stations
+/// that they make end in the journal's; those before its first one are forgotten, and without a forget
+/// there are none. Its node is the fold of the rule over all of the live steps. Given what was carried
+/// out, each of these is the only one ([`commands_have_one_end`]). A command is missed only where it may
+/// meet want of memory: an event where nothing stands against it that is told without memory, and an
+/// undo to a mark with a station.
 ///
 /// # Errors
 ///
@@ -51,7 +54,7 @@ pub fn replay<S: Reversible>(
     commands: &[Command<S::Event>],
 ) -> Result<Replayed<S>, AllocError>
     ensures { IfOk result
-        (λ replay. IsReplayOf S.rule node commands.now replay.missed replay.journal) }
+        (λ replay. IsReplayOf S.rule S.may_run_out node commands.now replay.missed replay.journal) }
 {
     let mut journal = Journal::new(alloc, node)?;
     let mut missed = 0;
@@ -67,7 +70,7 @@ pub fn replay<S: Reversible>(
 fn carry_out<S: Reversible>(journal: &mut Journal<S>, command: &Command<S::Event>) -> bool
     requires { journal.old.last < 2 ^ 64 - 1 }
     ensures done { OnTrue result (IsAfter S.rule journal.old command.now journal.new) }
-    ensures missed { OnFalse result (IsMissed journal.old command.now journal.new) }
+    ensures missed { OnFalse result (IsMissed S.may_run_out journal.old command.now journal.new) }
 {
     match command {
         Command::Perform(event) => match journal.perform(event, 0) {
@@ -101,9 +104,11 @@ fn carry_out<S: Reversible>(journal: &mut Journal<S>, command: &Command<S::Event
 /// - `steps_keep`: an event, accepted or refused, leaves the node that the mark names, whatever
 ///   outcome the rule gives.
 /// - `undos_cut`: an undo leaves it where the mark isn't after its own, and else kills the mark.
-/// - `forgets_drop`: a forget leaves it where the mark isn't before its own, and else kills the mark.
-/// - `never_again`: whatever commands follow, and wherever they lead, a mark that is alive after them
-///   names the node that it named before them; so a dead mark stays dead.
+/// - `forgets_drop`: a forget leaves it where the mark isn't before its own, and else the mark is
+///   forgotten.
+/// - `never_again`: whatever commands follow, and wherever they lead, a mark that has a station after
+///   them names the node that it named before them; so a mark without a station never gets one again.
+/// - `floor_rises`: nor do they lower the first station's serial; so a forgotten mark stays forgotten.
 pub fn marks_name_nodes<S: Reversible>()
     ensures steps_keep { (t : Timeline S S.Note) (event : S.Event) (mark : ℕ)
         (r : Result (Accepted S S.Answer S.Note) S.Refusal)
@@ -118,6 +123,8 @@ pub fn marks_name_nodes<S: Reversible>()
     ensures never_again { (t u : Timeline S S.Note) (commands : List (Command S.Event)) (mark : ℕ)
         → IsOrdered t → mark ≤ t.last → AreAfter S.rule commands t u
         → IfSome (node_at mark u) (λ n. node_at mark t ≡ Some n) }
+    ensures floor_rises { (t u : Timeline S S.Note) (commands : List (Command S.Event))
+        → IsOrdered t → AreAfter S.rule commands t u → t.first.serial ≤ u.first.serial }
 {}
 
 /// A law, and so a function whose body is empty on purpose: commands lead to one end at most.
@@ -150,10 +157,10 @@ pub fn commands_have_one_end<S: Reversible>()
 /// - `same_marks`: a mark has a station for a forget exactly where it has one for an undo.
 /// - `exchanged`: forgetting up to a mark, and undoing to that one or a later one, may be exchanged.
 /// - `same_cut`: the undo then cuts the same stations, and so reports the same.
-/// - `split`: of the live steps that make the stations of a timeline, and those forgotten before it, the
-///   first ones have serials up to its first station's and lead to the node there, and the others make
-///   the stations behind it.
-/// - `unforgotten`: where no command was a forget, the live steps of a journal make all of its stations.
+/// - `split`: the live steps fall in two: the first, with serials up to the first station's, lead to its
+///   node; the others make the stations behind it.
+/// - `unforgotten`: where no command was a forget, a journal's first station is the one that it began
+///   with, and its live steps make all others.
 pub fn forgets_drop_the_front<S: Reversible>()
     ensures same_marks { (t : Timeline S S.Note) (mark : ℕ)
         → is_some (forgotten_to mark t) ≡ is_some (cut_to mark t) }
@@ -168,6 +175,6 @@ pub fn forgets_drop_the_front<S: Reversible>()
         × All (λ step. step.serial ≤ t.first.serial) before × FoldsTo S.rule node before t.first.node
         × Makes S.rule t.first.node kept t.later }
     ensures unforgotten { (node : S) (commands : List (Command S.Event)) (missed : ℕ)
-        (t : Timeline S S.Note) (replay : IsReplayOf S.rule node commands missed t)
-        → HasNoForget commands → Makes S.rule node replay.live t.later }
+        (t : Timeline S S.Note) (replay : IsReplayOf S.rule S.may_run_out node commands missed t)
+        → HasNoForget commands → (t.first ≡ (opened node).first) × Makes S.rule node replay.live t.later }
 {}

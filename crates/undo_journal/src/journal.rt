@@ -1,8 +1,10 @@
 // The journal.
-ghost use Rattle.std.specs.Prelude.{◌≡◌, ◌≤◌, ◌↔◌, ◌-◌, ◌^◌, [], length, take, Some, Err, IfOk, IfErr, IsTrue, OnOk, OnErr, replicate};
+ghost use Rattle.std.specs.Prelude.{◌≡◌, ◌≤◌, ◌↔◌, ◌-◌, ◌^◌, [], length, take, replicate};
+ghost use Rattle.std.specs.Prelude.{Some, Err, IfOk, IfErr, IsTrue, OnOk, OnErr};
 ghost use Rattle.std.specs.Option.{option_copied};
 ghost use Rattle.undo_journal.specs.Journal.{FailsBy, Performs, PerformFails, UndoFails, HasNoStation, IsOutOfMemoryAt};
-ghost use Rattle.undo_journal.specs.Timeline.{here, opened, kept_to, cut_to, forgotten_to, cut_stations, node_at, notes_of, report_of, IsFront, IsOrdered};
+ghost use Rattle.undo_journal.specs.Timeline.{here, opened, kept_to, cut_to, forgotten_to, cut_stations, node_at};
+ghost use Rattle.undo_journal.specs.Timeline.{notes_of, report_of, IsFront, IsOrdered};
 
 use crate::error::JournalError;
 use crate::past::{
@@ -175,7 +177,7 @@ impl<S: Reversible> Journal<S> {
     }
 
     /// Makes the mark's station the first, and drops the records of the steps up to it: no undo goes
-    /// back behind it any more. The machine stands where it stood, and each mark from this one on names
+    /// back to before it any more. The machine stands where it stood, and each mark from this one on names
     /// the node that it named. Takes no memory. It costs a binary search, the drops of those records,
     /// and a move of each other one.
     ///
@@ -227,9 +229,11 @@ impl<S: Reversible> Journal<S> {
         }
     }
 
-    /// Why an event isn't performed for which there is no memory: the rule refuses it, as is told without memory, or memory is wanting.
+    /// Why an event isn't performed for which there is no memory: the rule refuses it, as is told without
+    /// memory, or memory is wanting.
     fn failure_without_memory(&self, event: &S::Event) -> JournalError<S::Refusal, S::Note>
-        ensures { PerformFails (S.rule (here self.now).node event.now) (S.may_run_out (here self.now).node event.now) self.now result }
+        ensures { PerformFails (S.rule (here self.now).node event.now)
+            (S.may_run_out (here self.now).node event.now) self.now result }
     {
         match self.state.refusal(event) {
             Some(refusal) => JournalError::Step(refusal),

@@ -1,5 +1,6 @@
 // A journal's entries, by which its steps are taken back.
-ghost use Rattle.std.specs.Prelude.{◌≡◌, ℕ, ◌<◌, ◌≤◌, ◌+◌, ◌-◌, ◌++◌, List, [], ◌∷◌, Option, option_map, length, take, map, replicate, vec_len, vec_capacity, IfOk, IfSome};
+ghost use Rattle.std.specs.Prelude.{◌≡◌, ℕ, ◌<◌, ◌≤◌, ◌+◌, ◌-◌, List, [], ◌∷◌, ◌++◌, length, take, map, replicate};
+ghost use Rattle.std.specs.Prelude.{Option, option_map, vec_len, vec_capacity, IfOk, IfSome};
 ghost use Rattle.std.specs.Bool.{OnTrue, OnFalse};
 ghost use Rattle.undo_journal.specs.Past.{stations, shortened, Chained};
 ghost use Rattle.undo_journal.specs.Timeline.{Station, Rises, kept_to, newest, report_of};

@@ -1,9 +1,9 @@
 // Commands to a journal as texts, and as a text what is answered and where the journal stands then.
 //
-// `perform EVENT N`, `undo MARK N` and `forget MARK` are commands, and N is how often an answer is told. Each value that is told of a step is
-// its answer and its note, as `12:7`, and each report of an undo is how many steps it cut, with their notes, as `2:7:9`. A
-// refusal has its name, and `Memory` the mark that it names and its reports. Behind `@` stand the journal's mark and its
-// machine.
+// `perform EVENT N`, `undo MARK N` and `forget MARK` are commands, and N is how often an answer is told. Each value that is
+// told of a step is its answer and its note, as `12:7`, and each report of an undo is how many steps it cut, with their
+// notes, as `2:7:9`. A refusal has its name, and `Memory` the mark that it names and its reports. Behind `@` stand the
+// journal's mark and its machine.
 use crate::cases::head;
 use std::alloc::Global;
 use std::test::Fail;

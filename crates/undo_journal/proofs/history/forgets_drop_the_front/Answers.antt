@@ -18,4 +18,4 @@ returns-clause-split g c = λ node live t makes. MakesKept-split g.S.Reversible.
 
 pub returns-clause-unforgotten : goal.returns-clause-unforgotten
 returns-clause-unforgotten g c = λ node commands missed t replay none.
-    Makes-unforgotten g.S.Reversible.rule node commands missed t replay none
+    Makes-unforgotten g.S.Reversible.rule g.S.Reversible.may_run_out node commands missed t replay none

@@ -2,6 +2,7 @@
 use Rattle.std.proofs.Common.{◌≡◌, ℕ, ◌<◌, ◌≤◌, Option, Some, None, IfSome, refl}
 use Rattle.undo_journal.specs.Timeline.{Timeline, cut_to, forgotten_to, node_at, IsOrdered}
 use Rattle.undo_journal.proofs.Histories.{node_at-event, node_at-cut, node_at-forgotten, node_at-after}
+use Rattle.undo_journal.proofs.Floors.{floor-after}
 use Rattle.undo_journal.proofs.history.marks_name_nodes.Goals as goal
 
 if_cut : {S N : Type 0} (end mark : ℕ) (t : Timeline S N) (o : Option (Timeline S N)) → IsOrdered t → cut_to end t ≡ o → IfSome o (λ u. (mark ≤ end → node_at mark u ≡ node_at mark t) × (end < mark → node_at mark u ≡ None))
@@ -29,3 +30,6 @@ returns-clause-forgets_drop g c = λ t floor mark ordered. if_kept floor mark t 
 pub returns-clause-never_again : goal.returns-clause-never_again
 returns-clause-never_again g c = λ t u commands mark ordered given are.
     if_alive (node_at mark u) (node_at mark t) (λ n. node_at-after g.S.Reversible.rule mark commands t u n are ordered given)
+
+pub returns-clause-floor_rises : goal.returns-clause-floor_rises
+returns-clause-floor_rises g c = λ t u commands ordered are. floor-after g.S.Reversible.rule commands t u are ordered

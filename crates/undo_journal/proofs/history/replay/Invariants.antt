@@ -8,7 +8,7 @@ use Rattle.undo_journal.proofs.history.replay.Given as goal
 abbrev pub invariant-loop-command : goal.invariant-loop-command
 invariant-loop-command g l =
     record {
-      on : CarriedOn g.S.Reversible.rule (opened l.fn.node) l.journal (take l.command-index l.commands) l.missed;
+      on : CarriedOn g.S.Reversible.rule g.S.Reversible.may_run_out (opened l.fn.node) l.journal (take l.command-index l.commands) l.missed;
       given : l.journal.last ≤ l.command-index;
       missed : l.missed ≤ l.command-index;
     }

@@ -1,5 +1,5 @@
 -- What stays is a front of the entries: up to the mark, or to where memory was refused.
-use Rattle.std.proofs.Common.{◌≡◌, ◌≤◌, ◌-◌, vec_len, length, take, replicate, Some, subst, sym, ap, ◌∙◌, refl, arith}
+use Rattle.std.proofs.Common.{◌≡◌, ◌≤◌, ◌-◌, vec_len, length, take, replicate, Some, subst, sym, ap, ◌∙◌, arith}
 use Rattle.undo_journal.specs.Past.{timeline_of}
 use Rattle.undo_journal.specs.Journal.{Stopped}
 use Rattle.undo_journal.specs.Timeline.{here, cut_stations, kept_to, cut_to, report_of}
