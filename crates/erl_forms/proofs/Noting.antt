@@ -11,9 +11,10 @@ use Rattle.indexmap.proofs.CallerLemmas.{Contains-insert_key}
 use Rattle.indexmap.specs.IndexSet.{insert_key, insert_all}
 use Rattle.erl_forms.specs.declared.expression.Expression.{Expression}
 use Rattle.erl_forms.specs.declared.expression.Clause.{Clause}
-use Rattle.erl_forms.specs.ExpressionForms.{expr, exprs, clauses}
+use Rattle.erl_forms.specs.ExpressionForms.{expr, exprs, guards, clauses}
+use Rattle.erl_forms.specs.Expression.{Exprs}
 use Rattle.erl_forms.specs.declared.function.Function.{Function}
-use Rattle.erl_forms.specs.Module.{Key, called_in, called_in_row, called_in_clauses, called_in_definition, called_in_functions, AreNamesOf}
+use Rattle.erl_forms.specs.Module.{Key, called_in, called_in_row, called_in_guards, called_in_clauses, called_in_definition, called_in_functions, AreNamesOf}
 
 -- the names noted, of these and then of those
 abbrev pub noted : List (List ℕ) → List (List ℕ) → List (List ℕ)
@@ -50,16 +51,32 @@ row_noted items i e before between after within is first second =
     noted_then before between after (called_in_row (exprs (take i items))) (called_in (expr e)) first second ∙
     ap (noted before) (sym (ap (λ es. called_in_row (exprs es)) (take_more items i e within ∙ ap (λ f. take i items ++ f ∷ []) (sym is)) ∙ row_push (take i items) e))
 
-clauses_push : (cs : List Clause) (c : Clause) → called_in_clauses (clauses (cs ++ c ∷ [])) ≡ called_in_clauses (clauses cs) ++ called_in_row c.body
-clauses_push [] c = append-none (called_in_row c.body)
+guards_push : (gs : List Exprs) (tests : Exprs) → called_in_guards (guards (gs ++ tests ∷ [])) ≡ called_in_guards (guards gs) ++ called_in_row tests
+guards_push [] tests = append-none (called_in_row tests)
+guards_push (g ∷ gs) tests =
+    front-same (called_in_row g) (called_in_guards (guards (gs ++ tests ∷ []))) (called_in_guards (guards gs) ++ called_in_row tests) (guards_push gs tests) ∙ sym (append-assoc (called_in_row g) (called_in_guards (guards gs)) (called_in_row tests))
+
+pub guards_noted : (items : List Exprs) (i : ℕ) (tests : Exprs) (before between after : List (List ℕ)) →
+    i < length items → tests ≡ get_or items i tests → between ≡ noted before (called_in_guards (guards (take i items))) →
+    after ≡ noted between (called_in_row tests) → after ≡ noted before (called_in_guards (guards (take (i + 1) items)))
+guards_noted items i tests before between after within is first second =
+    noted_then before between after (called_in_guards (guards (take i items))) (called_in_row tests) first second ∙
+    ap (noted before) (sym (ap (λ gs. called_in_guards (guards gs)) (take_more items i tests within ∙ ap (λ g. take i items ++ g ∷ []) (sym is)) ∙ guards_push (take i items) tests))
+
+-- of one clause: of its guard, and then of its body
+abbrev pub called_in_clause : Clause → List (List ℕ)
+called_in_clause c = called_in_guards c.guard ++ called_in_row c.body
+
+clauses_push : (cs : List Clause) (c : Clause) → called_in_clauses (clauses (cs ++ c ∷ [])) ≡ called_in_clauses (clauses cs) ++ called_in_clause c
+clauses_push [] c = append-none (called_in_clause c)
 clauses_push (d ∷ ds) c =
-    front-same (called_in_row d.body) (called_in_clauses (clauses (ds ++ c ∷ []))) (called_in_clauses (clauses ds) ++ called_in_row c.body) (clauses_push ds c) ∙ sym (append-assoc (called_in_row d.body) (called_in_clauses (clauses ds)) (called_in_row c.body))
+    front-same (called_in_clause d) (called_in_clauses (clauses (ds ++ c ∷ []))) (called_in_clauses (clauses ds) ++ called_in_clause c) (clauses_push ds c) ∙ sym (append-assoc (called_in_clause d) (called_in_clauses (clauses ds)) (called_in_clause c))
 
 pub clauses_noted : (items : List Clause) (i : ℕ) (c : Clause) (before between after : List (List ℕ)) →
     i < length items → c ≡ get_or items i c → between ≡ noted before (called_in_clauses (clauses (take i items))) →
-    after ≡ noted between (called_in_row c.body) → after ≡ noted before (called_in_clauses (clauses (take (i + 1) items)))
+    after ≡ noted between (called_in_clause c) → after ≡ noted before (called_in_clauses (clauses (take (i + 1) items)))
 clauses_noted items i c before between after within is first second =
-    noted_then before between after (called_in_clauses (clauses (take i items))) (called_in_row c.body) first second ∙
+    noted_then before between after (called_in_clauses (clauses (take i items))) (called_in_clause c) first second ∙
     ap (noted before) (sym (ap (λ cs. called_in_clauses (clauses cs)) (take_more items i c within ∙ ap (λ d. take i items ++ d ∷ []) (sym is)) ∙ clauses_push (take i items) c))
 
 pub functions_push : (fs : List (Key × Function)) (f : Key × Function) →

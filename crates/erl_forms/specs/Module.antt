@@ -53,8 +53,8 @@ abbrev pub functions_depth : List (Key × Function) → ℕ
 functions_depth [] = 0
 functions_depth (f ∷ fs) = max (definition_depth f.1.definition) (functions_depth fs)
 
--- The modules that are named in remote calls, call by call, from left to right. A guard has no calls but those of
--- functions that are built in, and these count for nothing there.
+-- The modules that are named in remote calls, call by call, in the order of the source. A call counts in a guard as in a
+-- body.
 
 -- the module of a function that is built in
 abbrev pub module_of : BuiltIn → List ℕ
@@ -90,13 +90,17 @@ abbrev mutual
   called_in_row expression.none = []
   called_in_row (expression.more e es) = called_in e ++ called_in_row es
 
+  pub called_in_guards : Guards → List (List ℕ)
+  called_in_guards expression.no_guards = []
+  called_in_guards (expression.guard tests gs) = called_in_row tests ++ called_in_guards gs
+
   pub called_in_clauses : Clauses → List (List ℕ)
   called_in_clauses expression.no_clauses = []
-  called_in_clauses (expression.clause ps gs body cs) = called_in_row body ++ called_in_clauses cs
+  called_in_clauses (expression.clause ps gs body cs) = called_in_guards gs ++ called_in_row body ++ called_in_clauses cs
 
 abbrev pub called_in_definition : Definition → List (List ℕ)
 called_in_definition (definition.Clauses cs) = called_in_clauses cs
-called_in_definition (definition.Loop ps gs cs) = called_in_clauses cs
+called_in_definition (definition.Loop ps gs cs) = called_in_guards gs ++ called_in_clauses cs
 
 abbrev pub called_in_functions : List (Key × Function) → List (List ℕ)
 called_in_functions [] = []

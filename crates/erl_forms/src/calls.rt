@@ -2,10 +2,11 @@
 ghost use Rattle.std.specs.Prelude.{◌≡◌, IfOk, OnOk};
 ghost use Rattle.std.specs.Str.{bytes_eq};
 ghost use Rattle.indexmap.specs.IndexSet.{insert_key, insert_all};
-ghost use Rattle.erl_forms.specs.ExpressionForms.{expr, exprs, clauses};
-ghost use Rattle.erl_forms.specs.Module.{module_of, called_by, called_in, called_in_row, called_in_clauses, called_in_definition};
+ghost use Rattle.erl_forms.specs.ExpressionForms.{expr, exprs, guards, clauses};
+ghost use Rattle.erl_forms.specs.Module.{module_of, called_by, called_in, called_in_row, called_in_guards, called_in_clauses};
+ghost use Rattle.erl_forms.specs.Module.{called_in_definition};
 
-use crate::expression::{Clause, Expression};
+use crate::expression::{Clause, Expression, Expressions};
 use crate::function::Definition;
 use crate::operation::{BuiltIn, Operation};
 use erl_term::Atom;
@@ -27,7 +28,10 @@ pub(crate) fn note_calls(
 {
     match definition {
         Definition::Clauses(clauses) => note_clauses(alloc, clauses.as_slice(), names),
-        Definition::Loop { receive, .. } => note_clauses(alloc, receive.as_slice(), names),
+        Definition::Loop { guard, receive, .. } => {
+            note_guards(alloc, guard.as_slice(), names)?;
+            note_clauses(alloc, receive.as_slice(), names)
+        }
     }
 }
 
@@ -72,12 +76,28 @@ fn note_row(alloc: Global, row: &[Expression], names: &mut Names) -> Result<(), 
     Ok(())
 }
 
-/// Notes those of the bodies of clauses.
+/// Notes those of the tests of guards.
+#[cycle(calls)]
+fn note_guards(
+    alloc: Global,
+    alternatives: &[Expressions],
+    names: &mut Names,
+) -> Result<(), AllocError>
+    ensures { OnOk result (names.new.keys ≡ insert_all bytes_eq names.old.keys (called_in_guards (guards alternatives.now))) }
+{
+    for tests in alternatives {
+        note_row(alloc, tests.as_slice(), names)?;
+    }
+    Ok(())
+}
+
+/// Notes those of clauses: of the guard first, and then of the body.
 #[cycle(calls)]
 fn note_clauses(alloc: Global, items: &[Clause], names: &mut Names) -> Result<(), AllocError>
     ensures { OnOk result (names.new.keys ≡ insert_all bytes_eq names.old.keys (called_in_clauses (clauses items.now))) }
 {
     for clause in items {
+        note_guards(alloc, clause.guard.as_slice(), names)?;
         note_row(alloc, clause.body.as_slice(), names)?;
     }
     Ok(())

@@ -17,7 +17,7 @@
 //! - [`Module::function`] finds the function of a name and a number of arguments, [`Module::exported`] finds it where it is
 //!   exported, and [`Module::exports`] tells whether it is.
 //! - [`Module::remote_modules`] are the modules that are named in remote calls, each once: none is left out, and none is made
-//!   up. A call of a function that is built in counts where it is written with its module, but in a guard.
+//!   up. A call of a function that is built in counts where it is written with its module. A guard counts as a body does.
 //! - [`Module::depth`] is how deep patterns, guards and bodies are nested, up to `2^64 - 1`.
 //! - `Same` decides equality, and `Duplicate` gives an equal value, of modules and of all that they are made of.
 //!
