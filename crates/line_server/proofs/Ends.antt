@@ -11,7 +11,7 @@ use Rattle.line_server.specs.declared.ended.Ended.{Ended}
 use Rattle.line_server.specs.declared.pending.Pending.{Pending}
 use Rattle.line_server.specs.Lines.{lines_of, longest_line}
 use Rattle.line_server.specs.Session.{Turns, lines_in, text_of, session_after}
-use Rattle.line_server.specs.Serving.{IsFrontOf, AreAnswered, IsWritten, Stands, Serves, ServesWhole}
+use Rattle.line_server.specs.Serving.{IsFrontOf, AreAnswered, IsWritten, Stands, Serves, ServesWhole, most_reads}
 use Rattle.line_server.specs.Progress.{SoFar, IsOfWriting, GoesOn, StopsIn, Finishes, fault_of}
 
 -- Some chunks are served: the reader gave bytes, the text of their whole lines is written, and no answer waits.
@@ -27,27 +27,30 @@ pub record Served {S F : Type 0} (turn : Turns S F) (start now : S) (left rest h
 
 AreAnswered-part : (fault : Fault) (bytes : List ℕ) (lines : List (List ℕ)) → IsOfWriting fault → IsFrontOf lines (lines_of bytes) → AreAnswered (Some fault) bytes lines
 AreAnswered-part (Read e) bytes lines writing part = absurd writing
-AreAnswered-part Endless bytes lines writing part = absurd writing
+AreAnswered-part (Endless reads) bytes lines writing part = absurd writing
 AreAnswered-part (Write e) bytes lines writing part = part
 AreAnswered-part WriteZero bytes lines writing part = part
 AreAnswered-part Memory bytes lines writing part = part
 
 IsWritten-part : (fault : Fault) (text output : List ℕ) → IsOfWriting fault → IsFrontOf output text → IsWritten (Some fault) text output
 IsWritten-part (Read e) text output writing part = absurd writing
-IsWritten-part Endless text output writing part = absurd writing
+IsWritten-part (Endless reads) text output writing part = absurd writing
 IsWritten-part (Write e) text output writing part = part
 IsWritten-part WriteZero text output writing part = part
 IsWritten-part Memory text output writing part = part
 
 Stands-part : {S : Type 0} (fault : Fault) (new behind : S) → IsOfWriting fault → Stands (Some fault) new behind
 Stands-part (Read e) new behind writing = absurd writing
-Stands-part Endless new behind writing = absurd writing
+Stands-part (Endless reads) new behind writing = absurd writing
 Stands-part (Write e) new behind writing = tt
 Stands-part WriteZero new behind writing = tt
 Stands-part Memory new behind writing = tt
 
 no_fault : (fault : Fault) (P : Type 0) → Some fault ≡ None → P
 no_fault fault P is = absurd (let never : ⊥ = cc in never)
+
+not_endless : (fault : Fault) (reads : ℕ) (P : Type 0) → IsOfWriting fault → Some fault ≡ Some (Endless reads) → P
+not_endless fault reads P writing is = let same : fault ≡ Endless reads = cc in absurd (subst IsOfWriting same writing)
 
 module _ {S F : Type 0} (turn : Turns S F) (start : S) where
   -- before the first read
@@ -110,12 +113,13 @@ module _ {S F : Type 0} (turn : Turns S F) (start : S) where
     text = whole_text now left rest held holds pending served;
     stands = served.so_far.stands;
     at_end = no_fault (Read e) (IsAtEnd resting);
+    endless = λ n is. absurd (let never : ⊥ = cc in never);
     unrefused = served.so_far.unrefused;
     refused = served.so_far.refused;
   }
 
-  pub Serves-endless : (now : S) (left rest held holds : Option (List ℕ)) (pending : Pending) → Served turn start now left rest held holds pending → Serves turn start now left rest held holds record { fault = Some Endless; is_refused = pending.answers.is_refused }
-  Serves-endless now left rest held holds pending served = record {
+  pub Serves-endless : (reads : ℕ) (now : S) (left rest held holds : Option (List ℕ)) (pending : Pending) → reads ≡ most_reads → Served turn start now left rest held holds pending → Serves turn start now left rest held holds record { fault = Some (Endless reads); is_refused = pending.answers.is_refused }
+  Serves-endless reads now left rest held holds pending all served = record {
     bytes = served.bytes;
     answered = served.so_far.answered;
     output = served.output;
@@ -125,7 +129,8 @@ module _ {S F : Type 0} (turn : Turns S F) (start : S) where
     lines = served.so_far.lines;
     text = whole_text now left rest held holds pending served;
     stands = served.so_far.stands;
-    at_end = no_fault Endless (IsAtEnd rest);
+    at_end = no_fault (Endless reads) (IsAtEnd rest);
+    endless = λ n is. let same : n ≡ reads = cc in same ∙ all;
     unrefused = served.so_far.unrefused;
     refused = served.so_far.refused;
   }
@@ -146,6 +151,7 @@ module _ {S F : Type 0} (turn : Turns S F) (start : S) where
         text = IsWritten-part fault (text_of part.answered) (served.output ++ stops.taken) stops.of_writing part.text;
         stands = Stands-part fault new (session_after start part.answered) stops.of_writing;
         at_end = no_fault fault (IsAtEnd resting);
+        endless = λ n. not_endless fault n (n ≡ most_reads) stops.of_writing;
         unrefused = part.unrefused;
         refused = part.refused;
       }
@@ -166,6 +172,7 @@ module _ {S F : Type 0} (turn : Turns S F) (start : S) where
         text = sym (all.text ∙ ap (λ l. output ++ l) none ∙ append-nil output);
         stands = all.stands;
         at_end = λ is. end;
+        endless = λ n is. absurd (let never : ⊥ = cc in never);
         unrefused = all.unrefused;
         refused = all.refused;
       }
@@ -220,6 +227,7 @@ Serves-memory turn start left held = record {
   text = ([], refl);
   stands = tt;
   at_end = no_fault Memory (IsAtEnd left);
+  endless = λ n. not_endless Memory n (n ≡ most_reads) tt;
   unrefused = λ r. All-nil (λ a. a.fate ≡ None);
   refused = λ all. refl;
 }

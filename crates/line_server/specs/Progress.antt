@@ -72,7 +72,7 @@ pub record Moves (held holds : Option (List ℕ)) (old new : List ℕ) : Type 0 
 -- a fault after which only a front of the text is owed
 abbrev pub IsOfWriting : Fault → Type 0
 IsOfWriting (Read e) = ⊥
-IsOfWriting Endless = ⊥
+IsOfWriting (Endless reads) = ⊥
 IsOfWriting (Write e) = ⊤
 IsOfWriting WriteZero = ⊤
 IsOfWriting Memory = ⊤

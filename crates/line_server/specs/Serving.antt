@@ -1,5 +1,5 @@
 -- What serving a reader's lines to a session does.
-use Rattle.std.specs.Prelude.{◌≡◌, ℕ, ⊤, false, List, ◌++◌, All, Option, None, Some}
+use Rattle.std.specs.Prelude.{◌≡◌, ℕ, ◌^◌, ⊤, false, List, ◌++◌, All, Option, None, Some}
 use Rattle.std.specs.Io.KnownBytes.{Consumes, Appends, IsAtEnd}
 use Rattle.line_server.specs.declared.ended.Fault.{Fault}
 use Rattle.line_server.specs.declared.ended.Fault.TheVariants.{Read, Endless, Write, WriteZero, Memory}
@@ -17,7 +17,7 @@ IsFrontOf {A} front whole = (rest : List A) × (whole ≡ front ++ rest)
 abbrev pub AreAnswered : Option Fault → List ℕ → List (List ℕ) → Type 0
 AreAnswered None bytes answered = answered ≡ lines_of bytes
 AreAnswered (Some (Read e)) bytes answered = answered ≡ whole_lines bytes
-AreAnswered (Some Endless) bytes answered = answered ≡ whole_lines bytes
+AreAnswered (Some (Endless reads)) bytes answered = answered ≡ whole_lines bytes
 AreAnswered (Some (Write e)) bytes answered = IsFrontOf answered (lines_of bytes)
 AreAnswered (Some WriteZero) bytes answered = IsFrontOf answered (lines_of bytes)
 AreAnswered (Some Memory) bytes answered = IsFrontOf answered (lines_of bytes)
@@ -26,7 +26,7 @@ AreAnswered (Some Memory) bytes answered = IsFrontOf answered (lines_of bytes)
 abbrev pub IsWritten : Option Fault → List ℕ → List ℕ → Type 0
 IsWritten None text output = output ≡ text
 IsWritten (Some (Read e)) text output = output ≡ text
-IsWritten (Some Endless) text output = output ≡ text
+IsWritten (Some (Endless reads)) text output = output ≡ text
 IsWritten (Some (Write e)) text output = IsFrontOf output text
 IsWritten (Some WriteZero) text output = IsFrontOf output text
 IsWritten (Some Memory) text output = IsFrontOf output text
@@ -36,10 +36,14 @@ IsWritten (Some Memory) text output = IsFrontOf output text
 abbrev pub Stands : {S : Type 0} → Option Fault → S → S → Type 0
 Stands None new behind = new ≡ behind
 Stands (Some (Read e)) new behind = new ≡ behind
-Stands (Some Endless) new behind = new ≡ behind
+Stands (Some (Endless reads)) new behind = new ≡ behind
 Stands (Some (Write e)) new behind = ⊤
 Stands (Some WriteZero) new behind = ⊤
 Stands (Some Memory) new behind = ⊤
+
+-- how many reads are made of a reader that comes to no end, those that are interrupted among them
+abbrev pub most_reads : ℕ
+most_reads = 2 ^ 32
 
 -- Serving lines from one session to another: the bytes that the reader gave, the lines that were answered, and the bytes
 -- that the writer took. `left` and `rest` are what the reader has left before and after, `held` and `holds` what the
@@ -56,6 +60,7 @@ pub record Serves {S F : Type 0} (turn : Turns S F) (start new : S) (left rest h
   pub text : IsWritten ended.fault (text_of answered) output
   pub stands : Stands ended.fault new (session_after start answered)
   pub at_end : ended.fault ≡ None → IsAtEnd rest
+  pub endless : (reads : ℕ) → ended.fault ≡ Some (Endless reads) → reads ≡ most_reads
   pub unrefused : ended.is_refused ≡ false → All (λ a. a.fate ≡ None) answered
   pub refused : All (λ a. a.fate ≡ None) answered → ended.is_refused ≡ false
 

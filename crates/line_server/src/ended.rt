@@ -1,4 +1,5 @@
 // How serving ends.
+use crate::reads::Reads;
 use std::io;
 use thiserror::Error;
 
@@ -8,9 +9,9 @@ pub enum Fault {
     /// The reader failed.
     #[error("cannot read the input: {0}")]
     Read(io::Error),
-    /// The reader gave 4,294,967,296 reads without an end.
+    /// The reader gave so many reads without an end: 4,294,967,296.
     #[error("the input has no end")]
-    Endless,
+    Endless(Reads),
     /// The writer failed.
     #[error("cannot write the output: {0}")]
     Write(io::Error),

@@ -7,13 +7,14 @@
 //! A line may have 65,536 bytes without its newline. Of a longer one the session hears that it is too long.
 //!
 //! No contract can say that a fault is a real one, nor that answers are written before the next read: `line_tests`
-//! looks at both.
+//! looks at both. How many reads a reader without an end gave is proved as [`Reads`] counts them.
 #![tactic(auto)]
 
 mod ended;
 mod line_start;
 mod lines;
 mod pending;
+mod reads;
 mod serving;
 mod session;
 mod waiting;
@@ -21,5 +22,6 @@ mod writing;
 
 pub use ended::{Ended, Fault};
 pub use lines::lines_make_the_bytes;
+pub use reads::Reads;
 pub use serving::serve;
 pub use session::Session;

@@ -5,6 +5,7 @@ ghost use Rattle.line_server.specs.Progress.{fault_of};
 
 use crate::ended::{Ended, Fault};
 use crate::pending::Pending;
+use crate::reads::Reads;
 use crate::session::Session;
 use std::alloc::{AllocError, Global};
 use std::io::{ErrorKind, Read, Write};
@@ -18,7 +19,8 @@ const CHUNK: usize = 65_536;
 /// Serves the reader's lines to the session, and writes its answers, each before the next read.
 ///
 /// A read or a write that is interrupted is tried again; a reader that gave 2^32 reads without an end, those
-/// that were interrupted among them, is [`crate::Fault::Endless`].
+/// that were interrupted among them, is [`crate::Fault::Endless`]. The contract pins that number as [`crate::Reads`]
+/// counts it; that all reads are made through it is not in the contract.
 pub fn serve<S: Session, R: Read, W: Write>(
     alloc: Global,
     session: &mut S,
@@ -73,8 +75,9 @@ fn serve_reads<S: Session, R: Read, W: Write>(
         (W.contents writer.old) (W.contents writer.new)
         record { fault = fault_of result; is_refused = pending.new.answers.is_refused } }
 {
+    let mut reads = Reads::none();
     for _i in 0..MOST_READS {
-        match reader.read(chunk) {
+        match reads.read(reader, chunk) {
             Ok(0) => return pending.finish(session, writer),
             Ok(n) => pending.take_chunk(session, &chunk[..n], writer)?,
             Err(e) => {
@@ -84,5 +87,5 @@ fn serve_reads<S: Session, R: Read, W: Write>(
             }
         }
     }
-    Err(Fault::Endless)
+    Err(Fault::Endless(reads))
 }

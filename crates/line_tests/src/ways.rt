@@ -51,7 +51,7 @@ fn fault_text(fault: &Option<Fault>) -> &'static str {
     match fault {
         None => " none",
         Some(Fault::Read(_)) => " read",
-        Some(Fault::Endless) => " endless",
+        Some(Fault::Endless(_)) => " endless",
         Some(Fault::Write(_)) => " write",
         Some(Fault::WriteZero) => " write zero",
         Some(Fault::Memory) => " memory",

@@ -1,5 +1,5 @@
--- All that was read is served.
-use Rattle.std.proofs.Common.{◌<◌, length}
+-- All that was read is served, and each read is counted.
+use Rattle.std.proofs.Common.{◌≡◌, ◌<◌, length}
 use Rattle.line_server.proofs.Ends.{Served}
 use Rattle.line_server.proofs.serving.serve_reads.Given as goal
 
@@ -8,4 +8,5 @@ invariant-loop-i g l =
     record {
       served : Served g.S.Session.turn l.initial.session l.session (g.R.Read.remaining l.initial.reader) (g.R.Read.remaining l.reader) (g.W.Write.contents l.initial.writer) (g.W.Write.contents l.writer) l.pending;
       room : 0 < length l.chunk;
+      counted : l.reads ≡ l._i;
     }
