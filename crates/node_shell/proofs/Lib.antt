@@ -1,4 +1,3 @@
-mod Kept
 mod Led
 mod Replays
 mod Turns

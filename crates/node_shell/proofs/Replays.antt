@@ -2,6 +2,7 @@
 use Rattle.std.proofs.Common.{◌≡◌, ℕ, List, [], ◌∷◌, ◌++◌, All, Option, None, Some, IfSome, option_map, option_to_list, refl, sym, ap, subst, ◌∙◌}
 use Rattle.undo_journal.specs.Timeline.{here, opened, cut_to, node_at}
 use Rattle.undo_journal.specs.History.{AreAfter}
+use Rattle.undo_journal.proofs.Floors.{MakesKept-unforgotten}
 use Rattle.undo_journal.proofs.Histories.{Makes-live, FoldsTo-live, Runs-of, AreAfter-append, IsOrdered-opened, IsOrdered-after, node_at-after}
 use Rattle.undo_journal.proofs.Timelines.{cut_to-here}
 use Rattle.line_server.specs.declared.ended.Ended.{Ended}
@@ -18,7 +19,6 @@ use Rattle.shell_deeds.specs.declared.fate.Fate.TheVariants.{StoppedAt}
 use Rattle.node_shell.specs.Replay.{Obeyed, AreObeyed, IsReplayed, IsHeadline, IsNamed, MarksName, Stops, Undoes, commands_in, shell_behind, timeline_behind}
 use Rattle.node_shell.specs.Run.{Runs, RunsWhole, Starts}
 use Rattle.node_shell.specs.Shell.{shell_turn}
-use Rattle.node_shell.proofs.Kept.{all-made}
 use Rattle.node_shell.proofs.Led.{Does-cuts, Does-led, Does-stops}
 use Rattle.node_shell.proofs.Turns.{obeyed-from_answered, unrefused-obeyed}
 
@@ -60,7 +60,7 @@ module _ (node : NodeState) (start : ShellState) (begun : start.timeline ≡ ope
       record {
         live = runs.0;
         runs = runs.1;
-        stations = all-made Step node runs.0 end (Makes-live Step node commands end runs.0 runs.1) (ap (λ f. f.serial) (first-kept start obeyed in_turn ∙ ap (λ t. t.first) begun));
+        stations = MakesKept-unforgotten Step node runs.0 end (Makes-live Step node commands end runs.0 runs.1) (ap (λ f. f.serial) (first-kept start obeyed in_turn ∙ ap (λ t. t.first) begun));
         fold = FoldsTo-live Step node commands end runs.0 runs.1;
       }
 

@@ -114,7 +114,7 @@ module _ {S E A N F : Type 0} (rule : Rule S E A N F) where
   from_mark-first s (t ∷ ts) m is =
       cond-true {A = Option (Station S N × List (Station S N))} (eqb m s.serial) (Some (s, t ∷ ts)) (from_mark m t ts) (eq-eqb m s.serial is)
 
-  MakesKept-unforgotten : (node : S) (live : List (Live E)) (t : Timeline S N) → MakesKept rule node live t → t.first.serial ≡ 0 → Makes rule node live t.later
+  pub MakesKept-unforgotten : (node : S) (live : List (Live E)) (t : Timeline S N) → MakesKept rule node live t → t.first.serial ≡ 0 → Makes rule node live t.later
   MakesKept-unforgotten node live t makes zero =
       let whole = makes.whole in
       let serial = zero ∙ ap (λ (s : Station S N). s.serial) (sym makes.begun) in
