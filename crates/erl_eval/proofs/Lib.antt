@@ -2,10 +2,13 @@ pub mod Doing
 pub mod Elements
 pub mod Examples
 pub mod Hearing
+pub mod Kept
 pub mod Matches
 pub mod Moved
 pub mod Options
+pub mod OutcomeLaws
 pub mod Outcomes
+pub mod Returns
 pub mod Rows
 pub mod Tests
 pub mod Uniqueness

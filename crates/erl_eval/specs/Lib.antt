@@ -9,5 +9,6 @@ pub mod Jobs
 pub mod Laws
 pub mod Matching
 pub mod Operators
+pub mod OutcomeLaws
 pub mod Starting
 pub mod State

@@ -64,6 +64,11 @@
 //! `receive` takes ([`messages_are_accepted_where_they_are_taken`]). They give what is expected of small modules
 //! ([`rules_hold_of_examples`]).
 //!
+//! A call from outside never ends in a rest ([`calls_from_outside_never_rest`]). A job, and such a call in mode `plain`, starts
+//! no process and names none; in mode `start` a call starts at most one, and its name stands right behind the start
+//! ([`at_most_one_process_is_started`]). Where a process rests in a loop function behind a job, or behind its start, the code
+//! that was given holds an instance of that name and serial ([`processes_rest_in_code_that_was_given`]).
+//!
 //! [`Place`], [`Receiver`] and [`Act`] are compared and copied by value; a copy shares its terms.
 //!
 //! # What no contract says
@@ -82,6 +87,8 @@ mod operators;
 
 ghost use Rattle.erl_eval.specs.Laws.{OneResult, OneOutcome, OneJobOutcome};
 ghost use Rattle.erl_eval.specs.Laws.{ServersAcceptEach, LoopsAcceptWhatTheyHear, TakenWhereAccepted, RefusedGiveUndef};
+ghost use Rattle.erl_eval.specs.OutcomeLaws.{CallsNeverRest, PlainCallsStartNothing, JobsStartNothing, CallsStartAtMostOne};
+ghost use Rattle.erl_eval.specs.OutcomeLaws.{JobsRestInTheirCode, CallsStartInTheirCode};
 ghost use Rattle.erl_eval.specs.Examples.{CallsAreAdded, ZeroDividesNothing, IntegersEnd, OneIsNoTruth, NoClauseFits};
 ghost use Rattle.erl_eval.specs.Examples.{GuardsThatFailAreFalse, VariablesCompare, OtherMessagesAreDropped, StartStandsBeforeItsActs};
 ghost use Rattle.erl_eval.specs.Examples.{SendsBeforeItsReply, RestsWithItsArguments, StartsWithAName};
@@ -112,6 +119,27 @@ pub fn messages_are_accepted_where_they_are_taken()
     ensures loops { LoopsAcceptWhatTheyHear }
     ensures taken { TakenWhereAccepted }
     ensures refused { RefusedGiveUndef }
+{}
+
+/// A call from outside of all modules ends in a value or an exit, whatever the mode: nothing rests there.
+pub fn calls_from_outside_never_rest()
+    ensures { CallsNeverRest }
+{}
+
+/// No process is started or named by a job, nor by a call from outside in mode `plain`; in any mode such a call starts at most
+/// one. Its acts tell of it once, with the name right behind, if it has one; no name stands without a start.
+pub fn at_most_one_process_is_started()
+    ensures plain_calls { PlainCallsStartNothing }
+    ensures jobs { JobsStartNothing }
+    ensures calls { CallsStartAtMostOne }
+{}
+
+/// Where a process rests in a loop function behind a job, an instance of the job's code has the place's name and serial. The same
+/// is so of the code of the world and the place of a process that a call from outside starts; a place in a callback module has
+/// the name of such an instance.
+pub fn processes_rest_in_code_that_was_given()
+    ensures jobs { JobsRestInTheirCode }
+    ensures calls { CallsStartInTheirCode }
 {}
 
 /// The rules give what the Reference Manual says of small modules: calls that are not in tail position, exits, guards, a send
