@@ -1,5 +1,5 @@
 -- A process (Erlang Reference Manual, Processes; gen_server behaviour): where it rests, what it does, and its mailbox.
-use Rattle.std.specs.Prelude.{ℕ, ◌+◌, ◌-◌, Bool, List, [], ◌∷◌, ◌++◌, length, take, insert, remove, position, slice_get}
+use Rattle.std.specs.Prelude.{ℕ, ◌+◌, ◌-◌, Bool, true, false, List, [], ◌∷◌, ◌++◌, length, take, insert, remove, position, slice_get}
 use Rattle.std.specs.Prelude.{Option, None, Some}
 use Rattle.erl_term.specs.Term.{tree}
 use Rattle.erl_term.specs.declared.term.Term.{Term}
@@ -70,6 +70,16 @@ can_take_by (Runs r) first = None
 
 abbrev pub can_take : ProcessState → Option ℕ
 can_take p = can_take_by p.activity (first_taken p.pid p.place p.rests_in p.mailbox)
+
+-- whether it is suspended
+
+abbrev pub is_suspended_by : Activity → Bool
+is_suspended_by Idle = false
+is_suspended_by Suspended = true
+is_suspended_by (Runs r) = false
+
+abbrev pub is_suspended : ProcessState → Bool
+is_suspended p = is_suspended_by p.activity
 
 -- The job that it runs, if it runs.
 

@@ -18,7 +18,8 @@
 //! - Each step is a stated function of the process: [`Process::deliver`] puts a message last, [`Process::take`] takes just the
 //!   one at the position, [`Process::rest_next`] moves the process to its new place, one turn on. Where memory is refused the
 //!   process is as it was.
-//! - [`Process::suspend`] makes an idle process suspended, [`Process::resume`] a suspended one idle, and nothing else.
+//! - [`Process::suspend`] makes an idle process suspended, [`Process::resume`] a suspended one idle, and nothing else;
+//!   [`Process::is_suspended`] tells which it is.
 //! - [`Process::undeliver`], [`Process::untake`] and [`Process::unrest`] take the others back. What `rest_next` hands out gives
 //!   the process that ran, whole.
 //! - [`Process::job`] gives the job that the process runs, and [`Process::runs`] tells exactly whether it is one that is asked

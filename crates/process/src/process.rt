@@ -4,6 +4,7 @@ ghost use Rattle.std.specs.Option.{option_copied};
 ghost use Rattle.process.specs.Process.{awaited, IsRunning, can_take, delivered, first_taken, job_of, rested, resumed, run_at, started, suspended, takes_at, undelivered, unrested, untaken};
 
 mod ending;
+mod reading;
 mod rerunning;
 
 use crate::activity::{Activity, Running};
