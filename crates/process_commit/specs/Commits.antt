@@ -1,6 +1,7 @@
 -- A job is committed: its acts are done, and its process rests again, one turn on, or ends.
-use Rattle.std.specs.Prelude.{◌≡◌, ℕ, ◌==◌, List, Option, None, Some}
+use Rattle.std.specs.Prelude.{◌≡◌, ℕ, ◌==◌, Bool, ◌&&◌, List, Option, None, Some}
 use Rattle.std.specs.List.{find}
+use Rattle.std.specs.Str.{bytes_eq}
 use Rattle.erl_eval.specs.declared.acts.Act.{Act}
 use Rattle.erl_eval.specs.declared.acts.Place.{Place}
 use Rattle.erl_eval.specs.declared.acts.Place.TheVariants.{Server, Loop}
@@ -19,14 +20,17 @@ use Rattle.process_store.specs.Changes.{HasTurned, rest_living, unrest_living}
 use Rattle.process_store.specs.Table.{Table, changed, living}
 use Rattle.process_store.specs.declared.living.Living.{Living}
 
--- the instance of a loop function's place, among the code in which it came to rest
+-- the instance that a loop function's place names, among the code in which it came to rest
 
-abbrev pub loaded_as : ℕ → List Instance → Option Instance
-loaded_as serial code = find (λ i. i.serial == serial) code
+abbrev pub is_loaded_as : List ℕ → ℕ → Instance → Bool
+is_loaded_as name serial i = i.serial == serial && bytes_eq i.name name
+
+abbrev pub loaded_as : List ℕ → ℕ → List Instance → Option Instance
+loaded_as name serial code = find (is_loaded_as name serial) code
 
 abbrev pub rests_in : Place → List Instance → Option Instance
 rests_in (Server m s) code = None
-rests_in (Loop m serial f args) code = loaded_as serial code
+rests_in (Loop m serial f args) code = loaded_as m serial code
 
 -- A process runs a job: equal by value, code included.
 

@@ -18,6 +18,7 @@ use code_server::Modules;
 use erl_eval::{Act, Place};
 use erl_forms::Module;
 use erl_machine::{Instance, Job};
+use erl_term::Atom;
 use process::{NamedRan, Told, Used};
 use process_ending::Reply;
 use process_store::ProcessStore;
@@ -38,7 +39,7 @@ pub struct Rested {
     pub closed: Row<Closed>,
 }
 
-/// The instance of a loop function's place, among the code in which it came to rest; none of a callback module's.
+/// The instance that a loop function's place names, among the code in which it came to rest; none of a callback module's.
 ///
 /// # Errors
 ///
@@ -52,18 +53,18 @@ pub fn rests_in(
 {
     match place {
         Place::Server { .. } => Ok(None),
-        Place::Loop { serial, .. } => match loaded_as(*serial, code) {
+        Place::Loop { module, serial, .. } => match loaded_as(module, *serial, code) {
             Some(instance) => Ok(Some(instance.copy(alloc)?)),
             None => Ok(None),
         },
     }
 }
 
-/// The instance of a serial, among code.
-fn loaded_as(serial: u64, code: &[Instance]) -> Option<&Instance>
-    ensures { option_copied result ≡ loaded_as serial code.now }
+/// The instance of a name and a serial, among code.
+fn loaded_as<'a>(name: &Atom, serial: u64, code: &'a [Instance]) -> Option<&'a Instance>
+    ensures { option_copied result ≡ loaded_as name.now serial code.now }
 {
-    code.iter().find(|instance| instance.serial == serial)
+    code.iter().find(|instance| instance.serial == serial && instance.name == *name)
 }
 
 /// What tells the instances that a process uses, which lives.
