@@ -1,5 +1,6 @@
 pub mod Consistency
 pub mod Keeping
-pub mod Users
 pub mod Lookups
+pub mod Naming
 pub mod Stepping
+pub mod Users

@@ -1,8 +1,17 @@
 -- Arrivals, takes, commits and starts leave no process with code that is gone.
-use Rattle.std.proofs.Common.{◌≡◌, ℕ, zero, suc, eqb, Bool, true, false, All, List, [], ◌∷◌, ◌++◌, map, slice_get, Option, None, Some, option_and_then, option_map, filter_map, IfSome, cond, refl, sym, ap, subst, ◌∙◌}
+use Rattle.std.proofs.Common.{◌≡◌, ℕ, zero, suc, Bool, true, false, All, List, [], ◌∷◌, ◌++◌, map, slice_get, Option, None, Some, option_and_then, option_map, filter_map, IfSome, cond, refl, sym, ap, subst, ◌∙◌}
 use Rattle.std.proofs.lemmas.List.Elements.{All-cons, All-head, All-nil, All-tail}
 use Rattle.std.proofs.lemmas.Option.{none-some, same_Some}
 use Rattle.std.specs.List.{cons_option}
+use Rattle.std.proofs.lemmas.Grind.{not_there}
+use Rattle.erl_term.specs.Tree.{Trees}
+use Rattle.erl_eval.proofs.OutcomeLaws.{evaluates_keeps, job_keeps, start_in}
+use Rattle.erl_eval.specs.Jobs.{Evaluates}
+use Rattle.erl_eval.specs.OutcomeLaws.{IsPlaceIn}
+use Rattle.erl_eval.specs.State.{World}
+use Rattle.erl_machine.specs.Views.{job_of, outcome_of}
+use Rattle.erl_machine.specs.declared.evaluation.Outcome.{Outcome}
+use Rattle.erl_machine.specs.declared.jobs.Done.{Done}
 use Rattle.erl_term.specs.declared.term.Term.{Term}
 use Rattle.erl_eval.specs.State as state
 use Rattle.erl_eval.specs.declared.acts.Act.{Act}
@@ -11,7 +20,7 @@ use Rattle.erl_eval.specs.declared.acts.Place.{Place}
 use Rattle.erl_eval.specs.declared.acts.Place.TheVariants.{Server, Loop}
 use Rattle.erl_forms.specs.Module.{Forms}
 use Rattle.erl_machine.specs.declared.jobs.Job.{Job}
-use Rattle.erl_steps.specs.Views.{instance}
+use Rattle.erl_steps.specs.Views.{end_of, instance}
 use Rattle.erl_steps.specs.declared.machine.End.{End}
 use Rattle.erl_steps.specs.declared.machine.End.TheVariants.{Rest, Value, Exit}
 use Rattle.erl_steps.specs.declared.world.Instance.{Instance}
@@ -28,7 +37,7 @@ use Rattle.process.specs.declared.activity.Activity.{Activity}
 use Rattle.process.specs.declared.activity.Activity.TheVariants.{Idle, Suspended, Runs}
 use Rattle.process_batch.specs.Begins.{act_begun, acts_begun, name_left}
 use Rattle.process_commit.specs.Acts.{act_done, acts_done, closed_at, receiver_of, sent}
-use Rattle.process_commit.specs.Commits.{IsRunning, job_at, loaded_as, rests_in}
+use Rattle.process_commit.specs.Commits.{IsRunning, is_loaded_as, job_at, loaded_as, rests_in}
 use Rattle.process_ending.proofs.Ends.{others_stay}
 use Rattle.process_ending.specs.Ends.{Stands}
 use Rattle.process_index.specs.declared.calls.Call.{Call}
@@ -41,7 +50,8 @@ use Rattle.process_table.specs.Commit.{committed, concluded}
 use Rattle.process_table.specs.Messages.{message_of}
 use Rattle.process_table.specs.Steps.{IsCode, IsCodeOf, after_arrival, arrived_at, call_of, entered, taken, taken_at}
 use Rattle.code_loading.specs.Current.{current_code, current_in, named}
-use Rattle.code_loading.specs.Laws.{StepsKeepCode}
+use Rattle.code_loading.proofs.Naming.{rests, starts_in}
+use Rattle.code_loading.specs.Laws.{StartsIn, StepsKeepCode}
 use Rattle.code_loading.specs.Consistent.{Enters, EntersAt, IsConsistent, RestsAt}
 
 -- What holds of each process that lives, by the table of modules.
@@ -67,6 +77,12 @@ kept_with P [] l one zero holds = one
 kept_with P [] l one (suc q) holds = tt
 kept_with P (s ∷ ss) l one zero holds = holds
 kept_with P (s ∷ ss) l one (suc q) holds = kept_with P ss l one q holds
+
+-- where a job comes to rest, that is in its code
+abbrev EndsIn : List Instance → End → Type 0
+EndsIn code (Rest at) = RestsAt at (rests_in at code)
+EndsIn code (Value v) = Unit {0}
+EndsIn code (Exit reason) = Unit {0}
 
 module _ (m : Loaded Forms) where
   -- A message comes, and a call is closed.
@@ -105,21 +121,17 @@ module _ (m : Loaded Forms) where
   first_stands i o true one others = one
   first_stands i o false one others = others
 
-  found_stands : (serial : ℕ) (code : List Instance) → All (StandsIn m) (map instance code) → PlaceStands m (loaded_as serial code)
-  found_stands serial [] all = tt
-  found_stands serial (i ∷ code) all =
-      first_stands i (loaded_as serial code) (eqb i.serial serial) (All-head (StandsIn m) (instance i) (map instance code) all) (found_stands serial code (All-tail (StandsIn m) (instance i) (map instance code) all))
+  found_stands : (name : List ℕ) (serial : ℕ) (code : List Instance) → All (StandsIn m) (map instance code) → PlaceStands m (loaded_as name serial code)
+  found_stands name serial [] all = tt
+  found_stands name serial (i ∷ code) all =
+      first_stands i (loaded_as name serial code) (is_loaded_as name serial i) (All-head (StandsIn m) (instance i) (map instance code) all) (found_stands name serial code (All-tail (StandsIn m) (instance i) (map instance code) all))
 
   rests_stand : (at : Place) (code : List Instance) → All (StandsIn m) (map instance code) → PlaceStands m (rests_in at code)
   rests_stand (Server name state) code all = tt
-  rests_stand (Loop name serial f args) code all = found_stands serial code all
+  rests_stand (Loop name serial f args) code all = found_stands name serial code all
 
-  rests_at : (at : Place) (code : List Instance) → RestsAt at (rests_in at code)
-  rests_at (Server name state) code = refl
-  rests_at (Loop name serial f args) code = tt
-
-  rested_holds : (at : Place) (code : List Instance) (l : Living) → All (StandsIn m) (map instance code) → Holds m (rest_living at (rests_in at code) l)
-  rested_holds at code l all = ((rests_stand at code all, tt), (rests_at at code, tt))
+  rested_holds : (at : Place) (code : List Instance) (l : Living) → All (StandsIn m) (map instance code) → RestsAt at (rests_in at code) → Holds m (rest_living at (rests_in at code) l)
+  rested_holds at code l all is = ((rests_stand at code all, tt), (is, tt))
 
   -- the code of a job that a process runs
 
@@ -132,28 +144,29 @@ module _ (m : Loaded Forms) where
   job_stands None job holds is = absurd (none-some job is)
   job_stands (Some l) job holds is = ran_code l.process l.process.activity job holds.0.1 is
 
-  concluded_kept : (job : Job) (acts : List Act) (end : End) (t : Table) → AllHold m t → IsRunning job t → AllHold m (concluded job acts end t)
-  concluded_kept job acts (Rest at) t all is =
-      λ q. kept_all (Holds m) (rest_living at (rests_in at job.code)) (λ l holds. rested_holds at job.code l (job_stands (living job.pid t) job (all job.pid) is)) (acts_done acts t).slots job.pid q (acts_kept acts t all q)
-  concluded_kept job acts (Value v) t all is = λ q. others_stay (Holds m) (acts_done acts t).slots job.pid q (acts_kept acts t all q)
-  concluded_kept job acts (Exit reason) t all is = λ q. others_stay (Holds m) (acts_done acts t).slots job.pid q (acts_kept acts t all q)
+  concluded_kept : (job : Job) (acts : List Act) (end : End) (t : Table) → EndsIn job.code end → AllHold m t → IsRunning job t → AllHold m (concluded job acts end t)
+  concluded_kept job acts (Rest at) t named all is =
+      λ q. kept_all (Holds m) (rest_living at (rests_in at job.code)) (λ l holds. rested_holds at job.code l (job_stands (living job.pid t) job (all job.pid) is) named) (acts_done acts t).slots job.pid q (acts_kept acts t all q)
+  concluded_kept job acts (Value v) t named all is = λ q. others_stay (Holds m) (acts_done acts t).slots job.pid q (acts_kept acts t all q)
+  concluded_kept job acts (Exit reason) t named all is = λ q. others_stay (Holds m) (acts_done acts t).slots job.pid q (acts_kept acts t all q)
 
   -- What evaluating has done in code that stands.
 
-  added_kept : (name : Option (List ℕ)) (place : Place) (code : List Instance) (t : Table) → All (StandsIn m) (map instance code) → AllHold m t → AllHold m (added name place (rests_in place code) t)
-  added_kept name place code t stands all =
-      λ q. kept_with (Holds m) t.slots (record { process = started (next_pid t) name place (rests_in place code); calls = [] }) ((rests_stand place code stands, tt), (rests_at place code, tt)) q (all q)
+  added_kept : (name : Option (List ℕ)) (place : Place) (code : List Instance) (t : Table) → All (StandsIn m) (map instance code) → RestsAt place (rests_in place code) → AllHold m t → AllHold m (added name place (rests_in place code) t)
+  added_kept name place code t stands named all =
+      λ q. kept_with (Holds m) t.slots (record { process = started (next_pid t) name place (rests_in place code); calls = [] }) ((rests_stand place code stands, tt), (named, tt)) q (all q)
 
-  begun_kept : (name : Option (List ℕ)) (code : List Instance) (a : Act) (t : Table) → All (StandsIn m) (map instance code) → AllHold m t → AllHold m (act_begun name code a t)
-  begun_kept name code (act.Send to message) t stands all = sent_to message (receiver_of to t) t all
-  begun_kept name code (act.Reply number reply) t stands all = closed_to (owner_of number t) t all
-  begun_kept name code (act.Start place) t stands all = added_kept name place code t stands all
-  begun_kept name code (act.Name n by_register) t stands all = all
+  begun_kept : (name : Option (List ℕ)) (code : List Instance) (a : Act) (t : Table) → All (StandsIn m) (map instance code) → StartsIn code a → AllHold m t → AllHold m (act_begun name code a t)
+  begun_kept name code (act.Send to message) t stands named all = sent_to message (receiver_of to t) t all
+  begun_kept name code (act.Reply number reply) t stands named all = closed_to (owner_of number t) t all
+  begun_kept name code (act.Start place) t stands named all = added_kept name place code t stands named all
+  begun_kept name code (act.Name n by_register) t stands named all = all
 
-  all_begun_kept : (name : Option (List ℕ)) (code : List Instance) (acts : List Act) (t : Table) → All (StandsIn m) (map instance code) → AllHold m t → AllHold m (acts_begun name code acts t)
-  all_begun_kept name code [] t stands all = all
-  all_begun_kept name code (a ∷ others) t stands all =
-      all_begun_kept (name_left name a) code others (act_begun name code a t) stands (begun_kept name code a t stands all)
+  all_begun_kept : (name : Option (List ℕ)) (code : List Instance) (acts : List Act) (t : Table) → All (StandsIn m) (map instance code) → All (StartsIn code) acts → AllHold m t → AllHold m (acts_begun name code acts t)
+  all_begun_kept name code [] t stands named all = all
+  all_begun_kept name code (a ∷ others) t stands named all =
+      all_begun_kept (name_left name a) code others (act_begun name code a t) stands (All-tail (StartsIn code) a others named)
+      (begun_kept name code a t stands (All-head (StartsIn code) a others named) all)
 
   -- A process takes a message, and enters an instance.
 
@@ -174,11 +187,11 @@ module _ (m : Loaded Forms) where
 
   enters_at : (at : Place) (rests : Option Instance) (i : Instance) (code : List Instance) → RestsAt at rests → entered m at rests ≡ Some i → (reached : List Instance) × (code ≡ i ∷ reached) → EntersAt rests code
   enters_at (Server name state) rests i code none is front = subst (λ o. EntersAt o code) (sym none) tt
-  enters_at (Loop name serial f args) rests i code none is front = subst (λ o. EntersAt o code) (sym is) front
+  enters_at (Loop name serial f args) rests i code named is front = subst (λ o. EntersAt o code) (sym is) front
 
   enters_none : (at : Place) (rests : Option Instance) (code : List Instance) → RestsAt at rests → entered m at rests ≡ None → EntersAt rests code
   enters_none (Server name state) rests code none is = subst (λ o. EntersAt o code) (sym none) tt
-  enters_none (Loop name serial f args) rests code none is = subst (λ o. EntersAt o code) (sym is) tt
+  enters_none (Loop name serial f args) rests code named is = subst (λ o. EntersAt o code) (sym is) tt
 
   taken_code : (at : Place) (rests o : Option Instance) (entry_serial : ℕ) (code : List Instance) → IsSound m → PlaceStands m rests → RestsAt at rests → entered m at rests ≡ o → IsCode m o entry_serial code → All (StandsIn m) (map instance code) × EntersAt rests code
   taken_code at rests None entry_serial code sound stands rest is it =
@@ -202,6 +215,19 @@ module _ (m : Loaded Forms) where
   taken_kept None pid job t sound all it = all
   taken_kept (Some position) pid job t sound all it =
       λ q. kept_but (Holds m) (run position job.entry_serial job.code) t.slots pid (one_takes (living pid t) job position sound (all pid) it) q (all q)
+
+-- A job comes to rest in its code, and so do the processes that a call from outside starts.
+
+done_in : (done : Done) (end : End) → done.outcome.end ≡ end → EndsIn done.job.code end
+done_in done (Rest (Server m s)) is = refl
+done_in done (Rest (Loop m serial f args)) is = rests (Loop m serial f args) done.job.code
+    (λ none. not_there done.gives (λ gives. none ((job_keeps (job_of done.job) (outcome_of done.outcome) gives).rests_in m serial f args (ap end_of is))))
+done_in done (Value v) is = tt
+done_in done (Exit reason) is = tt
+
+calls_start_in : (w : World) (code : List Instance) (m f : List ℕ) (args : Trees) (o : Outcome) → w.code ≡ map instance code → Evaluates w m f args (outcome_of o) → All (StartsIn code) o.acts
+calls_start_in w code m f args o is evaluates = starts_in code o.acts
+    (λ p has. subst (λ c. IsPlaceIn c p) is (start_in w (outcome_of o) p (evaluates_keeps w m f args (outcome_of o) evaluates) has))
 
 -- What holds of each process, and of all.
 
@@ -248,7 +274,8 @@ pub steps_keep_code : StepsKeepCode
 steps_keep_code = record {
   arrivals = λ client name body m t kept. consistent m (after_arrival client name body t) kept.sound (arrived_to m (pid_of name t) (message_of body) (call_of client body) t (all_hold m t kept));
   takes = λ pid job m t kept it. consistent m (taken pid job.entry_serial job.code t) kept.sound (taken_kept m (takes_next (living pid t)) pid job t kept.sound (all_hold m t kept) it);
-  commits = λ done m t kept is. consistent m (committed done t) kept.sound (concluded_kept m done.job done.outcome.acts done.outcome.end t (all_hold m t kept) is);
-  starts = λ name code acts m t kept stands. consistent m (acts_begun name code acts t) kept.sound (all_begun_kept m name code acts t stands (all_hold m t kept));
+  commits = λ done m t kept is. consistent m (committed done t) kept.sound (concluded_kept m done.job done.outcome.acts done.outcome.end t (done_in done done.outcome.end refl) (all_hold m t kept) is);
+  starts = λ name code acts m t kept stands named. consistent m (acts_begun name code acts t) kept.sound (all_begun_kept m name code acts t stands named (all_hold m t kept));
   currents = currents_stand;
+  evaluated = calls_start_in;
 }

@@ -11,12 +11,16 @@ use Rattle.process.specs.declared.activity.Activity.TheVariants.{Idle, Suspended
 use Rattle.process_ending.specs.Ends.{AllStand}
 use Rattle.process_store.specs.Table.{Table, living}
 
--- A gen_server process rests in no instance; and a process that runs a job of a loop function has entered the instance in which it
--- rested.
+-- A process that rests in a loop function uses the instance that its place names, and a gen_server process none; and a process that
+-- runs a job of a loop function has entered the instance in which it rested.
+
+abbrev pub IsNamedBy : List ℕ → ℕ → Option Instance → Type 0
+IsNamedBy name serial None = ⊥
+IsNamedBy name serial (Some i) = (i.name ≡ name) × (i.serial ≡ serial)
 
 abbrev pub RestsAt : Place → Option Instance → Type 0
 RestsAt (Server m state) rests = rests ≡ None
-RestsAt (Loop m serial f args) rests = Unit {0}
+RestsAt (Loop m serial f args) rests = IsNamedBy m serial rests
 
 abbrev pub EntersAt : Option Instance → List Instance → Type 0
 EntersAt None code = Unit {0}

@@ -1,21 +1,27 @@
 -- No load, purge or delete leaves a process with code that is gone.
 use Rattle.std.specs.Prelude.{◌≡◌, ℕ, All, List, None, Option, map}
+use Rattle.erl_term.specs.Tree.{Trees}
+use Rattle.erl_eval.specs.Jobs.{Evaluates}
+use Rattle.erl_eval.specs.State.{World}
 use Rattle.erl_eval.specs.declared.acts.Act.{Act}
+use Rattle.erl_eval.specs.declared.acts.Act.TheVariants as acts
 use Rattle.erl_forms.specs.Module.{Forms}
 use Rattle.code_server.specs.Modules.{IsSound, Table as Loaded, delete_refusal, deleted, load_refusal, loaded, purged}
 use Rattle.erl_machine.specs.declared.jobs.Done.{Done}
 use Rattle.erl_machine.specs.declared.jobs.Job.{Job}
+use Rattle.erl_machine.specs.declared.evaluation.Outcome.{Outcome}
+use Rattle.erl_machine.specs.Views.{outcome_of}
 use Rattle.erl_steps.specs.Views.{instance}
 use Rattle.erl_steps.specs.declared.world.Instance.{Instance}
 use Rattle.job_code.specs.Named.{StandsIn}
 use Rattle.process_batch.specs.Begins.{acts_begun}
-use Rattle.process_commit.specs.Commits.{IsRunning}
+use Rattle.process_commit.specs.Commits.{IsRunning, rests_in}
 use Rattle.process_store.specs.Table.{Table, living}
 use Rattle.process_table.specs.Commit.{committed}
 use Rattle.process_table.specs.Steps.{IsCodeOf, after_arrival, taken}
 use Rattle.process_table.specs.declared.body.Body.{Body}
 use Rattle.code_loading.specs.Current.{current_code}
-use Rattle.code_loading.specs.Consistent.{IsConsistent}
+use Rattle.code_loading.specs.Consistent.{IsConsistent, RestsAt}
 use Rattle.code_loading.specs.Loading.{spared}
 
 pub record LoadingKeepsCode : Type 0 where
@@ -23,11 +29,19 @@ pub record LoadingKeepsCode : Type 0 where
   pub loads : (name : List ℕ) (code : Forms) (modules : Loaded Forms) (t : Table) → IsConsistent modules t → load_refusal name modules ≡ None → IsConsistent (loaded name code modules) t
   pub deletes : (name : List ℕ) (modules : Loaded Forms) (t : Table) → IsConsistent modules t → delete_refusal name modules ≡ None → IsConsistent (deleted name modules) t
 
+-- A process that an act starts rests in this code.
+abbrev pub StartsIn : List Instance → Act → Type 0
+StartsIn code (acts.Send to message) = Unit {0}
+StartsIn code (acts.Reply number answer) = Unit {0}
+StartsIn code (acts.Start place) = RestsAt place (rests_in place code)
+StartsIn code (acts.Name name by_register) = Unit {0}
+
 -- Nor does any other step of the processes: what comes to run is current code, or what the process rested in; and what comes to rest
 -- does so in the code of its job.
 pub record StepsKeepCode : Type 0 where
   pub arrivals : (client : ℕ) (name : List ℕ) (body : Body) (modules : Loaded Forms) (t : Table) → IsConsistent modules t → IsConsistent modules (after_arrival client name body t)
   pub takes : (pid : ℕ) (job : Job) (modules : Loaded Forms) (t : Table) → IsConsistent modules t → IsCodeOf modules (living pid t) job → IsConsistent modules (taken pid job.entry_serial job.code t)
   pub commits : (done : Done) (modules : Loaded Forms) (t : Table) → IsConsistent modules t → IsRunning done.job t → IsConsistent modules (committed done t)
-  pub starts : (name : Option (List ℕ)) (code : List Instance) (acts : List Act) (modules : Loaded Forms) (t : Table) → IsConsistent modules t → All (StandsIn modules) (map instance code) → IsConsistent modules (acts_begun name code acts t)
+  pub starts : (name : Option (List ℕ)) (code : List Instance) (acts : List Act) (modules : Loaded Forms) (t : Table) → IsConsistent modules t → All (StandsIn modules) (map instance code) → All (StartsIn code) acts → IsConsistent modules (acts_begun name code acts t)
   pub currents : (modules : Loaded Forms) → IsSound modules → All (StandsIn modules) (map instance (current_code modules))
+  pub evaluated : (w : World) (code : List Instance) (m f : List ℕ) (args : Trees) (o : Outcome) → w.code ≡ map instance code → Evaluates w m f args (outcome_of o) → All (StartsIn code) o.acts
