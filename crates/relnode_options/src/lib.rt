@@ -1,8 +1,14 @@
 //! The command line of the program `relnode`: `relnode ROOT VSN`, `--help` and `--version`.
 //!
 //! [`read_invocation`] reads the words that the program was started with. No contract says which words are good: that is
-//! [`clap`]'s, and is tried by hand.
+//! [`clap`]'s, and is tried by hand. Of words that were read it is proved which is told not to be UTF-8: the first such.
 #![tactic(auto)]
+
+ghost use Rattle.std.specs.Prelude.{◌≡◌, not};
+ghost use Rattle.std.specs.List.{position};
+ghost use Rattle.std.specs.Option.{option_map};
+ghost use Rattle.std.specs.Str.{is_utf8};
+ghost use Rattle.relnode_options.specs.declared.OptionsError.TheVariants.{NotUtf8 as not_utf8};
 
 use clap::error::ErrorKind;
 use clap::{Arg, ArgAction, Command};
@@ -71,7 +77,7 @@ pub enum OptionsError {
     /// A word is missing, is one too many or is no option.
     #[error("{0} (try --help)")]
     Words(String),
-    /// The word at this place, from 1, is not UTF-8.
+    /// The word at this place is not UTF-8, and it is the first such; the program's name stands at place 0.
     #[error("word {0} of the command line is not UTF-8")]
     NotUtf8(usize),
     /// The system gave no words.
@@ -188,24 +194,53 @@ fn first_paragraph(alloc: Global, text: &str) -> Result<String, AllocError> {
 fn unread<R: Env + AllocGlobal>(rt: &R, error: io::Error) -> Result<OptionsError, AllocError> {
     match error.kind() {
         io::ErrorKind::OutOfMemory => Err(AllocError),
-        io::ErrorKind::InvalidData => match bad_word(rt)? {
-            Some(place) => Ok(OptionsError::NotUtf8(place)),
+        io::ErrorKind::InvalidData => match first_fault(raw_words(rt)?.as_slice()) {
+            Some(fault) => Ok(fault),
             None => Ok(OptionsError::Unread(error)),
         },
         _ => Ok(OptionsError::Unread(error)),
     }
 }
 
-/// The place, from 1, of the first word behind the program's name that is not UTF-8. The name counts as
-/// place 0.
-fn bad_word<R: Env + AllocGlobal>(rt: &R) -> Result<Option<usize>, AllocError> {
-    let mut word = vec![in rt.alloc(); 0u8; LONGEST_WORD]?;
+/// The words that the program was started with, from its name on, as bytes. One that is too long to be looked at is none.
+fn raw_words<R: Env + AllocGlobal>(rt: &R) -> Result<Vec<Vec<u8>>, AllocError> {
+    let mut room = vec![in rt.alloc(); 0u8; LONGEST_WORD]?;
+    let mut words = Vec::new(rt.alloc());
     for place in 0..usize::MAX {
-        match rt.arg(place, word.as_mut_slice()) {
-            Ok(length) if str::from_utf8(&word[..length]).is_err() => return Ok(Some(place)),
+        let mut word = Vec::new(rt.alloc());
+        match rt.arg(place, room.as_mut_slice()) {
+            Ok(length) => word.extend_from_slice(&room[..length])?,
             Err(FillError::NotPresent) => break,
-            _ => {}
+            Err(_) => {}
         }
+        words.push(word)?;
     }
-    Ok(None)
+    Ok(words)
+}
+
+/// What is told of words, if one of them is not UTF-8: the place of the first such.
+fn first_fault(words: &[Vec<u8>]) -> Option<OptionsError>
+    ensures { result ≡ option_map not_utf8 (position (λ word. not (is_utf8 word.items)) words.now) }
+{
+    match first_not_text(words) {
+        Some(place) => Some(OptionsError::NotUtf8(place)),
+        None => None,
+    }
+}
+
+/// The place of the first word that is not UTF-8.
+fn first_not_text(words: &[Vec<u8>]) -> Option<usize>
+    ensures { result ≡ position (λ word. not (is_utf8 word.items)) words.now }
+{
+    words.iter().position(|word| !is_text(word.as_slice()))
+}
+
+/// Whether bytes are UTF-8.
+fn is_text(bytes: &[u8]) -> bool
+    ensures { result ≡ is_utf8 bytes.now }
+{
+    match str::from_utf8(bytes) {
+        Ok(_) => true,
+        Err(_) => false,
+    }
 }
