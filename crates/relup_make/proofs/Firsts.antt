@@ -4,9 +4,9 @@ use Rattle.std.specs.Prelude.{if◌then◌else◌}
 use Rattle.std.specs.List.{filter, flat_map}
 use Rattle.std.proofs.lemmas.List.{drop_more}
 use Rattle.high_instructions.specs.Forms.{Name}
-use Rattle.otp_files.specs.declared.app.AppSpec.{AppSpec}
+use Rattle.otp_files.specs.Distinct.{app_names}
+use Rattle.otp_files.specs.declared.applications.RelApp.{RelApp}
 use Rattle.relup_make.specs.Refusals.{first_of}
-use Rattle.relup_make.specs.Work.{names_of}
 
 pub first_here : {E : Type 0} (xs ys : List E) (e : E) → first_of xs ≡ Some e → first_of (xs ++ ys) ≡ Some e
 first_here [] ys e is = absurd (let never : ⊥ = cc in never)
@@ -30,14 +30,14 @@ item_passes f items i x whole within is found so_far =
     so_far ∙ ap (λ xs. first_of (flat_map f xs)) (from_item items i x within is) ∙ first_later (f x) (flat_map f (drop (i + 1) items)) (sym found)
 
 -- the same of applications by their names, of which those that fail a test count for nothing
-abbrev pub tested : {E : Type 0} → (Name → Bool) → (Name → List E) → AppSpec → List E
+abbrev pub tested : {E : Type 0} → (Name → Bool) → (Name → List E) → RelApp → List E
 tested p f app = if p app.name then f app.name else []
 
-pub tested_all : {E : Type 0} (p : Name → Bool) (f : Name → List E) (apps : List AppSpec) → flat_map f (filter p (names_of apps)) ≡ flat_map (tested p f) apps
+pub tested_all : {E : Type 0} (p : Name → Bool) (f : Name → List E) (apps : List RelApp) → flat_map f (filter p (app_names apps)) ≡ flat_map (tested p f) apps
 tested_all p f [] = refl
 tested_all p f (app ∷ apps) =
     let later = tested_all p f apps in
-    elim (p app.name) as (λ b. flat_map f (if b then app.name ∷ filter p (names_of apps) else filter p (names_of apps)) ≡ (if b then f app.name else []) ++ flat_map (tested p f) apps) [
+    elim (p app.name) as (λ b. flat_map f (if b then app.name ∷ filter p (app_names apps) else filter p (app_names apps)) ≡ (if b then f app.name else []) ++ flat_map (tested p f) apps) [
       | true ↦ ap (λ es. f app.name ++ es) later
       | false ↦ later
     ]

@@ -1,6 +1,6 @@
 -- What is loaded is of applications of the target.
-use Rattle.std.proofs.Common.{◌≡◌, ℕ, zero, suc, Bool, true, false, List, [], ◌∷◌, ◌++◌, map, Option, Some, None, sym, ap, subst, refl, inl, inr, append_assoc}
-use Rattle.std.specs.Prelude.{not, ◌&&◌, ◌⊎◌, if◌then◌else◌}
+use Rattle.std.proofs.Common.{◌≡◌, ℕ, zero, suc, Bool, true, false, List, [], ◌∷◌, ◌++◌, map, Option, Some, None, sym, ap, subst, refl, inl, inr}
+use Rattle.std.specs.Prelude.{◌&&◌, ◌⊎◌, if◌then◌else◌}
 use Rattle.std.specs.List.{AllByRecursion, cons_option, filter, filter_map, flat_map, slice_get}
 use Rattle.std.specs.Option.{is_some, option_map, option_map_or}
 use Rattle.std.specs.Str.{bytes_eq}
@@ -15,6 +15,7 @@ use Rattle.high_instructions.specs.Forms.{Name, Names, onto}
 use Rattle.instructions.specs.declared.instruction.Instruction.{Instruction}
 use Rattle.instructions.specs.declared.instruction.Instruction.TheVariants as levels
 use Rattle.dependency_order.specs.declared.group.Group.{Group}
+use Rattle.otp_files.specs.Distinct.{app_names}
 use Rattle.otp_files.specs.declared.app.AppSpec.{AppSpec}
 use Rattle.relup_make.specs.declared.job.Job.{Job}
 use Rattle.relup_make.specs.declared.rel_apps.RelApps.{RelApps}
@@ -23,8 +24,7 @@ use Rattle.relup_make.specs.Arranging.{AreArrangements, arranged, order_of_loads
 use Rattle.relup_make.specs.Dealt.{IsInTarget}
 use Rattle.relup_make.specs.Releases.{has_app, modules_in, spec_named, start_type_in}
 use Rattle.relup_make.specs.Scripts.{at, loaded_application, loaded_by, loaded_in, loaded_work}
-use Rattle.relup_make.specs.Work.{AppupEntry, Way, changed_job, entry_of, is_changed, jobs, lone, names_of, reached, removed, source, target}
-use Rattle.relup_make.proofs.Places.{itself}
+use Rattle.relup_make.specs.Work.{AppupEntry, Way, changed_job, entry_of, is_changed, is_only_in, jobs, lone, reached, removed, source, target}
 use Rattle.relup_make.proofs.Scripted.{groups_load}
 
 -- All of lists that are made of others
@@ -124,29 +124,16 @@ changed_loadable way (n ∷ ns) = by (is_changed way n) refl (changed_loadable w
     by true e h = subst (λ b. AllByRecursion (IsLoadable way) (filter_map (changed_job way) (if b then n ∷ filter (is_changed way) ns else filter (is_changed way) ns))) (sym e) (entry (entry_of way n) e h)
     by false e h = subst (λ b. AllByRecursion (IsLoadable way) (filter_map (changed_job way) (if b then n ∷ filter (is_changed way) ns else filter (is_changed way) ns))) (sym e) h
 
-found_in : (before : List AppSpec) (app : AppSpec) (behind : List AppSpec) → is_some (spec_named app.name (before ++ app ∷ behind)) ≡ true
-found_in [] app behind = ap (λ b. is_some (if b then Some app else spec_named app.name behind)) (itself app.name)
-found_in (b ∷ bs) app behind = by (bytes_eq b.name app.name) (found_in bs app behind)
+added_loadable : (way : Way) (work : Name → ApplicationWork) (names : Names) → AllByRecursion (IsLoadable way) (map (λ name. lone name (work name)) (filter (is_only_in (target way) (source way)) names))
+added_loadable way work [] = tt
+added_loadable way work (n ∷ ns) = by (is_only_in (target way) (source way) n) refl (added_loadable way work ns)
   where
-    by : (same : Bool) → is_some (spec_named app.name (bs ++ app ∷ behind)) ≡ true → is_some (if same then Some b else spec_named app.name (bs ++ app ∷ behind)) ≡ true
-    by true e = refl
-    by false e = e
-
-all_named : (before apps : List AppSpec) → AllByRecursion (λ n. is_some (spec_named n (before ++ apps)) ≡ true) (names_of apps)
-all_named before [] = tt
-all_named before (app ∷ apps) =
-    (found_in before app apps, subst (λ whole. AllByRecursion (λ n. is_some (spec_named n whole) ≡ true) (names_of apps)) (append_assoc before (app ∷ []) apps) (all_named (before ++ app ∷ []) apps))
-
-added_loadable : (way : Way) (work : Name → ApplicationWork) (p : Name → Bool) (names : Names) → AllByRecursion (λ n. has_app n (target way) ≡ true) names → AllByRecursion (IsLoadable way) (map (λ name. lone name (work name)) (filter p names))
-added_loadable way work p [] all = tt
-added_loadable way work p (n ∷ ns) all = by (p n) (added_loadable way work p ns all.1)
-  where
-    by : (b : Bool) → AllByRecursion (IsLoadable way) (map (λ name. lone name (work name)) (filter p ns)) → AllByRecursion (IsLoadable way) (map (λ name. lone name (work name)) (if b then n ∷ filter p ns else filter p ns))
-    by true h = (inl all.0, h)
-    by false h = h
+    by : (b : Bool) → is_only_in (target way) (source way) n ≡ b → AllByRecursion (IsLoadable way) (map (λ name. lone name (work name)) (filter (is_only_in (target way) (source way)) ns)) → AllByRecursion (IsLoadable way) (map (λ name. lone name (work name)) (if is_only_in (target way) (source way) n then n ∷ filter (is_only_in (target way) (source way)) ns else filter (is_only_in (target way) (source way)) ns))
+    by true e h = subst (λ b. AllByRecursion (IsLoadable way) (map (λ name. lone name (work name)) (if b then n ∷ filter (is_only_in (target way) (source way)) ns else filter (is_only_in (target way) (source way)) ns))) (sym e) (inl (both_true (has_app n (target way)) _ e).0, h)
+    by false e h = subst (λ b. AllByRecursion (IsLoadable way) (map (λ name. lone name (work name)) (if b then n ∷ filter (is_only_in (target way) (source way)) ns else filter (is_only_in (target way) (source way)) ns))) (sym e) h
 
 pub jobs_loadable : (way : Way) → AllByRecursion (IsLoadable way) (jobs way)
 jobs_loadable way =
     all_both (IsLoadable way) _ _
-    (all_both (IsLoadable way) _ _ (changed_loadable way (names_of (target way).apps)) (added_loadable way (λ name. works.Add (start_type_in name (target way))) (λ name. not (has_app name (source way))) (names_of (target way).apps) (all_named [] (target way).apps)))
+    (all_both (IsLoadable way) _ _ (changed_loadable way (app_names (target way).rel.apps)) (added_loadable way (λ name. works.Add (start_type_in name (target way))) (app_names (target way).rel.apps)))
     (all_mapped (IsLoadable way) (λ name. lone name works.Remove) (λ name. inr refl) (removed way))

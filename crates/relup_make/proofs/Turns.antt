@@ -6,9 +6,9 @@ use Rattle.std.specs.Option.{option_to_list}
 use Rattle.std.proofs.lemmas.List.{append-nil, reverse-append, take_all, take_more}
 use Rattle.std.proofs.lemmas.List.Elements.{filter-append, filter_map-append}
 use Rattle.high_instructions.specs.Forms.{Name}
-use Rattle.otp_files.specs.declared.app.AppSpec.{AppSpec}
+use Rattle.otp_files.specs.Distinct.{app_names}
+use Rattle.otp_files.specs.declared.applications.RelApp.{RelApp}
 use Rattle.relup_make.proofs.Firsts.{tested, tested_all}
-use Rattle.relup_make.specs.Work.{names_of}
 
 pub ended : {A B : Type 0} (g : A → List B) (items : List A) (i : ℕ) (start so_far : List B) → length items ≤ i → so_far ≡ start ++ flat_map g (take i items) → so_far ≡ start ++ flat_map g items
 ended g items i start so_far past sum = sum ∙ ap (λ xs. start ++ flat_map g xs) (take_all i items past)
@@ -28,32 +28,32 @@ single h [] = refl
 single h (x ∷ xs) = ap (λ ys. h x ∷ ys) (single h xs)
 
 -- the names that pass a test, the last first
-passed_back : (p : Name → Bool) (apps : List AppSpec) → filter p (names_of (reverse apps)) ≡ reverse (filter p (names_of apps))
+passed_back : (p : Name → Bool) (apps : List RelApp) → filter p (app_names (reverse apps)) ≡ reverse (filter p (app_names apps))
 passed_back p [] = refl
 passed_back p (app ∷ apps) =
-    ap (λ xs. filter p (names_of xs)) (reverse-append (app ∷ []) apps)
+    ap (λ xs. filter p (app_names xs)) (reverse-append (app ∷ []) apps)
     ∙ ap (filter p) (named (reverse apps) app)
-    ∙ filter-append p (names_of (reverse apps)) (app.name ∷ [])
+    ∙ filter-append p (app_names (reverse apps)) (app.name ∷ [])
     ∙ ap (λ ns. ns ++ filter p (app.name ∷ [])) (passed_back p apps)
     ∙ one (p app.name)
   where
-    named : (xs : List AppSpec) (x : AppSpec) → names_of (xs ++ x ∷ []) ≡ names_of xs ++ x.name ∷ []
+    named : (xs : List RelApp) (x : RelApp) → app_names (xs ++ x ∷ []) ≡ app_names xs ++ x.name ∷ []
     named [] x = refl
     named (y ∷ ys) x = ap (λ ns. y.name ∷ ns) (named ys x)
 
-    one : (b : Bool) → reverse (filter p (names_of apps)) ++ (if b then app.name ∷ [] else []) ≡ reverse (if b then app.name ∷ filter p (names_of apps) else filter p (names_of apps))
-    one true = sym (reverse-append (app.name ∷ []) (filter p (names_of apps)))
-    one false = append-nil (reverse (filter p (names_of apps)))
+    one : (b : Bool) → reverse (filter p (app_names apps)) ++ (if b then app.name ∷ [] else []) ≡ reverse (if b then app.name ∷ filter p (app_names apps) else filter p (app_names apps))
+    one true = sym (reverse-append (app.name ∷ []) (filter p (app_names apps)))
+    one false = append-nil (reverse (filter p (app_names apps)))
 
-pub tested_back : {B : Type 0} (p : Name → Bool) (h : Name → B) (apps : List AppSpec) → flat_map (tested p (λ n. h n ∷ [])) (reverse apps) ≡ map h (reverse (filter p (names_of apps)))
+pub tested_back : {B : Type 0} (p : Name → Bool) (h : Name → B) (apps : List RelApp) → flat_map (tested p (λ n. h n ∷ [])) (reverse apps) ≡ map h (reverse (filter p (app_names apps)))
 tested_back p h apps =
-    sym (tested_all p (λ n. h n ∷ []) (reverse apps)) ∙ single h (filter p (names_of (reverse apps))) ∙ ap (map h) (passed_back p apps)
+    sym (tested_all p (λ n. h n ∷ []) (reverse apps)) ∙ single h (filter p (app_names (reverse apps))) ∙ ap (map h) (passed_back p apps)
 
-pub tested_single : {B : Type 0} (p : Name → Bool) (h : Name → B) (apps : List AppSpec) → flat_map (tested p (λ n. h n ∷ [])) apps ≡ map h (filter p (names_of apps))
-tested_single p h apps = sym (tested_all p (λ n. h n ∷ []) apps) ∙ single h (filter p (names_of apps))
+pub tested_single : {B : Type 0} (p : Name → Bool) (h : Name → B) (apps : List RelApp) → flat_map (tested p (λ n. h n ∷ [])) apps ≡ map h (filter p (app_names apps))
+tested_single p h apps = sym (tested_all p (λ n. h n ∷ []) apps) ∙ single h (filter p (app_names apps))
 
-pub tested_chosen : {B : Type 0} (p : Name → Bool) (h : Name → Option B) (apps : List AppSpec) → flat_map (tested p (λ n. option_to_list (h n))) apps ≡ filter_map h (filter p (names_of apps))
-tested_chosen p h apps = sym (tested_all p (λ n. option_to_list (h n)) apps) ∙ chosen h (filter p (names_of apps))
+pub tested_chosen : {B : Type 0} (p : Name → Bool) (h : Name → Option B) (apps : List RelApp) → flat_map (tested p (λ n. option_to_list (h n))) apps ≡ filter_map h (filter p (app_names apps))
+tested_chosen p h apps = sym (tested_all p (λ n. option_to_list (h n)) apps) ∙ chosen h (filter p (app_names apps))
 
 -- one item more is looked at
 pub chosen_more : {A B : Type 0} (h : A → Option B) (items : List A) (i : ℕ) (x : A) (so_far next : List B) → i < length items → x ≡ get_or items i x → next ≡ so_far ++ option_to_list (h x) → so_far ≡ filter_map h (take i items) → next ≡ filter_map h (take (i + 1) items)

@@ -13,6 +13,7 @@ use Rattle.instructions.specs.declared.instruction.Instruction.TheVariants.{High
 use Rattle.otp_files.specs.declared.app.AppSpec.{AppSpec}
 use Rattle.otp_files.specs.declared.upgrade.Entry.{Entry}
 use Rattle.otp_files.specs.declared.upgrade.Upgrades.{Upgrades}
+use Rattle.otp_files.specs.Distinct.{app_names}
 use Rattle.otp_files.specs.Entries.{entry_for}
 use Rattle.relup_make.specs.declared.job.Job.{Job}
 use Rattle.relup_make.specs.declared.rel_apps.RelApps.{RelApps}
@@ -53,26 +54,32 @@ source way = starting way.direction way.old way.new
 abbrev pub target : Way → RelApps
 target way = reached way.direction way.old way.new
 
+abbrev pub names_of : List AppSpec → Names
+names_of apps = map (λ app. app.name) apps
+
 -- Which applications it is done on
+
+-- All are taken in the order of a release's own file. An application that it does not name is none of them.
 
 -- those in both releases with different versions, in the target's order
 abbrev pub is_changed : Way → Name → Bool
 is_changed way name =
     has_app name way.old && (has_app name way.new && not (bytes_eq (version_in name way.old) (version_in name way.new)))
 
-abbrev pub names_of : List AppSpec → Names
-names_of apps = map (λ app. app.name) apps
-
 abbrev pub changed : Way → Names
-changed way = filter (is_changed way) (names_of (target way).apps)
+changed way = filter (is_changed way) (app_names (target way).rel.apps)
+
+-- in one release and not in the other
+abbrev pub is_only_in : RelApps → RelApps → Name → Bool
+is_only_in release other name = has_app name release && not (has_app name other)
 
 -- those only in the target, in its order
 abbrev pub added : Way → Names
-added way = filter (λ name. not (has_app name (source way))) (names_of (target way).apps)
+added way = filter (is_only_in (target way) (source way)) (app_names (target way).rel.apps)
 
 -- those only in the source, in the reverse of its order
 abbrev pub removed : Way → Names
-removed way = reverse (filter (λ name. not (has_app name (target way))) (names_of (source way).apps))
+removed way = reverse (filter (is_only_in (source way) (target way)) (app_names (source way).rel.apps))
 
 -- By which instructions
 

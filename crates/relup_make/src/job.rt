@@ -1,9 +1,10 @@
 // The work of one direction.
-ghost use Rattle.std.specs.Prelude.{◌≡◌, ◌++◌, ◌∷◌, [], IfOk, OnOk, if◌then◌else◌, map, filter_map, not};
+ghost use Rattle.std.specs.Prelude.{◌≡◌, ◌++◌, ◌∷◌, [], IfOk, OnOk, if◌then◌else◌, map, filter_map};
 ghost use Rattle.std.specs.Option.{option_to_list};
-ghost use Rattle.relup_make.specs.Releases.{has_app, start_type_in};
+ghost use Rattle.relup_make.specs.Releases.{start_type_in};
 ghost use Rattle.relup_make.specs.Ways.{way_of};
-ghost use Rattle.relup_make.specs.Work.{added, changed, changed_job, is_changed, jobs as jobs_of, lone, removed, source, target};
+ghost use Rattle.relup_make.specs.Work.{added, changed, changed_job, is_changed, is_only_in, jobs as jobs_of, lone, removed};
+ghost use Rattle.relup_make.specs.Work.{source, target};
 ghost use Rattle.high_instructions.specs.declared.high.ApplicationWork.TheVariants.{Add as add, Remove as remove};
 
 use crate::way::Way;
@@ -40,7 +41,7 @@ pub(crate) fn jobs(alloc: Global, way: &Way<'_>) -> Result<Row<Job>, AllocError>
 fn append_changed(alloc: Global, way: &Way<'_>, jobs: &mut Vec<Job>) -> Result<(), AllocError>
     ensures { OnOk result (jobs.new.items ≡ jobs.old.items ++ filter_map (changed_job (way_of way.now)) (changed (way_of way.now))) }
 {
-    let apps = way.target().whole.apps.as_slice();
+    let apps = way.target().whole.rel.apps.as_slice();
     for app in apps {
         append_if_changed(alloc, way, &app.name, jobs)?;
     }
@@ -74,24 +75,24 @@ fn append_added(alloc: Global, way: &Way<'_>, jobs: &mut Vec<Job>) -> Result<(),
     ensures { OnOk result (jobs.new.items ≡ jobs.old.items ++
         map (λ name. lone name (add (start_type_in name (target (way_of way.now))))) (added (way_of way.now))) }
 {
-    let apps = way.target().whole.apps.as_slice();
+    let apps = way.target().whole.rel.apps.as_slice();
     for app in apps {
         append_if_added(alloc, way, &app.name, jobs)?;
     }
     Ok(())
 }
 
-/// Appends the job of an application of the target, if it is not in the source.
+/// Appends the job of an application, if it is only in the target.
 fn append_if_added(
     alloc: Global,
     way: &Way<'_>,
     name: &Atom,
     jobs: &mut Vec<Job>,
 ) -> Result<(), AllocError>
-    ensures { OnOk result (jobs.new.items ≡ jobs.old.items ++ (if not (has_app name.now (source (way_of way.now)))
+    ensures { OnOk result (jobs.new.items ≡ jobs.old.items ++ (if is_only_in (target (way_of way.now)) (source (way_of way.now)) name.now
         then lone name.now (add (start_type_in name.now (target (way_of way.now)))) ∷ [] else [])) }
 {
-    if way.source().has(name) {
+    if !way.target().has(name) || way.source().has(name) {
         return Ok(());
     }
     let start_type = way.target().start_type(name);
@@ -104,24 +105,24 @@ fn append_if_added(
 fn append_removed(alloc: Global, way: &Way<'_>, jobs: &mut Vec<Job>) -> Result<(), AllocError>
     ensures { OnOk result (jobs.new.items ≡ jobs.old.items ++ map (λ name. lone name remove) (removed (way_of way.now))) }
 {
-    let apps = way.source().whole.apps.as_slice();
+    let apps = way.source().whole.rel.apps.as_slice();
     for place in (0..apps.len()).rev() {
         append_if_removed(alloc, way, &apps[place].name, jobs)?;
     }
     Ok(())
 }
 
-/// Appends the job of an application of the source, if it is not in the target.
+/// Appends the job of an application, if it is only in the source.
 fn append_if_removed(
     alloc: Global,
     way: &Way<'_>,
     name: &Atom,
     jobs: &mut Vec<Job>,
 ) -> Result<(), AllocError>
-    ensures { OnOk result (jobs.new.items ≡ jobs.old.items ++ (if not (has_app name.now (target (way_of way.now)))
+    ensures { OnOk result (jobs.new.items ≡ jobs.old.items ++ (if is_only_in (source (way_of way.now)) (target (way_of way.now)) name.now
         then lone name.now remove ∷ [] else [])) }
 {
-    if way.target().has(name) {
+    if !way.source().has(name) || way.target().has(name) {
         return Ok(());
     }
     let job = lone(alloc, name, ApplicationWork::Remove)?;

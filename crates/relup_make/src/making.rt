@@ -18,7 +18,8 @@ use values::{Duplicate, Row};
 /// relup(4)).
 ///
 /// The appup at a place belongs to the application at that place of `to.apps`. One that is missing is none, and those
-/// behind the last application count for nothing.
+/// behind the last application count for nothing. The work is in the order in which `from.rel` and `to.rel` name the
+/// applications, whatever that of `from.apps` and `to.apps`.
 ///
 /// # Errors
 ///

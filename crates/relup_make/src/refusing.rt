@@ -100,7 +100,7 @@ fn is_base_kept(old: &RelApps, new: &RelApps, name: &Atom) -> bool
 fn way_refusal(alloc: Global, way: &Way<'_>) -> Result<Option<MakeError>, AllocError>
     ensures { IfOk result (λ found. found ≡ first_of (way_refusals (way_of way.now))) }
 {
-    let apps = way.target().whole.apps.as_slice();
+    let apps = way.target().whole.rel.apps.as_slice();
     for app in apps {
         if let Some(error) = app_refusal(alloc, way, &app.name)? {
             return Ok(Some(error));

@@ -8,8 +8,9 @@ use values::{Duplicate, Row, Same};
 pub struct RelApps {
     /// The release.
     pub rel: RelSpec,
-    /// The applications that the release names, in its order, without kernel, stdlib and sasl. Of two with one name the
-    /// first counts.
+    /// The applications that the release names, without kernel, stdlib and sasl, in any order. Of two with one name the
+    /// first counts; one that the release doesn't name is neither changed nor added on the way to it, nor removed on the way
+    /// from it.
     pub apps: Row<AppSpec>,
 }
 
