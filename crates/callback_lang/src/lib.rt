@@ -1,50 +1,29 @@
 //! Modules of Erlang, and what is evaluated of them: what processes, children and upgrades are built on.
 //!
-//! [`read_module`] reads a source as a [`Module`]. [`Job::run`] evaluates a message that a process has taken where it rests
-//! ([`Place`]), and gives a [`Done`]; [`matches`] tells whether a process takes a message. [`evaluate`] evaluates a call from outside of
-//! all modules, in a [`Mode`]. What was done on the way are the [`Act`]s of an [`Outcome`], in order, and its [`End`] is what it ended in.
+//! [`read_module`] reads a source as a [`Module`]. [`run`] evaluates a message that a process has taken where it rests, a [`Job`], and
+//! gives a [`Done`]; [`matches`] tells whether a process takes a message. [`evaluate`] evaluates a call from outside of all modules: a
+//! start function in [`Mode::Start`], and `init`, `code_change` or `apply` in [`Mode::Plain`]. What was done on the way are the [`Act`]s
+//! of an [`Outcome`], in order, and its [`End`] is what it ended in. What comes of them by the rules is defined by `erl_semantics`, which
+//! `docs/EVALUATION.md` tells in prose; here is the machine of `erl_steps`, from its beginning to its end.
 //!
 //! # What is proved
 //!
-//! What stands at these items in the crates that they come from: `erl_parse`, `erl_forms`, `erl_eval`, `erl_steps` and `erl_machine`.
-//! [`evaluate`] gives what comes of the call by the rules (`Evaluates`), and by a law of `erl_eval` that is one outcome.
+//! [`evaluate`] gives an outcome that comes of the call by the rules (`Evaluates`), and [`run`] a [`Done`] of its job, which holds one that
+//! comes of it (`GivesJob`); by a law of `erl_semantics` there is only one of either. Evaluating ends by itself: each step leaves less to
+//! do, so that there is no bound on steps, and no error past one.
 //!
 //! # What no contract says
 //!
-//! That there is memory, and what a call costs: the crates below say it.
+//! That there is memory, and what a call costs: a step costs what it changes ([`erl_steps`]), and [`run`] copies its job, whose terms and
+//! modules are shared. `AllocError` is also the answer where there are more arguments or more nested calls than a `u32` counts.
 #![tactic(auto)]
 
-ghost use Rattle.std.specs.Prelude.{◌≡◌, IfOk, map};
-ghost use Rattle.erl_term.specs.Term.{trees};
-ghost use Rattle.erl_eval.specs.Jobs.{Evaluates};
-ghost use Rattle.erl_steps.specs.Views.{instance, mode_of};
-ghost use Rattle.erl_machine.specs.Views.{outcome_of};
+mod callbacks;
+mod evaluation;
+mod jobs;
 
-pub use erl_eval::{Act, Place, Receiver};
 pub use erl_forms::Module;
-pub use erl_machine::{Done, End, Instance, Job, Mode, Outcome, matches};
 pub use erl_parse::{LangError, read_module};
-use erl_term::{Atom, Term};
-use std::alloc::{AllocError, Global};
-
-/// What the call `called:function(arguments)` gives, from outside of all modules, where this is the current code: a start function
-/// in [`Mode::Start`], and `init`, `code_change` or `apply` in [`Mode::Plain`]. In mode `Start` the process identifier is the one
-/// that the started process is to have, and `self/0` is it.
-///
-/// # Errors
-///
-/// `AllocError` where memory is refused, and where there are more arguments than can be counted: never an exit.
-pub fn evaluate(
-    alloc: Global,
-    code: &[Instance],
-    mode: Mode,
-    pid: u64,
-    called: &Atom,
-    function: &Atom,
-    arguments: Vec<Term>,
-) -> Result<Outcome, AllocError>
-    ensures { IfOk result (λ it. Evaluates (record { code = map instance code.now; pid = pid; mode = mode_of mode }) called.now function.now (trees arguments.items) (outcome_of it)) }
-{
-    let world = erl_machine::World::new(alloc, pid, mode, code);
-    erl_machine::evaluate(&world, called, function, arguments)
-}
+pub use erl_semantics::{Act, Done, End, Instance, Job, Mode, Outcome, Place, Receiver, matches};
+pub use evaluation::evaluate;
+pub use jobs::run;

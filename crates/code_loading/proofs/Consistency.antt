@@ -3,23 +3,23 @@ use Rattle.std.proofs.Common.{◌≡◌, ℕ, zero, suc, ◌+◌, ◌^◌, ◌<�
 use Rattle.std.proofs.lemmas.Bool.{eq-eqb, true≢false}
 use Rattle.std.proofs.lemmas.List.Elements.{All-cons, All-head, All-nil, All-tail}
 use Rattle.std.proofs.lemmas.Option.{none-some, same_Some}
-use Rattle.erl_eval.specs.State.{Instance}
+use Rattle.erl_semantics.specs.State.{Instance}
 use Rattle.erl_forms.specs.Module.{Forms}
-use Rattle.erl_steps.specs.Views.{instance}
-use Rattle.erl_steps.specs.declared.world.Instance as held
+use Rattle.erl_semantics.specs.Views.{instance}
+use Rattle.erl_semantics.specs.declared.instance.Instance as held
 use Rattle.code_server.proofs.Changes.{IsDeletable-unrefused, IsLoadable-unrefused, current_of-slots, current_at-slots, purged-absent, purged-gone, purged-kept}
 use Rattle.code_server.proofs.Sound.{IsSound-added, IsSound-purged_slots, IsSound-removed, IsSound-retired, IsSound-stacked}
 use Rattle.code_server.proofs.Standing.{Stands-place, absent_from_place}
 use Rattle.code_server.specs.Modules.{IsSound, Table as Loaded, current_of, delete_refusal, deleted, deleted_at, load_refusal, loaded, loaded_at, old_of, place_of, purged}
 use Rattle.code_server.specs.Places.{current_at}
 use Rattle.code_server.specs.declared.modules.Instance as code
-use Rattle.job_code.specs.Named.{StandsIn}
+use Rattle.process.specs.Named.{StandsIn}
 use Rattle.process.specs.Ended.{CodeStands, PlaceStands}
 use Rattle.process.specs.declared.activity.Activity.{Activity}
 use Rattle.process.specs.declared.activity.Activity.TheVariants.{Idle, Suspended, Runs}
-use Rattle.process_ending.specs.Ends.{AllStand, Stands}
-use Rattle.process_ending.specs.Kills.{unless_uses, without_users}
-use Rattle.process_ending.specs.Uses.{is_among, is_of, uses, uses_by}
+use Rattle.process_effects.specs.Ends.{AllStand, Stands}
+use Rattle.process_effects.specs.Kills.{unless_uses, without_users}
+use Rattle.process_effects.specs.Uses.{is_among, is_of, uses, uses_by}
 use Rattle.process_store.specs.Table.{Table, living, living_at}
 use Rattle.process_store.specs.declared.living.Living.{Living}
 use Rattle.code_loading.proofs.Keeping.{Spared, deleted_keeps, loaded_keeps, purged_keeps}

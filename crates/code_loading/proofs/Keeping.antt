@@ -4,15 +4,15 @@ use Rattle.std.proofs.lemmas.Bool.{true≢false}
 use Rattle.std.proofs.lemmas.Option.{none-some, same_Some}
 use Rattle.std.specs.Map.{lookup}
 use Rattle.std.specs.Str.{bytes_eq}
-use Rattle.erl_eval.specs.State.{Instance}
+use Rattle.erl_semantics.specs.State.{Instance}
 use Rattle.erl_forms.specs.Module.{Forms}
 use Rattle.code_server.proofs.Changes.{IsDeletable-unrefused, current_of-slots, old_of-slots, purged-absent, purged-gone, purged-kept}
 use Rattle.code_server.proofs.Standing.{Stands, Stands-place}
 use Rattle.code_server.specs.Modules.{Entry, Table as Loaded, current_of, delete_refusal, deleted, deleted_at, loaded, loaded_at, old_of, place_of, purged, purged_slots, retired, slots_of, stacked, with_slots}
 use Rattle.code_server.specs.declared.modules.Instance as held
 use Rattle.code_server.specs.declared.modules.Slots.{Slots}
-use Rattle.job_code.specs.JobCode.{instance_of}
-use Rattle.job_code.specs.Named.{StandsIn, as_current, as_old}
+use Rattle.process.specs.JobCode.{instance_of}
+use Rattle.process.specs.Named.{StandsIn, as_current, as_old}
 use Rattle.code_loading.proofs.Lookups.{IsFound, elsewhere, there, IsLeft, stays, goes, found_changed, found_in_front, found_left}
 
 -- What stands is in the slots of its name.

@@ -4,16 +4,16 @@ use Rattle.std.specs.Prelude.{Contains}
 use Rattle.std.specs.Str.{bytes_eq}
 use Rattle.std.proofs.lemmas.List.Elements.{All-cons, All-nil}
 use Rattle.std.proofs.lemmas.Slice.Eq.{bytes_eq-Decides}
-use Rattle.erl_eval.specs.Acts.{act_of, place}
-use Rattle.erl_eval.specs.OutcomeLaws.{IsPlaceIn}
-use Rattle.erl_eval.specs.State as state
-use Rattle.erl_eval.specs.declared.acts.Act.{Act}
-use Rattle.erl_eval.specs.declared.acts.Act.TheVariants as act
-use Rattle.erl_eval.specs.declared.acts.Place.{Place}
-use Rattle.erl_eval.specs.declared.acts.Place.TheVariants.{Server, Loop}
-use Rattle.erl_steps.specs.Views.{instance}
-use Rattle.erl_steps.specs.declared.world.Instance.{Instance}
-use Rattle.process_commit.specs.Commits.{is_loaded_as, loaded_as, rests_in}
+use Rattle.erl_semantics.specs.Acts.{act_of, place}
+use Rattle.erl_semantics.specs.OutcomeLaws.{IsPlaceIn}
+use Rattle.erl_semantics.specs.State as state
+use Rattle.erl_semantics.specs.declared.acts.Act.{Act}
+use Rattle.erl_semantics.specs.declared.acts.Act.TheVariants as act
+use Rattle.erl_semantics.specs.declared.acts.Place.{Place}
+use Rattle.erl_semantics.specs.declared.acts.Place.TheVariants.{Server, Loop}
+use Rattle.erl_semantics.specs.Views.{instance}
+use Rattle.erl_semantics.specs.declared.instance.Instance.{Instance}
+use Rattle.process_effects.specs.Commits.{is_loaded_as, loaded_as, rests_in}
 use Rattle.code_loading.specs.Consistent.{IsNamedBy, RestsAt}
 use Rattle.code_loading.specs.Laws.{StartsIn}
 

@@ -5,41 +5,40 @@ use Rattle.std.proofs.lemmas.Option.{none-some, same_Some}
 use Rattle.std.specs.List.{cons_option}
 use Rattle.std.proofs.lemmas.Grind.{not_there}
 use Rattle.erl_term.specs.Tree.{Trees}
-use Rattle.erl_eval.proofs.OutcomeLaws.{evaluates_keeps, job_keeps, start_in}
-use Rattle.erl_eval.specs.Jobs.{Evaluates}
-use Rattle.erl_eval.specs.OutcomeLaws.{IsPlaceIn}
-use Rattle.erl_eval.specs.State.{World}
-use Rattle.erl_machine.specs.Views.{job_of, outcome_of}
-use Rattle.erl_machine.specs.declared.evaluation.Outcome.{Outcome}
-use Rattle.erl_machine.specs.declared.jobs.Done.{Done}
+use Rattle.erl_semantics.proofs.OutcomeLaws.{evaluates_keeps, job_keeps, start_in}
+use Rattle.erl_semantics.specs.Jobs.{Evaluates}
+use Rattle.erl_semantics.specs.OutcomeLaws.{IsPlaceIn}
+use Rattle.erl_semantics.specs.State.{World}
+use Rattle.erl_semantics.specs.Views.{job_of, outcome_of, end_of, instance}
+use Rattle.erl_semantics.specs.declared.outcome.Outcome.{Outcome}
+use Rattle.erl_semantics.specs.declared.jobs.Done.{Done}
 use Rattle.erl_term.specs.declared.term.Term.{Term}
-use Rattle.erl_eval.specs.State as state
-use Rattle.erl_eval.specs.declared.acts.Act.{Act}
-use Rattle.erl_eval.specs.declared.acts.Act.TheVariants as act
-use Rattle.erl_eval.specs.declared.acts.Place.{Place}
-use Rattle.erl_eval.specs.declared.acts.Place.TheVariants.{Server, Loop}
+use Rattle.erl_semantics.specs.State as state
+use Rattle.erl_semantics.specs.declared.acts.Act.{Act}
+use Rattle.erl_semantics.specs.declared.acts.Act.TheVariants as act
+use Rattle.erl_semantics.specs.declared.acts.Place.{Place}
+use Rattle.erl_semantics.specs.declared.acts.Place.TheVariants.{Server, Loop}
 use Rattle.erl_forms.specs.Module.{Forms}
-use Rattle.erl_machine.specs.declared.jobs.Job.{Job}
-use Rattle.erl_steps.specs.Views.{end_of, instance}
-use Rattle.erl_steps.specs.declared.machine.End.{End}
-use Rattle.erl_steps.specs.declared.machine.End.TheVariants.{Rest, Value, Exit}
-use Rattle.erl_steps.specs.declared.world.Instance.{Instance}
+use Rattle.erl_semantics.specs.declared.jobs.Job.{Job}
+use Rattle.erl_semantics.specs.declared.outcome.End.{End}
+use Rattle.erl_semantics.specs.declared.outcome.End.TheVariants.{Rest, Value, Exit}
+use Rattle.erl_semantics.specs.declared.instance.Instance.{Instance}
 use Rattle.code_server.specs.Modules.{Entry, IsSound, Table as Loaded, current_of}
 use Rattle.code_server.specs.declared.modules.Instance as code
-use Rattle.job_code.proofs.FoundAgain.{job_code_stands}
-use Rattle.job_code.proofs.Standing.{current-at_place, place-of_entry}
-use Rattle.job_code.specs.JobCode.{IsJobCode, job_code}
-use Rattle.job_code.specs.Named.{StandsIn, as_current}
+use Rattle.process.proofs.FoundAgain.{job_code_stands}
+use Rattle.process.proofs.Standing.{current-at_place, place-of_entry}
+use Rattle.process.specs.JobCode.{IsJobCode, job_code}
+use Rattle.process.specs.Named.{StandsIn, as_current}
 use Rattle.process.proofs.Living.{held-all}
 use Rattle.process.specs.Ended.{PlaceStands, CodeStands, held}
 use Rattle.process.specs.Process.{ProcessState, job_by, run_by, started}
 use Rattle.process.specs.declared.activity.Activity.{Activity}
 use Rattle.process.specs.declared.activity.Activity.TheVariants.{Idle, Suspended, Runs}
-use Rattle.process_batch.specs.Begins.{act_begun, acts_begun, name_left}
-use Rattle.process_commit.specs.Acts.{act_done, acts_done, closed_at, receiver_of, sent}
-use Rattle.process_commit.specs.Commits.{IsRunning, is_loaded_as, job_at, loaded_as, rests_in}
-use Rattle.process_ending.proofs.Ends.{others_stay}
-use Rattle.process_ending.specs.Ends.{Stands}
+use Rattle.process_effects.specs.Begins.{act_begun, acts_begun, name_left}
+use Rattle.process_effects.specs.Acts.{act_done, acts_done, closed_at, receiver_of, sent}
+use Rattle.process_effects.specs.Commits.{IsRunning, is_loaded_as, job_at, loaded_as, rests_in}
+use Rattle.process_effects.proofs.Ends.{others_stay}
+use Rattle.process_effects.specs.Ends.{Stands}
 use Rattle.process_index.specs.declared.calls.Call.{Call}
 use Rattle.process_store.proofs.Slots.{kept_all}
 use Rattle.process_store.specs.Changes.{closed_living, owner_of, rest_living}

@@ -9,7 +9,7 @@ use Rattle.values.specs.declared.failure.Failure.{Failure}
 use Rattle.values.specs.declared.failure.Failure.TheVariants.{Refused, Memory}
 use Rattle.code_server.specs.declared.error.CodeError.{CodeError}
 use Rattle.erl_forms.specs.Module.{Forms}
-use Rattle.process_ending.proofs.Alive.{passing}
+use Rattle.process_effects.proofs.Alive.{passing}
 use Rattle.process_store.specs.declared.living.Living.{Living}
 use Rattle.process_store.specs.Table.{Table}
 use Rattle.code_loading.specs.Loading.{is_any, spared, spared_by}

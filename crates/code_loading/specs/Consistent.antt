@@ -1,14 +1,14 @@
 -- What holds of modules and of the processes that use them (Erlang Reference Manual, Compilation and Code Loading).
 use Rattle.std.specs.Prelude.{◌≡◌, ℕ, List, ◌∷◌, Option, None, Some, IfSome}
-use Rattle.erl_eval.specs.declared.acts.Place.{Place}
-use Rattle.erl_eval.specs.declared.acts.Place.TheVariants.{Server, Loop}
+use Rattle.erl_semantics.specs.declared.acts.Place.{Place}
+use Rattle.erl_semantics.specs.declared.acts.Place.TheVariants.{Server, Loop}
 use Rattle.erl_forms.specs.Module.{Forms}
-use Rattle.erl_steps.specs.declared.world.Instance.{Instance}
+use Rattle.erl_semantics.specs.declared.instance.Instance.{Instance}
 use Rattle.code_server.specs.Modules.{IsSound, Table as Loaded}
 use Rattle.process.specs.Process.{ProcessState}
 use Rattle.process.specs.declared.activity.Activity.{Activity}
 use Rattle.process.specs.declared.activity.Activity.TheVariants.{Idle, Suspended, Runs}
-use Rattle.process_ending.specs.Ends.{AllStand}
+use Rattle.process_effects.specs.Ends.{AllStand}
 use Rattle.process_store.specs.Table.{Table, living}
 
 -- A process that rests in a loop function uses the instance that its place names, and a gen_server process none; and a process that

@@ -1,21 +1,20 @@
 -- No load, purge or delete leaves a process with code that is gone.
 use Rattle.std.specs.Prelude.{◌≡◌, ℕ, All, List, None, Option, map}
 use Rattle.erl_term.specs.Tree.{Trees}
-use Rattle.erl_eval.specs.Jobs.{Evaluates}
-use Rattle.erl_eval.specs.State.{World}
-use Rattle.erl_eval.specs.declared.acts.Act.{Act}
-use Rattle.erl_eval.specs.declared.acts.Act.TheVariants as acts
+use Rattle.erl_semantics.specs.Jobs.{Evaluates}
+use Rattle.erl_semantics.specs.State.{World}
+use Rattle.erl_semantics.specs.declared.acts.Act.{Act}
+use Rattle.erl_semantics.specs.declared.acts.Act.TheVariants as acts
 use Rattle.erl_forms.specs.Module.{Forms}
 use Rattle.code_server.specs.Modules.{IsSound, Table as Loaded, delete_refusal, deleted, load_refusal, loaded, purged}
-use Rattle.erl_machine.specs.declared.jobs.Done.{Done}
-use Rattle.erl_machine.specs.declared.jobs.Job.{Job}
-use Rattle.erl_machine.specs.declared.evaluation.Outcome.{Outcome}
-use Rattle.erl_machine.specs.Views.{outcome_of}
-use Rattle.erl_steps.specs.Views.{instance}
-use Rattle.erl_steps.specs.declared.world.Instance.{Instance}
-use Rattle.job_code.specs.Named.{StandsIn}
-use Rattle.process_batch.specs.Begins.{acts_begun}
-use Rattle.process_commit.specs.Commits.{IsRunning, rests_in}
+use Rattle.erl_semantics.specs.declared.jobs.Done.{Done}
+use Rattle.erl_semantics.specs.declared.jobs.Job.{Job}
+use Rattle.erl_semantics.specs.declared.outcome.Outcome.{Outcome}
+use Rattle.erl_semantics.specs.Views.{outcome_of, instance}
+use Rattle.erl_semantics.specs.declared.instance.Instance.{Instance}
+use Rattle.process.specs.Named.{StandsIn}
+use Rattle.process_effects.specs.Begins.{acts_begun}
+use Rattle.process_effects.specs.Commits.{IsRunning, rests_in}
 use Rattle.process_store.specs.Table.{Table, living}
 use Rattle.process_table.specs.Commit.{committed}
 use Rattle.process_table.specs.Steps.{IsCodeOf, after_arrival, taken}

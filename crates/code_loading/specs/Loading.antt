@@ -4,9 +4,9 @@ use Rattle.std.specs.Prelude.{ℕ, Bool, true, false, List, [], ◌∷◌, Optio
 use Rattle.erl_forms.specs.Module.{Forms}
 use Rattle.code_server.specs.Modules.{Table as Loaded, old_of}
 use Rattle.code_server.specs.declared.modules.Instance as loaded
-use Rattle.process_ending.specs.Kills.{told_by_kill, without_users}
-use Rattle.process_ending.specs.Uses.{users}
-use Rattle.process_ending.specs.declared.told.Reply.{Reply}
+use Rattle.process_effects.specs.Kills.{told_by_kill, without_users}
+use Rattle.process_effects.specs.Uses.{users}
+use Rattle.process_effects.specs.declared.told.Reply.{Reply}
 use Rattle.process_store.specs.Table.{Table}
 
 -- Those who linger in a module use its old code. Where there is no old code nobody does.

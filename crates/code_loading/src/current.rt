@@ -4,7 +4,7 @@ ghost use Rattle.code_loading.specs.Current.{current_code, current_in};
 
 use code_server::{Modules, Slots};
 use erl_forms::Module;
-use erl_machine::Instance;
+use erl_semantics::Instance;
 use erl_term::Atom;
 use std::alloc::{AllocError, Global};
 use values::Duplicate;

@@ -2,7 +2,7 @@
 ghost use Rattle.std.specs.Prelude.{◌≡◌, IfErr, IfOk, MatchResult, None, OnErr, OnOk, false, option_map, true};
 ghost use Rattle.values.specs.Failure.{Tells};
 ghost use Rattle.code_server.specs.Modules.{load_refusal, loaded, old_of, purged};
-ghost use Rattle.process_ending.specs.Uses.{users};
+ghost use Rattle.process_effects.specs.Uses.{users};
 ghost use Rattle.code_loading.specs.Loading.{is_any, is_lingered_in, lingering, purge_told, spared};
 ghost use Rattle.code_loading.specs.Undo.{KillsBack, TakesBack};
 
@@ -10,7 +10,7 @@ use crate::undo::Undo;
 use code_server::{CodeError, Modules};
 use erl_forms::Module;
 use erl_term::Atom;
-use process_ending::{Reply, uses};
+use process_effects::{Reply, uses};
 use process_table::Processes;
 use std::alloc::{AllocError, Global};
 use values::{Duplicate, Failure};

@@ -2,7 +2,7 @@
 ghost use Rattle.std.specs.Prelude.{◌≡◌, IfErr, OnErr, OnOk};
 ghost use Rattle.code_server.specs.Modules.{IsSound, Table as Loaded};
 ghost use Rattle.erl_forms.specs.Module.{Forms};
-ghost use Rattle.process_ending.specs.Ends.{AllStand};
+ghost use Rattle.process_effects.specs.Ends.{AllStand};
 ghost use Rattle.process_store.specs.Table.{Table};
 ghost use Rattle.process_table.specs.Undo.{TakesBackEnds};
 ghost use Rattle.code_server.specs.Undo.{Fits, HasPurged, undone};

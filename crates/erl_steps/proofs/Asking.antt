@@ -4,13 +4,13 @@ use Rattle.std.specs.Str.{bytes_eq}
 use Rattle.std.proofs.Common.{ap, sym, subst, ◌∙◌}
 use Rattle.erl_term.specs.Accessors.{atom_of, pid_of, list_of, one_of, two_of, three_of, four_of}
 use Rattle.erl_term.specs.Tree.{Tree, Trees, int, atom, pid, tuple, list, none, more, count}
-use Rattle.erl_eval.specs.State as state
-use Rattle.erl_eval.specs.State.{World, Startup, State, Result, exit_by}
-use Rattle.erl_eval.specs.BuiltIns.{badarg, not_in_profile}
-use Rattle.erl_eval.specs.Starting.{refused, first_start, begin_or_undef, remote_function, spawn_asked, init_asked}
-use Rattle.erl_eval.specs.Starting.{local_name, named_asked, start_link_asked, ignored, failed, initialized, initialized_pair}
-use Rattle.erl_eval.specs.Starting.{register_in, register_asked}
-use Rattle.erl_eval.proofs.Options.{some_none, some_injective}
+use Rattle.erl_semantics.specs.State as state
+use Rattle.erl_semantics.specs.State.{World, Startup, State, Result, exit_by}
+use Rattle.erl_semantics.specs.BuiltIns.{badarg, not_in_profile}
+use Rattle.erl_semantics.specs.Starting.{refused, first_start, begin_or_undef, remote_function, spawn_asked, init_asked}
+use Rattle.erl_semantics.specs.Starting.{local_name, named_asked, start_link_asked, ignored, failed, initialized, initialized_pair}
+use Rattle.erl_semantics.specs.Starting.{register_in, register_asked}
+use Rattle.erl_semantics.proofs.Options.{some_none, some_injective}
 use Rattle.erl_steps.specs.Tags.{tag_of}
 use Rattle.erl_steps.proofs.Tagged.{tagged, one_is, two_is, three_is}
 

@@ -8,11 +8,11 @@ use Rattle.erl_term.specs.Tree as term
 use Rattle.erl_term.specs.Tree.{Tree, Trees, atom, count}
 use Rattle.erl_forms.specs.declared.function.Function.{Function}
 use Rattle.erl_forms.specs.Module.{Key, key_eq, function_of, if_exported, exported_of}
-use Rattle.erl_eval.specs.State as state
-use Rattle.erl_eval.specs.State.{Instance, Mode, World, Startup, current}
-use Rattle.erl_eval.specs.Evaluation.{local_function}
-use Rattle.erl_eval.specs.Starting.{exported_by, remote_function, Starter, spawn, start_link, Request, refused, begin, begin_or_undef}
-use Rattle.erl_eval.specs.Starting.{first_start, in_start_mode, spawn_asked, init_asked, local_name, named_asked, start_link_asked, asked}
+use Rattle.erl_semantics.specs.State as state
+use Rattle.erl_semantics.specs.State.{Instance, Mode, World, Startup, current}
+use Rattle.erl_semantics.specs.Evaluation.{local_function}
+use Rattle.erl_semantics.specs.Starting.{exported_by, remote_function, Starter, spawn, start_link, Request, refused, begin, begin_or_undef}
+use Rattle.erl_semantics.specs.Starting.{first_start, in_start_mode, spawn_asked, init_asked, local_name, named_asked, start_link_asked, asked}
 use Rattle.erl_steps.specs.Work.{definition_weight, functions_weight, instance_weight, code_weight}
 
 -- a function that is no heavier than so much, if there is one

@@ -9,13 +9,13 @@ use Rattle.erl_forms.specs.declared.operation.Operation.{Operation}
 use Rattle.erl_forms.specs.declared.operation.Operation.TheVariants as operation
 use Rattle.erl_forms.specs.Expression as form
 use Rattle.erl_forms.specs.Expression.{Expr, Exprs, Guards, Clauses}
-use Rattle.erl_eval.specs.State.{Act, Result, World, State, after, value, rest, exit}
-use Rattle.erl_eval.specs.Operators.{truth_of}
-use Rattle.erl_eval.specs.Matching.{matched_each}
-use Rattle.erl_eval.specs.Guards.{is_guard_bif, Tested, guard_called, guard_applied, Values, all, stopped, tested_then, values_then}
-use Rattle.erl_eval.specs.Guards.{first_value, applied_to, connected, tested, tested_row, tested_alone, holds, and_then, all_hold}
-use Rattle.erl_eval.specs.Guards.{or_else, one_holds, guarded, Selection, picked, picked_where, selected}
-use Rattle.erl_eval.specs.Starting.{Starter, spawn, start_link, Initialized, begun, ignored, failed, initialized, linked_by, started}
+use Rattle.erl_semantics.specs.State.{Act, Result, World, State, after, value, rest, exit}
+use Rattle.erl_semantics.specs.Operators.{truth_of}
+use Rattle.erl_semantics.specs.Matching.{matched_each}
+use Rattle.erl_semantics.specs.Guards.{is_guard_bif, Tested, guard_called, guard_applied, Values, all, stopped, tested_then, values_then}
+use Rattle.erl_semantics.specs.Guards.{first_value, applied_to, connected, tested, tested_row, tested_alone, holds, and_then, all_hold}
+use Rattle.erl_semantics.specs.Guards.{or_else, one_holds, guarded, Selection, picked, picked_where, selected}
+use Rattle.erl_semantics.specs.Starting.{Starter, spawn, start_link, Initialized, begun, ignored, failed, initialized, linked_by, started}
 use Rattle.erl_steps.specs.Work.{row_weight, clauses_weight}
 
 called : (is_bif within : Bool) (self : ℕ) (f : BuiltIn) (ts : Trees) (n : ℕ) → n ≤ (guard_called is_bif within self f ts n).1

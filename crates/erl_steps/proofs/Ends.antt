@@ -6,12 +6,12 @@ use Rattle.erl_forms.specs.declared.function.Function.{Function}
 use Rattle.erl_forms.specs.declared.function.Definition.{Definition}
 use Rattle.erl_forms.specs.Expression.{Exprs}
 use Rattle.erl_forms.specs.Module.{exported_of, function_of}
-use Rattle.erl_eval.specs.State.{Instance, Place, server, loop, Result, World, Activation, State, with_bindings, with_calls, all_acts}
-use Rattle.erl_eval.specs.Guards.{Selection}
-use Rattle.erl_eval.specs.Evaluation.{Body, Entered}
-use Rattle.erl_eval.specs.Jobs.{Outcome, FromOutside, undefined, called, Job, GivesAt, Callback, callback_of, name_of, arguments_of}
-use Rattle.erl_eval.specs.Jobs.{served, unexported, Handles, not_exported, handled, heard, looped, nowhere, Receives, unheard}
-use Rattle.erl_eval.specs.Jobs.{received, world_of, fresh, outermost}
+use Rattle.erl_semantics.specs.State.{Instance, Place, server, loop, Result, World, Activation, State, with_bindings, with_calls, all_acts}
+use Rattle.erl_semantics.specs.Guards.{Selection}
+use Rattle.erl_semantics.specs.Evaluation.{Body, Entered}
+use Rattle.erl_semantics.specs.Jobs.{Outcome, FromOutside, undefined, called, Job, GivesAt, Callback, callback_of, name_of, arguments_of}
+use Rattle.erl_semantics.specs.Jobs.{served, unexported, Handles, not_exported, handled, heard, looped, nowhere, Receives, unheard}
+use Rattle.erl_semantics.specs.Jobs.{received, world_of, fresh, outermost}
 use Rattle.erl_steps.specs.Machine as machine
 use Rattle.erl_steps.specs.Machine.{Control, Machine, is_tail, entered, stepping}
 use Rattle.erl_steps.specs.Leading.{Final, Comes}

@@ -19,14 +19,14 @@ use Rattle.erl_forms.specs.declared.function.Definition.TheVariants as definitio
 use Rattle.erl_forms.specs.Expression as form
 use Rattle.erl_forms.specs.Expression.{Expr, Exprs, Guards, Clauses}
 use Rattle.erl_forms.specs.Pattern.{Pats}
-use Rattle.erl_eval.specs.State as state
-use Rattle.erl_eval.specs.State.{Instance, Place, Result, World, Activation, State, made, bound_to, after}
-use Rattle.erl_eval.specs.Operators.{operated, sends, truth_of, consed}
-use Rattle.erl_eval.specs.BuiltIns.{given, does}
-use Rattle.erl_eval.specs.Matching.{matched}
-use Rattle.erl_eval.specs.Starting.{Starter, Way, at_once, naming, starting, way_of, Request, refused, begin, asked, started}
-use Rattle.erl_eval.specs.Starting.{register_in_mode, remote_function}
-use Rattle.erl_eval.specs.Evaluation.{may_call, counted, may_nest, local_function, rested, head_of, chosen, tried}
+use Rattle.erl_semantics.specs.State as state
+use Rattle.erl_semantics.specs.State.{Instance, Place, Result, World, Activation, State, made, bound_to, after}
+use Rattle.erl_semantics.specs.Operators.{operated, sends, truth_of, consed}
+use Rattle.erl_semantics.specs.BuiltIns.{given, does}
+use Rattle.erl_semantics.specs.Matching.{matched}
+use Rattle.erl_semantics.specs.Starting.{Starter, Way, at_once, naming, starting, way_of, Request, refused, begin, asked, started}
+use Rattle.erl_semantics.specs.Starting.{register_in_mode, remote_function}
+use Rattle.erl_semantics.specs.Evaluation.{may_call, counted, may_nest, local_function, rested, head_of, chosen, tried}
 use Rattle.erl_steps.specs.Machine as machine
 use Rattle.erl_steps.specs.Machine.{Frame, is_tail, Control, Machine, Next, of_result, in_state, scoped_by, taken, selecting}
 use Rattle.erl_steps.specs.Machine.{resting, entering, entered, into_by, into, calling, beginner, starting_by, settled_by, working}

@@ -14,17 +14,17 @@ use Rattle.erl_forms.specs.Expression as form
 use Rattle.erl_forms.specs.Expression.{Expr, Exprs, Guards, Clauses}
 use Rattle.erl_forms.specs.Pattern as pattern
 use Rattle.erl_forms.specs.Pattern.{Pat, Pats}
-use Rattle.erl_eval.specs.State as state
-use Rattle.erl_eval.specs.State.{Instance, Result, Startup, World, Activation, Mode, plain, start_mode, State, with_bindings, Act, after}
-use Rattle.erl_eval.specs.Operators.{is_equal, sends}
-use Rattle.erl_eval.specs.BuiltIns.{does}
-use Rattle.erl_eval.specs.Matching.{matched_variable, matched, matched_each, matched_front, matched_all}
-use Rattle.erl_eval.specs.Guards.{Values, guarded, Selection, picked, picked_where, selected}
-use Rattle.erl_eval.specs.Starting.{Starter, spawn, start_link, Way, Request, Initialized, begun, ignored, failed, initialized}
-use Rattle.erl_eval.specs.Starting.{linked_by, started, register_in, register_asked, register_in_mode}
-use Rattle.erl_eval.specs.Evaluation as rule
-use Rattle.erl_eval.specs.Evaluation.{Bound, bound, Eval, Operands, Others, Body, Onward, Decided, Cased, Taken, Applied, Called}
-use Rattle.erl_eval.specs.Evaluation.{BuiltInCalled, Worked, Started}
+use Rattle.erl_semantics.specs.State as state
+use Rattle.erl_semantics.specs.State.{Instance, Result, Startup, World, Activation, Mode, plain, start_mode, State, with_bindings, Act, after}
+use Rattle.erl_semantics.specs.Operators.{is_equal, sends}
+use Rattle.erl_semantics.specs.BuiltIns.{does}
+use Rattle.erl_semantics.specs.Matching.{matched_variable, matched, matched_each, matched_front, matched_all}
+use Rattle.erl_semantics.specs.Guards.{Values, guarded, Selection, picked, picked_where, selected}
+use Rattle.erl_semantics.specs.Starting.{Starter, spawn, start_link, Way, Request, Initialized, begun, ignored, failed, initialized}
+use Rattle.erl_semantics.specs.Starting.{linked_by, started, register_in, register_asked, register_in_mode}
+use Rattle.erl_semantics.specs.Evaluation as rule
+use Rattle.erl_semantics.specs.Evaluation.{Bound, bound, Eval, Operands, Others, Body, Onward, Decided, Cased, Taken, Applied, Called}
+use Rattle.erl_semantics.specs.Evaluation.{BuiltInCalled, Worked, Started}
 
 -- one list is the other, and more behind it
 pub record Extends (xs ys : List Tree) : Type 0 where

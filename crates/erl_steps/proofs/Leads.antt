@@ -19,27 +19,27 @@ use Rattle.erl_forms.specs.declared.function.Definition.TheVariants as definitio
 use Rattle.erl_forms.specs.Expression as form
 use Rattle.erl_forms.specs.Expression.{Expr, Exprs, Guards, Clauses}
 use Rattle.erl_forms.specs.Pattern.{Pats}
-use Rattle.erl_eval.specs.State as state
-use Rattle.erl_eval.specs.State.{Act, Instance, Place, Result, World, Activation, State, exit_by, exit_by_pair, made}
-use Rattle.erl_eval.specs.State.{with_bindings, bound_to, callee, after}
-use Rattle.erl_eval.specs.Operators.{operated, sends, truth_of, consed}
-use Rattle.erl_eval.specs.BuiltIns.{given, does, not_in_profile}
-use Rattle.erl_eval.specs.Matching.{matched}
-use Rattle.erl_eval.specs.Guards.{Values, all, stopped, with_first}
-use Rattle.erl_eval.specs.Starting.{Starter, spawn, start_link, Way, at_once, naming, starting, Request, refused, asked, way_of}
-use Rattle.erl_eval.specs.Starting.{register_in_mode, remote_function}
-use Rattle.erl_eval.specs.Evaluation as rule
-use Rattle.erl_eval.specs.Evaluation.{bound, Eval, Operands, Others, Body, Onward, Decided, Cased, Taken, Applied, Called}
-use Rattle.erl_eval.specs.Evaluation.{Entered, BuiltInCalled, Worked, Started, may_call, counted, may_nest, local_function}
-use Rattle.erl_eval.specs.Evaluation.{rested, head_of, chosen, tried}
+use Rattle.erl_semantics.specs.State as state
+use Rattle.erl_semantics.specs.State.{Act, Instance, Place, Result, World, Activation, State, exit_by, exit_by_pair, made}
+use Rattle.erl_semantics.specs.State.{with_bindings, bound_to, callee, after}
+use Rattle.erl_semantics.specs.Operators.{operated, sends, truth_of, consed}
+use Rattle.erl_semantics.specs.BuiltIns.{given, does, not_in_profile}
+use Rattle.erl_semantics.specs.Matching.{matched}
+use Rattle.erl_semantics.specs.Guards.{Values, all, stopped, with_first}
+use Rattle.erl_semantics.specs.Starting.{Starter, spawn, start_link, Way, at_once, naming, starting, Request, refused, asked, way_of}
+use Rattle.erl_semantics.specs.Starting.{register_in_mode, remote_function}
+use Rattle.erl_semantics.specs.Evaluation as rule
+use Rattle.erl_semantics.specs.Evaluation.{bound, Eval, Operands, Others, Body, Onward, Decided, Cased, Taken, Applied, Called}
+use Rattle.erl_semantics.specs.Evaluation.{Entered, BuiltInCalled, Worked, Started, may_call, counted, may_nest, local_function}
+use Rattle.erl_semantics.specs.Evaluation.{rested, head_of, chosen, tried}
 use Rattle.erl_steps.specs.Machine as machine
 use Rattle.erl_steps.specs.Machine.{Frame, is_tail, Control, Machine, of_result, in_state, scoped_by, scoped, taken, selecting}
 use Rattle.erl_steps.specs.Machine.{resting, entering, entered, into_by, into, calling, working, calling_built_in, applying}
-use Rattle.erl_eval.specs.Starting.{begin, started, linked_by, Initialized, begun, ignored, failed, initialized}
+use Rattle.erl_semantics.specs.Starting.{begin, started, linked_by, Initialized, begun, ignored, failed, initialized}
 use Rattle.erl_steps.specs.Machine.{beginner, starting_by, settled_by, settling_at, settling}
 use Rattle.erl_steps.specs.Machine.{going_on, beginning, running, bound_by, decided_by, resuming, giving, stepping}
 use Rattle.erl_steps.specs.Leading.{Final, before, Resumes, Comes}
-use Rattle.erl_eval.proofs.Options.{some_none, some_injective}
+use Rattle.erl_semantics.proofs.Options.{some_none, some_injective}
 use Rattle.erl_steps.proofs.Growing.{Extends, extends_itself, GrowsTo, selected_grows, body_keeps}
 
 -- values before others

@@ -2,8 +2,8 @@
 use Rattle.std.specs.Prelude.{◌≡◌, ℕ, true, false, List, codes, Option, None, Some, is_some, refl}
 use Rattle.erl_term.specs.Tree.{Tree, Trees}
 use Rattle.erl_forms.specs.Expression.{Exprs}
-use Rattle.erl_eval.specs.State.{Activation, exit_by, rest, loop}
-use Rattle.erl_eval.specs.Evaluation.{rested}
+use Rattle.erl_semantics.specs.State.{Activation, exit_by, rest, loop}
+use Rattle.erl_semantics.specs.Evaluation.{rested}
 
 pub rested_taken : (a : Activation) (name : List ℕ) (ts : Trees) (o : Option (List Tree × Exprs)) → true ≡ is_some o →
     rested a name ts o ≡ rest (loop a.instance.name a.instance.serial name ts)

@@ -3,7 +3,7 @@ use Rattle.std.specs.Prelude.{◌≡◌, ℕ, List, Some}
 use Rattle.std.proofs.Common.{ap, sym, subst}
 use Rattle.erl_term.specs.Accessors.{one_of, two_of, three_of}
 use Rattle.erl_term.specs.Tree.{Tree, Trees, int, atom, pid, tuple, list, none, more}
-use Rattle.erl_eval.proofs.Options.{some_none, some_injective}
+use Rattle.erl_semantics.proofs.Options.{some_none, some_injective}
 use Rattle.erl_steps.specs.Tags.{tag_of}
 
 -- what holds of a tuple with a tag holds of what has the tag

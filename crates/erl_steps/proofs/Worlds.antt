@@ -7,10 +7,10 @@ use Rattle.std.specs.List.{take-map}
 use Rattle.erl_term.specs.Term.{tree, trees}
 use Rattle.erl_term.specs.Tree.{count}
 use Rattle.std.proofs.lemmas.Slice.Eq.{bytes_eq-Decides}
-use Rattle.erl_eval.specs.State.{current}
-use Rattle.erl_eval.proofs.Tests.{from_here}
-use Rattle.erl_steps.specs.declared.world.Instance.{Instance}
-use Rattle.erl_steps.specs.Views.{instance}
+use Rattle.erl_semantics.specs.State.{current}
+use Rattle.erl_semantics.proofs.Tests.{from_here}
+use Rattle.erl_semantics.specs.declared.instance.Instance.{Instance}
+use Rattle.erl_semantics.specs.Views.{instance}
 
 is_false : (b : Bool) → (b ≡ true → ⊥) → b ≡ false
 is_false true other = absurd (other refl)
@@ -27,10 +27,6 @@ pub current_next : (name : List ℕ) (items : List Instance) (i : ℕ) (x : Inst
 current_next name items i x b within is same =
     ap (λ xs. current name (map instance xs)) (from_here items i x within is) ∙
     ap (λ c. if c then Some (instance x) else current name (map instance (drop (i + 1) items))) (named b x.name name same)
-
-pub count_trees : (ts : List Term) → count (trees ts) ≡ length ts
-count_trees [] = refl
-count_trees (t ∷ ts) = omega (arith, count_trees ts)
 
 pub bindings_cut : (n : ℕ) (ts : List Term) → map tree (take n ts) ≡ take n (map tree ts)
 bindings_cut n ts = sym (take-map tree n ts)

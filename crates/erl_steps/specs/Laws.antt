@@ -1,6 +1,6 @@
 -- What holds of each step of the machine.
 use Rattle.std.specs.Prelude.{◌<◌}
-use Rattle.erl_eval.specs.State.{World}
+use Rattle.erl_semantics.specs.State.{World}
 use Rattle.erl_steps.specs.Machine.{Control, evaluate, run, give, settle, end, Machine, stepping}
 use Rattle.erl_steps.specs.Leading.{Final, Comes}
 use Rattle.erl_steps.specs.Work.{work_left}

@@ -1,10 +1,10 @@
 -- What may still come of the machine: what the rules say of what is left to be done.
 use Rattle.std.specs.Prelude.{◌≡◌, List, [], ◌∷◌, take}
 use Rattle.erl_term.specs.Tree.{Trees, none, more}
-use Rattle.erl_eval.specs.State.{Result, World, Activation, State, with_bindings, value, rest}
-use Rattle.erl_eval.specs.Guards.{Values, with_first}
-use Rattle.erl_eval.specs.Evaluation.{Eval, Body, Bound, Others, Applied, Onward, Cased, Decided}
-use Rattle.erl_eval.specs.Starting.{started}
+use Rattle.erl_semantics.specs.State.{Result, World, Activation, State, with_bindings, value, rest}
+use Rattle.erl_semantics.specs.Guards.{Values, with_first}
+use Rattle.erl_semantics.specs.Evaluation.{Eval, Body, Bound, Others, Applied, Onward, Cased, Decided}
+use Rattle.erl_semantics.specs.Starting.{started}
 use Rattle.erl_steps.specs.Machine.{Frame, operands, onward, binding, cases, deciding, scope, caller, starter, is_tail}
 use Rattle.erl_steps.specs.Machine.{Control, evaluate, run, give, settle, end, Machine}
 

@@ -17,15 +17,15 @@ use Rattle.erl_forms.specs.declared.function.Definition.TheVariants as definitio
 use Rattle.erl_forms.specs.Expression as form
 use Rattle.erl_forms.specs.Expression.{Expr, Exprs, Guards, Clauses}
 use Rattle.erl_forms.specs.Pattern.{Pat, Pats}
-use Rattle.erl_eval.specs.State as state
-use Rattle.erl_eval.specs.State.{Act, Instance, Place, Result, exit_by, exit_by_pair, made, bound_to, World, Activation, callee, State}
-use Rattle.erl_eval.specs.State.{with_bindings, after}
-use Rattle.erl_eval.specs.Operators.{operated, sends, truth_of, consed}
-use Rattle.erl_eval.specs.BuiltIns.{given, does, not_in_profile}
-use Rattle.erl_eval.specs.Matching.{matched}
-use Rattle.erl_eval.specs.Starting.{remote_function, Way, at_once, naming, starting, way_of, Starter}
-use Rattle.erl_eval.specs.Starting.{Request, refused, begin, asked, begun_by, first_activation, started, register_in_mode}
-use Rattle.erl_eval.specs.Evaluation.{may_call, counted, may_nest, local_function, rested, head_of, chosen, tried}
+use Rattle.erl_semantics.specs.State as state
+use Rattle.erl_semantics.specs.State.{Act, Instance, Place, Result, exit_by, exit_by_pair, made, bound_to, World, Activation, callee, State}
+use Rattle.erl_semantics.specs.State.{with_bindings, after}
+use Rattle.erl_semantics.specs.Operators.{operated, sends, truth_of, consed}
+use Rattle.erl_semantics.specs.BuiltIns.{given, does, not_in_profile}
+use Rattle.erl_semantics.specs.Matching.{matched}
+use Rattle.erl_semantics.specs.Starting.{remote_function, Way, at_once, naming, starting, way_of, Starter}
+use Rattle.erl_semantics.specs.Starting.{Request, refused, begin, asked, begun_by, first_activation, started, register_in_mode}
+use Rattle.erl_semantics.specs.Evaluation.{may_call, counted, may_nest, local_function, rested, head_of, chosen, tried}
 
 -- What is to be done with a value: it is an operand, behind the values of others and before other operands; or the rest of a
 -- body is evaluated; a pattern is matched with it; a clause is selected by it; it decides a connective, or its right side

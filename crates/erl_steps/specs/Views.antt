@@ -3,19 +3,17 @@ use Rattle.std.specs.Prelude.{List, [], ◌∷◌, map, Option, None, Some, opti
 use Rattle.erl_term.specs.Term.{tree, trees}
 use Rattle.erl_forms.specs.ExpressionForms.{expr, exprs, clauses}
 use Rattle.erl_forms.specs.PatternForms.{pat}
-use Rattle.erl_eval.specs.Acts.{act_of, place}
-use Rattle.erl_eval.specs.State as state
+use Rattle.erl_semantics.specs.Acts.{act_of, place}
+use Rattle.erl_semantics.specs.Views.{end_of, instance, mode_of}
+use Rattle.erl_semantics.specs.State as state
 use Rattle.erl_forms.specs.declared.function.Function.{Function}
 use Rattle.erl_steps.specs.declared.world.Callee.{Callee}
-use Rattle.erl_steps.specs.declared.world.Instance.{Instance}
-use Rattle.erl_steps.specs.declared.world.Mode.{Mode}
-use Rattle.erl_steps.specs.declared.world.Mode.TheVariants as modes
 use Rattle.erl_steps.specs.declared.world.World.{World}
 use Rattle.erl_steps.specs.declared.stack.Starter.{Starter}
 use Rattle.erl_steps.specs.declared.stack.Starter.TheVariants as starters
 use Rattle.erl_steps.specs.declared.machine.Startup.{Startup}
-use Rattle.erl_eval.specs.Given.{result_of}
-use Rattle.erl_eval.specs.Starting as starting
+use Rattle.erl_semantics.specs.Given.{result_of}
+use Rattle.erl_semantics.specs.Starting as starting
 use Rattle.erl_steps.specs.declared.starts.Initialized.{Initialized}
 use Rattle.erl_steps.specs.declared.starts.Initialized.TheVariants as initials
 use Rattle.erl_steps.specs.declared.starts.Request.{Request}
@@ -26,17 +24,8 @@ use Rattle.erl_steps.specs.declared.stack.Frame.TheVariants as frames
 use Rattle.erl_steps.specs.declared.stack.Stack.{Stack}
 use Rattle.erl_steps.specs.declared.machine.Control.{Control}
 use Rattle.erl_steps.specs.declared.machine.Control.TheVariants as controls
-use Rattle.erl_steps.specs.declared.machine.End.{End}
-use Rattle.erl_steps.specs.declared.machine.End.TheVariants as ends
 use Rattle.erl_steps.specs.declared.machine.Machine.{Machine}
 use Rattle.erl_steps.specs.Machine as machine
-
-abbrev pub instance : Instance → state.Instance
-instance i = record { name = i.name; serial = i.serial; forms = i.module }
-
-abbrev pub mode_of : Mode → state.Mode
-mode_of modes.Plain = state.plain
-mode_of modes.Start = state.start_mode
 
 abbrev pub world_of : World → state.World
 world_of w = record { code = map instance w.code.now; pid = w.setting.own; mode = mode_of w.mode }
@@ -67,11 +56,6 @@ onto below (f ∷ fs) = onto (frame_of f ∷ below) fs
 
 unfoldable pub stack : Stack → List machine.Frame
 stack s = onto [] s.frames.items
-
-abbrev pub end_of : End → state.Result
-end_of (ends.Rest p) = state.rest (place p)
-end_of (ends.Value t) = state.value (tree t)
-end_of (ends.Exit t) = state.exit (tree t)
 
 abbrev pub control_of : Control → machine.Control
 control_of (controls.Evaluate e) = machine.evaluate (expr e.now)

@@ -9,7 +9,7 @@ use Rattle.erl_forms.specs.declared.function.Definition.TheVariants as definitio
 use Rattle.erl_forms.specs.Expression as form
 use Rattle.erl_forms.specs.Expression.{Expr, Exprs, Clauses}
 use Rattle.erl_forms.specs.Module.{Key}
-use Rattle.erl_eval.specs.State.{Instance, World}
+use Rattle.erl_semantics.specs.State.{Instance, World}
 use Rattle.erl_steps.specs.Machine.{Frame, operands, onward, binding, cases, deciding, scope, caller, starter}
 use Rattle.erl_steps.specs.Machine.{Control, evaluate, run, give, settle, end, Machine}
 

@@ -7,13 +7,11 @@
 //! # What is proved
 //!
 //! [`Machine::step`] does what the machine of the definitions does (`stepping`), which is a function of what comes next and of
-//! what is left to be done. What by the rules of [`erl_eval`] comes of what a step leaves, comes of what was there before it
+//! what is left to be done. What by the rules of [`erl_semantics`] comes of what a step leaves, comes of what was there before it
 //! ([`each_step_keeps_to_the_rules`]); and each step leaves less to do, until evaluating has ended
 //! ([`each_step_leaves_less_to_do`]): so evaluating ends, whatever is evaluated, within as many steps as there was to do. By the
 //! rules, then, something comes of each call from outside and of each job ([`each_evaluation_has_an_outcome`]), and by a law of
-//! [`erl_eval`] one thing alone.
-//!
-//! [`Instance`] and [`End`] are compared and copied by value; a copy shares its terms and its module.
+//! [`erl_semantics`] one thing alone.
 //!
 //! # What no contract says
 //!
@@ -34,11 +32,10 @@ mod world;
 ghost use Rattle.erl_steps.specs.Laws.{StepsKeepToTheRules, StepsLeaveLess};
 ghost use Rattle.erl_steps.specs.Outcomes.{EachCallHasAnOutcome, EachJobHasAnOutcome};
 
-pub use machine::{Control, End, Machine, Startup};
+pub use machine::{Control, Machine, Startup};
 pub use stack::{Activation, Frame, Stack, Starter};
-pub use steps::arity_of;
 pub use tags::tag;
-pub use world::{Callee, Instance, Mode, World, remote_function};
+pub use world::{Callee, World, remote_function};
 
 /// What by the rules comes of what a step leaves, comes of what was there before it.
 pub fn each_step_keeps_to_the_rules()

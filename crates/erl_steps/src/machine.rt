@@ -2,52 +2,19 @@
 ghost use Rattle.std.specs.Prelude.{◌≡◌, ◌≤◌, [], IfOk, IsTrue, length};
 ghost use Rattle.erl_term.specs.Ascii.{is_ascii_text};
 ghost use Rattle.erl_term.specs.Term.{tree};
-ghost use Rattle.erl_eval.specs.Given.{result_of};
-ghost use Rattle.erl_eval.specs.Jobs.{fresh, outermost};
-ghost use Rattle.erl_eval.specs.State.{exit_by, exit_by_pair};
+ghost use Rattle.erl_semantics.specs.Given.{result_of};
+ghost use Rattle.erl_semantics.specs.Jobs.{fresh, outermost};
+ghost use Rattle.erl_semantics.specs.State.{exit_by, exit_by_pair};
 ghost use Rattle.erl_steps.specs.Machine as machine;
 ghost use Rattle.erl_steps.specs.Machine.{of_result};
-ghost use Rattle.erl_steps.specs.Views.{control_of, instance, machine_of};
+ghost use Rattle.erl_semantics.specs.Views.{instance};
+ghost use Rattle.erl_steps.specs.Views.{control_of, machine_of};
 
 use crate::stack::{Activation, Stack};
-use crate::world::Instance;
-use erl_eval::{Act, Given, Place, exit_by, exit_by_pair};
 use erl_forms::Expression;
+use erl_semantics::{Act, End, Given, Instance, Place, exit_by, exit_by_pair};
 use erl_term::{Atom, Term};
 use std::alloc::{AllocError, Global};
-use values::{Duplicate, Same};
-
-/// What evaluating ended in.
-#[derive(Drop)]
-pub enum End {
-    /// The process rests.
-    Rest(Place),
-    /// A value.
-    Value(Term),
-    /// An exit, with its reason.
-    Exit(Term),
-}
-
-impl Same for End {
-    fn same(&self, other: &End) -> bool {
-        match (self, other) {
-            (End::Rest(p), End::Rest(q)) => p.same(q),
-            (End::Value(t), End::Value(u)) => t.same(u),
-            (End::Exit(t), End::Exit(u)) => t.same(u),
-            (_, _) => false,
-        }
-    }
-}
-
-impl Duplicate for End {
-    fn copy(&self, alloc: Global) -> Result<End, AllocError> {
-        match self {
-            End::Rest(place) => Ok(End::Rest(place.copy(alloc)?)),
-            End::Value(term) => Ok(End::Value(term.copy(alloc)?)),
-            End::Exit(reason) => Ok(End::Exit(reason.copy(alloc)?)),
-        }
-    }
-}
 
 /// What the machine does next.
 #[derive(Drop)]

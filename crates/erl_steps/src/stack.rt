@@ -3,8 +3,8 @@ ghost use Rattle.std.specs.Prelude.{◌≡◌, ◌∷◌, [], MatchOption, OnOk}
 ghost use Rattle.erl_steps.specs.Machine.{is_tail};
 ghost use Rattle.erl_steps.specs.Views.{frame_of, stack};
 
-use crate::world::Instance;
 use erl_forms::{Clause, Connective, Expression, Operation, Pattern};
+use erl_semantics::Instance;
 use erl_term::{Atom, Term};
 use std::alloc::{AllocError, Global};
 

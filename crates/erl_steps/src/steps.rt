@@ -6,26 +6,27 @@ ghost use Rattle.erl_term.specs.Tree.{count, more, none};
 ghost use Rattle.erl_forms.specs.declared.operation.Operation.TheVariants as operation;
 ghost use Rattle.erl_forms.specs.ExpressionForms.{expr, exprs, clauses};
 ghost use Rattle.erl_forms.specs.PatternForms.{pat};
-ghost use Rattle.erl_eval.specs.Acts.{act_of, place};
-ghost use Rattle.erl_eval.specs.Evaluation.{chosen, head_of, local_function, may_call, may_nest, tried};
-ghost use Rattle.erl_eval.specs.Matching.{matched};
-ghost use Rattle.erl_eval.specs.Operators as operators;
-ghost use Rattle.erl_eval.specs.Starting.{at_once};
-ghost use Rattle.erl_eval.specs.State as state;
+ghost use Rattle.erl_semantics.specs.Acts.{act_of, place};
+ghost use Rattle.erl_semantics.specs.Evaluation.{chosen, head_of, local_function, may_call, may_nest, tried};
+ghost use Rattle.erl_semantics.specs.Matching.{matched};
+ghost use Rattle.erl_semantics.specs.Operators as operators;
+ghost use Rattle.erl_semantics.specs.Starting.{at_once};
+ghost use Rattle.erl_semantics.specs.State as state;
 ghost use Rattle.erl_steps.specs.Machine as machine;
 ghost use Rattle.erl_steps.specs.Machine.{applying, beginning, bound_by, calling, calling_built_in, decided_by, entered, giving, going_on, in_state, known, into, of_result, resting, resuming, running, scoped, selecting, settling, settling_at, simple, simple_two, stepping, worked_out, working};
-ghost use Rattle.erl_steps.specs.Views.{callee_of, control_of, control_or, frame_of, instance, machine_of, world_of};
+ghost use Rattle.erl_steps.specs.Views.{callee_of, control_of, control_or, frame_of, machine_of, world_of};
+ghost use Rattle.erl_semantics.specs.Views.{instance};
 
-use crate::machine::{Control, End, Machine, exit, exit_with, next_of};
+use crate::machine::{Control, Machine, exit, exit_with, next_of};
 use crate::stack::{Activation, Frame, Starter};
-use crate::world::{Callee, Instance, World, remote_function};
-use erl_eval::{
-    Act, Given, MOST_CALLS, Place, Setting, call_built_in, cons, decisive, does, made,
-    match_pattern, of_two, operate, select, sends, truth_of, try_clause,
-};
+use crate::world::{Callee, World, remote_function};
 use erl_forms::{
     BuiltIn, Clause, Connective, Definition, Expression, Guard, Operation, Operator, Pattern,
     Patterns,
+};
+use erl_semantics::{
+    Act, End, Given, Instance, MOST_CALLS, Place, Setting, arity_of, call_built_in, cons, decisive,
+    does, made, match_pattern, of_two, operate, select, sends, truth_of, try_clause,
 };
 use erl_term::{Atom, Term, Terms};
 use std::alloc::{AllocError, Global};
@@ -34,19 +35,8 @@ use values::Duplicate;
 /// How deep calls may be nested.
 const DEEPEST_CALL: u32 = 200;
 
-/// How many arguments there are. No memory holds so many that there is no number.
-#[tactic(auto, using(crate::proofs::Worlds::count_trees))]
-pub fn arity_of(arguments: &[Term]) -> Result<u32, AllocError>
-    ensures { IfOk result (λ it. it ≡ count (trees arguments.now)) }
-{
-    match u32::try_from(arguments.len()) {
-        Ok(n) => Ok(n),
-        Err(_) => Err(AllocError),
-    }
-}
-
 /// One value more, behind those that are there.
-#[tactic(auto, using(erl_eval::proofs::Rows::trees_append))]
+#[tactic(auto, using(erl_semantics::proofs::Rows::trees_append))]
 fn push_value(values: &mut Vec<Term>, value: Term) -> Result<(), AllocError>
     ensures { OnOk result (trees values.new.items ≡ append_trees (trees values.old.items) (more (tree value) none)) }
 {

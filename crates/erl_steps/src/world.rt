@@ -1,54 +1,15 @@
 // What is given to all that is evaluated: the code, and the process.
 ghost use Rattle.std.specs.Prelude.{◌≡◌, MatchOption, None, Some, map};
-ghost use Rattle.erl_eval.specs.Starting.{exported_by, remote_function};
-ghost use Rattle.erl_eval.specs.State.{current};
-ghost use Rattle.erl_steps.specs.Views.{callee_of, instance, mode_of, world_of};
+ghost use Rattle.erl_semantics.specs.Starting.{exported_by, remote_function};
+ghost use Rattle.erl_semantics.specs.State.{current};
+ghost use Rattle.erl_semantics.specs.Views.{instance, mode_of};
+ghost use Rattle.erl_steps.specs.Views.{callee_of, world_of};
 
-use erl_eval::Setting;
-use erl_forms::{Function, Module};
+use erl_forms::Function;
+use erl_semantics::{Instance, Mode, Setting};
 use erl_term::Atom;
-use std::alloc::{AllocError, Global};
-use values::{Duplicate, Same};
-
-/// An instance of a module.
-#[derive(Drop)]
-pub struct Instance {
-    /// The name under which it is loaded.
-    pub name: Atom,
-    /// The serial of its load.
-    pub serial: u64,
-    /// What it says.
-    pub module: Module,
-}
-
-impl Same for Instance {
-    fn same(&self, other: &Instance) -> bool {
-        self.serial == other.serial
-            && self.name.same(&other.name)
-            && self.module.same(&other.module)
-    }
-}
-
-impl Duplicate for Instance {
-    fn copy(&self, alloc: Global) -> Result<Instance, AllocError> {
-        let name = self.name.copy(alloc)?;
-        let module = self.module.copy(alloc)?;
-        Ok(Instance {
-            name,
-            serial: self.serial,
-            module,
-        })
-    }
-}
-
-/// A start function is evaluated in mode `Start`, all else in mode `Plain`.
-#[derive(Clone, Copy, Debug, PartialEq, Eq)]
-pub enum Mode {
-    /// A callback, or a call from outside that starts nothing.
-    Plain,
-    /// A start function.
-    Start,
-}
+use std::alloc::Global;
+use values::Same;
 
 /// What is given to all that is evaluated.
 #[derive(Drop)]

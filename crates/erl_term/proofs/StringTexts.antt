@@ -11,7 +11,7 @@ use Rattle.erl_term.specs.Rows.{integers}
 use Rattle.erl_term.specs.Tree.{list}
 use Rattle.erl_term.specs.Term.{tree, trees}
 use Rattle.erl_term.specs.Text.{utf8, printable_char, printable, string_char, string_text, list_text, text, elements_text, others_text}
-use Rattle.erl_term.specs.Strings.{printable_chars, has_chars, is_printable, is_string, comma}
+use Rattle.erl_term.specs.Strings.{printable_chars, has_chars, is_printable, prints_as_string, comma}
 use Rattle.erl_term.proofs.Texts.{and_parts, utf8-append, utf8-cons-byte}
 
 -- The characters of a text
@@ -35,11 +35,11 @@ unprintable-integers (c ∷ cs) other = by (is_printable c) refl other (λ rest.
     by false is rest others = ap (λ p. before p c (printable (integers cs))) is
 
 -- the text of their list
-pub string-text : (cs : List ℕ) → is_string cs ≡ true → text (list (integers cs)) ≡ string_text cs
+pub string-text : (cs : List ℕ) → prints_as_string cs ≡ true → text (list (integers cs)) ≡ string_text cs
 string-text [] is = absurd (let no : ⊥ = cc in no)
 string-text (c ∷ cs) is = ap (λ r. list_text r (elements_text (integers (c ∷ cs)))) (printable-integers (c ∷ cs) is)
 
-pub string-elements : (cs : List ℕ) → is_string cs ≡ false → text (list (integers cs)) ≡ 91 ∷ (elements_text (integers cs) ++ 93 ∷ [])
+pub string-elements : (cs : List ℕ) → prints_as_string cs ≡ false → text (list (integers cs)) ≡ 91 ∷ (elements_text (integers cs) ++ 93 ∷ [])
 string-elements [] is = refl
 string-elements (c ∷ cs) is = ap (λ r. list_text r (elements_text (integers (c ∷ cs)))) (unprintable-integers (c ∷ cs) is)
 

@@ -25,9 +25,9 @@ abbrev pub is_printable : ℕ → Bool
 is_printable c = nat_le 32 c && nat_le c 126
 
 -- whether there are characters, and all are printable
-abbrev pub is_string : List ℕ → Bool
-is_string [] = false
-is_string (c ∷ cs) = list_all is_printable (c ∷ cs)
+abbrev pub prints_as_string : List ℕ → Bool
+prints_as_string [] = false
+prints_as_string (c ∷ cs) = list_all is_printable (c ∷ cs)
 
 -- what stands before an element: a comma, unless it is the first
 abbrev pub comma : Bool → List ℕ

@@ -5,7 +5,7 @@ ghost use Rattle.std.specs.Fmt.{decimal};
 ghost use Rattle.std.specs.List.{flat_map, list_all};
 ghost use Rattle.erl_term.specs.Appending.{Appends};
 ghost use Rattle.erl_term.specs.Rows.{integers};
-ghost use Rattle.erl_term.specs.Strings.{comma, is_printable, is_string};
+ghost use Rattle.erl_term.specs.Strings.{comma, is_printable, prints_as_string};
 ghost use Rattle.erl_term.specs.Text.{elements_text, string_char, text, utf8};
 ghost use Rattle.erl_term.specs.Tree.{list};
 
@@ -16,7 +16,7 @@ use std::alloc::AllocError;
 pub(crate) fn append_string(characters: &str, out: &mut Vec<u8>) -> Result<(), AllocError>
     ensures { Appends result (utf8 (text (list (integers (chars characters.now))))) out.old.items out.new.items }
 {
-    if is_string(characters) {
+    if prints_as_string(characters) {
         put(b"\"", out)?;
         append_string_chars(characters, out)?;
         put(b"\"", out)
@@ -28,8 +28,8 @@ pub(crate) fn append_string(characters: &str, out: &mut Vec<u8>) -> Result<(), A
 }
 
 /// Whether there are characters, and each is printable.
-fn is_string(characters: &str) -> bool
-    ensures { result ≡ is_string (chars characters.now) }
+fn prints_as_string(characters: &str) -> bool
+    ensures { result ≡ prints_as_string (chars characters.now) }
 {
     match characters.chars().next() {
         Some(_) => has_printable_alone(characters),

@@ -1,7 +1,7 @@
 // Calls from outside of modules that are written out.
 use crate::cases::{Kind, expect};
 use crate::tables::{calls, example};
-use erl_machine::Mode;
+use erl_semantics::Mode;
 use std::test::Fail;
 
 /// Calls from outside.

@@ -8,8 +8,8 @@
 //   What a loop process doesn't take `waits`.
 use crate::code::{arguments, instance, instances, term};
 use crate::told::told;
-use erl_eval::Place;
-use erl_machine::{Instance, Job, Mode, World, evaluate, matches};
+use callback_lang::{evaluate, run};
+use erl_semantics::{Instance, Job, Mode, Place, matches};
 use erl_term::{Atom, Term, Terms};
 use std::alloc::Global;
 use std::process::Abort;
@@ -55,9 +55,11 @@ fn evaluated(
 ) -> Result<Vec<u8>, Fail> {
     let (function, rest) = call.split_once('(').ok_or("no function")?;
     let row = arguments(alloc, rest)?.into_vec(alloc)?;
-    let world = World::new(alloc, OWN, mode, code);
     let (module, function) = (Atom::new(alloc, module)?, Atom::new(alloc, function)?);
-    told(alloc, &evaluate(&world, &module, &function, row)?)
+    told(
+        alloc,
+        &evaluate(alloc, code, mode, OWN, &module, &function, row)?,
+    )
 }
 
 /// What a body gives, in its frame, beside this code.
@@ -138,7 +140,7 @@ fn job_outcome(alloc: Global, code: &[Instance], text: &str) -> Result<Vec<u8>, 
     )? {
         return Ok(copied_slice(alloc, b"waits")?);
     }
-    told(alloc, job.run(alloc)?.outcome())
+    told(alloc, run(alloc, &job)?.outcome())
 }
 
 /// What a case gives.

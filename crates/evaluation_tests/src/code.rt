@@ -1,7 +1,7 @@
 // Sources that are read, and terms.
 use erl_consult::read_terms;
-use erl_machine::Instance;
 use erl_parse::read_module;
+use erl_semantics::Instance;
 use erl_term::{Term, Terms};
 use std::alloc::Global;
 use std::hash::RandomState;

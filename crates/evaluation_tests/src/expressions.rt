@@ -1,7 +1,7 @@
 // Bodies: of a call from outside, and of a start function.
 use crate::cases::{Frame, Kind, expect};
 use crate::tables::{built_ins, expressions, operators, starts};
-use erl_machine::Mode;
+use erl_semantics::Mode;
 use std::test::Fail;
 
 /// What is done in no mode of its own.

@@ -3,6 +3,7 @@ use crate::cases::{Kind, expect, job};
 use crate::code::instance;
 use crate::tables::{example, jobs};
 use crate::told::told;
+use callback_lang::run;
 use std::alloc::AllocError;
 use std::test::Fail;
 
@@ -52,9 +53,9 @@ fn one_bump(rt: HostRuntime) -> Result<(), Fail> {
     let alloc = rt.alloc();
     let code = vec![in alloc; instance(alloc, 2, example::CTR_1)?]?;
     let job = job(alloc, code.as_slice(), "4 ← call bump")?;
-    let done = match job.run(alloc) {
+    let done = match run(alloc, &job) {
         Ok(done) => done,
-        Err(AllocError) => job.run(alloc)?,
+        Err(AllocError) => run(alloc, &job)?,
     };
     assert_eq!(&rt;
         told(alloc, done.outcome())?.as_slice(),

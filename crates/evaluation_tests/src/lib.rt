@@ -1,4 +1,4 @@
-//! Tests of evaluation from sources on: what no contract of `erl_parse`, `erl_eval` and `erl_machine` says.
+//! Tests of evaluation from sources on: what no contract of `erl_parse`, `erl_semantics` and `callback_lang` says.
 //!
 //! They see that what is read of a source, and then evaluated, comes to what Erlang's rules say (Erlang Reference Manual,
 //! Expressions; erlang(3), lists(3), gen_server(3), proc_lib(3)), within the profile and its limits. The cases are lines of

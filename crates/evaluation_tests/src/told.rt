@@ -3,8 +3,7 @@
 //
 // `p ! m` is a send to a name or a process, `reply 1 r` a reply to the client's call 1, `start` a process with its place,
 // `local` and `register` a name, by how it was asked for. A place is `{server,Module,State}` or `{loop,Module,Function,Args,Serial}`.
-use erl_eval::{Act, Place, Receiver};
-use erl_machine::{End, Outcome};
+use erl_semantics::{Act, End, Outcome, Place, Receiver};
 use erl_term::{Atom, Term, Terms, print};
 use std::alloc::Global;
 use std::test::Fail;

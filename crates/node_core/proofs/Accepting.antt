@@ -5,11 +5,11 @@ use Rattle.undo_journal.specs.Reversible.{Accepted, Accepts, told_of}
 use Rattle.undo_journal.specs.declared.reversible.Told.{Told}
 use Rattle.node_core.specs.Node.{NodeState}
 use Rattle.node_core.specs.Step.{Step, unless}
-use Rattle.node_core.specs.declared.event.Answer.{Answer}
-use Rattle.node_core.specs.declared.event.Event.{Event}
-use Rattle.node_core.specs.Note.{Note}
-use Rattle.node_core.specs.declared.event.Refusal.{Refusal}
-use Rattle.node_core.specs.declared.event.Refusal.TheVariants.{OfProcesses}
+use Rattle.node_types.specs.declared.event.Answer.{Answer}
+use Rattle.node_types.specs.declared.event.Event.{Event}
+use Rattle.node_types.specs.Note.{Note}
+use Rattle.node_types.specs.declared.event.Refusal.{Refusal}
+use Rattle.node_types.specs.declared.event.Refusal.TheVariants.{OfProcesses}
 
 -- of equal values something is made
 pub each_of : {A B : Type 0} (f : A → B) (x : A) (n : ℕ) → map f (replicate n x) ≡ replicate n (f x)

@@ -1,22 +1,22 @@
 -- A node that boots is consistent: what starts uses current code alone.
 use Rattle.std.proofs.Common.{ℕ, zero, suc, All, List, [], ◌∷◌, map, Option, None, Some, IfSome, sym, ap, subst}
 use Rattle.erl_forms.specs.Module.{Forms}
-use Rattle.erl_steps.specs.Views.{instance}
-use Rattle.erl_steps.specs.declared.world.Instance.{Instance}
+use Rattle.erl_semantics.specs.Views.{instance}
+use Rattle.erl_semantics.specs.declared.instance.Instance.{Instance}
 use Rattle.child_specs.specs.declared.child.ChildSpec.{ChildSpec}
-use Rattle.child_starts.specs.Children as children
-use Rattle.child_starts.specs.Children.{after_start, named_by}
-use Rattle.app_starts.specs.Starts.{initialized}
+use Rattle.sys_protocol.specs.ChildStarts as children
+use Rattle.sys_protocol.specs.ChildStarts.{after_start, named_by}
+use Rattle.sys_protocol.specs.AppStarts.{initialized}
 use Rattle.app_table.specs.Applications.{Application}
 use Rattle.app_table.specs.declared.child.Child.{Child}
 use Rattle.code_loading.proofs.Stepping.{steps_keep_code}
 use Rattle.code_loading.specs.Consistent.{Enters, IsConsistent}
 use Rattle.code_loading.specs.Current.{current_code}
 use Rattle.code_server.specs.Modules.{IsSound, Table as Loaded}
-use Rattle.job_code.specs.Named.{StandsIn}
+use Rattle.process.specs.Named.{StandsIn}
 use Rattle.otp_files.specs.declared.app.StartModule.{StartModule}
-use Rattle.process_ending.specs.Ends.{Stands}
-use Rattle.process_ending.specs.declared.told.Reply.{Reply}
+use Rattle.process_effects.specs.Ends.{Stands}
+use Rattle.process_effects.specs.declared.told.Reply.{Reply}
 use Rattle.process_store.specs.Table.{Table, empty_table as no_processes, living}
 use Rattle.process_store.specs.declared.living.Living.{Living}
 use Rattle.release_boot.specs.Boot as boot

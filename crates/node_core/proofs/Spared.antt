@@ -6,8 +6,8 @@ use Rattle.code_loading.specs.Loading.{is_any, is_lingered_in, lingering_in, spa
 use Rattle.code_server.specs.Modules.{Table as Loaded, old_of}
 use Rattle.code_server.specs.declared.modules.Instance as loaded
 use Rattle.erl_forms.specs.Module.{Forms}
-use Rattle.process_ending.specs.Kills.{unless_uses}
-use Rattle.process_ending.specs.Uses.{uses}
+use Rattle.process_effects.specs.Kills.{unless_uses}
+use Rattle.process_effects.specs.Uses.{uses}
 use Rattle.process_store.specs.Table.{Table, living_at}
 use Rattle.process_store.specs.declared.living.Living.{Living}
 

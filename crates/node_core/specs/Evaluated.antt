@@ -1,24 +1,23 @@
 -- A start function gives one outcome.
 use Rattle.std.proofs.Common.{◌≡◌, List, [], ◌∷◌, map, refl, sym, ap, ◌∙◌}
 use Rattle.erl_term.specs.Term.{term_of, term_of-tree, tree}
-use Rattle.erl_eval.proofs.Outcomes.{from_outside-once}
-use Rattle.erl_eval.specs.Acts.{act_of, place, receiver}
-use Rattle.erl_eval.specs.Jobs as jobs
-use Rattle.erl_eval.specs.State as state
-use Rattle.erl_eval.specs.declared.acts.Act.{Act}
-use Rattle.erl_eval.specs.declared.acts.Act.TheVariants as acts
-use Rattle.erl_eval.specs.declared.acts.Place.{Place}
-use Rattle.erl_eval.specs.declared.acts.Place.TheVariants as places
-use Rattle.erl_eval.specs.declared.acts.Receiver.{Receiver}
-use Rattle.erl_eval.specs.declared.acts.Receiver.TheVariants as receivers
-use Rattle.erl_machine.specs.Views.{outcome_of}
-use Rattle.erl_machine.specs.declared.evaluation.Outcome.{Outcome}
-use Rattle.erl_steps.specs.Views.{end_of}
-use Rattle.erl_steps.specs.declared.machine.End.{End}
-use Rattle.erl_steps.specs.declared.machine.End.TheVariants as ends
-use Rattle.erl_steps.specs.declared.world.Instance.{Instance}
+use Rattle.erl_semantics.proofs.Outcomes.{from_outside-once}
+use Rattle.erl_semantics.specs.Acts.{act_of, place, receiver}
+use Rattle.erl_semantics.specs.Jobs as jobs
+use Rattle.erl_semantics.specs.State as state
+use Rattle.erl_semantics.specs.declared.acts.Act.{Act}
+use Rattle.erl_semantics.specs.declared.acts.Act.TheVariants as acts
+use Rattle.erl_semantics.specs.declared.acts.Place.{Place}
+use Rattle.erl_semantics.specs.declared.acts.Place.TheVariants as places
+use Rattle.erl_semantics.specs.declared.acts.Receiver.{Receiver}
+use Rattle.erl_semantics.specs.declared.acts.Receiver.TheVariants as receivers
+use Rattle.erl_semantics.specs.Views.{outcome_of, end_of}
+use Rattle.erl_semantics.specs.declared.outcome.Outcome.{Outcome}
+use Rattle.erl_semantics.specs.declared.outcome.End.{End}
+use Rattle.erl_semantics.specs.declared.outcome.End.TheVariants as ends
+use Rattle.erl_semantics.specs.declared.instance.Instance.{Instance}
 use Rattle.child_specs.specs.declared.child.ChildSpec.{ChildSpec}
-use Rattle.child_starts.specs.Children.{Gives}
+use Rattle.sys_protocol.specs.ChildStarts.{Gives}
 use Rattle.process_store.specs.Table.{Table}
 
 -- What contracts see of an outcome tells it.

@@ -4,20 +4,20 @@ use Rattle.std.proofs.lemmas.Bool.{true≢false}
 use Rattle.std.proofs.lemmas.Option.{none-some, same_Some}
 use Rattle.erl_term.specs.declared.term.Term.{Term}
 use Rattle.erl_forms.specs.Module.{Forms}
-use Rattle.erl_machine.specs.declared.jobs.Done.{Done}
-use Rattle.erl_machine.specs.declared.jobs.Job.{Job}
-use Rattle.erl_steps.specs.Views.{instance}
-use Rattle.erl_steps.specs.declared.world.Instance.{Instance}
+use Rattle.erl_semantics.specs.declared.jobs.Done.{Done}
+use Rattle.erl_semantics.specs.declared.jobs.Job.{Job}
+use Rattle.erl_semantics.specs.Views.{instance}
+use Rattle.erl_semantics.specs.declared.instance.Instance.{Instance}
 use Rattle.app_table.specs.Children.{is_due}
 use Rattle.app_table.specs.declared.child.Child.{Child}
-use Rattle.child_starts.specs.Children.{Fails, Restarts, Starts, after_start, start_told}
-use Rattle.child_starts.specs.Results.{start_fault}
+use Rattle.sys_protocol.specs.ChildStarts.{Fails, Restarts, Starts, after_start, start_told}
+use Rattle.sys_protocol.specs.StartResults.{start_fault}
 use Rattle.code_loading.specs.Current.{current_code}
 use Rattle.code_server.specs.Modules.{Table as Loaded}
-use Rattle.job_code.proofs.JobCode.{IsJobCode-one}
+use Rattle.process.proofs.JobCode.{IsJobCode-one}
 use Rattle.process.specs.Ended.{held}
-use Rattle.process_commit.specs.Commits.{IsRunning, job_at}
-use Rattle.process_ending.specs.declared.told.Reply.{Reply}
+use Rattle.process_effects.specs.Commits.{IsRunning, job_at}
+use Rattle.process_effects.specs.declared.told.Reply.{Reply}
 use Rattle.process_store.specs.Changes.{CanTurnAt}
 use Rattle.process_store.specs.Table.{Table, living, next_pid}
 use Rattle.process_store.specs.declared.living.Living.{Living}
@@ -33,12 +33,12 @@ use Rattle.undo_journal.specs.Reversible.{Accepted}
 use Rattle.node_core.specs.Evaluated.{one_outcome}
 use Rattle.node_core.specs.Node.{NodeState}
 use Rattle.node_core.specs.Step.{Commits, IsRevived, Outcome, Revives, Step, Takes, reporting, revived_as, run_taken}
-use Rattle.node_core.specs.declared.event.Answer.{Answer}
-use Rattle.node_core.specs.declared.event.Answer.TheVariants as answer
-use Rattle.node_core.specs.declared.event.Event.{Event}
-use Rattle.node_core.specs.declared.event.Event.TheVariants.{Arrive, Take, Commit, Revive, Load, Delete, Purge, SoftPurge}
-use Rattle.node_core.specs.Note.{Note}
-use Rattle.node_core.specs.declared.event.Refusal.TheVariants.{OfProcesses, OfApps}
+use Rattle.node_types.specs.declared.event.Answer.{Answer}
+use Rattle.node_types.specs.declared.event.Answer.TheVariants as answer
+use Rattle.node_types.specs.declared.event.Event.{Event}
+use Rattle.node_types.specs.declared.event.Event.TheVariants.{Arrive, Take, Commit, Revive, Load, Delete, Purge, SoftPurge}
+use Rattle.node_types.specs.Note.{Note}
+use Rattle.node_types.specs.declared.event.Refusal.TheVariants.{OfProcesses, OfApps}
 
 -- Take: a job has one code, and so a process takes one job.
 

@@ -1,22 +1,22 @@
 -- What an event does to a node, or why it is refused: one clause an event.
 use Rattle.std.specs.Prelude.{◌≡◌, ℕ, true, if◌then◌else◌, List, [], ◌∷◌, Option, None, Some, Result, Ok, Err}
 use Rattle.erl_forms.specs.Module.{Forms}
-use Rattle.erl_machine.specs.declared.jobs.Done.{Done}
-use Rattle.erl_machine.specs.declared.jobs.Job.{Job}
-use Rattle.erl_steps.specs.declared.machine.End.{End}
-use Rattle.erl_steps.specs.declared.machine.End.TheVariants.{Rest, Value, Exit}
+use Rattle.erl_semantics.specs.declared.jobs.Done.{Done}
+use Rattle.erl_semantics.specs.declared.jobs.Job.{Job}
+use Rattle.erl_semantics.specs.declared.outcome.End.{End}
+use Rattle.erl_semantics.specs.declared.outcome.End.TheVariants.{Rest, Value, Exit}
 use Rattle.erl_term.specs.declared.term.Term.{Term}
 use Rattle.app_table.specs.Children.{is_due}
 use Rattle.app_table.specs.declared.child.Child.{Child}
-use Rattle.child_starts.specs.Children.{Restarts}
+use Rattle.sys_protocol.specs.ChildStarts.{Restarts}
 use Rattle.code_loading.specs.Current.{current_code}
 use Rattle.code_loading.specs.Loading.{is_lingered_in, lingering, purge_told, spared}
 use Rattle.code_server.specs.Modules.{delete_refusal, deleted, load_refusal, loaded, purged}
 use Rattle.code_server.specs.declared.error.CodeError.{CodeError}
 use Rattle.code_server.specs.declared.error.CodeError.TheVariants.{OldInUse}
-use Rattle.process_commit.specs.Commits.{job_at}
-use Rattle.process_ending.specs.Told.{killed}
-use Rattle.process_ending.specs.declared.told.Reply.{Reply}
+use Rattle.process_effects.specs.Commits.{job_at}
+use Rattle.process_effects.specs.Told.{killed}
+use Rattle.process_effects.specs.declared.told.Reply.{Reply}
 use Rattle.process_store.specs.Table.{Table, living}
 use Rattle.process_table.specs.Commit.{CanCommit, RefusesCommit, commit_told, committed, normal}
 use Rattle.process_table.specs.Messages.{arrival_of, message_of}
@@ -28,13 +28,13 @@ use Rattle.sys_protocol.specs.Refusals.{IsDue, RefusesRevive}
 use Rattle.sys_protocol.specs.declared.error.SysError.{SysError}
 use Rattle.undo_journal.specs.Reversible.{Accepted}
 use Rattle.node_core.specs.Node.{NodeState, with_modules, with_processes}
-use Rattle.node_core.specs.declared.event.Answer.{Answer}
-use Rattle.node_core.specs.declared.event.Answer.TheVariants as answer
-use Rattle.node_core.specs.declared.event.Event.{Event}
-use Rattle.node_core.specs.declared.event.Event.TheVariants.{Arrive, Take, Commit, Revive, Load, Delete, Purge, SoftPurge}
-use Rattle.node_core.specs.Note.{Note}
-use Rattle.node_core.specs.declared.event.Refusal.{Refusal}
-use Rattle.node_core.specs.declared.event.Refusal.TheVariants.{OfProcesses, OfModules, OfApps}
+use Rattle.node_types.specs.declared.event.Answer.{Answer}
+use Rattle.node_types.specs.declared.event.Answer.TheVariants as answer
+use Rattle.node_types.specs.declared.event.Event.{Event}
+use Rattle.node_types.specs.declared.event.Event.TheVariants.{Arrive, Take, Commit, Revive, Load, Delete, Purge, SoftPurge}
+use Rattle.node_types.specs.Note.{Note}
+use Rattle.node_types.specs.declared.event.Refusal.{Refusal}
+use Rattle.node_types.specs.declared.event.Refusal.TheVariants.{OfProcesses, OfModules, OfApps}
 
 abbrev pub Outcome : Type 0
 Outcome = Result (Accepted NodeState Answer Note) Refusal

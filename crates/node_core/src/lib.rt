@@ -22,10 +22,8 @@
 //! process once, and a revival copies the handles of all current code.
 #![tactic(auto)]
 
-mod event;
 mod loading;
 mod node;
-mod note;
 mod processes;
 mod record;
 mod reverting;
@@ -33,7 +31,5 @@ mod reviving;
 mod stepping;
 mod telling;
 
-pub use event::{Answer, Event, Refusal};
 pub use node::Node;
-pub use note::Note;
 pub use record::Record;

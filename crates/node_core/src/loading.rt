@@ -1,17 +1,15 @@
 // Events of code.
 ghost use Rattle.std.specs.Prelude.{◌≡◌, [], IfErr, IfOk, None, OnErr, OnOk, replicate};
 ghost use Rattle.code_loading.specs.Loading.{is_lingered_in, lingering, purge_told};
-ghost use Rattle.process_ending.specs.Told.{killed};
+ghost use Rattle.process_effects.specs.Told.{killed};
 ghost use Rattle.app_table.specs.Applications.{all_ended};
 ghost use Rattle.undo_journal.specs.Reversible.{Accepts, Refuses};
 ghost use Rattle.node_core.specs.Record.{AppsBack, Undoes};
 ghost use Rattle.node_core.specs.Step.{MayRunOut, Step as Steps, reporting};
-ghost use Rattle.node_core.specs.declared.event.Answer.TheVariants as answer;
-ghost use Rattle.node_core.specs.declared.event.Event.TheVariants as event;
+ghost use Rattle.node_types.specs.declared.event.Answer.TheVariants as answer;
+ghost use Rattle.node_types.specs.declared.event.Event.TheVariants as event;
 
-use crate::event::Answer;
 use crate::node::Node;
-use crate::note::Note;
 use crate::processes::{Step, unend};
 use crate::record::Record;
 use crate::telling::{reporting, tell};
@@ -19,12 +17,12 @@ use code_loading::{is_lingered_in, lingering, load, purge, purge_told, soft_purg
 use code_server::Modules;
 use erl_forms::Module;
 use erl_term::{Atom, Predefined, Term};
+use node_types::{Answer, Note};
 use process_table::Processes;
-use reserved_box::{Boxed, Reserved};
 use std::alloc::{AllocError, Global};
 use sys_protocol::AppTable;
 use undo_journal::{Stepped, Told};
-use values::{Duplicate, Failure};
+use values::{Boxed, Duplicate, Failure, Reserved};
 
 /// What is told of a load or a purge, in `n` equal values.
 fn killing_told(

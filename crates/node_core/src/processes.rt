@@ -7,21 +7,19 @@ ghost use Rattle.process_table.specs.Undo.{TakesBackEnds};
 ghost use Rattle.node_core.specs.Node.{IsKept, NodeState};
 ghost use Rattle.node_core.specs.Record.{AppsBack, Undoes};
 ghost use Rattle.node_core.specs.Step.{MayRunOut, Step as Steps, ended_by};
-ghost use Rattle.node_core.specs.declared.event.Event.TheVariants as event;
+ghost use Rattle.node_types.specs.declared.event.Event.TheVariants as event;
 
-use crate::event::{Answer, Refusal};
 use crate::node::Node;
-use crate::note::Note;
 use crate::record::Record;
 use crate::telling::{room, tell_arrivals, tell_jobs, tell_replies};
-use erl_machine::{Done, End};
+use erl_semantics::{Done, End};
 use erl_term::{Atom, Predefined, Term};
+use node_types::{Answer, Note, Refusal};
 use process_table::Body;
-use reserved_box::{Boxed, Reserved};
 use std::alloc::{AllocError, Global};
 use sys_protocol::AppTable;
 use undo_journal::Stepped;
-use values::Failure;
+use values::{Boxed, Failure, Reserved};
 
 /// What one step of a node gives.
 pub(crate) type Step = Result<Stepped<Answer, Note, Record>, Failure<Refusal>>;

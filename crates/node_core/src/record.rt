@@ -1,6 +1,6 @@
 // What takes an event back.
 use erl_forms::Module;
-use reserved_box::Boxed;
+use values::Boxed;
 
 /// What takes an event back. What is large and seldom has memory of its own.
 #[derive(Drop)]

@@ -8,7 +8,7 @@ use crate::node::Node;
 use crate::processes::unend;
 use crate::record::Record;
 use erl_forms::Module;
-use reserved_box::Boxed;
+use values::Boxed;
 
 impl Node {
     /// Takes back what was done to processes alone.

@@ -3,19 +3,18 @@ ghost use Rattle.std.specs.Prelude.{◌≡◌, IfErr, IfOk, OnErr};
 ghost use Rattle.undo_journal.specs.Reversible.{Accepts, Refuses};
 ghost use Rattle.node_core.specs.Record.{Undoes};
 ghost use Rattle.node_core.specs.Step.{MayRunOut, Step as Steps};
-ghost use Rattle.node_core.specs.declared.event.Event.TheVariants as event;
+ghost use Rattle.node_types.specs.declared.event.Event.TheVariants as event;
 
-use crate::event::Refusal;
 use crate::node::Node;
 use crate::processes::Step;
 use crate::record::Record;
 use crate::telling::{room, tell_revived};
 use code_loading::current_code;
 use erl_term::{Atom, Term};
-use reserved_box::Reserved;
+use node_types::Refusal;
 use sys_protocol::revive;
 use undo_journal::Stepped;
-use values::Failure;
+use values::{Failure, Reserved};
 
 impl Node {
     /// A child that is due starts again.

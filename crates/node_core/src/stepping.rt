@@ -2,17 +2,16 @@
 ghost use Rattle.node_core.specs.Record.{Undoes};
 ghost use Rattle.std.specs.Prelude.{◌≡◌, option_map};
 ghost use Rattle.node_core.specs.Step.{MayRunOut, Step as Steps, soft_purge_refusal};
-ghost use Rattle.node_core.specs.declared.event.Refusal.TheVariants.{OfApps, OfModules, OfProcesses};
+ghost use Rattle.node_types.specs.declared.event.Refusal.TheVariants.{OfApps, OfModules, OfProcesses};
 ghost use Rattle.node_core.specs.OneOutcome.{one_outcome_of};
 
-use crate::event::{Answer, Event, Refusal};
 use crate::node::Node;
-use crate::note::Note;
 use crate::processes::Step;
 use crate::record::Record;
 use code_loading::is_lingered_in;
 use code_server::CodeError;
 use erl_term::Atom;
+use node_types::{Answer, Event, Note, Refusal};
 use process_table::ProcError;
 use sys_protocol::{SysError, revive_refusal};
 use undo_journal::Reversible;

@@ -1,12 +1,11 @@
 // What is told of an event.
 ghost use Rattle.std.specs.Prelude.{◌≡◌, ◌≤◌, ◌++◌, ◌∷◌, [], IfOk, None, OnOk, Some, map, replicate, vec_capacity, vec_len};
-ghost use Rattle.node_core.specs.declared.event.Answer.TheVariants as answer;
+ghost use Rattle.node_types.specs.declared.event.Answer.TheVariants as answer;
 
-use crate::event::Answer;
-use crate::note::Note;
-use erl_machine::Job;
+use erl_semantics::Job;
 use erl_term::{Atom, Term};
-use process_ending::Reply;
+use node_types::{Answer, Note};
+use process_effects::Reply;
 use std::alloc::{AllocError, Global};
 use undo_journal::Told;
 use values::{Duplicate, Row};

@@ -2,7 +2,7 @@
 use Rattle.std.proofs.Common.{◌≡◌, ℕ, List, Option, None, Some, Ok, option_map, option_to_list, unwrap_or, refl, sym, ap, subst}
 use Rattle.erl_term.specs.Tree.{Tree}
 use Rattle.erl_term.specs.declared.term.Term.TheVariants as term
-use Rattle.erl_machine.specs.declared.jobs.Job.{Job}
+use Rattle.erl_semantics.specs.declared.jobs.Job.{Job}
 use Rattle.process_store.specs.Table.{living}
 use Rattle.undo_journal.specs.History.{AreAfter}
 use Rattle.undo_journal.specs.Reversible.{Accepted}
@@ -11,11 +11,11 @@ use Rattle.undo_journal.specs.declared.history.Command.TheVariants as command
 use Rattle.undo_journal.proofs.Histories.{cut_to-parts}
 use Rattle.node_core.specs.Node.{NodeState}
 use Rattle.node_core.specs.Step.{Step}
-use Rattle.node_core.specs.declared.event.Answer.{Answer}
-use Rattle.node_core.specs.declared.event.Answer.TheVariants as tells
-use Rattle.node_core.specs.declared.event.Event.{Event}
-use Rattle.node_core.specs.declared.event.Event.TheVariants as event
-use Rattle.node_core.specs.Note.{Note}
+use Rattle.node_types.specs.declared.event.Answer.{Answer}
+use Rattle.node_types.specs.declared.event.Answer.TheVariants as tells
+use Rattle.node_types.specs.declared.event.Event.{Event}
+use Rattle.node_types.specs.declared.event.Event.TheVariants as event
+use Rattle.node_types.specs.Note.{Note}
 use Rattle.shell_requests.specs.Request.{Request, Spoken, ask, change, load, undo, commit, arrive, serve, revive, too_long, silent, unknown, asks}
 use Rattle.shell_requests.specs.declared.request.Arrival.{Arrival}
 use Rattle.shell_requests.specs.declared.request.Arrival.TheVariants as arrivals

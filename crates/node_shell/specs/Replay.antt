@@ -9,7 +9,7 @@ use Rattle.line_server.specs.Lines.{heard}
 use Rattle.line_server.specs.Session.{Answered}
 use Rattle.node_core.specs.Node.{NodeState}
 use Rattle.node_core.specs.Step.{Step}
-use Rattle.node_core.specs.declared.event.Event.{Event}
+use Rattle.node_types.specs.declared.event.Event.{Event}
 use Rattle.shell_answers.specs.Answers.{line_of, stopped_undo, undone_steps}
 use Rattle.shell_requests.specs.Request.{asks, spoken, undo}
 use Rattle.shell_deeds.specs.Deeds.{Does}

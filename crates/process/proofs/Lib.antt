@@ -1,4 +1,9 @@
+pub mod Finding
+pub mod FoundAgain
+pub mod JobCode
+pub mod Listing
 pub mod Living
 pub mod Mailboxes
 pub mod Places
 pub mod Reruns
+pub mod Standing

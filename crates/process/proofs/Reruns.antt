@@ -1,9 +1,9 @@
 -- What a job has left behind, with its instances found again.
 use Rattle.std.proofs.Common.{◌≡◌, map, Some, ap, ◌∙◌}
 use Rattle.std.specs.Option.{option_map}
-use Rattle.erl_steps.specs.Views.{instance}
-use Rattle.job_code.proofs.FoundAgain.{are_found_again}
-use Rattle.job_code.specs.Named.{all_found, named_instance}
+use Rattle.erl_semantics.specs.Views.{instance}
+use Rattle.process.proofs.FoundAgain.{are_found_again}
+use Rattle.process.specs.Named.{all_found, named_instance}
 use Rattle.process.specs.Ended.{held}
 use Rattle.process.specs.Rerun.{JobsRunAgain, ran_named, runs_by}
 use Rattle.process.proofs.Living.{held-all, place-again}

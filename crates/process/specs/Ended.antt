@@ -3,13 +3,13 @@ use Rattle.std.specs.Prelude.{◌≡◌, ℕ, All, List, [], map, Option, None, 
 use Rattle.std.specs.Option.{option_map}
 use Rattle.erl_forms.specs.Module.{Forms}
 use Rattle.erl_term.specs.declared.term.Term.{Term}
-use Rattle.erl_eval.specs.declared.acts.Place.{Place}
-use Rattle.erl_eval.specs.State as state
-use Rattle.erl_steps.specs.Views.{instance}
-use Rattle.erl_steps.specs.declared.world.Instance.{Instance}
+use Rattle.erl_semantics.specs.declared.acts.Place.{Place}
+use Rattle.erl_semantics.specs.State as state
+use Rattle.erl_semantics.specs.Views.{instance}
+use Rattle.erl_semantics.specs.declared.instance.Instance.{Instance}
 use Rattle.code_server.specs.Modules.{IsSound, Table}
-use Rattle.job_code.specs.Named.{StandsIn, all_found, found, named_instance}
-use Rattle.job_code.specs.declared.named.NamedInstance.{NamedInstance}
+use Rattle.process.specs.Named.{StandsIn, all_found, found, named_instance}
+use Rattle.process.specs.declared.named.NamedInstance.{NamedInstance}
 use Rattle.process.specs.declared.activity.Activity.{Activity}
 use Rattle.process.specs.declared.activity.Activity.TheVariants as activity
 use Rattle.process.specs.declared.process.ending.Did.{Did}

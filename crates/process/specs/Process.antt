@@ -3,13 +3,13 @@ use Rattle.std.specs.Prelude.{ℕ, ◌+◌, ◌-◌, Bool, true, false, List, []
 use Rattle.std.specs.Prelude.{Option, None, Some}
 use Rattle.erl_term.specs.Term.{tree}
 use Rattle.erl_term.specs.declared.term.Term.{Term}
-use Rattle.erl_eval.specs.declared.acts.Place.{Place}
-use Rattle.erl_eval.specs.Acts.{place}
-use Rattle.erl_eval.specs.Jobs.{accepts}
-use Rattle.erl_eval.specs.State as state
-use Rattle.erl_steps.specs.Views.{instance}
-use Rattle.erl_steps.specs.declared.world.Instance.{Instance}
-use Rattle.erl_machine.specs.declared.jobs.Job.{Job}
+use Rattle.erl_semantics.specs.declared.acts.Place.{Place}
+use Rattle.erl_semantics.specs.Acts.{place}
+use Rattle.erl_semantics.specs.Jobs.{accepts}
+use Rattle.erl_semantics.specs.State as state
+use Rattle.erl_semantics.specs.Views.{instance}
+use Rattle.erl_semantics.specs.declared.instance.Instance.{Instance}
+use Rattle.erl_semantics.specs.declared.jobs.Job.{Job}
 use Rattle.process.specs.declared.activity.Activity.{Activity}
 use Rattle.process.specs.declared.activity.Activity.TheVariants.{Idle, Suspended, Runs}
 use Rattle.process.specs.declared.process.Ran.{Ran}

@@ -2,11 +2,11 @@
 use Rattle.std.specs.Prelude.{◌≡◌, All, List, map, Option, None, Some}
 use Rattle.std.specs.Option.{option_map}
 use Rattle.erl_forms.specs.Module.{Forms}
-use Rattle.erl_steps.specs.Views.{instance}
-use Rattle.erl_steps.specs.declared.world.Instance.{Instance}
+use Rattle.erl_semantics.specs.Views.{instance}
+use Rattle.erl_semantics.specs.declared.instance.Instance.{Instance}
 use Rattle.code_server.specs.Modules.{IsSound, Table}
-use Rattle.job_code.specs.Named.{StandsIn, all_found, named_instance}
-use Rattle.job_code.specs.declared.named.NamedInstance.{NamedInstance}
+use Rattle.process.specs.Named.{StandsIn, all_found, named_instance}
+use Rattle.process.specs.declared.named.NamedInstance.{NamedInstance}
 use Rattle.process.specs.declared.process.Ran.{Ran}
 use Rattle.process.specs.declared.process.rerunning.NamedRan.{NamedRan}
 use Rattle.process.specs.Ended.{PlaceStands, held, named, rests_found}

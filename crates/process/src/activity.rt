@@ -1,5 +1,5 @@
 // What a process does.
-use erl_machine::Instance;
+use erl_semantics::Instance;
 use erl_term::Term;
 use values::Row;
 

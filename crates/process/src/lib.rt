@@ -1,4 +1,4 @@
-//! One process: where it rests, what it runs, and its mailbox.
+//! One process: where it rests, what it runs, its mailbox, and the code that its jobs are given.
 //!
 //! A [`Process`] rests at a place and takes from its mailbox the first message that is taken there: in a callback module every
 //! message, in a loop function one that a clause of its `receive` takes. It runs the message that it has taken, and rests
@@ -11,10 +11,19 @@
 //! A process that ends may live again where its end is taken back. Until then it is an [`Ended`], which holds no code: the
 //! instances that it used are told by names and serials, so that a purge frees them.
 //!
+//! A process runs a job in an instance of a module, and by remote calls in the current code of others. [`job_code`] gives both: first the
+//! instance, and then, in the order of the table of modules, the current code of each module that can be reached from it by remote calls
+//! that are written. A record that must hold no code tells instances by names and serials: [`named_of`], and [`instance_of`] and
+//! [`instances_of`] find them again.
+//!
 //! # What is proved
 //!
+//! - [`job_code`] gives exactly that code, and [`job_code_is_one`]: there is one such list.
+//! - [`instance_of`] finds exactly the instance that is told, current or old, or none where it is not in the table, and [`instances_of`]
+//!   all of them, or none. [`instances_are_found_again`]: those that stand in the table are found by what [`named_of`] tells of them.
+//!   [`job_code_stands`]: where a job is entered in an instance that stands in the table, its whole code does.
 //! - [`Process::can_take`] tells the first message that is taken where the process rests, by the rules of evaluation
-//!   (`accepts` of `erl_eval`), and none while it runs or is suspended.
+//!   (`accepts` of `erl_semantics`), and none while it runs or is suspended.
 //! - Each step is a stated function of the process: [`Process::deliver`] puts a message last, [`Process::take`] takes just the
 //!   one at the position, [`Process::rest_next`] moves the process to its new place, one turn on. Where memory is refused the
 //!   process is as it was.
@@ -43,14 +52,23 @@
 //! Ending moves the mailbox, and takes memory for names and serials alone. A process that lives again looks at its mailbox as
 //! one that rests again does, unless it ran: nothing here says that the code that is found is the code that it had.
 //!
+//! [`job_code`] looks each remote module of each instance that is reached up once, by key, and puts its place into an ordered set: so it
+//! costs what is reached, however many modules there are besides. [`instances_of`] looks each name up, by key, once or twice.
+//!
 //! [`Ended::live`] fails where memory is refused and where an instance is not in the table, and doesn't tell which.
 #![tactic(auto)]
 
 mod activity;
+mod named;
 mod process;
+mod reached;
 
 pub use activity::{Activity, Running};
+pub use named::{
+    NamedInstance, instance_of, instances_are_found_again, instances_of, job_code_stands, named_of,
+};
 pub use process::{
     Did, Ended, NamedRan, NamedRunning, Process, Ran, Told, Used, ended_processes_live,
     jobs_run_again,
 };
+pub use reached::{job_code, job_code_is_one};

@@ -9,8 +9,7 @@ mod rerunning;
 
 use crate::activity::{Activity, Running};
 pub use ending::{Did, Ended, NamedRunning, Told, ended_processes_live};
-use erl_eval::Place;
-use erl_machine::{Instance, Job, matches};
+use erl_semantics::{Instance, Job, Place, matches};
 use erl_term::{Atom, Term};
 pub use rerunning::{NamedRan, Used, jobs_run_again};
 use std::alloc::{AllocError, Global};

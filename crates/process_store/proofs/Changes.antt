@@ -1,7 +1,7 @@
 -- Elementary changes of one process: what they leave alone, and what takes them back.
 use Rattle.std.proofs.Common.{◌≡◌, ℕ, List, Option, None, Some, IfSome, option_map, sym, ap, subst, ◌∙◌, arith}
-use Rattle.erl_eval.specs.declared.acts.Place.{Place}
-use Rattle.erl_steps.specs.declared.world.Instance.{Instance}
+use Rattle.erl_semantics.specs.declared.acts.Place.{Place}
+use Rattle.erl_semantics.specs.declared.instance.Instance.{Instance}
 use Rattle.process_index.specs.Index.{Names}
 use Rattle.process_index.specs.Numbers.{Owners}
 use Rattle.process_store.specs.declared.living.Living.{Living}

@@ -6,7 +6,7 @@ use Rattle.std.proofs.lemmas.List.Edits.{length-remove}
 use Rattle.values.proofs.Edits.{insert-remove}
 use Rattle.erl_term.specs.declared.term.Term.{Term}
 use Rattle.erl_term.specs.declared.term.Term.TheVariants.{Pid}
-use Rattle.erl_steps.specs.declared.world.Instance.{Instance}
+use Rattle.erl_semantics.specs.declared.instance.Instance.{Instance}
 use Rattle.process.specs.declared.activity.Activity.{Activity}
 use Rattle.process.specs.declared.activity.Activity.TheVariants.{Idle, Suspended, Runs}
 use Rattle.process.specs.Process.{ProcessState, awaited, awaited_by, can_take, can_take_by, first_taken, run_at, run_by, takes_at, untaken, untaken_by}

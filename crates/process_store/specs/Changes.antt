@@ -1,8 +1,8 @@
 -- Elementary changes of one process of the table, each with the one that takes it back.
 use Rattle.std.specs.Prelude.{◌≡◌, ℕ, ◌+◌, ◌<◌, ◌^◌, ◌==◌, Bool, true, false, if◌then◌else◌, List, [], ◌∷◌, position}
 use Rattle.std.specs.Prelude.{Option, None, Some, IfSome, IsSome, option_map}
-use Rattle.erl_eval.specs.declared.acts.Place.{Place}
-use Rattle.erl_steps.specs.declared.world.Instance.{Instance}
+use Rattle.erl_semantics.specs.declared.acts.Place.{Place}
+use Rattle.erl_semantics.specs.declared.instance.Instance.{Instance}
 use Rattle.process.specs.declared.activity.Activity.{Activity}
 use Rattle.process.specs.declared.activity.Activity.TheVariants as activity
 use Rattle.process.specs.declared.process.Ran.{Ran}

@@ -1,7 +1,7 @@
 -- A process that lives, and the calls that are open to it.
 use Rattle.std.specs.Prelude.{ℕ, List, Option, None, Some}
 use Rattle.erl_term.specs.declared.term.Term.{Term}
-use Rattle.erl_steps.specs.declared.world.Instance.{Instance}
+use Rattle.erl_semantics.specs.declared.instance.Instance.{Instance}
 use Rattle.process.specs.Process.{can_take, delivered, run_at, undelivered, untaken}
 use Rattle.process_index.specs.Calls.{with_call, without}
 use Rattle.process_index.specs.declared.calls.Call.{Call}

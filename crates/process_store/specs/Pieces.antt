@@ -1,7 +1,7 @@
 -- Pieces: the messages and places of processes, each with whose it is. They tell how much of the processes a record of a step may hold.
 use Rattle.std.specs.Prelude.{◌≡◌, ℕ, List, [], ◌∷◌, ◌++◌, map, Option, None, Some}
 use Rattle.erl_term.specs.declared.term.Term.{Term}
-use Rattle.erl_eval.specs.declared.acts.Place.{Place}
+use Rattle.erl_semantics.specs.declared.acts.Place.{Place}
 use Rattle.process.specs.declared.activity.Activity.{Activity}
 use Rattle.process.specs.declared.activity.Activity.TheVariants as activity
 use Rattle.process.specs.Process.{ProcessState}

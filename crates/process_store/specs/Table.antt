@@ -1,8 +1,8 @@
 -- The processes of a node, by pid (Erlang Reference Manual, Processes; gen_server behaviour), and what holds of them.
 use Rattle.std.specs.Prelude.{ℕ, ◌-◌, ◌==◌, Bool, true, false, if◌then◌else◌, List, [], ◌∷◌, ◌++◌, take}
 use Rattle.std.specs.Prelude.{length, position, slice_get, Option, None, Some, is_some, option_map, option_and_then}
-use Rattle.erl_eval.specs.declared.acts.Place.{Place}
-use Rattle.erl_steps.specs.declared.world.Instance.{Instance}
+use Rattle.erl_semantics.specs.declared.acts.Place.{Place}
+use Rattle.erl_semantics.specs.declared.instance.Instance.{Instance}
 use Rattle.process.specs.Process.{started}
 use Rattle.std.specs.Str.{bytes_eq}
 use Rattle.values.specs.Edits.{changed_at}

@@ -4,7 +4,7 @@ ghost use Rattle.process.specs.Process.{awaited, untaken};
 ghost use Rattle.process_index.specs.Calls.{has};
 ghost use Rattle.process_store.specs.Living.{arrived, run, unarrived, untook};
 
-use erl_machine::Instance;
+use erl_semantics::Instance;
 use erl_term::Term;
 use process::Process;
 use process_index::{Call, Calls};

@@ -7,8 +7,7 @@ ghost use Rattle.process_store.specs.Living.{arrived, run, unarrived, untook};
 ghost use Rattle.process_store.specs.Table.{changed_slots, living_at};
 
 use crate::living::Living;
-use erl_eval::Place;
-use erl_machine::Instance;
+use erl_semantics::{Instance, Place};
 use erl_term::Term;
 use process::Ran;
 use process_index::{Call, Slots};

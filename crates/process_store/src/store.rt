@@ -11,8 +11,7 @@ mod vacating;
 
 use crate::living::Living;
 use crate::places::{arrive_at, run_at, unarrive_at, untake_at};
-use erl_eval::Place;
-use erl_machine::Instance;
+use erl_semantics::{Instance, Place};
 use erl_term::{Atom, Term};
 use process::Process;
 use process_index::{Call, CallIndex, Calls, NameIndex, Owner, Slots};

@@ -1,12 +1,12 @@
 -- A process takes a message: the table then, and the job that it runs.
 use Rattle.std.proofs.Common.{◌≡◌, ℕ, List, Option, Some, option_map, slice_get, sym, ap, ◌∙◌}
-use Rattle.erl_machine.specs.declared.jobs.Job.{Job}
-use Rattle.erl_steps.specs.declared.world.Instance.{Instance}
+use Rattle.erl_semantics.specs.declared.jobs.Job.{Job}
+use Rattle.erl_semantics.specs.declared.instance.Instance.{Instance}
 use Rattle.process.specs.Process.{job_of, run_by}
 use Rattle.process_store.specs.declared.living.Living.{Living}
 use Rattle.process_store.specs.Living.{run, takes_next}
 use Rattle.process_store.specs.Table.{Table, changed, living}
-use Rattle.process_commit.specs.Commits.{job_at}
+use Rattle.process_effects.specs.Commits.{job_at}
 use Rattle.process_table.specs.Steps.{taken, taken_at}
 
 -- the table after a take

@@ -2,15 +2,15 @@
 use Rattle.std.specs.Prelude.{ℕ, codes, List}
 use Rattle.erl_term.specs.declared.term.Term.{Term}
 use Rattle.erl_term.specs.declared.term.Term.TheVariants as term
-use Rattle.erl_eval.specs.declared.acts.Act.{Act}
-use Rattle.erl_machine.specs.declared.jobs.Done.{Done}
-use Rattle.erl_machine.specs.declared.jobs.Job.{Job}
-use Rattle.erl_steps.specs.declared.machine.End.{End}
-use Rattle.erl_steps.specs.declared.machine.End.TheVariants.{Rest, Value, Exit}
-use Rattle.process_commit.specs.Acts.{acts_told}
-use Rattle.process_commit.specs.Commits.{IsRunning, rested_after}
-use Rattle.process_commit.specs.Exits.{exit_told, exited}
-use Rattle.process_ending.specs.declared.told.Reply.{Reply}
+use Rattle.erl_semantics.specs.declared.acts.Act.{Act}
+use Rattle.erl_semantics.specs.declared.jobs.Done.{Done}
+use Rattle.erl_semantics.specs.declared.jobs.Job.{Job}
+use Rattle.erl_semantics.specs.declared.outcome.End.{End}
+use Rattle.erl_semantics.specs.declared.outcome.End.TheVariants.{Rest, Value, Exit}
+use Rattle.process_effects.specs.Acts.{acts_told}
+use Rattle.process_effects.specs.Commits.{IsRunning, rested_after}
+use Rattle.process_effects.specs.Exits.{exit_told, exited}
+use Rattle.process_effects.specs.declared.told.Reply.{Reply}
 use Rattle.process_store.specs.Changes.{CanTurnAt}
 use Rattle.process_store.specs.Table.{Table}
 use Rattle.process_table.specs.declared.error.ProcError.{ProcError}

@@ -1,7 +1,7 @@
 -- The job that a process takes up: words of the table's own functions.
 use Rattle.std.specs.Prelude.{◌≡◌, ℕ, slice_get, Option, None, Some}
 use Rattle.erl_forms.specs.Module.{Forms}
-use Rattle.erl_machine.specs.declared.jobs.Job.{Job}
+use Rattle.erl_semantics.specs.declared.jobs.Job.{Job}
 use Rattle.code_server.specs.Modules.{Table as Loaded}
 use Rattle.process_store.specs.declared.living.Living.{Living}
 use Rattle.process_table.specs.Steps.{IsCodeOf}

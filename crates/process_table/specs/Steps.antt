@@ -3,18 +3,18 @@
 use Rattle.std.specs.Prelude.{◌≡◌, ℕ, ◌^◌, ◌<◌, ◌==◌, nat_lt, Bool, true, false, if◌then◌else◌, List, [], map, replicate}
 use Rattle.std.specs.Prelude.{Option, None, Some, is_some, option_map}
 use Rattle.erl_term.specs.declared.term.Term.{Term}
-use Rattle.erl_eval.specs.declared.acts.Place.{Place}
-use Rattle.erl_eval.specs.declared.acts.Place.TheVariants.{Server, Loop}
+use Rattle.erl_semantics.specs.declared.acts.Place.{Place}
+use Rattle.erl_semantics.specs.declared.acts.Place.TheVariants.{Server, Loop}
 use Rattle.erl_forms.specs.Module.{Forms}
-use Rattle.erl_steps.specs.Views.{instance}
-use Rattle.erl_steps.specs.declared.world.Instance.{Instance}
+use Rattle.erl_semantics.specs.Views.{instance}
+use Rattle.erl_semantics.specs.declared.instance.Instance.{Instance}
 use Rattle.code_server.specs.Modules.{Table as Loaded, current_of}
-use Rattle.job_code.specs.JobCode.{IsJobCode}
-use Rattle.erl_machine.specs.declared.jobs.Job.{Job}
+use Rattle.process.specs.JobCode.{IsJobCode}
+use Rattle.erl_semantics.specs.declared.jobs.Job.{Job}
 use Rattle.process.specs.declared.activity.Activity.{Activity}
 use Rattle.process.specs.declared.activity.Activity.TheVariants as activity
 use Rattle.process.specs.Process.{can_take, job_of}
-use Rattle.process_commit.specs.Commits.{job_at, rests_in}
+use Rattle.process_effects.specs.Commits.{job_at, rests_in}
 use Rattle.process_index.specs.declared.calls.Call.{Call}
 use Rattle.process_table.specs.declared.body.Body.{Body}
 use Rattle.process_table.specs.declared.body.Body.TheVariants as body

@@ -3,12 +3,12 @@ use Rattle.std.specs.Prelude.{◌≡◌, ℕ, ◌-◌, All, List, IsSome}
 use Rattle.erl_forms.specs.Module.{Forms}
 use Rattle.code_server.specs.Modules.{IsSound, Table as Loaded}
 use Rattle.process.specs.Rerun.{runs_again}
-use Rattle.process_batch.specs.Batches.{CanUnbatch, unbatched}
-use Rattle.process_commit.specs.Commits.{CanUnrest, unrested}
-use Rattle.process_commit.specs.Exits.{CanUnexit, unexited}
-use Rattle.process_commit.specs.Pieces.{held_of}
-use Rattle.process_ending.specs.Ends.{AllReturn, AllStand, Lives, Returns, all_returned, returned}
-use Rattle.process_ending.specs.Pieces.{held_by, held_by_all}
+use Rattle.process_effects.specs.Batches.{CanUnbatch, unbatched}
+use Rattle.process_effects.specs.Commits.{CanUnrest, unrested}
+use Rattle.process_effects.specs.Exits.{CanUnexit, unexited}
+use Rattle.process_effects.specs.CommitPieces.{held_of}
+use Rattle.process_effects.specs.Ends.{AllReturn, AllStand, Lives, Returns, all_returned, returned}
+use Rattle.process_effects.specs.EndedPieces.{held_by, held_by_all}
 use Rattle.process_store.specs.Changes.{suspended_as}
 use Rattle.process_store.specs.Inverses.{WasCalled, WasStarted, WasTaken}
 use Rattle.process_store.specs.Living.{unarrived, untook}

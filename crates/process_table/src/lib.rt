@@ -16,9 +16,9 @@
 //!   many equal values as are asked for.
 //! - [`Processes::commit`] does what a job gave, its acts in order and then its end, and tells what clients are told of it, in as many
 //!   equal values as are asked for (`committed`, `commit_told`), just where the process of the job's pid runs an equal job, code
-//!   included, and can be counted one turn on (`RefusesCommit`). It takes a [`erl_machine::Done`], which nobody can make up.
+//!   included, and can be counted one turn on (`RefusesCommit`). It takes a [`callback_lang::Done`], which nobody can make up.
 //! - [`Processes::kill_users`] takes each user of an instance out, and nobody else (`without_users` of
-//!   [`process_ending`]).
+//!   [`process_effects`]).
 //! - [`Processes::arrive_refusal`], [`Processes::take_refusal`] and [`Processes::commit_refusal`] tell without memory why a step would be
 //!   refused, but for want of it (`RefusesCommit`, `CanCommit`).
 //! - What an undo gives back is the table before the step, whole (`undone`, `TakesBack`). A process that has ended and a job that was
@@ -49,8 +49,7 @@ mod undo;
 
 pub use body::{Body, BodyKind};
 pub use error::ProcError;
-pub use process_commit::{Closed, Exited, Rested};
-pub use process_ending::{EndedProcess, Reply, ReplyBody};
+pub use process_effects::{Closed, EndedProcess, Exited, Reply, ReplyBody, Rested};
 pub use process_store::Living;
 pub use processes::Processes;
 pub use undo::Undo;

@@ -13,21 +13,19 @@ use crate::error::ProcError;
 use crate::taking::{equal_values, job_for, next_of};
 use crate::undo::Undo;
 use code_server::Modules;
-use erl_eval::Place;
 use erl_forms::Module;
-use erl_machine::{Instance, Job};
+use erl_semantics::{Instance, Job, Place};
 use erl_term::{Atom, Term};
-use process_commit::rests_in;
-use process_ending::{
-    EndedProcess, Reply, downs_of, end, kill_users, return_all, return_ended, told_by_kill, users,
+use process_effects::{
+    EndedProcess, Reply, downs_of, end, kill_users, rests_in, return_all, return_ended,
+    told_by_kill, users,
 };
 use process_store::{Living, ProcessStore};
-use reserved_box::{Boxed, Reserved};
 use std::alloc::{AllocError, Global};
 use std::collections::btree_map::Iter;
 use std::hash::RandomState;
 use std::marker::Model;
-use values::{Duplicate, Failure, Row};
+use values::{Boxed, Duplicate, Failure, Reserved, Row};
 
 /// The processes of a node.
 #[derive(Drop)]
@@ -55,12 +53,12 @@ impl Processes {
     ghost use Rattle.process_table.specs.declared.body.BodyKind.TheVariants as kinds;
     ghost use Rattle.process_table.specs.Steps.{IsNextRunnable, Takes, after_arrival, arrive_refusal, kind_of, kind_refusal, missing, retake_refusal, start_refusal, take_refusal, with_process};
     ghost use Rattle.process_store.specs.Table.{changed, empty_table, is_open, is_taken, living, next_pid, pid_of};
-    ghost use Rattle.process_commit.specs.Commits.{job_at};
+    ghost use Rattle.process_effects.specs.Commits.{job_at};
     ghost use Rattle.process_store.specs.Changes.{resume_living, suspend_living};
     ghost use Rattle.process_store.specs.Vacating.{vacated};
-    ghost use Rattle.process_ending.specs.Kills.{told_by_kill, without_users};
-    ghost use Rattle.process_ending.specs.Told.{downs};
-    ghost use Rattle.process_ending.specs.Uses.{users};
+    ghost use Rattle.process_effects.specs.Kills.{told_by_kill, without_users};
+    ghost use Rattle.process_effects.specs.Told.{downs};
+    ghost use Rattle.process_effects.specs.Uses.{users};
     ghost use Rattle.process_table.specs.Undo.{Fits, IsKept, TakesBack, TakesBackEnds, held, undone};
     ghost use Rattle.process_store.specs.Pieces.{HoldsLost};
     ghost use Rattle.process_store.specs.Sound.{IsSound};

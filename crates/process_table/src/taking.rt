@@ -6,11 +6,9 @@ ghost use Rattle.process_table.specs.Jobs.{IsJobFor};
 
 use crate::error::ProcError;
 use code_server::Modules;
-use erl_eval::Place;
 use erl_forms::Module;
-use erl_machine::{Instance, Job};
-use job_code::job_code;
-use process::{Activity, Process};
+use erl_semantics::{Instance, Job, Place};
+use process::{Activity, Process, job_code};
 use process_store::Living;
 use std::alloc::{AllocError, Global};
 use values::{Duplicate, Row};

@@ -1,10 +1,7 @@
 // What takes a step back.
-use process_batch::Batched;
-use process_commit::{Exited, Rested};
-use process_ending::EndedProcess;
+use process_effects::{Batched, EndedProcess, Exited, Rested};
 use process_index::Call;
-use reserved_box::Boxed;
-use values::Row;
+use values::{Boxed, Row};
 
 /// What takes one step of the processes back: what the step has left, by pids, positions and numbers, and of
 /// processes that have ended the whole of them. What is large has memory of its own, so that most undos are a few words.

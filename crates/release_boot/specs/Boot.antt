@@ -5,7 +5,7 @@ use Rattle.std.specs.Str.{bytes_eq}
 use Rattle.code_loading.specs.Current.{current_code}
 use Rattle.code_server.specs.Modules.{Table as Loaded, empty_table as no_modules, loaded, purged}
 use Rattle.erl_forms.specs.Module.{Forms}
-use Rattle.erl_steps.specs.declared.world.Instance.{Instance}
+use Rattle.erl_semantics.specs.declared.instance.Instance.{Instance}
 use Rattle.erl_term.specs.Term.{tree}
 use Rattle.erl_term.specs.Tree.{atom, none, more}
 use Rattle.erl_term.specs.declared.term.Term.{Term}
@@ -13,7 +13,7 @@ use Rattle.erl_term.specs.declared.term.Term.TheVariants as term
 use Rattle.app_table.specs.declared.child.Child.{Child}
 use Rattle.otp_files.specs.declared.app.AppSpec.{AppSpec}
 use Rattle.otp_files.specs.declared.applications.RelApp.{RelApp}
-use Rattle.process_ending.specs.declared.told.Reply.{Reply}
+use Rattle.process_effects.specs.declared.told.Reply.{Reply}
 use Rattle.process_store.specs.Table.{Table, empty_table as no_processes}
 use Rattle.release_table.specs.declared.table.AppFiles.{AppFiles}
 use Rattle.release_table.specs.declared.table.Release.{Release}
@@ -21,8 +21,8 @@ use Rattle.release_words.specs.declared.start_type.StartType.{StartType}
 use Rattle.release_words.specs.declared.start_type.StartType.TheVariants as start
 use Rattle.app_table.specs.Applications.{Application, loaded as app_loaded, started}
 use Rattle.sys_protocol.specs.Refusals.{RefusesStart, Runs, module_of, start_refusal}
-use Rattle.app_starts.specs.declared.error.AppError.{AppError}
-use Rattle.app_starts.specs.declared.error.AppError.TheVariants.{NotLoaded, AlreadyStarted, BadInit, StartFailed}
+use Rattle.sys_protocol.specs.declared.app_error.AppError.{AppError}
+use Rattle.sys_protocol.specs.declared.app_error.AppError.TheVariants.{NotLoaded, AlreadyStarted, BadInit, StartFailed}
 use Rattle.release_boot.specs.declared.error.BootError.{BootError}
 use Rattle.release_boot.specs.declared.error.BootError.TheVariants.{NotStarted, Memory}
 

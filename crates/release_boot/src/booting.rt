@@ -9,7 +9,7 @@ use crate::specs_of::specs_of;
 use code_loading::current_code;
 use code_server::Modules;
 use erl_forms::Module;
-use erl_machine::Instance;
+use erl_semantics::Instance;
 use erl_term::{Atom, Term, Terms};
 use otp_files::{RelApp, StartType};
 use process_table::Processes;

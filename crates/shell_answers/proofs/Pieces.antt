@@ -4,7 +4,7 @@ use Rattle.std.specs.Fmt.{decimal}
 use Rattle.std.specs.Option.{unwrap_or}
 use Rattle.std.proofs.lemmas.Bool.{ne_eqb}
 use Rattle.std.proofs.lemmas.Option.{unwrap_or-slice_get}
-use Rattle.erl_eval.proofs.Tests.{from_here}
+use Rattle.erl_semantics.proofs.Tests.{from_here}
 use lib.Utf8.{encode}
 use Rattle.std.proofs.lemmas.Fmt.{IsAscii-decimal}
 use Rattle.erl_term.specs.Tree.{Tree, Trees, int, atom, pid, tuple, list, none, more}

@@ -8,18 +8,18 @@ use Rattle.erl_scan.specs.declared.error.Fault.TheVariants as kinds
 use Rattle.erl_term.specs.Rows.{integers}
 use Rattle.erl_term.specs.Term.{tree, trees}
 use Rattle.process.specs.Process.{ProcessState}
-use Rattle.process_ending.specs.declared.told.Reply.{Reply}
-use Rattle.process_ending.specs.declared.told.ReplyBody.{ReplyBody}
-use Rattle.process_ending.specs.declared.told.ReplyBody.TheVariants as bodies
+use Rattle.process_effects.specs.declared.told.Reply.{Reply}
+use Rattle.process_effects.specs.declared.told.ReplyBody.{ReplyBody}
+use Rattle.process_effects.specs.declared.told.ReplyBody.TheVariants as bodies
 use Rattle.undo_journal.specs.declared.report.Report.{Report}
-use Rattle.node_core.specs.Note.{Note}
+use Rattle.node_types.specs.Note.{Note}
 use Rattle.code_server.specs.Modules.{Entry}
 use Rattle.erl_forms.specs.Module.{Forms}
 use Rattle.app_table.specs.Applications.{Application}
 use Rattle.shell_answers.specs.declared.faults.SourceFault.{SourceFault}
 use Rattle.erl_term.specs.Text.{elements_text, is_quoted_word, utf8}
 use Rattle.erl_term.specs.declared.term.Term.{Term}
-use Rattle.erl_eval.specs.declared.acts.Place.TheVariants.{Loop}
+use Rattle.erl_semantics.specs.declared.acts.Place.TheVariants.{Loop}
 use Rattle.shell_answers.specs.Answers.{activity_of, apps_of, arrival_of, arrivals_of, committed, line_of, listed, loaded, modules_of, process_of, replied_by, replies_in, replies_of, rows_of, stopped_undo, undone_steps, mark_at, called, job_of, pair, place_of, revived, told_as, triple}
 use Rattle.shell_answers.specs.Faults.{fault_of, kind_word, placed, source_fault, start_failed, term_fault}
 use Rattle.shell_answers.proofs.Pieces.{AreTuples, AreTuples-append, bytes, list-alone, list-bytes, pid-pieces, tuple-alone, tuple-bytes}

@@ -6,20 +6,20 @@ use Rattle.erl_term.specs.Rows.{append_trees}
 use Rattle.erl_term.specs.Text.{utf8, text, elements_text, others_text}
 use Rattle.erl_term.specs.declared.term.Term.{Term}
 use Rattle.erl_forms.specs.Module.{Forms}
-use Rattle.erl_eval.specs.declared.acts.Place.{Place}
-use Rattle.erl_eval.specs.declared.acts.Place.TheVariants.{Server, Loop}
+use Rattle.erl_semantics.specs.declared.acts.Place.{Place}
+use Rattle.erl_semantics.specs.declared.acts.Place.TheVariants.{Server, Loop}
 use Rattle.release_words.specs.Words.{string_tree}
 use Rattle.code_server.specs.declared.modules.Instance.{Instance}
 use Rattle.code_server.specs.Modules.{Entry}
 use Rattle.process.specs.Process.{ProcessState}
 use Rattle.process.specs.declared.activity.Activity.{Activity}
 use Rattle.process.specs.declared.activity.Activity.TheVariants.{Idle, Suspended as Suspends, Runs}
-use Rattle.process_ending.specs.declared.told.Reply.{Reply}
-use Rattle.process_ending.specs.declared.told.ReplyBody.{ReplyBody}
-use Rattle.process_ending.specs.declared.told.ReplyBody.TheVariants.{Reply as Replied, Down}
+use Rattle.process_effects.specs.declared.told.Reply.{Reply}
+use Rattle.process_effects.specs.declared.told.ReplyBody.{ReplyBody}
+use Rattle.process_effects.specs.declared.told.ReplyBody.TheVariants.{Reply as Replied, Down}
 use Rattle.app_table.specs.Applications.{Application}
 use Rattle.undo_journal.specs.declared.report.Report.{Report}
-use Rattle.node_core.specs.Note.{Note}
+use Rattle.node_types.specs.Note.{Note}
 use Rattle.shell_answers.specs.declared.fixed.Fixed.{Fixed}
 use Rattle.shell_answers.specs.declared.fixed.Fixed.TheVariants.{Done, True, False, BadCommand, LineTooLong, SerialEnd, CounterAtEnd}
 use Rattle.shell_answers.specs.declared.fixed.Fixed.TheVariants.{Forgotten, DeadMark, Memory, NoJob, NoProc, Suspended, Running, Idle as IsIdle, NotRunning}

@@ -6,8 +6,8 @@ use Rattle.process_table.specs.declared.error.ProcError.{ProcError}
 use Rattle.process_table.specs.declared.error.ProcError.TheVariants as proc
 use Rattle.sys_protocol.specs.declared.error.SysError.{SysError}
 use Rattle.sys_protocol.specs.declared.error.SysError.TheVariants as sys
-use Rattle.node_core.specs.declared.event.Refusal.{Refusal}
-use Rattle.node_core.specs.declared.event.Refusal.TheVariants.{OfProcesses, OfModules, OfApps}
+use Rattle.node_types.specs.declared.event.Refusal.{Refusal}
+use Rattle.node_types.specs.declared.event.Refusal.TheVariants.{OfProcesses, OfModules, OfApps}
 use Rattle.shell_answers.specs.Answers.{fixed}
 use Rattle.shell_answers.specs.Faults.{start_failed}
 use Rattle.shell_answers.specs.declared.fixed.Fixed.{Fixed}

@@ -6,7 +6,7 @@ ghost use Rattle.erl_term.specs.Tree.{list};
 ghost use Rattle.shell_answers.specs.Answers.{activity_of, line_of, place_of, process_of};
 
 use crate::bytes::{put, put_number, put_pid};
-use erl_eval::Place;
+use erl_semantics::Place;
 use erl_term::{Atom, Term, Terms, print, print_atom, print_list};
 use process::{Activity, Process};
 use std::alloc::AllocError;

@@ -6,7 +6,7 @@ ghost use Rattle.shell_answers.specs.Refusals.{app_refusal, code_refusal, proc_r
 use crate::faults::write_start_failed;
 use crate::fixed::Fixed;
 use code_server::CodeError;
-use node_core::Refusal;
+use node_types::Refusal;
 use process_table::ProcError;
 use std::alloc::AllocError;
 use sys_protocol::SysError;

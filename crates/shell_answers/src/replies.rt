@@ -8,8 +8,8 @@ ghost use Rattle.shell_answers.specs.Answers.{arrival_of, arrivals_of, committed
 
 use crate::bytes::{put, put_number, put_separator};
 use erl_term::{Atom, Term, print, print_atom};
-use node_core::Note;
-use process_ending::{Reply, ReplyBody};
+use node_types::Note;
+use process_effects::{Reply, ReplyBody};
 use std::alloc::AllocError;
 use undo_journal::Report;
 use values::Row;

@@ -8,11 +8,11 @@ use Rattle.undo_journal.specs.Timeline.{IsFront, Station, cut_stations, cut_to, 
 use Rattle.std.proofs.lemmas.List.{append-nil}
 use Rattle.erl_term.specs.Rows.{append_trees}
 use Rattle.erl_term.specs.Tree.{more}
-use Rattle.process_ending.specs.declared.told.Reply.{Reply}
+use Rattle.process_effects.specs.declared.told.Reply.{Reply}
 use Rattle.shell_answers.specs.Answers.{line_of, replied, replies_in, rows_of, stopped_undo, undone_steps}
 use Rattle.node_core.specs.Node.{NodeState}
-use Rattle.node_core.specs.Note.{Note}
-use Rattle.node_core.specs.declared.event.Refusal.{Refusal}
+use Rattle.node_types.specs.Note.{Note}
+use Rattle.node_types.specs.declared.event.Refusal.{Refusal}
 use Rattle.shell_deeds.specs.Deeds.{Undoes, cut, forgotten, dead, stopped}
 use Rattle.shell_deeds.specs.Done.{IsDone, IsUnbegun, first_of, undo_answer, undo_fate, unfinished_answer, unfinished_fate}
 use Rattle.shell_deeds.specs.State.{NodeTimeline, ShellState, joined, with_timeline}

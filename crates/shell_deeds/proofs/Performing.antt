@@ -7,8 +7,8 @@ use Rattle.undo_journal.specs.Journal.{PerformFails}
 use Rattle.undo_journal.specs.Reversible.{Accepted}
 use Rattle.undo_journal.specs.declared.error.JournalError.{JournalError}
 use Rattle.undo_journal.specs.declared.error.JournalError.TheVariants as error
-use Rattle.erl_machine.specs.declared.jobs.Job.{Job}
-use Rattle.process_commit.specs.Commits.{job_at}
+use Rattle.erl_semantics.specs.declared.jobs.Job.{Job}
+use Rattle.process_effects.specs.Commits.{job_at}
 use Rattle.process_store.specs.Table.{living}
 use Rattle.process_store.specs.declared.living.Living.{Living}
 use Rattle.process_table.specs.Steps.{retake_refusal, retake_refusal_of}
@@ -18,14 +18,14 @@ use Rattle.shell_answers.specs.Answers.{fixed, job_of, line_of}
 use Rattle.shell_answers.specs.Refusals.{proc_refusal}
 use Rattle.shell_answers.specs.declared.fixed.Fixed.TheVariants as words
 use Rattle.node_core.specs.Node.{NodeState}
-use Rattle.node_core.specs.declared.event.Answer.{Answer}
-use Rattle.node_core.specs.declared.event.Answer.TheVariants as tells
-use Rattle.node_core.specs.declared.event.Event.{Event}
-use Rattle.node_core.specs.declared.event.Event.TheVariants as event
-use Rattle.node_core.specs.Note.{Note}
+use Rattle.node_types.specs.declared.event.Answer.{Answer}
+use Rattle.node_types.specs.declared.event.Answer.TheVariants as tells
+use Rattle.node_types.specs.declared.event.Event.{Event}
+use Rattle.node_types.specs.declared.event.Event.TheVariants as event
+use Rattle.node_types.specs.Note.{Note}
 use Rattle.node_core.specs.Step.{MayRunOut, Step, unless}
-use Rattle.node_core.specs.declared.event.Refusal.{Refusal}
-use Rattle.node_core.specs.declared.event.Refusal.TheVariants.{OfModules}
+use Rattle.node_types.specs.declared.event.Refusal.{Refusal}
+use Rattle.node_types.specs.declared.event.Refusal.TheVariants.{OfModules}
 use Rattle.shell_requests.specs.declared.request.Arrival.{Arrival}
 use Rattle.shell_deeds.specs.Deeds.{Commits, Misses, Performs, Retakes, no_memory_to_read, no_memory_to_run, not_run, not_run_full, unread_full, unread_refused, accepted, full, kept_again, no_memory, no_memory_to_keep, not_running, refused, took, tried}
 use Rattle.shell_deeds.specs.Done.{IsDone, IsKept, after_missed}

@@ -4,9 +4,9 @@ use Rattle.erl_forms.specs.Module.{Forms}
 use Rattle.erl_parse.specs.Sources.{IsNoSource}
 use Rattle.erl_parse.specs.Telling.{Says}
 use Rattle.erl_parse.specs.declared.error.LangError.{LangError}
-use Rattle.node_core.specs.declared.event.Answer.{Answer}
-use Rattle.node_core.specs.declared.event.Event.{Event}
-use Rattle.node_core.specs.declared.event.Event.TheVariants as event
+use Rattle.node_types.specs.declared.event.Answer.{Answer}
+use Rattle.node_types.specs.declared.event.Event.{Event}
+use Rattle.node_types.specs.declared.event.Event.TheVariants as event
 use Rattle.release_files.specs.Files.{file_of}
 use Rattle.shell_answers.specs.Answers.{line_of, loaded}
 use Rattle.shell_answers.specs.Faults.{source_fault}

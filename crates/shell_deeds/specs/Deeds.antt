@@ -1,8 +1,8 @@
 -- What the shell may do where a line asks for something: by what want of memory makes of it, one clause a way.
 use Rattle.std.specs.Prelude.{◌≡◌, ◌≢◌, ℕ, ◌+◌, ◌≤◌, length, [], true, false, List, Option, None, Some, IsSome, Ok, Err, slice_get}
 use Prim.Native.Nat.{zero, suc}
-use Rattle.erl_machine.specs.declared.jobs.Done.{Done}
-use Rattle.erl_machine.specs.declared.jobs.Job.{Job}
+use Rattle.erl_semantics.specs.declared.jobs.Done.{Done}
+use Rattle.erl_semantics.specs.declared.jobs.Job.{Job}
 use Rattle.erl_parse.specs.Sources.{IsNoSource, IsSource}
 use Rattle.erl_parse.specs.Telling.{Says}
 use Rattle.erl_parse.specs.declared.error.LangError.{LangError}
@@ -12,7 +12,7 @@ use Rattle.erl_term.specs.Term.{tree}
 use Rattle.erl_term.specs.Tree.{Tree, list}
 use Rattle.erl_term.specs.declared.term.Term.{Term}
 use Rattle.erl_term.specs.declared.term.Term.TheVariants.{Atom}
-use Rattle.process_commit.specs.Commits.{job_at}
+use Rattle.process_effects.specs.Commits.{job_at}
 use Rattle.process_store.specs.Table.{living, pid_of}
 use Rattle.process_store.specs.declared.living.Living.{Living}
 use Rattle.process_table.specs.Steps.{retake_refusal}
@@ -23,12 +23,12 @@ use Rattle.undo_journal.specs.Reversible.{Accepted}
 use Rattle.undo_journal.specs.Timeline.{IsDead, IsForgotten, cut_stations, cut_to, here, report_of}
 use Rattle.node_core.specs.Node.{NodeState}
 use Rattle.node_core.specs.Step.{MayRunOut, Step}
-use Rattle.node_core.specs.declared.event.Answer.{Answer}
-use Rattle.node_core.specs.declared.event.Answer.TheVariants as tells
-use Rattle.node_core.specs.declared.event.Event.{Event}
-use Rattle.node_core.specs.declared.event.Event.TheVariants as event
-use Rattle.node_core.specs.Note.{Note}
-use Rattle.node_core.specs.declared.event.Refusal.{Refusal}
+use Rattle.node_types.specs.declared.event.Answer.{Answer}
+use Rattle.node_types.specs.declared.event.Answer.TheVariants as tells
+use Rattle.node_types.specs.declared.event.Event.{Event}
+use Rattle.node_types.specs.declared.event.Event.TheVariants as event
+use Rattle.node_types.specs.Note.{Note}
+use Rattle.node_types.specs.declared.event.Refusal.{Refusal}
 use Rattle.release_files.specs.Files.{file_of}
 use Rattle.shell_answers.specs.Answers.{apps_of, called, committed, fixed, job_of, line_of, loaded, mark_at, modules_of, process_of, replies_in, revived, stopped_undo, undone_steps}
 use Rattle.shell_answers.specs.Faults.{source_fault, term_fault}

@@ -3,7 +3,7 @@ use Rattle.std.specs.Prelude.{◌≡◌, ◌≢◌, ◌+◌, ℕ, Bool, length, 
 use Rattle.std.specs.Global.{Global}
 use Rattle.std.specs.Ordering.{eq_by_cmp, on}
 use Rattle.erl_forms.specs.Module.{Forms}
-use Rattle.erl_machine.specs.declared.jobs.Job.{Job}
+use Rattle.erl_semantics.specs.declared.jobs.Job.{Job}
 use Rattle.erl_parse.specs.Sources.{IsNoSource, IsSource}
 use Rattle.erl_parse.specs.Telling.{Says}
 use Rattle.erl_parse.specs.declared.error.LangError.{LangError}
@@ -16,8 +16,8 @@ use Rattle.app_table.specs.declared.child.Child.{Child}
 use Rattle.undo_journal.specs.declared.report.Report.{Report}
 use Rattle.undo_journal.specs.declared.error.JournalError.{JournalError}
 use Rattle.undo_journal.specs.declared.error.JournalError.TheVariants as error
-use Rattle.node_core.specs.Note.{Note}
-use Rattle.node_core.specs.declared.event.Refusal.{Refusal}
+use Rattle.node_types.specs.Note.{Note}
+use Rattle.node_types.specs.declared.event.Refusal.{Refusal}
 use Rattle.release_files.specs.Files.{file_of}
 use Rattle.shell_answers.specs.Answers.{fixed, job_of, line_of, stopped_undo, undone_steps}
 use Rattle.shell_answers.specs.declared.faults.SourceFault.TheVariants as source

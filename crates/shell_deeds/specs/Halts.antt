@@ -1,6 +1,6 @@
 -- Why something isn't done that the node is asked for, and what is told of it.
 use Rattle.std.specs.Prelude.{◌≡◌, ℕ, List, Option, None, Some, Err}
-use Rattle.erl_machine.specs.declared.jobs.Job.{Job}
+use Rattle.erl_semantics.specs.declared.jobs.Job.{Job}
 use Rattle.erl_term.specs.Tree.{Tree}
 use Rattle.process_table.specs.Commit.{CanCommit, RefusesCommit}
 use Rattle.process_table.specs.declared.error.ProcError.{ProcError}
@@ -10,10 +10,10 @@ use Rattle.undo_journal.specs.declared.error.JournalError.{JournalError}
 use Rattle.undo_journal.specs.declared.error.JournalError.TheVariants as error
 use Rattle.node_core.specs.Node.{NodeState}
 use Rattle.node_core.specs.Step.{MayRunOut, Step, soft_purge_refusal}
-use Rattle.node_core.specs.declared.event.Event.{Event}
-use Rattle.node_core.specs.Note.{Note}
-use Rattle.node_core.specs.declared.event.Refusal.{Refusal}
-use Rattle.node_core.specs.declared.event.Refusal.TheVariants.{OfProcesses}
+use Rattle.node_types.specs.declared.event.Event.{Event}
+use Rattle.node_types.specs.Note.{Note}
+use Rattle.node_types.specs.declared.event.Refusal.{Refusal}
+use Rattle.node_types.specs.declared.event.Refusal.TheVariants.{OfProcesses}
 use Rattle.shell_answers.specs.Answers.{fixed}
 use Rattle.shell_answers.specs.Refusals.{refusal_of}
 use Rattle.shell_answers.specs.declared.fixed.Fixed.TheVariants as words

@@ -1,16 +1,16 @@
 -- What the shell holds from one line to the next, and what a line does.
 use Rattle.std.specs.Prelude.{◌≡◌, ℕ, ◌+◌, ◌-◌, ◌^◌, nat_lt, if◌then◌else◌, List, [], ◌∷◌, ◌++◌, Option, None, Some, flat_map}
-use Rattle.erl_machine.specs.declared.jobs.Job.{Job}
+use Rattle.erl_semantics.specs.declared.jobs.Job.{Job}
 use Rattle.erl_term.specs.Tree.{Tree}
-use Rattle.process_ending.specs.declared.told.Reply.{Reply}
+use Rattle.process_effects.specs.declared.told.Reply.{Reply}
 use Rattle.undo_journal.specs.declared.history.Command.{Command}
 use Rattle.undo_journal.specs.declared.history.Command.TheVariants.{Perform}
 use Rattle.undo_journal.specs.Reversible.{Accepted}
 use Rattle.undo_journal.specs.Timeline.{Timeline, appended, here, opened}
 use Rattle.node_core.specs.Node.{NodeState}
-use Rattle.node_core.specs.declared.event.Answer.{Answer}
-use Rattle.node_core.specs.declared.event.Event.{Event}
-use Rattle.node_core.specs.Note.{Note}
+use Rattle.node_types.specs.declared.event.Answer.{Answer}
+use Rattle.node_types.specs.declared.event.Event.{Event}
+use Rattle.node_types.specs.Note.{Note}
 use Rattle.release_files.specs.Files.{Contents}
 use Rattle.shell_answers.specs.Answers.{line_of}
 

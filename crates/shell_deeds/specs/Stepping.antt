@@ -5,9 +5,9 @@ use Rattle.undo_journal.specs.Timeline.{appended}
 use Rattle.undo_journal.specs.declared.reversible.Told.{Told}
 use Rattle.node_core.specs.Node.{NodeState}
 use Rattle.node_core.specs.Step.{Step}
-use Rattle.node_core.specs.declared.event.Answer.{Answer}
-use Rattle.node_core.specs.declared.event.Event.{Event}
-use Rattle.node_core.specs.Note.{Note}
+use Rattle.node_types.specs.declared.event.Answer.{Answer}
+use Rattle.node_types.specs.declared.event.Event.{Event}
+use Rattle.node_types.specs.Note.{Note}
 use Rattle.shell_deeds.specs.State.{IsFull, NodeTimeline, ShellState, node_of, stepped}
 
 -- The rule accepts an event, this tells of it, and the journal is the one behind it.

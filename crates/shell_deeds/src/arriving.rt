@@ -17,7 +17,7 @@ use crate::reading::{Misread, term_of};
 use crate::stepping::Halt;
 use crate::telling::{Said, say, say_term_fault, tell_halt, tell_missed};
 use erl_term::{Atom, Term};
-use node_core::{Event, Refusal};
+use node_types::{Event, Refusal};
 use process_table::{Body, BodyKind, ProcError};
 use shell_answers::{Fixed, write_called};
 use shell_requests::{Arrival, Name};

@@ -12,7 +12,8 @@ use crate::telling::{Said, say, tell_halt};
 use code_loading::is_lingered_in;
 use code_server::CodeError;
 use erl_term::Atom;
-use node_core::{Answer, Event, Node, Refusal};
+use node_core::Node;
+use node_types::{Answer, Event, Refusal};
 use shell_answers::Fixed;
 use shell_requests::{Change, Name};
 

@@ -10,9 +10,10 @@ ghost use Rattle.shell_deeds.specs.State.{joined};
 use crate::holdings::Holdings;
 use crate::stepping::{Halt, send_told, step};
 use crate::telling::{Said, say, tell_halt};
-use erl_machine::{Done, Job};
-use node_core::{Answer, Event, Note, Refusal};
-use process_ending::Reply;
+use callback_lang::run;
+use erl_semantics::{Done, Job};
+use node_types::{Answer, Event, Note, Refusal};
+use process_effects::Reply;
 use shell_answers::{Fixed, write_committed};
 use std::alloc::Global;
 use undo_journal::Told;
@@ -27,7 +28,7 @@ impl Holdings {
         let Some(job) = self.kept_job(number) else {
             return say(Fixed::NoJob, out);
         };
-        match job.run(alloc) {
+        match run(alloc, job) {
             Ok(done) => self.commit_done(done, out),
             Err(_) => tell_halt(self.halt_of_job(job), out),
         }

@@ -1,9 +1,9 @@
 // What the shell holds from one line to the next.
 ghost use Rattle.std.specs.Prelude.{◌≡◌, ◌+◌, ◌↔◌, IfOk, IsTrue, OnErr, OnOk, length};
 
-use erl_machine::Job;
+use erl_semantics::Job;
 use node_core::Node;
-use process_ending::Reply;
+use process_effects::Reply;
 use process_table::Processes;
 use release_files::Files;
 use std::alloc::{AllocError, Global};

@@ -1,7 +1,7 @@
 // Loads of modules.
 ghost use Rattle.std.specs.Prelude.{◌≡◌, ◌++◌, IfOk, MatchResult, None};
 ghost use Rattle.std.specs.Str.{chars};
-ghost use Rattle.node_core.specs.declared.event.Event.TheVariants.{Load};
+ghost use Rattle.node_types.specs.declared.event.Event.TheVariants.{Load};
 ghost use Rattle.shell_answers.specs.Answers.{line_of, loaded};
 ghost use Rattle.shell_deeds.specs.Deeds.{Loads, Performs};
 ghost use Rattle.shell_deeds.specs.Done.{IsDone, IsSourced, Unsourced, not_loaded};
@@ -15,7 +15,7 @@ use crate::telling::{Said, say_source_fault, tell_halt, tell_missed};
 use erl_forms::Module;
 use erl_parse::{LangError, read_module};
 use erl_term::Atom;
-use node_core::{Event, Refusal};
+use node_types::{Event, Refusal};
 use shell_answers::{SourceFault, write_loaded};
 use shell_requests::Name;
 use values::{Duplicate, Failure};

@@ -1,8 +1,8 @@
 // What a process is asked for.
 ghost use Rattle.std.specs.Prelude.{◌≡◌, ◌+◌, ◌<◌, ◌++◌, ◌∷◌, [], IfOk, None, Some, length, vec_capacity, vec_len};
-ghost use Rattle.erl_machine.specs.declared.jobs.Job.{Job};
-ghost use Rattle.node_core.specs.declared.event.Answer.TheVariants as tells;
-ghost use Rattle.node_core.specs.declared.event.Event.TheVariants as event;
+ghost use Rattle.erl_semantics.specs.declared.jobs.Job.{Job};
+ghost use Rattle.node_types.specs.declared.event.Answer.TheVariants as tells;
+ghost use Rattle.node_types.specs.declared.event.Event.TheVariants as event;
 ghost use Rattle.shell_deeds.specs.Deeds.{ServesAs};
 ghost use Rattle.shell_answers.specs.Answers.{job_of, line_of};
 ghost use Rattle.shell_deeds.specs.Done.{IsDone, IsKept};
@@ -11,8 +11,8 @@ ghost use Rattle.shell_requests.specs.declared.request.Service.TheVariants.{Reta
 use crate::holdings::Holdings;
 use crate::stepping::{halt_of, send_told, step};
 use crate::telling::{Said, refuse, say, tell_halt};
-use erl_machine::Job;
-use node_core::{Answer, Event};
+use erl_semantics::Job;
+use node_types::{Answer, Event};
 use shell_answers::{Fixed, proc_refusal, write_job, write_process};
 use values::Failure;
 

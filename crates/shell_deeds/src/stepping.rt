@@ -5,8 +5,9 @@ ghost use Rattle.shell_deeds.specs.State.{ShellState, joined};
 ghost use Rattle.shell_deeds.specs.Stepping.{IsStepped, IsTold};
 
 use crate::holdings::Holdings;
-use node_core::{Answer, Event, Node, Note, Refusal};
-use process_ending::Reply;
+use node_core::Node;
+use node_types::{Answer, Event, Note, Refusal};
+use process_effects::Reply;
 use std::alloc::Global;
 use undo_journal::{Journal, JournalError, Reversible, Told};
 use values::Row;

@@ -10,7 +10,7 @@ ghost use Rattle.shell_deeds.specs.Halts.{halt_answer, halt_fate, missed_fate};
 use crate::fate::Fate;
 use crate::stepping::Halt;
 use erl_scan::ReadError;
-use node_core::Refusal;
+use node_types::Refusal;
 use shell_answers::{Fixed, SourceFault, write_refusal, write_source_fault, write_term_fault};
 use std::alloc::AllocError;
 

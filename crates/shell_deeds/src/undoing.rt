@@ -11,7 +11,8 @@ ghost use Rattle.shell_deeds.specs.declared.fate.Fate.TheVariants.{StoppedAt};
 use crate::fate::Fate;
 use crate::holdings::{Holdings, SPARE};
 use crate::telling::{Said, say};
-use node_core::{Node, Note, Refusal};
+use node_core::Node;
+use node_types::{Note, Refusal};
 use shell_answers::{
     Fixed, write_apps, write_mark, write_modules, write_replies, write_stopped, write_undone,
 };

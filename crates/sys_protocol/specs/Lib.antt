@@ -1,1 +1,6 @@
+pub mod AppStarts
+pub mod ChildFaults
+pub mod ChildStarts
 pub mod Refusals
+pub mod RunningChildren
+pub mod StartResults

@@ -1,16 +1,16 @@
 -- Why a step of applications is refused (application(3); supervisor(3)).
 use Rattle.std.specs.Prelude.{◌≡◌, ◌⊎◌, ℕ, true, false, if◌then◌else◌, List, [], Option, None, Some, option_and_then}
-use Rattle.erl_steps.specs.declared.world.Instance.{Instance}
+use Rattle.erl_semantics.specs.declared.instance.Instance.{Instance}
 use Rattle.erl_term.specs.declared.term.Term.{Term}
-use Rattle.app_starts.specs.Starts.{AppFails, AppStarts}
+use Rattle.sys_protocol.specs.AppStarts.{AppFails, AppStarts}
 use Rattle.app_table.specs.Applications.{Application, app_of, child_of}
 use Rattle.app_table.specs.Children.{is_due}
 use Rattle.app_table.specs.declared.child.Child.{Child}
-use Rattle.app_starts.specs.declared.error.AppError.{AppError}
-use Rattle.app_starts.specs.declared.error.AppError.TheVariants.{NotLoaded, AlreadyStarted}
-use Rattle.child_starts.specs.Errors.{ChildFails}
+use Rattle.sys_protocol.specs.declared.app_error.AppError.{AppError}
+use Rattle.sys_protocol.specs.declared.app_error.AppError.TheVariants.{NotLoaded, AlreadyStarted}
+use Rattle.sys_protocol.specs.ChildFaults.{ChildFails}
 use Rattle.otp_files.specs.declared.app.StartModule.{StartModule}
-use Rattle.process_ending.specs.declared.told.Reply.{Reply}
+use Rattle.process_effects.specs.declared.told.Reply.{Reply}
 use Rattle.process_store.specs.Table.{Table}
 use Rattle.process_table.specs.Undo.{TakesBack}
 use Rattle.process_table.specs.declared.undo.Undo.{Undo}

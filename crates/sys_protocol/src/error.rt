@@ -1,5 +1,5 @@
 // Why a step of applications is refused.
-use child_starts::StartFailed;
+use crate::start_failed::StartFailed;
 use std::alloc::{AllocError, Global};
 use std::fmt;
 use thiserror::Error;

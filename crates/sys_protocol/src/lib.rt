@@ -8,7 +8,13 @@
 //! - An application starts exactly where its callback module's `init` gives a supervision and every child of it starts, in order; it has
 //!   these children then, and the processes and what clients are told are what the acts of `init` and of the start functions make, in
 //!   order (`Runs`, `started`). One without a callback module has no children.
-//! - Else it is told why: that the application is not loaded, or is started already, that `init` gave no supervision, or which child has
+//! - A child starts exactly where its start function gives `{ok,Pid}` or `{ok,Pid,Info}` of the process that it has started, and the name
+//!   that it asks for, if any, is free (`Starts`, `start_fault`). Then the processes are those that its acts make, in order, and its pid is
+//!   the next. Else the reason is told by the rules: R of `{error,R}` and of an exit, the value of any other; of a taken name
+//!   `{already_started,Pid}` where `{local,Name}` asked for it, and `badarg` where `register/2` did. A taken name is looked for last.
+//! - Several start in order, each in the processes that the ones before it have left (`AllStart`), and the first that fails is told
+//!   (`FirstFails`).
+//! - Where an application doesn't start it is told why: that the application is not loaded, or is started already, that `init` gave no supervision, or which child has
 //!   failed first, and for what reason (`RefusesStart`). All is then as it was, and no pid is used. Want of memory is told only of one
 //!   that is loaded and not started.
 //! - A child is revived exactly where it is due and its start function starts it (`revived`, `RefusesRevive`). Want of memory is told only
@@ -20,16 +26,24 @@
 //!
 //! # What no contract says
 //!
-//! That there is memory, and what a call costs: evaluating aside, a step looks through the names of the applications, and an end through
+//! That there is memory, and what a call costs: `init` and each start function are evaluated once, and nothing of what they did
+//! is copied. Evaluating aside, a step looks through the names of the applications, and an end through
 //! the children, of which it changes one. Nothing is copied.
 #![tactic(auto)]
 
+mod app_error;
 mod apps;
+mod child_starting;
+mod children;
 mod error;
+mod restarting;
+mod results;
 mod running;
+mod start_failed;
+mod supervising;
 
-pub use app_starts::AppError;
-pub use app_table::{App, AppTable, Child, ChildState, Children, Ended, Undo};
+pub use app_error::AppError;
+pub use app_table::{App, AppTable, Child, ChildState, Ended, Undo};
 pub use apps::{AppStart, Revival, revive, revive_refusal, start_app};
-pub use child_starts::StartFailed;
 pub use error::SysError;
+pub use start_failed::StartFailed;

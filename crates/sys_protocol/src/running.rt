@@ -2,14 +2,15 @@
 ghost use Rattle.std.specs.Prelude.{◌≡◌, [], IfErr, IfOk, List, None, OnErr, replicate};
 ghost use Rattle.std.specs.Option.{option_copied};
 ghost use Rattle.values.specs.Failure.{Fails};
-ghost use Rattle.process_ending.specs.declared.told.Reply.{Reply as Told};
+ghost use Rattle.process_effects.specs.declared.told.Reply.{Reply as Told};
 ghost use Rattle.sys_protocol.specs.Refusals.{FailsToRun, Runs, StartsBack};
 
-use app_starts::{AppError, Supervised, supervise};
+use crate::app_error::AppError;
+use crate::supervising::{Supervised, supervise};
 use app_table::Children;
-use erl_machine::Instance;
+use erl_semantics::Instance;
 use otp_files::StartModule;
-use process_ending::Reply;
+use process_effects::Reply;
 use process_table::{Processes, Undo};
 use std::alloc::{AllocError, Global};
 use values::{Failure, Row};

@@ -1,6 +1,6 @@
 use Rattle.erl_term.specs.Tree.{count}
-use Rattle.erl_eval.specs.Jobs.{entered_in}
-use Rattle.erl_eval.specs.Starting.{remote_function}
+use Rattle.erl_semantics.specs.Jobs.{entered_in}
+use Rattle.erl_semantics.specs.Starting.{remote_function}
 use Rattle.erl_steps.proofs.Ends.{from_outside_ends, gives_at_ends}
 use Rattle.erl_steps.proofs.each_evaluation_has_an_outcome.Goals as goal
 

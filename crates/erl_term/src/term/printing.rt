@@ -78,7 +78,7 @@ pub(crate) fn append_list(
 ) -> Result<(), AllocError>
     ensures { Appends result (utf8 (text (list (trees (front.now ++ back.now))))) out.old.items out.new.items }
 {
-    if is_string(front, back) {
+    if prints_as_string(front, back) {
         put(b"\"", out)?;
         append_chars(front, out)?;
         append_chars(back, out)?;
@@ -135,7 +135,7 @@ fn append_other(term: &Term, out: &mut Vec<u8>) -> Result<(), AllocError>
 }
 
 /// Whether there are terms in two rows, and each is an integer from 32 to 126.
-fn is_string(front: &[Term], back: &[Term]) -> bool
+fn prints_as_string(front: &[Term], back: &[Term]) -> bool
     ensures { result ≡ has_chars (printable (trees (front.now ++ back.now))) }
 {
     if front.is_empty() {

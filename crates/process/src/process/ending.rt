@@ -1,18 +1,17 @@
 // A process that was taken out whole, and one that is made of it again.
 ghost use Rattle.std.specs.Prelude.{◌≡◌, IfErr, IfOk, IfSome, Some, map};
 ghost use Rattle.std.specs.Option.{option_copied, option_map};
-ghost use Rattle.job_code.specs.Named.{all_found};
+ghost use Rattle.process.specs.Named.{all_found};
 ghost use Rattle.process.specs.Process.{awaited};
 ghost use Rattle.process.specs.Ended.{EndedProcessesLive, activity_by, code_found, code_named, did_by, ended, ended_with, held, lived, lives, named, rests_found};
 
 use super::{Process, first_of};
 use crate::activity::{Activity, Running};
+use crate::{NamedInstance, instance_of, instances_of, named_of};
 use code_server::Modules;
-use erl_eval::Place;
 use erl_forms::Module;
-use erl_machine::Instance;
+use erl_semantics::{Instance, Place};
 use erl_term::{Atom, Term};
-use job_code::{NamedInstance, instance_of, instances_of, named_of};
 use std::alloc::{AllocError, Global};
 use std::collections::VecDeque;
 use std::marker::Model;

@@ -4,12 +4,11 @@ ghost use Rattle.process.specs.Rerun.{JobsRunAgain, ran_in, ran_with, runs_again
 
 use super::Ran;
 use super::ending::{NamedRunning, Told, code_in, place_found};
+use crate::NamedInstance;
 use crate::activity::Running;
 use code_server::Modules;
-use erl_eval::Place;
 use erl_forms::Module;
-use erl_machine::Instance;
-use job_code::NamedInstance;
+use erl_semantics::{Instance, Place};
 use std::alloc::{AllocError, Global};
 use values::Row;
 

@@ -10,8 +10,7 @@ use super::ProcessStore;
 use crate::places::{
     arrive_at, close_at, reopen_at, rest_at, resume_at, suspend_at, unarrive_at, unrest_at,
 };
-use erl_eval::Place;
-use erl_machine::Instance;
+use erl_semantics::{Instance, Place};
 use erl_term::Term;
 use process::{Activity, Ran};
 use process_index::{Call, Owner};

@@ -1,25 +1,21 @@
 // What was evaluated inside a step is done.
 ghost use Rattle.std.specs.Prelude.{◌≡◌, ◌++◌, IfErr, IfOk, List, OnErr, OnOk, false, replicate};
-ghost use Rattle.process_commit.specs.Parted.{answers_told};
-ghost use Rattle.process_batch.specs.Batches.{AllFit, CanUnbatch, all_undone, unbatched};
-ghost use Rattle.process_batch.specs.Begins.{CanGiveUp, IsUnderWay, acts_begun, begun_told};
-ghost use Rattle.process_ending.specs.declared.told.Reply.{Reply as Told};
+ghost use Rattle.process_effects.specs.Parted.{answers_told};
+ghost use Rattle.process_effects.specs.Batches.{AllFit, CanUnbatch, all_undone, unbatched};
+ghost use Rattle.process_effects.specs.Begins.{CanGiveUp, IsUnderWay, acts_begun, begun_told};
+ghost use Rattle.process_effects.specs.declared.told.Reply.{Reply as Told};
 ghost use Rattle.process_store.specs.Pieces.{HoldsLost};
 ghost use Rattle.process_store.specs.Table.{Table, is_taken};
-ghost use Rattle.process_told.specs.Telling.{IsReadyFor};
+ghost use Rattle.process_effects.specs.Telling.{IsReadyFor};
 ghost use Rattle.process_table.specs.Undo.{TakesBack, held};
 
 use super::Processes;
 use crate::undo::Undo;
-use erl_eval::Act;
-use erl_machine::Instance;
+use erl_semantics::{Act, Instance};
 use erl_term::Atom;
-use process_batch::{Batch, Batched, begin, finish, give_up, revert_batch};
-use process_ending::Reply;
-use process_told::Telling;
-use reserved_box::{Boxed, Reserved};
+use process_effects::{Batch, Batched, Reply, Telling, begin, finish, give_up, revert_batch};
 use std::alloc::AllocError;
-use values::Row;
+use values::{Boxed, Reserved, Row};
 
 impl Processes {
     /// Does what evaluating has done, as a part of a batch: its acts, in order, of which the replies are given when the batch is

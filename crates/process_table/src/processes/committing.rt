@@ -1,11 +1,11 @@
 // A job is committed.
 ghost use Rattle.std.specs.Prelude.{◌≡◌, ◌↔◌, IfErr, IfOk, IsSome, IsTrue, MatchOption, OnErr, OnOk, replicate};
 ghost use Rattle.values.specs.Failure.{Fails};
-ghost use Rattle.process_commit.specs.Acts.{acts_told};
-ghost use Rattle.process_commit.specs.Commits.{IsRunning, rested_after};
+ghost use Rattle.process_effects.specs.Acts.{acts_told};
+ghost use Rattle.process_effects.specs.Commits.{IsRunning, rested_after};
 ghost use Rattle.process_store.specs.Changes.{CanTurnAt};
 ghost use Rattle.process_store.specs.Table.{living};
-ghost use Rattle.process_commit.specs.Exits.{exit_told, exited};
+ghost use Rattle.process_effects.specs.Exits.{exit_told, exited};
 ghost use Rattle.process_table.specs.Commit.{CanCommit, RefusesCommit, commit_told, committed, concluded, normal, told_by};
 ghost use Rattle.process_store.specs.Pieces.{HoldsLost};
 ghost use Rattle.process_table.specs.Undo.{Fits, IsKept, TakesBackEnds, held, undone};
@@ -14,16 +14,14 @@ use super::Processes;
 use crate::error::ProcError;
 use crate::undo::Undo;
 use code_server::Modules;
-use erl_eval::{Act, Place};
 use erl_forms::Module;
-use erl_machine::{Done, End, Job};
+use erl_semantics::{Act, Done, End, Job, Place};
 use erl_term::{Atom, Term};
-use process_commit::{Exited, Rested, commit_exit, commit_rest, revert_exit, revert_rest};
-use process_ending::Reply;
-use process_told::Telling;
-use reserved_box::{Boxed, Reserved};
+use process_effects::{
+    Exited, Reply, Rested, Telling, commit_exit, commit_rest, revert_exit, revert_rest,
+};
 use std::alloc::{AllocError, Global};
-use values::{Failure, Row};
+use values::{Boxed, Failure, Reserved, Row};
 
 /// The reason of a process that has given a value.
 fn normal(alloc: Global) -> Result<Term, AllocError>

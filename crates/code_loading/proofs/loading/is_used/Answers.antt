@@ -1,7 +1,7 @@
 -- Nobody uses it, or one does.
 use Rattle.std.proofs.Common.{◌∙◌, ap}
-use Rattle.process_ending.specs.Uses.{uses}
-use Rattle.process_ending.proofs.Alive.{passing, users_alive}
+use Rattle.process_effects.specs.Uses.{uses}
+use Rattle.process_effects.proofs.Alive.{passing, users_alive}
 use Rattle.code_loading.specs.Loading.{is_any}
 use Rattle.code_loading.proofs.loading.is_used.Goals as goal
 

@@ -2,7 +2,7 @@
 use Rattle.std.proofs.Common.{◌≡◌, sym, ◌∙◌, None, option_map}
 use Rattle.erl_term.specs.Term.{tree, trees}
 use Rattle.erl_term.specs.Tree.{count}
-use Rattle.erl_eval.specs.Starting.{begin_or_undef, first_start, remote_function, spawn_asked}
+use Rattle.erl_semantics.specs.Starting.{begin_or_undef, first_start, remote_function, spawn_asked}
 use Rattle.erl_steps.specs.Views.{request_of, startup_of, world_of}
 use Rattle.erl_steps.proofs.Asking.{spawn_three}
 use Rattle.erl_steps.proofs.Results.{if_ok}

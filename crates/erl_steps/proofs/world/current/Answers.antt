@@ -1,7 +1,7 @@
 -- One instance more.
 use Rattle.std.proofs.Common.{ap, sym, ◌∙◌, if◌then◌else◌, Some, map, drop, ◌+◌}
-use Rattle.erl_eval.specs.State.{current}
-use Rattle.erl_steps.specs.Views.{instance}
+use Rattle.erl_semantics.specs.State.{current}
+use Rattle.erl_semantics.specs.Views.{instance}
 use Rattle.erl_steps.proofs.Worlds.{current_next}
 use Rattle.erl_steps.proofs.world.current.Goals as goal
 

@@ -1,7 +1,7 @@
 -- What is left has the instance that all have.
 use Rattle.std.proofs.Common.{◌≡◌, drop, map}
-use Rattle.erl_eval.specs.State.{current}
-use Rattle.erl_steps.specs.Views.{instance}
+use Rattle.erl_semantics.specs.State.{current}
+use Rattle.erl_semantics.specs.Views.{instance}
 use Rattle.erl_steps.proofs.world.current.Given as goal
 
 abbrev pub invariant-loop-item : goal.invariant-loop-item

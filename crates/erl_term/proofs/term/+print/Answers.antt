@@ -20,32 +20,32 @@ pub printing::append_list-returns-in_err-append_chars-2 : goal.printing::append_
 printing::append_list-returns-in_err-append_chars-2 t c =
     let old = c.args.out.now.items in
     let mid = c.append_chars.new.out.items in
-    stopped c.from_residual-in_err-append_chars-2.result old mid c.append_chars-then-is_string.new.out.items _ _ c.from_residual-in_err-append_chars-2.ensures.0 (joined old c.put.new.out.items mid _ _ c.in_ok-put.ensures c.in_ok-append_chars.ensures) c.in_err-append_chars-2.ensures
+    stopped c.from_residual-in_err-append_chars-2.result old mid c.append_chars-then-prints_as_string.new.out.items _ _ c.from_residual-in_err-append_chars-2.ensures.0 (joined old c.put.new.out.items mid _ _ c.in_ok-put.ensures c.in_ok-append_chars.ensures) c.in_err-append_chars-2.ensures
 
 pub printing::append_list-returns-in_ok-append_chars-2 : goal.printing::append_list-returns-in_ok-append_chars-2
 printing::append_list-returns-in_ok-append_chars-2 t c =
     let old = c.args.out.now.items in
     let first = c.put.new.out.items in
-    let mid = c.append_chars-then-is_string.new.out.items in
+    let mid = c.append_chars-then-prints_as_string.new.out.items in
     let row = c.args.front.now ++ c.args.back.now in
-    let end = c.put-then-is_string in
+    let end = c.put-then-prints_as_string in
     let written = joined_as first c.append_chars.new.out.items mid _ _ _ c.in_ok-append_chars.ensures c.in_ok-append_chars-2.ensures (chars-both c.args.front.now c.args.back.now) in
     last end.result old mid end.new.out.items _ _ (utf8 (text (list (trees row)))) (joined old first mid _ _ c.in_ok-put.ensures written) end.ensures
-    (between-bytes 34 34 (flat_map string_char (printable_chars (trees row))) (omega arith) (omega arith) ∙ ap utf8 (sym (list-string (trees row) (sym c.is_string.ensures ∙ c.if-is_string.true))))
+    (between-bytes 34 34 (flat_map string_char (printable_chars (trees row))) (omega arith) (omega arith) ∙ ap utf8 (sym (list-string (trees row) (sym c.prints_as_string.ensures ∙ c.if-prints_as_string.true))))
 
 pub printing::append_list-returns-in_err-append_both : goal.printing::append_list-returns-in_err-append_both
 printing::append_list-returns-in_err-append_both t c =
-    stopped c.from_residual-in_err-append_both.result c.args.out.now.items c.put-else-is_string.new.out.items c.append_both.new.out.items _ _ c.from_residual-in_err-append_both.ensures.0 c.in_ok-put-2.ensures c.in_err-append_both.ensures
+    stopped c.from_residual-in_err-append_both.result c.args.out.now.items c.put-else-prints_as_string.new.out.items c.append_both.new.out.items _ _ c.from_residual-in_err-append_both.ensures.0 c.in_ok-put-2.ensures c.in_err-append_both.ensures
 
 pub printing::append_list-returns-in_ok-append_both : goal.printing::append_list-returns-in_ok-append_both
 printing::append_list-returns-in_ok-append_both t c =
     let old = c.args.out.now.items in
-    let first = c.put-else-is_string.new.out.items in
+    let first = c.put-else-prints_as_string.new.out.items in
     let mid = c.append_both.new.out.items in
     let ts = trees (c.args.front.now ++ c.args.back.now) in
-    let end = c.put-else-is_string-2 in
+    let end = c.put-else-prints_as_string-2 in
     last end.result old mid end.new.out.items _ _ (utf8 (text (list ts))) (joined old first mid _ _ c.in_ok-put-2.ensures c.in_ok-append_both.ensures) end.ensures
-    (between-bytes 91 93 (elements_text ts) (omega arith) (omega arith) ∙ ap utf8 (sym (list-elements ts (sym c.is_string.ensures ∙ c.if-is_string.false))))
+    (between-bytes 91 93 (elements_text ts) (omega arith) (omega arith) ∙ ap utf8 (sym (list-elements ts (sym c.prints_as_string.ensures ∙ c.if-prints_as_string.false))))
 
 pub printing::append_both-returns : goal.printing::append_both-returns
 printing::append_both-returns t c =

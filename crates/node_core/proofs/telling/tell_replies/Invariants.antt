@@ -1,7 +1,7 @@
 -- What was told, and what is left; and there is room for it.
 use Rattle.std.proofs.Common.{◌≡◌, ◌≤◌, ◌+◌, ◌++◌, map, None, vec_capacity, vec_len}
 use Rattle.std.specs.Vec.Iter.{into_iter_items, into_iter_len}
-use Rattle.node_core.specs.declared.event.Answer.TheVariants as answer
+use Rattle.node_types.specs.declared.event.Answer.TheVariants as answer
 use Rattle.node_core.proofs.telling.tell_replies.Given as goal
 
 abbrev pub invariant-loop-sent : goal.invariant-loop-sent

@@ -1,6 +1,6 @@
 -- The modules of one application more are loaded.
 use Rattle.std.proofs.Common.{◌∙◌, ◌+◌, List, ap, drop, sym}
-use Rattle.erl_eval.proofs.Tests.{from_here}
+use Rattle.erl_semantics.proofs.Tests.{from_here}
 use Rattle.release_boot.proofs.Orders.{loaded_both}
 use Rattle.release_boot.specs.Boot.{all_loaded, modules_of}
 use Rattle.release_table.specs.declared.table.AppFiles.{AppFiles}

@@ -1,6 +1,6 @@
 -- The pieces are the line's.
 use Rattle.std.proofs.Common.{◌≡◌, ℕ, List, ◌++◌, ◌∷◌, [], codes, pos, ap, refl, ◌∙◌}
-use Rattle.erl_eval.specs.declared.acts.Place.{Place}
+use Rattle.erl_semantics.specs.declared.acts.Place.{Place}
 use Rattle.process.specs.Process.{ProcessState}
 use Rattle.erl_term.specs.Tree.{int, pid, list}
 use Rattle.erl_term.specs.Term.{trees}

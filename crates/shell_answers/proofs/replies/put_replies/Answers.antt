@@ -1,7 +1,7 @@
 -- One more in each turn.
 use Rattle.std.proofs.Common.{◌≡◌, ◌≤◌, ◌++◌, ◌+◌, ◌&&◌, Bool, true, false, ap, drop, length, refl, sym, ◌∙◌, arith}
 use Rattle.std.proofs.lemmas.List.{drop_all}
-use Rattle.erl_eval.proofs.Tests.{from_here}
+use Rattle.erl_semantics.proofs.Tests.{from_here}
 use Rattle.erl_term.specs.Text.{utf8}
 use Rattle.shell_answers.specs.Answers.{is_none, listed, replied, replies_in}
 use Rattle.shell_answers.proofs.Pieces.{all_written, element}

@@ -1,7 +1,7 @@
 -- Those of one more in each turn.
 use Rattle.std.proofs.Common.{◌≤◌, ◌++◌, ◌+◌, ◌&&◌, ap, drop, length, ◌∙◌, arith}
 use Rattle.std.proofs.lemmas.List.{drop_all}
-use Rattle.erl_eval.proofs.Tests.{from_here}
+use Rattle.erl_semantics.proofs.Tests.{from_here}
 use Rattle.erl_term.specs.Text.{elements_text, utf8}
 use Rattle.shell_answers.specs.Answers.{replies_in, replies_of, is_none, listed}
 use Rattle.shell_answers.proofs.Pieces.{all_written, row_written}

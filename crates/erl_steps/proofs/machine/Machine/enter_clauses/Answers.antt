@@ -1,7 +1,7 @@
 -- No clause takes the arguments.
 use Rattle.std.proofs.Common.{ap, sym, ◌∙◌, rules}
 use Rattle.std.specs.Prelude.{codes}
-use Rattle.erl_eval.specs.State.{exit_by}
+use Rattle.erl_semantics.specs.State.{exit_by}
 use Rattle.erl_steps.specs.Views.{control_or, machine_of}
 use Rattle.erl_steps.proofs.machine.Machine.enter_clauses.Goals as goal
 

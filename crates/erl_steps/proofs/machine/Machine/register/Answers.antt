@@ -2,14 +2,15 @@
 use Rattle.std.proofs.Common.{◌≡◌, ℕ, false, eqb, nat_le, ◌&&◌, IfOk, refl, sym, ap, subst, ◌∙◌, arith}
 use Rattle.std.proofs.lemmas.Bool.Decides.{nat_tests}
 use denote.Enum.Bare.{sameb}
-use Rattle.erl_eval.specs.Starting.{register_in, register_in_mode}
-use Rattle.erl_eval.specs.State as state
+use Rattle.erl_semantics.specs.Starting.{register_in, register_in_mode}
+use Rattle.erl_semantics.specs.State as state
 use Rattle.erl_term.specs.Term.{tree, trees}
 use Rattle.erl_steps.specs.Machine.{given_by}
-use Rattle.erl_steps.specs.Views.{control_of, machine_of, mode_of, world_of}
-use Rattle.erl_steps.specs.contracts.world.Mode.{the_type}
-use Rattle.erl_steps.specs.declared.world.Mode.{Mode}
-use Rattle.erl_steps.specs.declared.world.Mode.TheVariants.{Plain, Start}
+use Rattle.erl_steps.specs.Views.{control_of, machine_of, world_of}
+use Rattle.erl_semantics.specs.Views.{mode_of}
+use Rattle.erl_semantics.specs.contracts.instance.Mode.{the_type}
+use Rattle.erl_semantics.specs.declared.instance.Mode.{Mode}
+use Rattle.erl_semantics.specs.declared.instance.Mode.TheVariants.{Plain, Start}
 use Rattle.erl_steps.proofs.Asking.{register_two}
 use Rattle.erl_steps.proofs.machine.Machine.register.Goals as goal
 

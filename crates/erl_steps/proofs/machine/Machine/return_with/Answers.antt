@@ -1,7 +1,7 @@
 -- What the start gives in the call that it went back to.
 use Rattle.std.proofs.Common.{◌≡◌, ◌∙◌, map}
 use Rattle.erl_term.specs.Term.{tree}
-use Rattle.erl_eval.specs.State as state
+use Rattle.erl_semantics.specs.State as state
 use Rattle.erl_steps.specs.Machine as machine
 use Rattle.erl_steps.specs.Machine.{settled_by}
 use Rattle.erl_steps.specs.Views.{activation_of, control_of, machine_of, starter_of, world_of}

@@ -2,7 +2,7 @@
 use Rattle.std.proofs.Common.{◌≡◌, ◌∙◌, List, None, map, sym, subst, ap, refl}
 use Rattle.code_loading.proofs.Stepping.{steps_keep_code}
 use Rattle.code_loading.specs.Consistent.{IsConsistent}
-use Rattle.process_ending.specs.declared.told.Reply.{Reply}
+use Rattle.process_effects.specs.declared.told.Reply.{Reply}
 use Rattle.process_store.specs.Table.{Table}
 use Rattle.process_table.specs.Commit.{commit_told, committed}
 use Rattle.undo_journal.specs.Reversible.{Accepted}
@@ -10,10 +10,10 @@ use Rattle.undo_journal.specs.declared.reversible.Told.{Told}
 use Rattle.node_core.proofs.Accepting.{accepted_of, each_of}
 use Rattle.node_core.specs.Node.{NodeState}
 use Rattle.node_core.specs.Step.{ended_by, reporting}
-use Rattle.node_core.specs.declared.event.Answer.{Answer}
-use Rattle.node_core.specs.declared.event.Answer.TheVariants as answer
-use Rattle.node_core.specs.declared.event.Event.TheVariants as event
-use Rattle.node_core.specs.Note.{Note}
+use Rattle.node_types.specs.declared.event.Answer.{Answer}
+use Rattle.node_types.specs.declared.event.Answer.TheVariants as answer
+use Rattle.node_types.specs.declared.event.Event.TheVariants as event
+use Rattle.node_types.specs.Note.{Note}
 use Rattle.node_core.proofs.node.Node.commit.Goals as goal
 
 pub invariant_of-self-in-Ok-commit : goal.invariant_of-self-in-Ok-commit

@@ -8,11 +8,11 @@ use Rattle.undo_journal.specs.Reversible.{Accepted}
 use Rattle.node_core.proofs.Accepting.{accepted_of, unless_none}
 use Rattle.node_core.specs.Node.{NodeState, with_modules}
 use Rattle.node_core.specs.Step.{reporting}
-use Rattle.node_core.specs.declared.event.Answer.{Answer}
-use Rattle.node_core.specs.declared.event.Answer.TheVariants as answer
-use Rattle.node_core.specs.declared.event.Event.TheVariants as event
-use Rattle.node_core.specs.Note.{Note}
-use Rattle.node_core.specs.declared.event.Refusal.TheVariants.{OfModules}
+use Rattle.node_types.specs.declared.event.Answer.{Answer}
+use Rattle.node_types.specs.declared.event.Answer.TheVariants as answer
+use Rattle.node_types.specs.declared.event.Event.TheVariants as event
+use Rattle.node_types.specs.Note.{Note}
+use Rattle.node_types.specs.declared.event.Refusal.TheVariants.{OfModules}
 use Rattle.node_core.proofs.node.Node.delete.Goals as goal
 
 pub invariant_of-self : goal.invariant_of-self

@@ -6,17 +6,17 @@ use Rattle.code_loading.specs.Loading.{lingering, purge_told, spared}
 use Rattle.code_server.specs.Modules.{Table as Loaded, load_refusal, loaded, purged}
 use Rattle.erl_forms.specs.Module.{Forms}
 use Rattle.app_table.specs.Applications.{all_ended}
-use Rattle.process_ending.specs.Told.{killed}
+use Rattle.process_effects.specs.Told.{killed}
 use Rattle.process_store.specs.Table.{Table}
 use Rattle.undo_journal.specs.Reversible.{Accepted}
 use Rattle.node_core.proofs.Accepting.{accepted_of, unless_none}
 use Rattle.node_core.specs.Node.{NodeState, with_modules}
 use Rattle.node_core.specs.Step.{reporting, without_lingering}
-use Rattle.node_core.specs.declared.event.Answer.{Answer}
-use Rattle.node_core.specs.declared.event.Answer.TheVariants as answer
-use Rattle.node_core.specs.declared.event.Event.TheVariants as event
-use Rattle.node_core.specs.Note.{Note}
-use Rattle.node_core.specs.declared.event.Refusal.TheVariants.{OfModules}
+use Rattle.node_types.specs.declared.event.Answer.{Answer}
+use Rattle.node_types.specs.declared.event.Answer.TheVariants as answer
+use Rattle.node_types.specs.declared.event.Event.TheVariants as event
+use Rattle.node_types.specs.Note.{Note}
+use Rattle.node_types.specs.declared.event.Refusal.TheVariants.{OfModules}
 use Rattle.node_core.proofs.node.Node.load.Goals as goal
 
 pub invariant_of-self-in-Ok-load : goal.invariant_of-self-in-Ok-load

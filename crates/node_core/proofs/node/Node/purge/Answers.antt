@@ -10,10 +10,10 @@ use Rattle.undo_journal.specs.Reversible.{Accepted}
 use Rattle.node_core.proofs.Accepting.{accepted_of}
 use Rattle.node_core.specs.Node.{NodeState}
 use Rattle.node_core.specs.Step.{reporting, without_lingering}
-use Rattle.node_core.specs.declared.event.Answer.{Answer}
-use Rattle.node_core.specs.declared.event.Answer.TheVariants as answer
-use Rattle.node_core.specs.declared.event.Event.TheVariants as event
-use Rattle.node_core.specs.Note.{Note}
+use Rattle.node_types.specs.declared.event.Answer.{Answer}
+use Rattle.node_types.specs.declared.event.Answer.TheVariants as answer
+use Rattle.node_types.specs.declared.event.Event.TheVariants as event
+use Rattle.node_types.specs.Note.{Note}
 use Rattle.node_core.proofs.node.Node.purge.Goals as goal
 
 pub invariant_of-self-in-Ok-purge : goal.invariant_of-self-in-Ok-purge

@@ -12,11 +12,11 @@ use Rattle.node_core.proofs.Spared.{nobody_lingers}
 use Rattle.node_core.proofs.Accepting.{accepted_of, unless_none}
 use Rattle.node_core.specs.Node.{NodeState, with_modules}
 use Rattle.node_core.specs.Step.{reporting, soft_purge_refusal}
-use Rattle.node_core.specs.declared.event.Answer.{Answer}
-use Rattle.node_core.specs.declared.event.Answer.TheVariants as answer
-use Rattle.node_core.specs.declared.event.Event.TheVariants as event
-use Rattle.node_core.specs.Note.{Note}
-use Rattle.node_core.specs.declared.event.Refusal.TheVariants.{OfModules}
+use Rattle.node_types.specs.declared.event.Answer.{Answer}
+use Rattle.node_types.specs.declared.event.Answer.TheVariants as answer
+use Rattle.node_types.specs.declared.event.Event.TheVariants as event
+use Rattle.node_types.specs.Note.{Note}
+use Rattle.node_types.specs.declared.event.Refusal.TheVariants.{OfModules}
 use Rattle.node_core.proofs.node.Node.soft_purge.Goals as goal
 
 unlingered : (b : Bool) → (if b then Some OldInUse else None) ≡ None → b ≡ false

@@ -2,18 +2,18 @@
 use Rattle.std.proofs.Common.{◌∙◌, [], None, map, sym, subst, ap, refl}
 use Rattle.code_loading.proofs.Stepping.{steps_keep_code}
 use Rattle.code_loading.specs.Consistent.{IsConsistent}
-use Rattle.erl_machine.specs.declared.jobs.Job.{Job}
-use Rattle.process_commit.specs.Commits.{job_at}
+use Rattle.erl_semantics.specs.declared.jobs.Job.{Job}
+use Rattle.process_effects.specs.Commits.{job_at}
 use Rattle.process_store.specs.Table.{Table, living}
 use Rattle.undo_journal.specs.Reversible.{Accepted}
 use Rattle.undo_journal.specs.declared.reversible.Told.{Told}
 use Rattle.node_core.proofs.Accepting.{accepted_of, each_of}
 use Rattle.node_core.specs.Node.{NodeState, with_processes}
 use Rattle.node_core.specs.Step.{reporting, run_taken}
-use Rattle.node_core.specs.declared.event.Answer.{Answer}
-use Rattle.node_core.specs.declared.event.Answer.TheVariants as answer
-use Rattle.node_core.specs.declared.event.Event.TheVariants as event
-use Rattle.node_core.specs.Note.{Note}
+use Rattle.node_types.specs.declared.event.Answer.{Answer}
+use Rattle.node_types.specs.declared.event.Answer.TheVariants as answer
+use Rattle.node_types.specs.declared.event.Event.TheVariants as event
+use Rattle.node_types.specs.Note.{Note}
 use Rattle.node_core.proofs.node.Node.take.Goals as goal
 
 pub invariant_of-self-2 : goal.invariant_of-self-2

@@ -6,13 +6,13 @@ use Rattle.undo_journal.specs.Reversible.{Accepted}
 use Rattle.node_core.proofs.Accepting.{refused_or_not}
 use Rattle.node_core.specs.Node.{NodeState, with_processes}
 use Rattle.node_core.specs.Step.{MayRunOut, Step}
-use Rattle.node_core.specs.declared.event.Answer.{Answer}
-use Rattle.node_core.specs.declared.event.Answer.TheVariants as answer
-use Rattle.node_core.specs.declared.event.Event.{Event}
-use Rattle.node_core.specs.declared.event.Event.TheVariants as event
-use Rattle.node_core.specs.Note.{Note}
-use Rattle.node_core.specs.declared.event.Refusal.{Refusal}
-use Rattle.node_core.specs.declared.event.Refusal.TheVariants.{OfProcesses}
+use Rattle.node_types.specs.declared.event.Answer.{Answer}
+use Rattle.node_types.specs.declared.event.Answer.TheVariants as answer
+use Rattle.node_types.specs.declared.event.Event.{Event}
+use Rattle.node_types.specs.declared.event.Event.TheVariants as event
+use Rattle.node_types.specs.Note.{Note}
+use Rattle.node_types.specs.declared.event.Refusal.{Refusal}
+use Rattle.node_types.specs.declared.event.Refusal.TheVariants.{OfProcesses}
 use Rattle.node_core.proofs.stepping.NodeReversible.refusal.Goals as goal
 
 pub returns-in-Arrive : goal.returns-in-Arrive

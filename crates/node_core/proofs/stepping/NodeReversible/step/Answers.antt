@@ -2,7 +2,7 @@
 use Rattle.std.proofs.Common.{IfErr, IfOk, sym, subst}
 use Rattle.undo_journal.specs.Reversible.{Accepts, Refuses}
 use Rattle.node_core.specs.Step.{MayRunOut, Step}
-use Rattle.node_core.specs.declared.event.Event.{Event}
+use Rattle.node_types.specs.declared.event.Event.{Event}
 use Rattle.node_core.proofs.stepping.NodeReversible.step.Goals as goal
 
 pub returns-in-Arrive-clause-accepted : goal.returns-in-Arrive-clause-accepted

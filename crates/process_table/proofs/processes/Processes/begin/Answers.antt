@@ -1,7 +1,7 @@
 -- What is begun in the store is begun in the table.
 use Rattle.std.proofs.Common.{◌++◌, List, OnOk, subst}
-use Rattle.process_batch.specs.Begins.{IsUnderWay, acts_begun, begun_told}
-use Rattle.process_ending.specs.declared.told.Reply.{Reply}
+use Rattle.process_effects.specs.Begins.{IsUnderWay, acts_begun, begun_told}
+use Rattle.process_effects.specs.declared.told.Reply.{Reply}
 use Rattle.process_store.specs.Table.{Table}
 use Rattle.process_table.proofs.processes.Processes.begin.Goals as goal
 

@@ -1,7 +1,7 @@
 -- The record of an end, in its own memory, holds what has left.
 use Rattle.std.proofs.Common.{sym, subst}
-use Rattle.process_ending.specs.Pieces.{held_by}
-use Rattle.process_ending.specs.declared.ending.EndedProcess.{EndedProcess}
+use Rattle.process_effects.specs.EndedPieces.{held_by}
+use Rattle.process_effects.specs.declared.ending.EndedProcess.{EndedProcess}
 use Rattle.process_store.specs.Pieces.{HoldsLost}
 use Rattle.process_store.specs.Table.{Table}
 use Rattle.process_table.proofs.processes.Processes.end.Goals as goal

@@ -1,7 +1,7 @@
 -- The record of a commit is that of the step, in its own memory, and holds what that holds.
 use Rattle.std.proofs.Common.{sym, subst}
-use Rattle.process_commit.specs.declared.exiting.Exited.{Exited}
-use Rattle.process_ending.specs.Pieces.{held_by}
+use Rattle.process_effects.specs.declared.exiting.Exited.{Exited}
+use Rattle.process_effects.specs.EndedPieces.{held_by}
 use Rattle.process_store.specs.Pieces.{HoldsLost}
 use Rattle.process_store.specs.Table.{Table}
 use Rattle.process_table.proofs.processes.Processes.exit.Goals as goal

@@ -1,7 +1,7 @@
 -- The record of a commit is that of the step, and holds what that holds.
 use Rattle.std.proofs.Common.{subst}
-use Rattle.process_commit.specs.Commits.{RestsBack}
-use Rattle.process_commit.specs.Pieces.{held_of}
+use Rattle.process_effects.specs.Commits.{RestsBack}
+use Rattle.process_effects.specs.CommitPieces.{held_of}
 use Rattle.process_store.specs.Pieces.{HoldsLost}
 use Rattle.process_store.specs.Table.{Table}
 use Rattle.process_table.proofs.processes.Processes.rest.Goals as goal

@@ -1,7 +1,7 @@
 -- The process runs its job, and the undo takes the message back.
 use Rattle.std.proofs.Common.{◌≡◌, List, Some, option_map, sym, ap, subst, ◌∙◌}
 use Rattle.std.specs.Option.{option_copied}
-use Rattle.erl_steps.specs.declared.world.Instance.{Instance}
+use Rattle.erl_semantics.specs.declared.instance.Instance.{Instance}
 use Rattle.process_store.specs.declared.living.Living.{Living}
 use Rattle.process_store.specs.Living.{run, takes_next}
 use Rattle.process_store.specs.Table.{Table, changed, living}

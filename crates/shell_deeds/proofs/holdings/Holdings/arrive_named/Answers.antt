@@ -1,6 +1,6 @@
 -- It has arrived under the next number, or it is told why it has not.
 use Rattle.std.proofs.Common.{◌≡◌, ap, subst, ◌∙◌}
-use Rattle.node_core.specs.declared.event.Event.{Event}
+use Rattle.node_types.specs.declared.event.Event.{Event}
 use Rattle.shell_deeds.proofs.Deeds.{IfOk-then}
 use Rattle.shell_deeds.proofs.Performing.{kept_out}
 use Rattle.shell_deeds.proofs.Sources.{arrived-done}

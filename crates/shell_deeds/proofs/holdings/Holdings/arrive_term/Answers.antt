@@ -1,7 +1,7 @@
 -- The term has arrived, or it is told why it has not.
 use Rattle.std.proofs.Common.{◌≡◌, ap, subst}
 use Rattle.std.specs.Str.{chars}
-use Rattle.node_core.specs.declared.event.Event.{Event}
+use Rattle.node_types.specs.declared.event.Event.{Event}
 use Rattle.shell_deeds.proofs.Deeds.{IfOk-then}
 use Rattle.shell_deeds.proofs.Performing.{done-as, kept_out}
 use Rattle.shell_deeds.proofs.Sources.{halts-at}

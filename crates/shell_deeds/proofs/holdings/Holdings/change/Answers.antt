@@ -1,7 +1,7 @@
 -- The change is told, or why there is none.
 use Rattle.std.proofs.Common.{IfOk, ap, refl, subst, sym, ◌∙◌}
 use Rattle.std.specs.Str.{chars}
-use Rattle.node_core.specs.declared.event.Event.{Event}
+use Rattle.node_types.specs.declared.event.Event.{Event}
 use Rattle.shell_answers.specs.Answers.{line_of}
 use Rattle.shell_deeds.proofs.Deeds.{IfOk-then}
 use Rattle.shell_deeds.proofs.Performing.{halted, performed}

@@ -1,7 +1,7 @@
 -- The result of the job that is kept is committed; or none is kept, or it was not run.
 use Rattle.std.proofs.Common.{◌≡◌, None, Option, Some, refl, subst, sym, ◌∙◌, ap}
 use Rattle.std.specs.Option.{option_copied}
-use Rattle.erl_machine.specs.declared.jobs.Job.{Job}
+use Rattle.erl_semantics.specs.declared.jobs.Job.{Job}
 use Rattle.shell_answers.specs.Answers.{fixed}
 use Rattle.shell_answers.specs.declared.fixed.Fixed.TheVariants as words
 use Rattle.shell_deeds.specs.Deeds.{Commits, CommitsKept, kept_job}

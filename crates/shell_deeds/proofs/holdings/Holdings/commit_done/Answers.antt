@@ -1,10 +1,10 @@
 -- The replies are told and sent, or it is told why there are none.
 use Rattle.std.proofs.Common.{◌≡◌, ◌++◌, List, IfOk, None, ap, refl, subst, sym, ◌∙◌}
-use Rattle.process_ending.specs.declared.told.Reply.{Reply}
+use Rattle.process_effects.specs.declared.told.Reply.{Reply}
 use Rattle.undo_journal.specs.declared.reversible.Told.{Told}
-use Rattle.node_core.specs.declared.event.Answer.{Answer}
-use Rattle.node_core.specs.declared.event.Event.TheVariants as event
-use Rattle.node_core.specs.Note.{Note}
+use Rattle.node_types.specs.declared.event.Answer.{Answer}
+use Rattle.node_types.specs.declared.event.Event.TheVariants as event
+use Rattle.node_types.specs.Note.{Note}
 use Rattle.shell_answers.specs.Answers.{committed, line_of}
 use Rattle.shell_deeds.specs.Deeds.{Commits, accepted, ran}
 use Rattle.shell_deeds.specs.Done.{IsDone}

@@ -1,7 +1,7 @@
 -- The module of the file is loaded, or it is told what stands against it.
 use Rattle.std.proofs.Common.{subst}
 use Rattle.std.specs.Str.{chars}
-use Rattle.node_core.specs.declared.event.Event.TheVariants as event
+use Rattle.node_types.specs.declared.event.Event.TheVariants as event
 use Rattle.shell_deeds.proofs.Deeds.{IfOk-then}
 use Rattle.shell_deeds.proofs.Performing.{missed}
 use Rattle.shell_deeds.proofs.Sources.{source-faulted, source-read, source-unread}

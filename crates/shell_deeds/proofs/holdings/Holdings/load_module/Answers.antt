@@ -1,6 +1,6 @@
 -- The module is loaded, or it is told why it isn't.
 use Rattle.std.proofs.Common.{◌++◌, ap, refl, subst, sym, ◌∙◌}
-use Rattle.node_core.specs.declared.event.Event.TheVariants as event
+use Rattle.node_types.specs.declared.event.Event.TheVariants as event
 use Rattle.shell_answers.specs.Answers.{line_of, loaded}
 use Rattle.shell_deeds.proofs.Deeds.{IfOk-then}
 use Rattle.shell_deeds.proofs.Performing.{halted, performed}

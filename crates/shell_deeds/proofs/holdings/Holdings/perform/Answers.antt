@@ -1,9 +1,9 @@
 -- The journal has one station more, and the replies of what it tells are sent.
 use Rattle.std.proofs.Common.{◌++◌, List, ap, refl, subst, ◌∙◌}
-use Rattle.process_ending.specs.declared.told.Reply.{Reply}
+use Rattle.process_effects.specs.declared.told.Reply.{Reply}
 use Rattle.undo_journal.specs.declared.reversible.Told.{Told}
-use Rattle.node_core.specs.Note.{Note}
-use Rattle.node_core.specs.declared.event.Answer.{Answer}
+use Rattle.node_types.specs.Note.{Note}
+use Rattle.node_types.specs.declared.event.Answer.{Answer}
 use Rattle.shell_deeds.specs.Halts.{Halts}
 use Rattle.shell_deeds.specs.State.{ShellState, joined}
 use Rattle.shell_deeds.specs.Stepping.{IsStepped}

@@ -2,7 +2,7 @@
 use Rattle.std.proofs.Common.{◌≡◌, ◌++◌, ◌∙◌, Some, ap, subst}
 use Rattle.values.specs.Failure.{Tells}
 use Rattle.values.specs.declared.failure.Failure.{Failure}
-use Rattle.process_commit.specs.Commits.{job_at}
+use Rattle.process_effects.specs.Commits.{job_at}
 use Rattle.process_store.specs.Table.{Table, living}
 use Rattle.process_table.specs.Steps.{retake_refusal}
 use Rattle.process_table.specs.declared.error.ProcError.{ProcError}

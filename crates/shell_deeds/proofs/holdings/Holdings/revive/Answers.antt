@@ -2,8 +2,8 @@
 use Rattle.std.proofs.Common.{IfOk, refl, subst, sym}
 use Rattle.std.specs.Str.{chars}
 use Rattle.erl_term.specs.declared.term.Term.TheVariants as term
-use Rattle.node_core.specs.declared.event.Event.{Event}
-use Rattle.node_core.specs.declared.event.Event.TheVariants as event
+use Rattle.node_types.specs.declared.event.Event.{Event}
+use Rattle.node_types.specs.declared.event.Event.TheVariants as event
 use Rattle.shell_answers.specs.Answers.{line_of}
 use Rattle.shell_deeds.proofs.Deeds.{IfOk-then}
 use Rattle.shell_deeds.proofs.Performing.{halted, performed}

@@ -1,11 +1,11 @@
 -- The job is kept, or it is told why there is none.
 use Rattle.std.proofs.Common.{◌≡◌, ◌+◌, ◌++◌, ◌∷◌, [], List, IfOk, ap, length, refl, subst, sym, ◌∙◌}
-use Rattle.erl_machine.specs.declared.jobs.Job.{Job}
-use Rattle.process_ending.specs.declared.told.Reply.{Reply}
+use Rattle.erl_semantics.specs.declared.jobs.Job.{Job}
+use Rattle.process_effects.specs.declared.told.Reply.{Reply}
 use Rattle.undo_journal.specs.declared.reversible.Told.{Told}
-use Rattle.node_core.specs.declared.event.Answer.{Answer}
-use Rattle.node_core.specs.declared.event.Event.TheVariants as event
-use Rattle.node_core.specs.Note.{Note}
+use Rattle.node_types.specs.declared.event.Answer.{Answer}
+use Rattle.node_types.specs.declared.event.Event.TheVariants as event
+use Rattle.node_types.specs.Note.{Note}
 use Rattle.shell_answers.specs.Answers.{job_of, line_of}
 use Rattle.shell_deeds.specs.Deeds.{Performs, took}
 use Rattle.shell_deeds.specs.Done.{IsDone}

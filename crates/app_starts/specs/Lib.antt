@@ -1,2 +1,0 @@
-pub mod Children
-pub mod Starts

@@ -1,3 +1,0 @@
-pub mod Children
-pub mod Errors
-pub mod Results

@@ -1,6 +1,0 @@
-use Rattle.std.proofs.Common.{◌≡◌}
-use Rattle.erl_eval.specs.Bindings.{rest_behind}
-use Rattle.erl_eval.proofs.matching.rest_behind.Given as goal
-
-abbrev pub invariant-loop : goal.invariant-loop
-invariant-loop l = l.left ≡ rest_behind l.counter l.row

@@ -1,0 +1,14 @@
+pub mod Doing
+pub mod Elements
+pub mod Examples
+pub mod Hearing
+pub mod Kept
+pub mod Matched
+pub mod Moved
+pub mod Options
+pub mod OutcomeLaws
+pub mod Outcomes
+pub mod Returns
+pub mod Rows
+pub mod Tests
+pub mod Uniqueness

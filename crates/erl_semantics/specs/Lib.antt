@@ -1,0 +1,15 @@
+pub mod Acts
+pub mod Bindings
+pub mod BuiltIns
+pub mod Evaluation
+pub mod Examples
+pub mod Given
+pub mod Guards
+pub mod Jobs
+pub mod Laws
+pub mod Matching
+pub mod Operators
+pub mod OutcomeLaws
+pub mod Starting
+pub mod State
+pub mod Views

@@ -1,5 +1,0 @@
-pub mod Finding
-pub mod FoundAgain
-pub mod JobCode
-pub mod Listing
-pub mod Standing

@@ -1,6 +1,0 @@
--- By the serials, which differ.
-use Rattle.job_code.proofs.FoundAgain.{are_found_again}
-use Rattle.job_code.proofs.named.instances_are_found_again.Goals as goal
-
-pub returns : goal.returns
-returns c = are_found_again

@@ -1,3 +1,0 @@
-pub mod JobCode
-pub mod Named
-pub mod Places

@@ -1,0 +1,168 @@
+// What happens to a node, and what is told of it.
+use code_server::CodeError;
+use erl_forms::Module;
+use erl_semantics::{Done, Job};
+use erl_term::{Atom, Term};
+use process_table::{Body, ProcError};
+use std::alloc::{AllocError, Global};
+use std::fmt;
+use sys_protocol::SysError;
+use thiserror::Error;
+use values::{Duplicate, Same};
+
+/// An event: what makes a step of a node.
+#[derive(Drop)]
+pub enum Event {
+    /// A message of a client comes for the process of a name.
+    Arrive {
+        /// The client.
+        client: u64,
+        /// The name.
+        name: Atom,
+        /// What comes.
+        body: Body,
+    },
+    /// The process of a pid takes its next message, and runs it.
+    Take(u64),
+    /// What a job has done is done.
+    Commit(Done),
+    /// A child that is due starts again.
+    Revive {
+        /// Its application.
+        app: Atom,
+        /// Its Id.
+        id: Term,
+    },
+    /// A module is loaded; where it has old code, that is purged first.
+    Load(Module),
+    /// A module's current code becomes old.
+    Delete(Atom),
+    /// A module's old code is purged, and those who linger in it are killed.
+    Purge(Atom),
+    /// A module's old code is purged, where nobody lingers in it.
+    SoftPurge(Atom),
+}
+
+/// The answer to an event that is accepted.
+#[derive(Drop)]
+pub enum Answer {
+    /// To a take: the job.
+    Job(Job),
+    /// To a revival: the pid of the child's process.
+    Revived(u64),
+    /// To a purge: whether processes were killed.
+    Killed(bool),
+    /// To all others.
+    Unit,
+}
+
+/// Why an event is refused; never for want of memory.
+#[derive(Drop, Error)]
+pub enum Refusal {
+    /// The processes refuse it.
+    #[error("{0}")]
+    OfProcesses(ProcError),
+    /// The modules refuse it.
+    #[error("{0}")]
+    OfModules(CodeError),
+    /// The applications refuse it.
+    #[error("{0}")]
+    OfApps(SysError),
+}
+
+/// As it is displayed.
+impl fmt::Debug for Refusal {
+    fn fmt<W: fmt::Write>(&self, f: &mut fmt::Formatter<W>) -> fmt::Result {
+        write!(f, "{self}")
+    }
+}
+
+impl Duplicate for Answer {
+    fn copy(&self, alloc: Global) -> Result<Answer, AllocError> {
+        match self {
+            Answer::Job(job) => Ok(Answer::Job(job.copy(alloc)?)),
+            Answer::Revived(pid) => Ok(Answer::Revived(*pid)),
+            Answer::Killed(killed) => Ok(Answer::Killed(*killed)),
+            Answer::Unit => Ok(Answer::Unit),
+        }
+    }
+}
+
+impl Same for Answer {
+    fn same(&self, other: &Answer) -> bool {
+        match (self, other) {
+            (Answer::Job(job), Answer::Job(with)) => job.same(with),
+            (Answer::Revived(pid), Answer::Revived(with)) => *pid == *with,
+            (Answer::Killed(killed), Answer::Killed(with)) => *killed == *with,
+            (Answer::Unit, Answer::Unit) => true,
+            (_, _) => false,
+        }
+    }
+}
+
+impl Same for Event {
+    fn same(&self, other: &Event) -> bool {
+        match (self, other) {
+            (
+                Event::Arrive { client, name, body },
+                Event::Arrive {
+                    client: c,
+                    name: n,
+                    body: b,
+                },
+            ) => *client == *c && name.same(n) && body.same(b),
+            (Event::Take(pid), Event::Take(with)) => *pid == *with,
+            (Event::Commit(done), Event::Commit(with)) => done.same(with),
+            (Event::Revive { app, id }, Event::Revive { app: a, id: i }) => app.same(a)
+                && id.same(i),
+            (Event::Load(module), Event::Load(with)) => module.same(with),
+            (Event::Delete(name), Event::Delete(with)) => name.same(with),
+            (Event::Purge(name), Event::Purge(with)) => name.same(with),
+            (Event::SoftPurge(name), Event::SoftPurge(with)) => name.same(with),
+            (_, _) => false,
+        }
+    }
+}
+
+impl Duplicate for Event {
+    fn copy(&self, alloc: Global) -> Result<Event, AllocError> {
+        match self {
+            Event::Arrive { client, name, body } => Ok(Event::Arrive {
+                client: *client,
+                name: name.copy(alloc)?,
+                body: body.copy(alloc)?,
+            }),
+            Event::Take(pid) => Ok(Event::Take(*pid)),
+            Event::Commit(done) => Ok(Event::Commit(done.copy(alloc)?)),
+            Event::Revive { app, id } => Ok(Event::Revive {
+                app: app.copy(alloc)?,
+                id: id.copy(alloc)?,
+            }),
+            Event::Load(module) => Ok(Event::Load(module.copy(alloc)?)),
+            Event::Delete(name) => Ok(Event::Delete(name.copy(alloc)?)),
+            Event::Purge(name) => Ok(Event::Purge(name.copy(alloc)?)),
+            Event::SoftPurge(name) => Ok(Event::SoftPurge(name.copy(alloc)?)),
+        }
+    }
+}
+
+impl Same for Refusal {
+    fn same(&self, other: &Refusal) -> bool {
+        match (self, other) {
+            (Refusal::OfProcesses(why), Refusal::OfProcesses(with)) => *why == *with,
+            (Refusal::OfModules(why), Refusal::OfModules(with)) => *why == *with,
+            (Refusal::OfApps(why), Refusal::OfApps(with)) => why.same(with),
+            (_, _) => false,
+        }
+    }
+}
+
+impl Duplicate for Refusal {
+    fn copy(&self, alloc: Global) -> Result<Refusal, AllocError> {
+        match self {
+            Refusal::OfProcesses(why) => Ok(Refusal::OfProcesses(*why)),
+            Refusal::OfModules(why) => Ok(Refusal::OfModules(*why)),
+            Refusal::OfApps(why) => Ok(Refusal::OfApps(why.copy(alloc)?)),
+        }
+    }
+}

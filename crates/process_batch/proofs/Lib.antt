@@ -1,4 +1,0 @@
-pub mod Beginning
-pub mod Joining
-pub mod Names
-pub mod Undoing

@@ -1,7 +1,0 @@
--- The answers so far, and those of the acts that are left.
-use Rattle.std.proofs.Common.{◌≡◌, ◌++◌, drop}
-use Rattle.process_commit.specs.Parted.{answers_of}
-use Rattle.process_commit.proofs.answers.answers_of.Given as goal
-
-abbrev pub invariant-loop-act : goal.invariant-loop-act
-invariant-loop-act l = l.answers.items ++ answers_of (drop l.act-index l.acts) ≡ answers_of l.acts

@@ -1,0 +1,12 @@
+-- The start is noted, and is taken back first.
+use Rattle.process_effects.proofs.Undoing.{noted_back, noted_fits}
+use Rattle.process_effects.specs.declared.change.Change.TheVariants.{Started}
+use Rattle.process_effects.proofs.making.start.Goals as goal
+
+pub returns-in-Ok-clause-back : goal.returns-in-Ok-clause-back
+returns-in-Ok-clause-back c =
+    noted_back c.args.changes.now.items c.push.new.self.items Started c.args.store.now c.add.new.self c.in_ok-push.ensures.items c.in-Ok.ensures.back
+
+pub returns-in-Ok-clause-fits : goal.returns-in-Ok-clause-fits
+returns-in-Ok-clause-fits c =
+    noted_fits c.args.changes.now.items c.push.new.self.items Started c.args.store.now c.add.new.self c.in_ok-push.ensures.items c.in-Ok.ensures.back c.in-Ok.ensures.fits

@@ -1,0 +1,13 @@
+pub mod Acts
+pub mod Batches
+pub mod Begins
+pub mod CommitPieces
+pub mod Commits
+pub mod EndedPieces
+pub mod Ends
+pub mod Exits
+pub mod Kills
+pub mod Parted
+pub mod Telling
+pub mod Told
+pub mod Uses

@@ -1,8 +1,0 @@
--- Those so far, and those that use it among the processes that are left, are the users.
-use Rattle.std.proofs.Common.{◌≡◌, ◌++◌}
-use Rattle.process_ending.specs.Uses.{users, uses}
-use Rattle.process_ending.proofs.Alive.{passing}
-use Rattle.process_ending.proofs.using.users.Given as goal
-
-abbrev pub invariant-loop-pid : goal.invariant-loop-pid
-invariant-loop-pid l = l.pids.items ++ passing (uses l.serial) l.pid-iterator ≡ users l.serial l.store
