@@ -12,6 +12,8 @@
 //! comes of it (`GivesJob`); by a law of `erl_semantics` there is only one of either. Evaluating ends by itself: each step leaves less to
 //! do, so that there is no bound on steps, and no error past one.
 //!
+//! What `code_change/3` and an applied function return is one state, or one reason ([`calls_return_one_way`]).
+//!
 //! # What no contract says
 //!
 //! That there is memory, and what a call costs: a step costs what it changes ([`erl_steps`]), and [`run`] copies its job, whose terms and
@@ -22,8 +24,16 @@ mod callbacks;
 mod evaluation;
 mod jobs;
 
+ghost use Rattle.callback_lang.specs.Returns.{CallsReturnOneWay};
+
 pub use erl_forms::Module;
 pub use erl_parse::{LangError, read_module};
 pub use erl_semantics::{Act, Done, End, Instance, Job, Mode, Outcome, Place, Receiver, matches};
 pub use evaluation::evaluate;
 pub use jobs::run;
+
+/// The calls that an upgrade makes return in one way: `code_change/3` gives a process one state, or one reason why it gets none
+/// (gen_server(3)), and a function that is applied succeeds, or fails for one reason (appup(4)).
+pub fn calls_return_one_way()
+    ensures { CallsReturnOneWay }
+{}
