@@ -1,1 +1,3 @@
+pub mod Applications
+pub mod OneOutcome
 pub mod Orders

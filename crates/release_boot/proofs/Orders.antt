@@ -9,7 +9,7 @@ use Rattle.app_table.specs.Applications.{Application}
 use Rattle.code_server.specs.Modules.{Table as Loaded}
 use Rattle.otp_files.specs.declared.applications.RelApp.{RelApp}
 use Rattle.process_store.specs.Table.{Table}
-use Rattle.release_boot.specs.Boot.{AllStart, Fails, FirstFails, all_loaded, is_started_as, to_start}
+use Rattle.release_boot.specs.Boot.{AllStart, EachStarts, Fails, FirstFails, all_loaded, is_started_as, to_start}
 use Rattle.release_boot.specs.declared.error.BootError.{BootError}
 use Rattle.release_boot.specs.declared.error.BootError.TheVariants.{NotStarted, Memory}
 
@@ -26,6 +26,14 @@ both_start code [] ys apps mid_apps after_apps t mid after first then =
     subst (λ (u : Table). AllStart code ys apps u after_apps after) first.1 (subst (λ (a : List Application). AllStart code ys a mid after_apps after) first.0 then)
 both_start code (x ∷ xs) ys apps mid_apps after_apps t mid after (next_apps, next, starts, rest) then =
     (next_apps, next, starts, both_start code xs ys next_apps mid_apps after_apps next mid after rest then)
+
+-- starts, where one that doesn't is passed over
+
+pub each_of_both : (code : List Instance) (xs ys : List (List ℕ)) (apps mid_apps after_apps : List Application) (t mid after : Table) → EachStarts code xs apps t mid_apps mid → EachStarts code ys mid_apps mid after_apps after → EachStarts code (xs ++ ys) apps t after_apps after
+each_of_both code [] ys apps mid_apps after_apps t mid after first then =
+    subst (λ (u : Table). EachStarts code ys apps u after_apps after) first.1 (subst (λ (a : List Application). EachStarts code ys a mid after_apps after) first.0 then)
+each_of_both code (x ∷ xs) ys apps mid_apps after_apps t mid after (next_apps, next, here, rest) then =
+    (next_apps, next, here, each_of_both code xs ys next_apps mid_apps after_apps next mid after rest then)
 
 -- the first that fails, behind those that start, and before others
 
@@ -88,4 +96,10 @@ fails_there e code code2 names names2 a a2 t t2 same_code same_names same_apps s
     subst (λ (x : List Application). Fails e code2 names2 x t) same_apps (
     subst (λ (ns : List (List ℕ)). Fails e code2 ns a t) same_names (subst (λ (is : List Instance). Fails e is names a t) same_code fails)
     )
+    )
+
+pub each_there : (code code2 : List Instance) (names names2 : List (List ℕ)) (a a2 b : List Application) (t u : Table) → code ≡ code2 → names ≡ names2 → a ≡ a2 → EachStarts code names a t b u → EachStarts code2 names2 a2 t b u
+each_there code code2 names names2 a a2 b t u same_code same_names same_apps each =
+    subst (λ (x : List Application). EachStarts code2 names2 x t b u) same_apps (
+    subst (λ (ns : List (List ℕ)). EachStarts code2 ns a t b u) same_names (subst (λ (is : List Instance). EachStarts is names a t b u) same_code each)
     )

@@ -62,7 +62,7 @@ is_started_as start.None = false
 abbrev pub to_start : List RelApp → List (List ℕ)
 to_start apps = map (λ app. app.name) (filter (λ app. is_started_as app.start_type) apps)
 
--- One starts: it has children, which run. Nobody is told anything, for no call is open.
+-- One starts: it has children, which run. What that would tell clients is told nobody: where a node boots or restarts no call is open.
 pub record Starts (code : List Instance) (name : List ℕ) (apps : List Application) (t : Table) (apps_after : List Application) (after : Table) : Type 0 where
   pub unrefused : start_refusal name apps ≡ None
   pub children : List Child
@@ -109,16 +109,50 @@ abbrev pub Fails : BootError → List Instance → List (List ℕ) → List Appl
 Fails (NotStarted app reason) code names apps t = FirstFails code names apps t app reason
 Fails Memory code names apps t = Unit {0}
 
--- The release whole: its modules, and what is there before its applications start.
+-- A restart goes on where an application doesn't start: that one is passed over, for whatever reason. The applications and the processes
+-- are as they were, so that it has used no pid, and the next goes on in them.
 
-abbrev pub boot_modules : Release → Loaded Forms
-boot_modules r = all_loaded (modules_of r.apps) no_modules
+abbrev pub IsPassedOver : List Instance → List ℕ → List Application → Table → List Application → Table → Type 0
+IsPassedOver code name apps t apps_after after =
+    (reason : Term) × DoesNotStart code name apps t reason × (apps_after ≡ apps) × (after ≡ t)
+
+abbrev pub StartsOrIsPassedOver : List Instance → List ℕ → List Application → Table → List Application → Table → Type 0
+StartsOrIsPassedOver code name apps t apps_after after =
+    Starts code name apps t apps_after after ⊎ IsPassedOver code name apps t apps_after after
+
+-- Each starts or is passed over, in order.
+abbrev pub EachStarts : List Instance → List (List ℕ) → List Application → Table → List Application → Table → Type 0
+EachStarts code [] apps t apps_after after = (apps_after ≡ apps) × (after ≡ t)
+EachStarts code (name ∷ names) apps t apps_after after = (apps_next : List Application) × (next : Table) ×
+    StartsOrIsPassedOver code name apps t apps_next next × EachStarts code names apps_next next apps_after after
+
+-- The release whole: its modules and its applications, loaded, before any application starts. A node boots where nothing is there, and
+-- restarts where no module is loaded and nobody lives, but serials and pids were given: those go on.
+
+abbrev pub boot_modules : Release → Loaded Forms → Loaded Forms
+boot_modules r modules = all_loaded (modules_of r.apps) modules
 
 abbrev pub boot_apps : Release → List Application
 boot_apps r = map app_loaded (map (spec_of r.apps) r.rel.apps)
 
+-- It boots behind the modules and among the processes that are there: the modules, the processes and the applications after it.
+abbrev pub BootsIn : Release → Loaded Forms → Table → Loaded Forms → Table → List Application → Type 0
+BootsIn r modules t modules_after after apps = (modules_after ≡ boot_modules r modules) ×
+    AllStart (current_code (boot_modules r modules)) (to_start r.rel.apps) (boot_apps r) t apps after
+
+-- or it doesn't
+abbrev pub BootFailsIn : BootError → Release → Loaded Forms → Table → Type 0
+BootFailsIn e r modules t = Fails e (current_code (boot_modules r modules)) (to_start r.rel.apps) (boot_apps r) t
+
+-- It boots where nothing is there, or it doesn't.
+
 abbrev pub Boots : Release → Loaded Forms → Table → List Application → Type 0
-Boots r modules t apps = (modules ≡ boot_modules r) × AllStart (current_code (boot_modules r)) (to_start r.rel.apps) (boot_apps r) no_processes apps t
+Boots r modules t apps = BootsIn r no_modules no_processes modules t apps
 
 abbrev pub BootFails : BootError → Release → Type 0
-BootFails e r = Fails e (current_code (boot_modules r)) (to_start r.rel.apps) (boot_apps r) no_processes
+BootFails e r = BootFailsIn e r no_modules no_processes
+
+-- It restarts behind the modules and among the processes that are there, whichever of its applications start.
+abbrev pub Restarts : Release → Loaded Forms → Table → Loaded Forms → Table → List Application → Type 0
+Restarts r modules t modules_after after apps = (modules_after ≡ boot_modules r modules) ×
+    EachStarts (current_code (boot_modules r modules)) (to_start r.rel.apps) (boot_apps r) t apps after

@@ -2,7 +2,7 @@
 ghost use Rattle.std.specs.Prelude.{◌≡◌, ◌⊎◌, ◌∷◌, [], IfErr, IfOk, IsTrue, OnOk, length, ◌≤◌};
 ghost use Rattle.code_server.specs.Modules.{loaded, purged};
 ghost use Rattle.erl_term.specs.Ascii.{is_ascii_text};
-ghost use Rattle.release_boot.specs.Boot.{AllStart, BootFails, Boots, Fails, FailsFor, Starts, all_loaded, is_started_as, modules_of, of_word, reason_of, start_failed, to_start};
+ghost use Rattle.release_boot.specs.Boot.{AllStart, BootFails, Boots, Fails, FailsFor, Starts, all_loaded, boot_apps, boot_modules, is_started_as, modules_of, of_word, reason_of, start_failed, to_start};
 
 use crate::error::BootError;
 use crate::specs_of::specs_of;
@@ -31,22 +31,20 @@ pub struct Booted {
 }
 
 /// Loads a module; where it has old code, that goes.
-fn load(modules: &mut Modules<Module>, alloc: Global, code: &Module) -> Result<(), BootError>
-    ensures loaded { OnOk result (modules.new ≡ loaded code.now.name code.now (purged code.now.name modules.old)) }
-    ensures failed { IfErr result (λ e. e ≡ BootError.Memory) }
+fn load(modules: &mut Modules<Module>, alloc: Global, code: &Module) -> Result<(), AllocError>
+    ensures { OnOk result (modules.new ≡ loaded code.now.name code.now (purged code.now.name modules.old)) }
 {
     let code = code.copy(alloc)?;
     let name = code.name().copy(alloc)?;
     match modules.purge_and_load(&name, code) {
         Ok(_) => Ok(()),
-        Err(_) => Err(BootError::Memory),
+        Err(_) => Err(AllocError),
     }
 }
 
 /// Loads the modules of an application, in order.
-fn load_app(modules: &mut Modules<Module>, alloc: Global, code: &[Module]) -> Result<(), BootError>
-    ensures loaded { OnOk result (modules.new ≡ all_loaded code.now modules.old) }
-    ensures failed { IfErr result (λ e. e ≡ BootError.Memory) }
+fn load_app(modules: &mut Modules<Module>, alloc: Global, code: &[Module]) -> Result<(), AllocError>
+    ensures { OnOk result (modules.new ≡ all_loaded code.now modules.old) }
 {
     for each in code {
         load(modules, alloc, each)?;
@@ -59,9 +57,8 @@ fn load_all(
     modules: &mut Modules<Module>,
     alloc: Global,
     apps: &[AppFiles],
-) -> Result<(), BootError>
-    ensures loaded { OnOk result (modules.new ≡ all_loaded (modules_of apps.now) modules.old) }
-    ensures failed { IfErr result (λ e. e ≡ BootError.Memory) }
+) -> Result<(), AllocError>
+    ensures { OnOk result (modules.new ≡ all_loaded (modules_of apps.now) modules.old) }
 {
     for app in apps {
         load_app(modules, alloc, app.modules.as_slice())?;
@@ -69,8 +66,27 @@ fn load_all(
     Ok(())
 }
 
+/// Loads the modules of a release behind those that are there.
+pub(crate) fn load_modules(
+    modules: &mut Modules<Module>,
+    alloc: Global,
+    release: &Release,
+) -> Result<(), AllocError>
+    ensures { OnOk result (modules.new ≡ boot_modules release.now modules.old) }
+{
+    load_all(modules, alloc, release.apps.as_slice())
+}
+
+/// The applications of a release, loaded anew, before any of them starts.
+pub(crate) fn load_apps(alloc: Global, release: &Release) -> Result<AppTable, AllocError>
+    ensures { IfOk result (λ it. it ≡ boot_apps release.now) }
+{
+    let specs = specs_of(alloc, release.apps.as_slice(), release.rel.apps.as_slice())?;
+    AppTable::new(alloc, specs)
+}
+
 /// Whether applications of a type are started.
-fn is_started_as(start_type: StartType) -> bool
+pub(crate) fn is_started_as(start_type: StartType) -> bool
     ensures { result ≡ is_started_as start_type }
 {
     match start_type {
@@ -191,9 +207,8 @@ pub fn boot(alloc: Global, hashing: RandomState, release: &Release) -> Result<Bo
     ensures failed { IfErr result (λ e. BootFails e release.now) }
 {
     let mut modules = Modules::new(alloc, hashing);
-    load_all(&mut modules, alloc, release.apps.as_slice())?;
-    let specs = specs_of(alloc, release.apps.as_slice(), release.rel.apps.as_slice())?;
-    let mut apps = AppTable::new(alloc, specs)?;
+    load_modules(&mut modules, alloc, release)?;
+    let mut apps = load_apps(alloc, release)?;
     let mut processes = Processes::new(alloc, hashing, hashing);
     let code = current_code(alloc, &modules)?;
     start_all(

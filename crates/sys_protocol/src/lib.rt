@@ -19,6 +19,8 @@
 //!   that is loaded and not started.
 //! - A child is revived exactly where it is due and its start function starts it (`revived`, `RefusesRevive`). Want of memory is told only
 //!   of a child that is due.
+//! - By the rules children and applications start in one way, or fail for one reason ([`children_start_one_way`],
+//!   [`applications_start_one_way`]).
 //! - A child whose process has ended has none, and is due where its Restart and the reason say so and its application is started
 //!   (`all_ended`, `after_end`).
 //! - The record of each step gives the applications before it, whole, whatever the memory (`undone`); that of a start gives the
@@ -36,6 +38,7 @@ mod apps;
 mod child_starting;
 mod children;
 mod error;
+mod laws;
 mod restarting;
 mod results;
 mod running;
@@ -46,4 +49,5 @@ pub use app_error::AppError;
 pub use app_table::{App, AppTable, Child, ChildState, Ended, Undo};
 pub use apps::{AppStart, Revival, revive, revive_refusal, start_app};
 pub use error::SysError;
+pub use laws::{applications_start_one_way, children_start_one_way};
 pub use start_failed::StartFailed;

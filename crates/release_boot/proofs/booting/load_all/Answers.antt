@@ -14,7 +14,7 @@ loop-app-preserved c =
     let app = c.app-item.result in
     let rest = modules_of (drop (place + 1) apps) in
     let before = c.loop-app.modules in
-    ap (all_loaded rest) (c.in_ok-load_app.ensures.loaded ∙ ap (λ (ms : List Forms). all_loaded ms before) c.as_slice.ensures) ∙
+    ap (all_loaded rest) (c.in_ok-load_app.ensures ∙ ap (λ (ms : List Forms). all_loaded ms before) c.as_slice.ensures) ∙
     sym (loaded_both app.modules rest before) ∙
     ap (λ (fs : List AppFiles). all_loaded (modules_of fs) before) (sym (from_here apps place app c.loop-app-test.true c.app-item.is)) ∙
     c.loop-app.invariant

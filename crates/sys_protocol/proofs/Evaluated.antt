@@ -1,9 +1,11 @@
--- A start function gives one outcome.
-use Rattle.std.proofs.Common.{◌≡◌, List, [], ◌∷◌, map, refl, sym, ap, ◌∙◌}
+-- Evaluating gives one outcome.
+use Rattle.std.proofs.Common.{◌≡◌, ℕ, List, [], ◌∷◌, map, refl, sym, ap, ◌∙◌}
 use Rattle.erl_term.specs.Term.{term_of, term_of-tree, tree}
+use Rattle.erl_term.specs.Tree.{Trees}
 use Rattle.erl_semantics.proofs.Outcomes.{from_outside-once}
 use Rattle.erl_semantics.specs.Acts.{act_of, place, receiver}
 use Rattle.erl_semantics.specs.Jobs as jobs
+use Rattle.erl_semantics.specs.Jobs.{Evaluates}
 use Rattle.erl_semantics.specs.State as state
 use Rattle.erl_semantics.specs.declared.acts.Act.{Act}
 use Rattle.erl_semantics.specs.declared.acts.Act.TheVariants as acts
@@ -15,10 +17,6 @@ use Rattle.erl_semantics.specs.Views.{outcome_of, end_of}
 use Rattle.erl_semantics.specs.declared.outcome.Outcome.{Outcome}
 use Rattle.erl_semantics.specs.declared.outcome.End.{End}
 use Rattle.erl_semantics.specs.declared.outcome.End.TheVariants as ends
-use Rattle.erl_semantics.specs.declared.instance.Instance.{Instance}
-use Rattle.child_specs.specs.declared.child.ChildSpec.{ChildSpec}
-use Rattle.sys_protocol.specs.ChildStarts.{Gives}
-use Rattle.process_store.specs.Table.{Table}
 
 -- What contracts see of an outcome tells it.
 
@@ -70,6 +68,6 @@ outcome_back o = record { acts = map act_back o.acts; end = end_back o.ended }
 outcome_again : (o : Outcome) → outcome_back (outcome_of o) ≡ o
 outcome_again o = (λ j. record { acts = acts_again o.acts j; end = end_again o.end j })
 
-pub one_outcome : (code : List Instance) (c : ChildSpec) (t : Table) (o p : Outcome) → Gives code c t o → Gives code c t p → o ≡ p
-one_outcome code c t o p first second =
+pub evaluates-once : (w : state.World) (m f : List ℕ) (args : Trees) (o p : Outcome) → Evaluates w m f args (outcome_of o) → Evaluates w m f args (outcome_of p) → o ≡ p
+evaluates-once w m f args o p first second =
     sym (outcome_again o) ∙ ap outcome_back (from_outside-once first second) ∙ outcome_again p
