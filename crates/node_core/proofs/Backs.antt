@@ -3,14 +3,13 @@ use Rattle.std.proofs.Common.{◌≡◌, ◌∙◌, List, Option, None, Some, If
 use Rattle.app_table.specs.Applications.{Application}
 use Rattle.app_table.specs.Undo as apps
 use Rattle.app_table.specs.declared.undo.Undo as apps_undo
-use Rattle.code_loading.specs.Consistent.{IsConsistent}
 use Rattle.code_loading.specs.Undo as loading
 use Rattle.code_loading.specs.declared.undo.Undo as loading_undo
-use Rattle.node_core.specs.Node.{NodeState}
+use Rattle.node_core.specs.Node.{IsKept, NodeState}
 use Rattle.node_core.specs.Record.{AppsBack, Undoes}
 use Rattle.node_core.specs.declared.record.Record.TheVariants.{OfCode}
 
-pub was_kept : (undo : loading_undo.Undo) (ended : Option apps_undo.Undo) (before now : NodeState) → Undoes (OfCode undo ended) before now → IsConsistent before.modules before.processes
+pub was_kept : (undo : loading_undo.Undo) (ended : Option apps_undo.Undo) (before now : NodeState) → Undoes (OfCode undo ended) before now → IsKept before
 was_kept undo ended before now (kept, (takes, back)) = kept
 
 pub code_back : (undo : loading_undo.Undo) (ended : Option apps_undo.Undo) (before now : NodeState) → Undoes (OfCode undo ended) before now → loading.TakesBack undo before.modules before.processes now.modules now.processes

@@ -1,4 +1,3 @@
-pub mod Evaluated
 pub mod Node
 pub mod OneOutcome
 pub mod Record

@@ -1,21 +1,34 @@
 -- A node: its modules, its processes and its applications.
-use Rattle.std.specs.Prelude.{List}
+use Rattle.std.specs.Prelude.{◌≡◌, ℕ, List, Option, Some, IsSome, option_and_then}
 use Rattle.erl_forms.specs.Module.{Forms}
 use Rattle.code_loading.specs.Consistent.{IsConsistent}
 use Rattle.code_server.specs.Modules.{Table as Loaded}
-use Rattle.process_store.specs.Table.{Table}
-use Rattle.app_table.specs.Applications.{Application}
+use Rattle.process_store.specs.Table.{Table, living}
+use Rattle.app_table.specs.Applications.{Application, child_at}
+use Rattle.app_table.specs.Ordered.{pid_in}
+use Rattle.app_table.specs.declared.spot.Spot.{Spot}
 
--- The next serial of a load is one of the modules, and the next pid of the processes.
+-- The next serial of a load stands in the table of modules, and the next pid in that of processes.
 pub record NodeState : Type 0 where
   pub modules : Loaded Forms
   pub processes : Table
   pub apps : List Application
 
--- What every node keeps: modules differ in name, each has one or two instances, and each instance that a process uses is its module's
--- current or old code.
-abbrev pub IsKept : NodeState → Type 0
-IsKept n = IsConsistent n.modules n.processes
+-- the pid of the process that the child at a spot runs as, where it runs
+abbrev pub runs_at : Spot → List Application → Option ℕ
+runs_at spot apps = option_and_then (λ c. pid_in c.state) (child_at spot apps)
+
+-- Each child that runs is a process that lives, and no two are one process.
+pub record ChildrenLive (apps : List Application) (t : Table) : Type 0 where
+  pub live : (spot : Spot) (pid : ℕ) → runs_at spot apps ≡ Some pid → IsSome (living pid t)
+  pub apart : (one other : Spot) (pid : ℕ) → runs_at one apps ≡ Some pid → runs_at other apps ≡ Some pid → one ≡ other
+
+-- What every node keeps: modules differ in name, each has one or two instances, whose serials differ, each instance that a process uses
+-- is its module's current or old code, and one that rests in a loop function uses that which its place names; and each child that runs is
+-- a process that lives, and no two are one.
+pub record IsKept (n : NodeState) : Type 0 where
+  pub consistent : IsConsistent n.modules n.processes
+  pub children : ChildrenLive n.apps n.processes
 
 abbrev pub with_processes : Table → NodeState → NodeState
 with_processes t n = record n { processes = t }

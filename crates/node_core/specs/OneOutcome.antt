@@ -11,7 +11,6 @@ use Rattle.erl_semantics.specs.declared.instance.Instance.{Instance}
 use Rattle.app_table.specs.Children.{is_due}
 use Rattle.app_table.specs.declared.child.Child.{Child}
 use Rattle.sys_protocol.specs.ChildStarts.{Fails, Restarts, Starts, after_start, start_told}
-use Rattle.sys_protocol.specs.StartResults.{start_fault}
 use Rattle.code_loading.specs.Current.{current_code}
 use Rattle.code_server.specs.Modules.{Table as Loaded}
 use Rattle.process.proofs.JobCode.{IsJobCode-one}
@@ -19,18 +18,18 @@ use Rattle.process.specs.Ended.{held}
 use Rattle.process_effects.specs.Commits.{IsRunning, job_at}
 use Rattle.process_effects.specs.declared.told.Reply.{Reply}
 use Rattle.process_store.specs.Changes.{CanTurnAt}
-use Rattle.process_store.specs.Table.{Table, living, next_pid}
+use Rattle.process_store.specs.Table.{Table, living}
 use Rattle.process_store.specs.declared.living.Living.{Living}
 use Rattle.process_table.specs.Commit.{RefusesCommit}
 use Rattle.process_table.specs.Steps.{IsCode, IsCodeOf, entered, taken}
 use Rattle.process_table.specs.declared.error.ProcError.{ProcError}
 use Rattle.process_table.specs.declared.error.ProcError.TheVariants as proc
 use Rattle.app_table.specs.Applications.{Application, child_of}
+use Rattle.sys_protocol.proofs.ChildrenOneWay.{fails-once, gives-once, never_starts}
 use Rattle.sys_protocol.specs.Refusals.{RefusesRevive}
 use Rattle.sys_protocol.specs.declared.error.SysError.{SysError}
 use Rattle.sys_protocol.specs.declared.error.SysError.TheVariants as sys
 use Rattle.undo_journal.specs.Reversible.{Accepted}
-use Rattle.node_core.specs.Evaluated.{one_outcome}
 use Rattle.node_core.specs.Node.{NodeState}
 use Rattle.node_core.specs.Step.{Commits, IsRevived, Outcome, Revives, Step, Takes, reporting, revived_as, run_taken}
 use Rattle.node_types.specs.declared.event.Answer.{Answer}
@@ -130,13 +129,9 @@ due_or_not : (o : Option Child) (c d : Child) → o ≡ Some c → o ≡ Some d 
 due_or_not o c d first second due undue =
     true≢false (sym due ∙ ap is_due (one_child o c d first second) ∙ undue)
 
-one_fault : (code : List Instance) (c : Child) (t : Table) (r s : Term) → Fails code c.spec t r → Fails code c.spec t s → r ≡ s
-one_fault code c t r s first second =
-    same_Some r s (sym first.faulty ∙ ap (λ o. start_fault (next_pid t) o t) (one_outcome code c.spec t first.outcome second.outcome first.gives second.gives) ∙ second.faulty)
-
 one_failure : (code : List Instance) (c d : Child) (t : Table) (r s : Term) → c ≡ d → Fails code c.spec t r → Fails code d.spec t s → sys.StartFailed (record { child = c.spec.id; reason = r }) ≡ sys.StartFailed (record { child = d.spec.id; reason = s })
 one_failure code c d t r s same first second =
-    (λ i. sys.StartFailed (record { child = (same i).spec.id; reason = one_fault code d t r s (subst (λ x. Fails code x.spec t r) same first) second i }))
+    (λ i. sys.StartFailed (record { child = (same i).spec.id; reason = fails-once code d.spec t r s (subst (λ x. Fails code x.spec t r) same first) second i }))
 
 one_unrevived : (code : List Instance) (name : List ℕ) (id : Term) (apps : List Application) (t : Table) (e f : SysError) → IsUnrevived code name id apps t e → IsUnrevived code name id apps t f → e ≡ f
 one_unrevived code name id apps t _ _ (no_child none) (no_child other) = refl
@@ -152,8 +147,7 @@ one_unrevived code name id apps t _ _ (failed c reason here due fails) (failed d
 
 starts_or_fails : (code : List Instance) (c d : Child) (t after : Table) (pid : ℕ) (told : List Reply) (reason : Term) → c ≡ d → Restarts code c.spec t pid after told → Fails code d.spec t reason → ⊥
 starts_or_fails code c d t after pid told reason same restarts fails =
-    let starts = subst (λ x. Starts code x.spec t restarts.1.0) same restarts.1.1 in
-    none-some reason (sym starts.faultless ∙ ap (λ o. start_fault (next_pid t) o t) (one_outcome code d.spec t restarts.1.0 fails.outcome starts.gives fails.gives) ∙ fails.faulty)
+    never_starts code d.spec t restarts.1.0 reason (subst (λ x. Starts code x.spec t restarts.1.0) same restarts.1.1) fails
 
 never_revived : (app : List ℕ) (id : Term) (n : NodeState) (a : Accepted NodeState Answer Note) (e : SysError) → IsRevived app id n a → IsUnrevived (current_code n.modules) app id n.apps n.processes e → ⊥
 never_revived app id n a _ it (no_child none) = none-some it.child (sym none ∙ it.found)
@@ -164,7 +158,7 @@ never_revived app id n a _ it (failed d reason there due fails) =
 one_restart : (code : List Instance) (c d : Child) (t u v : Table) (p q : ℕ) (told other : List Reply) → c ≡ d → Restarts code c.spec t p u told → Restarts code d.spec t q v other → (p ≡ q) × (u ≡ v) × (told ≡ other)
 one_restart code c d t u v p q told other same first second =
     let starts = subst (λ x. Starts code x.spec t first.1.0) same first.1.1 in
-    let o = one_outcome code d.spec t first.1.0 second.1.0 starts.gives second.1.1.gives in
+    let o = gives-once code d.spec t first.1.0 second.1.0 starts.gives second.1.1.gives in
     (first.0 ∙ sym second.0, first.1.2 ∙ ap (λ x. after_start code x t) o ∙ sym second.1.2, first.1.3 ∙ ap (λ x. start_told code x t) o ∙ sym second.1.3)
 
 one_revival : (app : List ℕ) (id : Term) (n : NodeState) (a b : Accepted NodeState Answer Note) → IsRevived app id n a → IsRevived app id n b → a ≡ b

@@ -14,7 +14,10 @@
 //!   [`undo_journal`] promises holds of the node: after any commands and undos it is the fold of the rule over the steps not undone, and an
 //!   undo reports exactly the replies sent and the messages accepted since.
 //! - Every node keeps that its modules differ in name, that each has one or two instances, whose serials differ, and that each instance that
-//!   a process uses is its module's current or old code (`IsKept`); [`Node::modules`] tells it.
+//!   a process uses is its module's current or old code, and that each child that runs is a process that lives, and no two are one
+//!   (`IsKept`, `ChildrenLive`); [`Node::modules`] tells it.
+//! - Of its processes it tells who lives under a pid ([`Node::process`]) and under a name ([`Node::pid_of`]), which job one runs
+//!   ([`Node::retake`]), and which could take a message now ([`Node::is_runnable`], [`Node::runnable`]: `IsNextRunnable`).
 //!
 //! # What no contract says
 //!
@@ -25,6 +28,7 @@
 mod loading;
 mod node;
 mod processes;
+mod reading;
 mod record;
 mod reverting;
 mod reviving;

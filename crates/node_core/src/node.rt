@@ -27,8 +27,7 @@ impl Model for Node {
     ghost use Rattle.std.specs.Coded.{codes};
     ghost use Rattle.erl_term.specs.contracts.term.Terms as terms;
     ghost use Rattle.erl_forms.specs.contracts.module.Module as forms;
-    ghost use Rattle.code_loading.specs.Consistent.{IsConsistent};
-    ghost use Rattle.node_core.specs.Node.{NodeState};
+    ghost use Rattle.node_core.specs.Node.{IsKept, NodeState};
 
     ghost Value = { NodeState };
 
@@ -36,7 +35,7 @@ impl Model for Node {
 
     ghost view = { λ n. record { modules = n.modules; processes = n.processes; apps = n.apps } };
 
-    ghost invariant = { λ n. IsConsistent n.modules n.processes };
+    ghost invariant = { λ n. IsKept (record { modules = n.modules; processes = n.processes; apps = n.apps }) };
 }
 
 /// That modules differ in name, and have one or two instances each, whose serials differ: their table keeps it.

@@ -9,7 +9,9 @@ use Rattle.process_table.specs.Steps.{after_arrival, arrive_refusal, kind_of}
 use Rattle.undo_journal.specs.Reversible.{Accepted}
 use Rattle.undo_journal.specs.declared.reversible.Told.{Told}
 use Rattle.node_core.proofs.Accepting.{accepted_of, all_told, unless_none}
-use Rattle.node_core.specs.Node.{NodeState, with_processes}
+use Rattle.node_core.proofs.Keeping.{all_on}
+use Rattle.node_core.proofs.Lives.{arrival_on}
+use Rattle.node_core.specs.Node.{ChildrenLive, NodeState, with_processes}
 use Rattle.node_types.specs.declared.event.Answer.{Answer}
 use Rattle.node_types.specs.declared.event.Answer.TheVariants as answer
 use Rattle.node_types.specs.declared.event.Event.TheVariants as event
@@ -19,7 +21,17 @@ use Rattle.node_core.proofs.node.Node.arrive.Goals as goal
 
 pub invariant_of-self-2 : goal.invariant_of-self-2
 invariant_of-self-2 c =
-    subst (λ (t : Table). IsConsistent c.self.inside.modules t) (sym c.in-Ok-arrive.ensures.arrived) (steps_keep_code.arrivals c.args.client c.args.name.now c.args.body.now c.self.inside.modules c.self.inside.processes c.self.invariant)
+    let m = c.self.inside.modules in
+    let t = c.self.inside.processes in
+    let apps = c.self.inside.apps in
+    let client = c.args.client in
+    let name = c.args.name.now in
+    let body = c.args.body.now in
+    let after = after_arrival client name body t in
+    record {
+      consistent = subst (λ (u : Table). IsConsistent m u) (sym c.in-Ok-arrive.ensures.arrived) (steps_keep_code.arrivals client name body m t c.self.invariant.consistent);
+      children = subst (λ (u : Table). ChildrenLive apps u) (sym c.in-Ok-arrive.ensures.arrived) (all_on apps t after (arrival_on client name body t) c.self.invariant.children);
+    }
 
 pub returns-clause-accepted : goal.returns-clause-accepted
 returns-clause-accepted c =

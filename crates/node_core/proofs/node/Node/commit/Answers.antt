@@ -1,14 +1,13 @@
 -- What the job has done is done.
 use Rattle.std.proofs.Common.{◌≡◌, ◌∙◌, List, None, map, sym, subst, ap, refl}
 use Rattle.code_loading.proofs.Stepping.{steps_keep_code}
-use Rattle.code_loading.specs.Consistent.{IsConsistent}
 use Rattle.process_effects.specs.declared.told.Reply.{Reply}
-use Rattle.process_store.specs.Table.{Table}
 use Rattle.process_table.specs.Commit.{commit_told, committed}
 use Rattle.undo_journal.specs.Reversible.{Accepted}
 use Rattle.undo_journal.specs.declared.reversible.Told.{Told}
 use Rattle.node_core.proofs.Accepting.{accepted_of, each_of}
-use Rattle.node_core.specs.Node.{NodeState}
+use Rattle.node_core.proofs.Keeping.{committed_live}
+use Rattle.node_core.specs.Node.{IsKept, NodeState}
 use Rattle.node_core.specs.Step.{ended_by, reporting}
 use Rattle.node_types.specs.declared.event.Answer.{Answer}
 use Rattle.node_types.specs.declared.event.Answer.TheVariants as answer
@@ -18,7 +17,14 @@ use Rattle.node_core.proofs.node.Node.commit.Goals as goal
 
 pub invariant_of-self-in-Ok-commit : goal.invariant_of-self-in-Ok-commit
 invariant_of-self-in-Ok-commit c =
-    subst (λ (t : Table). IsConsistent c.self.inside.modules t) (sym c.in-Ok-commit.ensures.committed) (steps_keep_code.commits c.args.done.now c.self.inside.modules c.self.inside.processes c.self.invariant c.in-Ok-commit.ensures.ok.0)
+    let m = c.self.inside.modules in
+    let t = c.self.inside.processes in
+    let apps = c.self.inside.apps in
+    let done = c.args.done.now in
+    let made : NodeState = record { modules = m; processes = committed done t; apps = ended_by done.job.pid done.outcome.end apps } in
+    let new : NodeState = record { modules = m; processes = c.commit.new.self; apps = c.end_child.new.apps } in
+    let is : new ≡ made = (λ i. record { modules = m; processes = c.in-Ok-commit.ensures.committed i; apps = c.in-Ok-end_child.ensures.ended i }) in
+    subst IsKept (sym is) (record { consistent = steps_keep_code.commits done m t c.self.invariant.consistent c.in-Ok-commit.ensures.ok.0; children = committed_live done t apps c.self.invariant.children })
 
 pub returns-in-Ok-commit-clause-accepted : goal.returns-in-Ok-commit-clause-accepted
 returns-in-Ok-commit-clause-accepted c =

@@ -18,7 +18,10 @@ use Rattle.node_core.proofs.node.Node.delete.Goals as goal
 pub invariant_of-self : goal.invariant_of-self
 invariant_of-self c =
     let t = c.self.inside.processes in
-    subst (λ (x : Loaded Forms). IsConsistent x t) (sym c.in-Ok-delete.ensures.deleted) (delete_keeps c.args.name.now c.self.inside.modules t c.self.invariant c.in-Ok-delete.ensures.refused)
+    record {
+      consistent = subst (λ (x : Loaded Forms). IsConsistent x t) (sym c.in-Ok-delete.ensures.deleted) (delete_keeps c.args.name.now c.self.inside.modules t c.self.invariant.consistent c.in-Ok-delete.ensures.refused);
+      children = c.self.invariant.children;
+    }
 
 pub returns-clause-accepted : goal.returns-clause-accepted
 returns-clause-accepted c =

@@ -1,16 +1,15 @@
 -- The module is loaded, and those who lingered in it are killed.
 use Rattle.std.proofs.Common.{◌≡◌, ◌∙◌, None, replicate, sym, subst, ap}
 use Rattle.code_loading.proofs.Consistency.{load_keeps, purge_keeps}
-use Rattle.code_loading.specs.Consistent.{IsConsistent}
 use Rattle.code_loading.specs.Loading.{lingering, purge_told, spared}
-use Rattle.code_server.specs.Modules.{Table as Loaded, load_refusal, loaded, purged}
+use Rattle.code_server.specs.Modules.{load_refusal, loaded, purged}
 use Rattle.erl_forms.specs.Module.{Forms}
 use Rattle.app_table.specs.Applications.{all_ended}
 use Rattle.process_effects.specs.Told.{killed}
-use Rattle.process_store.specs.Table.{Table}
 use Rattle.undo_journal.specs.Reversible.{Accepted}
 use Rattle.node_core.proofs.Accepting.{accepted_of, unless_none}
-use Rattle.node_core.specs.Node.{NodeState, with_modules}
+use Rattle.node_core.proofs.Keeping.{spared_live}
+use Rattle.node_core.specs.Node.{IsKept, NodeState, with_modules}
 use Rattle.node_core.specs.Step.{reporting, without_lingering}
 use Rattle.node_types.specs.declared.event.Answer.{Answer}
 use Rattle.node_types.specs.declared.event.Answer.TheVariants as answer
@@ -23,9 +22,18 @@ pub invariant_of-self-in-Ok-load : goal.invariant_of-self-in-Ok-load
 invariant_of-self-in-Ok-load c =
     let m = c.self.inside.modules in
     let t = c.self.inside.processes in
-    let f = c.in-Ok-copy.copy in
-    let kept = load_keeps f.name f (purged f.name m) (spared f.name m t) (purge_keeps f.name m t c.self.invariant) c.in-Ok-load.ensures.ok in
-    subst (λ (u : Table). IsConsistent c.load.new.modules u) (sym c.in-Ok-load.ensures.processes) (subst (λ (x : Loaded Forms). IsConsistent x (spared f.name m t)) (sym c.in-Ok-load.ensures.modules) kept)
+    let apps = c.self.inside.apps in
+    let n : NodeState = record { modules = m; processes = t; apps = apps } in
+    let f = c.args.code.now in
+    let same = c.in-Ok-copy.ensures in
+    let new : NodeState = record { modules = c.load.new.modules; processes = c.load.new.processes; apps = c.end_lingering.new.apps } in
+    let ok = subst (λ (x : Forms). load_refusal x.name (purged x.name m) ≡ None) same c.in-Ok-load.ensures.ok in
+    let modules = subst (λ (x : Forms). c.load.new.modules ≡ loaded x.name x (purged x.name m)) same c.in-Ok-load.ensures.modules in
+    let processes = subst (λ (x : Forms). c.load.new.processes ≡ spared x.name m t) same c.in-Ok-load.ensures.processes in
+    let ended = c.in-Ok-end_lingering.ensures.ended ∙ ap (λ name. all_ended killed (lingering name m t) apps) c.name-2.ensures in
+    let is : new ≡ with_modules (loaded f.name f (purged f.name m)) (without_lingering f.name n) = (λ i. record { modules = modules i; processes = processes i; apps = ended i }) in
+    let consistent = load_keeps f.name f (purged f.name m) (spared f.name m t) (purge_keeps f.name m t c.self.invariant.consistent) ok in
+    subst IsKept (sym is) (record { consistent = consistent; children = spared_live f.name m t apps c.self.invariant.children })
 
 pub returns-in-Ok-load-clause-accepted : goal.returns-in-Ok-load-clause-accepted
 returns-in-Ok-load-clause-accepted c =

@@ -1,14 +1,11 @@
 -- The old code is gone, and those who lingered in it are killed.
 use Rattle.std.proofs.Common.{◌≡◌, ◌∙◌, replicate, sym, subst, ap, refl}
 use Rattle.code_loading.proofs.Consistency.{purge_keeps}
-use Rattle.code_loading.specs.Consistent.{IsConsistent}
-use Rattle.code_loading.specs.Loading.{is_lingered_in, purge_told, spared}
-use Rattle.code_server.specs.Modules.{Table as Loaded}
-use Rattle.erl_forms.specs.Module.{Forms}
-use Rattle.process_store.specs.Table.{Table}
+use Rattle.code_loading.specs.Loading.{is_lingered_in, purge_told}
 use Rattle.undo_journal.specs.Reversible.{Accepted}
 use Rattle.node_core.proofs.Accepting.{accepted_of}
-use Rattle.node_core.specs.Node.{NodeState}
+use Rattle.node_core.proofs.Keeping.{spared_live}
+use Rattle.node_core.specs.Node.{IsKept, NodeState}
 use Rattle.node_core.specs.Step.{reporting, without_lingering}
 use Rattle.node_types.specs.declared.event.Answer.{Answer}
 use Rattle.node_types.specs.declared.event.Answer.TheVariants as answer
@@ -20,8 +17,12 @@ pub invariant_of-self-in-Ok-purge : goal.invariant_of-self-in-Ok-purge
 invariant_of-self-in-Ok-purge c =
     let m = c.self.inside.modules in
     let t = c.self.inside.processes in
+    let apps = c.self.inside.apps in
+    let n : NodeState = record { modules = m; processes = t; apps = apps } in
     let name = c.args.name.now in
-    subst (λ (u : Table). IsConsistent c.purge.new.modules u) (sym c.in-Ok-purge.ensures.processes) (subst (λ (x : Loaded Forms). IsConsistent x (spared name m t)) (sym c.in-Ok-purge.ensures.modules) (purge_keeps name m t c.self.invariant))
+    let new : NodeState = record { modules = c.purge.new.modules; processes = c.purge.new.processes; apps = c.end_lingering.new.apps } in
+    let is : new ≡ without_lingering name n = (λ i. record { modules = c.in-Ok-purge.ensures.modules i; processes = c.in-Ok-purge.ensures.processes i; apps = c.in-Ok-end_lingering.ensures.ended i }) in
+    subst IsKept (sym is) (record { consistent = purge_keeps name m t c.self.invariant.consistent; children = spared_live name m t apps c.self.invariant.children })
 
 pub returns-in-Ok-purge-clause-accepted : goal.returns-in-Ok-purge-clause-accepted
 returns-in-Ok-purge-clause-accepted c =

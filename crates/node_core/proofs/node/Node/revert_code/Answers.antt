@@ -1,13 +1,9 @@
 -- Modules and processes are as before, and with them the children.
-use Rattle.std.proofs.Common.{sym, subst}
-use Rattle.code_loading.specs.Consistent.{IsConsistent}
+use Rattle.std.proofs.Common.{◌≡◌, sym, subst}
 use Rattle.code_loading.specs.Undo.{TakesBack}
 use Rattle.code_loading.specs.declared.undo.Undo.{Undo}
-use Rattle.code_server.specs.Modules.{Table as Loaded}
-use Rattle.erl_forms.specs.Module.{Forms}
-use Rattle.process_store.specs.Table.{Table}
 use Rattle.node_core.proofs.Backs.{apps_back, code_back, was_kept}
-use Rattle.node_core.specs.Node.{NodeState}
+use Rattle.node_core.specs.Node.{IsKept, NodeState}
 use Rattle.node_core.specs.Record.{Undoes}
 use Rattle.node_core.specs.declared.record.Record.TheVariants.{OfCode}
 use Rattle.node_core.proofs.node.Node.revert_code.Goals as goal
@@ -22,8 +18,11 @@ invariant_of-self c =
     let kept = was_kept undo ended before n here in
     let takes = subst (λ (u : Undo). TakesBack u before.modules before.processes n.modules n.processes) (sym c.open-undo.ensures) (code_back undo ended before n here) in
     let modules = c.in-Ok.ensures.modules before.modules before.processes takes in
-    let processes = c.in-Ok.ensures.processes before.modules before.processes takes kept.sound kept.stand in
-    subst (λ (u : Table). IsConsistent c.revert.new.modules u) (sym processes) (subst (λ (x : Loaded Forms). IsConsistent x before.processes) (sym modules) kept)
+    let processes = c.in-Ok.ensures.processes before.modules before.processes takes kept.consistent.sound kept.consistent.stand in
+    let apps = apps_back undo ended before n c.unend.new.apps here c.unend.ensures.undone c.unend.ensures.none in
+    let now : NodeState = record { modules = c.revert.new.modules; processes = c.revert.new.processes; apps = c.unend.new.apps } in
+    let is : now ≡ before = (λ i. record { modules = modules i; processes = processes i; apps = apps i }) in
+    subst IsKept (sym is) kept
 
 pub returns-in-Ok-clause-ok : goal.returns-in-Ok-clause-ok
 returns-in-Ok-clause-ok c =
@@ -35,6 +34,6 @@ returns-in-Ok-clause-ok c =
     let kept = was_kept undo ended before n here in
     let takes = subst (λ (u : Undo). TakesBack u before.modules before.processes n.modules n.processes) (sym c.open-undo.ensures) (code_back undo ended before n here) in
     let modules = c.in-Ok.ensures.modules before.modules before.processes takes in
-    let processes = c.in-Ok.ensures.processes before.modules before.processes takes kept.sound kept.stand in
+    let processes = c.in-Ok.ensures.processes before.modules before.processes takes kept.consistent.sound kept.consistent.stand in
     let apps = apps_back undo ended before n c.unend.new.apps here c.unend.ensures.undone c.unend.ensures.none in
     (λ i. record { modules = modules i; processes = processes i; apps = apps i })

@@ -12,7 +12,9 @@ use Rattle.process_store.specs.Table.{Table}
 use Rattle.undo_journal.specs.Reversible.{Accepted}
 use Rattle.undo_journal.specs.declared.reversible.Told.{Told}
 use Rattle.node_core.proofs.Accepting.{accepted_of, each_of}
-use Rattle.node_core.specs.Node.{NodeState}
+use Rattle.node_core.proofs.Booting.{child_begins}
+use Rattle.node_core.proofs.Starting.{revived_live}
+use Rattle.node_core.specs.Node.{ChildrenLive, NodeState}
 use Rattle.node_core.specs.Step.{revived_as}
 use Rattle.node_types.specs.declared.event.Answer.{Answer}
 use Rattle.node_types.specs.declared.event.Answer.TheVariants as answer
@@ -27,8 +29,15 @@ invariant_of-self c =
     let (child, told, found, due, restarts, tells, apps) = c.in-Ok-revive.ensures.revived in
     let code = c.as_slice.result.now in
     let is = c.as_slice.ensures.value ∙ c.in-Ok.ensures in
-    let stand = subst (λ (is : List Instance). All (StandsIn m) (map instance is)) (sym is) (steps_keep_code.currents m c.self.invariant.sound) in
-    subst (λ (u : Table). IsConsistent m u) (sym restarts.1.2) (steps_keep_code.starts (named_by restarts.1.0) code restarts.1.0.acts m t c.self.invariant stand)
+    let stand = subst (λ (is : List Instance). All (StandsIn m) (map instance is)) (sym is) (steps_keep_code.currents m c.self.invariant.consistent.sound) in
+    let it = c.in-Ok-revive.revival in
+    let after = c.revive.new.processes in
+    let o = restarts.1.0 in
+    let begins = child_begins code child.spec t o restarts.1.1.gives in
+    record {
+      consistent = subst (λ (u : Table). IsConsistent m u) (sym restarts.1.2) (steps_keep_code.starts (named_by o) code o.acts m t c.self.invariant.consistent stand begins);
+      children = subst (λ (xs : List Application). ChildrenLive xs after) (sym apps) (revived_live code child.spec t it.pid after told c.args.app.now c.args.id.now c.self.inside.apps restarts c.self.invariant.children);
+    }
 
 pub returns-in-Ok-revive-clause-accepted : goal.returns-in-Ok-revive-clause-accepted
 returns-in-Ok-revive-clause-accepted c =

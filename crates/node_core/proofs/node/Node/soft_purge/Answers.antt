@@ -30,7 +30,10 @@ invariant_of-self c =
     let name = c.args.name.now in
     let n : NodeState = record { modules = m; processes = t; apps = c.self.inside.apps } in
     let spares = nobody_lingers name m t (unlingered (is_lingered_in name m t) (subst (λ (x : NodeState). soft_purge_refusal name x ≡ None) (sym c.self.view_is) c.requires)) in
-    subst (λ (x : Loaded Forms). IsConsistent x t) (sym c.in-Ok-soft_purge.ensures.modules) (subst (λ (u : Table). IsConsistent (purged name m) u) spares (purge_keeps name m t c.self.invariant))
+    record {
+      consistent = subst (λ (x : Loaded Forms). IsConsistent x t) (sym c.in-Ok-soft_purge.ensures.modules) (subst (λ (u : Table). IsConsistent (purged name m) u) spares (purge_keeps name m t c.self.invariant.consistent));
+      children = c.self.invariant.children;
+    }
 
 pub returns-clause-accepted : goal.returns-clause-accepted
 returns-clause-accepted c =

@@ -5,10 +5,13 @@ use Rattle.code_loading.specs.Consistent.{IsConsistent}
 use Rattle.erl_semantics.specs.declared.jobs.Job.{Job}
 use Rattle.process_effects.specs.Commits.{job_at}
 use Rattle.process_store.specs.Table.{Table, living}
+use Rattle.process_table.specs.Steps.{taken}
 use Rattle.undo_journal.specs.Reversible.{Accepted}
 use Rattle.undo_journal.specs.declared.reversible.Told.{Told}
 use Rattle.node_core.proofs.Accepting.{accepted_of, each_of}
-use Rattle.node_core.specs.Node.{NodeState, with_processes}
+use Rattle.node_core.proofs.Keeping.{all_on}
+use Rattle.node_core.proofs.Lives.{taken_on}
+use Rattle.node_core.specs.Node.{ChildrenLive, NodeState, with_processes}
 use Rattle.node_core.specs.Step.{reporting, run_taken}
 use Rattle.node_types.specs.declared.event.Answer.{Answer}
 use Rattle.node_types.specs.declared.event.Answer.TheVariants as answer
@@ -18,8 +21,16 @@ use Rattle.node_core.proofs.node.Node.take.Goals as goal
 
 pub invariant_of-self-2 : goal.invariant_of-self-2
 invariant_of-self-2 c =
+    let m = c.self.inside.modules in
+    let t = c.self.inside.processes in
+    let apps = c.self.inside.apps in
     let takes = c.in-Ok-take.ensures.taken in
-    subst (λ (t : Table). IsConsistent c.self.inside.modules t) (sym takes.table) (steps_keep_code.takes c.args.pid takes.job c.self.inside.modules c.self.inside.processes c.self.invariant takes.code)
+    let job = takes.job in
+    let after = taken c.args.pid job.entry_serial job.code t in
+    record {
+      consistent = subst (λ (u : Table). IsConsistent m u) (sym takes.table) (steps_keep_code.takes c.args.pid job m t c.self.invariant.consistent takes.code);
+      children = subst (λ (u : Table). ChildrenLive apps u) (sym takes.table) (all_on apps t after (taken_on c.args.pid job.entry_serial job.code t) c.self.invariant.children);
+    }
 
 pub returns-clause-accepted : goal.returns-clause-accepted
 returns-clause-accepted c =

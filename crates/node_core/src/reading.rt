@@ -1,0 +1,64 @@
+// What is asked of a node.
+ghost use Rattle.std.specs.Prelude.{◌≡◌, IfErr, IfOk, Some, option_map};
+ghost use Rattle.std.specs.Option.{option_copied};
+ghost use Rattle.std.specs.Str.{chars};
+ghost use Rattle.values.specs.Failure.{Tells};
+ghost use Rattle.process_effects.specs.Commits.{job_at};
+ghost use Rattle.process_store.specs.Table.{living, pid_of};
+ghost use Rattle.process_table.specs.Steps.{IsNextRunnable, is_runnable, retake_refusal};
+
+use crate::node::Node;
+use erl_semantics::Job;
+use process::Process;
+use process_table::ProcError;
+use values::Failure;
+
+impl Node {
+    /// The process of a pid, where it lives. Takes no memory.
+    pub fn process(&self, pid: u64) -> Option<&Process>
+        ensures { option_copied result ≡ option_map (λ l. l.process) (living pid self.now.processes) }
+    {
+        match self.processes.get(pid) {
+            Some(living) => Some(&living.process),
+            None => None,
+        }
+    }
+
+    /// The process that is registered under the name that a text is, found by key. Takes no memory.
+    pub fn pid_of(&self, name: &str) -> Option<u64>
+        ensures { result ≡ pid_of (chars name.now) self.now.processes }
+    {
+        self.processes.pid_of(name)
+    }
+
+    /// The job that a process runs, given once more.
+    ///
+    /// # Errors
+    ///
+    /// In this order: `NoProc` where no process has the pid, `NotRunning` where it runs nothing, `Memory`.
+    pub fn retake(&self, pid: u64) -> Result<Job, Failure<ProcError>>
+        ensures job { IfOk result (λ job. job_at (living pid self.now.processes) ≡ Some job) }
+        ensures refused { IfErr result (λ failure. Tells failure (retake_refusal pid self.now.processes)) }
+    {
+        self.processes.retake(pid)
+    }
+
+    /// Whether the process of a pid lives and would take a message now: it neither runs nor is suspended, and a message waits
+    /// that it takes. Evaluates nothing, and takes no memory.
+    pub fn is_runnable(&self, pid: u64) -> bool
+        ensures { result ≡ is_runnable (living pid self.now.processes) }
+    {
+        match self.processes.get(pid) {
+            Some(living) => living.process.can_take().is_some(),
+            None => false,
+        }
+    }
+
+    /// The least pid above `after` of a process that would take a message now, if there is one. It walks over the living
+    /// processes from there on; evaluates nothing, and takes no memory.
+    pub fn runnable(&self, after: u64) -> Option<u64>
+        ensures { IsNextRunnable after result self.now.processes }
+    {
+        self.processes.runnable(after)
+    }
+}
