@@ -59,7 +59,8 @@ names_of apps = map (λ app. app.name) apps
 
 -- Which applications it is done on
 
--- All are taken in the order of a release's own file. An application that it does not name is none of them.
+-- All are taken in the order of a release's own file, of its applications those that it names; the other release is asked by its
+-- specifications.
 
 -- those in both releases with different versions, in the target's order
 abbrev pub is_changed : Way → Name → Bool
