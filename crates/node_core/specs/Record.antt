@@ -15,15 +15,18 @@ abbrev pub AppsBack : Option apps_undo.Undo → List Application → List Applic
 AppsBack None before after = after ≡ before
 AppsBack (Some undo) before after = apps.undone undo after ≡ before
 
+-- What a record says of the parts that its step has changed, and of the node: nothing else was changed.
 abbrev pub Restores : Record → NodeState → NodeState → Type 0
 Restores (OfProcesses undo) before after =
-    (after.modules ≡ before.modules) × TakesBackEnds undo before.processes after.processes × AppsBack None before.apps after.apps
+    TakesBackEnds undo before.processes after.processes × (after ≡ record before { processes = after.processes })
 Restores (OfChildren undo ended) before after =
-    (after.modules ≡ before.modules) × TakesBackEnds undo before.processes after.processes × AppsBack (Some ended) before.apps after.apps
+    TakesBackEnds undo before.processes after.processes × AppsBack (Some ended) before.apps after.apps ×
+    (after ≡ record before { processes = after.processes; apps = after.apps })
 Restores (OfCode undo ended) before after =
-    loading.TakesBack undo before.modules before.processes after.modules after.processes × AppsBack ended before.apps after.apps
+    loading.TakesBack undo before.modules before.processes after.modules after.processes × AppsBack ended before.apps after.apps ×
+    (after ≡ record before { modules = after.modules; processes = after.processes; apps = after.apps })
 Restores (OfDeletion undo) before after =
-    code.Fits undo after.modules × (code.undone undo after.modules ≡ before.modules) × (after.processes ≡ before.processes) × (after.apps ≡ before.apps)
+    code.Fits undo after.modules × (code.undone undo after.modules ≡ before.modules) × (after ≡ record before { modules = after.modules })
 
 -- It gives the node before, which kept what every node keeps.
 abbrev pub Undoes : Record → NodeState → NodeState → Type 0
