@@ -1,6 +1,7 @@
 -- Whatever the shell does of a line, the line's command leads to the journal after it.
 use Rattle.std.proofs.Common.{◌≡◌, ℕ, List, Option, None, Some, Ok, option_map, option_to_list, unwrap_or, refl, sym, ap, subst}
 use Rattle.erl_term.specs.Tree.{Tree}
+use Rattle.erl_term.specs.declared.term.Term.{Term}
 use Rattle.erl_term.specs.declared.term.Term.TheVariants as term
 use Rattle.erl_semantics.specs.declared.jobs.Job.{Job}
 use Rattle.process_store.specs.Table.{living}
@@ -19,6 +20,8 @@ use Rattle.node_types.specs.Note.{Note}
 use Rattle.shell_requests.specs.Request.{Request, Spoken, ask, change, load, undo, commit, arrive, serve, revive, too_long, silent, unknown, asks}
 use Rattle.shell_requests.specs.declared.request.Arrival.{Arrival}
 use Rattle.shell_requests.specs.declared.request.Arrival.TheVariants as arrivals
+use Rattle.shell_requests.specs.declared.request.Change.{Change}
+use Rattle.shell_requests.specs.declared.request.Change.TheVariants as changes
 use Rattle.shell_requests.specs.declared.request.Service.{Service}
 use Rattle.shell_requests.specs.declared.request.Service.TheVariants as services
 use Rattle.shell_deeds.specs.Deeds as deeds
@@ -49,11 +52,16 @@ module _ (s : ShellState) where
   carried : (e : Event) (a : Accepted NodeState Answer Note) → Step (node_of s) e (Ok a) → AreAfter Step (option_to_list (Some (command.Perform e))) s.timeline (appended s.timeline a.node a.note) × ((appended s.timeline a.node a.note).first ≡ s.timeline.first)
   carried e a rule = ((appended s.timeline a.node a.note, (Ok a, rule, refl), refl), refl)
 
-  took : (pid : ℕ) (a : Accepted NodeState Answer Note) (told : Answer) → Step (node_of s) (event.Take pid) (Ok a) → IsLed s (deeds.took (stepped a s) pid told)
-  took pid a (tells.Job job) rule = carried (event.Take pid) a rule
-  took pid a (tells.Revived n) rule = carried (event.Take pid) a rule
-  took pid a (tells.Killed b) rule = carried (event.Take pid) a rule
-  took pid a tells.Unit rule = carried (event.Take pid) a rule
+  took : (pid : ℕ) (a : Accepted NodeState Answer Note) (answer : Tree) (told : Answer) → Step (node_of s) (event.Take pid) (Ok a) → IsLed s (state.carried (deeds.job_kept told (stepped a s)) (event.Take pid) answer)
+  took pid a answer (tells.Job job) rule = carried (event.Take pid) a rule
+  took pid a answer (tells.Revived n) rule = carried (event.Take pid) a rule
+  took pid a answer (tells.Killed b) rule = carried (event.Take pid) a rule
+  took pid a answer tells.Unit rule = carried (event.Take pid) a rule
+
+  changed : (kind : Change) (name : List ℕ) (a : Accepted NodeState Answer Note) → Step (node_of s) (deeds.change_event kind name) (Ok a) → IsLed s (deeds.done_by s (deeds.change_event kind name) a)
+  changed changes.Delete name a rule = carried (event.Delete name) a rule
+  changed changes.Purge name a rule = carried (event.Purge name) a rule
+  changed changes.SoftPurge name a rule = carried (event.SoftPurge name) a rule
 
   loads : (name path : List ℕ) (fate : Option Fate) (d : Deed) → deeds.Loads s name path fate d → IsLed s d
   loads name path _ _ (deeds.missing is) = (refl, refl)
@@ -68,18 +76,17 @@ module _ (s : ShellState) where
   tried_same arrivals.Cast = refl
   tried_same arrivals.Info = refl
 
-  arrived : (kind : Arrival) (e : Event) (answer : Tree) (a : Accepted NodeState Answer Note) → Step (node_of s) e (Ok a) → IsLed s (state.carried (stepped a (deeds.tried kind s)) e answer)
-  arrived arrivals.Call e answer a rule = carried e a rule
-  arrived arrivals.Cast e answer a rule = carried e a rule
-  arrived arrivals.Info e answer a rule = carried e a rule
+  arrived : (kind : Arrival) (number : ℕ) (name : List ℕ) (t : Term) (a : Accepted NodeState Answer Note) → Step (node_of s) (deeds.event_of_arrival kind number name t) (Ok a) → IsLed s (deeds.done_by (deeds.tried kind s) (deeds.event_of_arrival kind number name t) a)
+  arrived arrivals.Call number name t a rule = carried (deeds.event_of_arrival arrivals.Call number name t) a rule
+  arrived arrivals.Cast number name t a rule = carried (deeds.event_of_arrival arrivals.Cast number name t) a rule
+  arrived arrivals.Info number name t a rule = carried (deeds.event_of_arrival arrivals.Info number name t) a rule
 
   arrives : (kind : Arrival) (name text : List ℕ) (fate : Option Fate) (d : Deed) → deeds.Arrives s kind name text fate d → IsLed s d
   arrives kind name text _ _ (deeds.no_text fault at is) = (refl, refl)
   arrives kind name text _ _ (deeds.several is) = (refl, refl)
   arrives kind name text _ _ (deeds.read t fate d is does) =
       let e = deeds.arrival_event s kind name t in
-      let answer = deeds.arrival_answer kind (next_number s) in
-      performs (deeds.tried kind s) e (λ a. state.carried (stepped a (deeds.tried kind s)) e answer) fate d (tried_same kind) (arrived kind e answer) does
+      performs (deeds.tried kind s) e (deeds.done_by (deeds.tried kind s) e) fate d (tried_same kind) (arrived kind (next_number s) name t) does
   arrives kind name text _ _ (deeds.unread fate d does) = misses _ fate d does
 
   retakes : (pid : ℕ) (fate : Option Fate) (d : Deed) → deeds.Retakes s pid fate d → IsLed s d
@@ -94,7 +101,7 @@ module _ (s : ShellState) where
   serves services.Take None fate d does = told (fixed words.NoProc) fate d does
   serves services.Retake None fate d does = told (fixed words.NoProc) fate d does
   serves services.Show None fate d does = told (fixed words.NoProc) fate d does
-  serves services.Take (Some pid) fate d does = performs s (event.Take pid) _ fate d refl (λ a rule. took pid a a.answer rule) does
+  serves services.Take (Some pid) fate d does = performs s (event.Take pid) _ fate d refl (λ a rule. took pid a (deeds.answer_to s (event.Take pid) a) a.answer rule) does
   serves services.Retake (Some pid) fate d does = retakes pid fate d does
   serves services.Show (Some pid) fate d does = told (deeds.shown (living pid (node_of s).processes)) fate d does
 
@@ -113,7 +120,7 @@ module _ (s : ShellState) where
 
   obeys : (fate : Option Fate) (request : Request) (d : Deed) → deeds.Obeys fate s request d → IsLed s d
   obeys fate (ask question) d does = told (deeds.told s question) fate d does
-  obeys fate (change kind name) d does = performs s (deeds.change_event kind name) _ fate d refl (carried (deeds.change_event kind name)) does
+  obeys fate (change kind name) d does = performs s (deeds.change_event kind name) _ fate d refl (changed kind name) does
   obeys fate (load name path) d does = loads name path fate d does
   obeys fate (undo mark) d does = undoes mark fate d does
   obeys fate (commit place) d does = commits (deeds.kept_job place s.jobs) fate d does

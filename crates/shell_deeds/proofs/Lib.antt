@@ -2,3 +2,4 @@ mod Deeds
 mod Finding
 mod Performing
 mod Sources
+pub mod Answering

@@ -27,7 +27,7 @@ use Rattle.node_core.specs.Step.{MayRunOut, Step, unless}
 use Rattle.node_types.specs.declared.event.Refusal.{Refusal}
 use Rattle.node_types.specs.declared.event.Refusal.TheVariants.{OfModules}
 use Rattle.shell_requests.specs.declared.request.Arrival.{Arrival}
-use Rattle.shell_deeds.specs.Deeds.{Commits, Misses, Performs, Retakes, no_memory_to_read, no_memory_to_run, not_run, not_run_full, unread_full, unread_refused, accepted, full, kept_again, no_memory, no_memory_to_keep, not_running, refused, took, tried}
+use Rattle.shell_deeds.specs.Deeds.{Commits, Misses, Performs, Retakes, no_memory_to_read, no_memory_to_run, not_run, not_run_full, unread_full, unread_refused, accepted, full, kept_again, no_memory, no_memory_to_keep, not_running, refused, done_by, job_kept, tried}
 use Rattle.shell_deeds.specs.Done.{IsDone, IsKept, after_missed}
 use Rattle.shell_deeds.specs.Halts.{Halts, HaltsBy, MayAllRunOut, MayCommit, RefusesAll, RefusesResult, halt_answer, halt_by, halt_fate, missed_fate}
 use Rattle.undo_journal.specs.declared.history.Command.TheVariants.{Perform}
@@ -57,11 +57,11 @@ performed s new e done answer fate after text appended after_by text_by is does 
     subst (λ f. IsDone (Performs s s e done f) after text appended) (sym told.0) (done a, accepted is.room a is.rule, at, text_at)
 
 -- and one that was accepted has its job kept
-pub taken-done : (s : ShellState) (pid : ℕ) (a : Accepted NodeState Answer Note) (fate : Option Fate) (new : ShellState) (text appended : List ℕ) → (IsFull s → ⊥) → Step (node_of s) (event.Take pid) (Ok a) → ((job : Job) → a.answer ≡ tells.Job job → (fate ≡ None) × (new ≡ with_job job (stepped a s)) × (appended ≡ text ++ line_of (job_of (length s.jobs + 1) pid))) → IsDone (Performs s s (event.Take pid) (λ b. took (stepped b s) pid b.answer) fate) new text appended
+pub taken-done : (s : ShellState) (pid : ℕ) (a : Accepted NodeState Answer Note) (fate : Option Fate) (new : ShellState) (text appended : List ℕ) → (IsFull s → ⊥) → Step (node_of s) (event.Take pid) (Ok a) → ((job : Job) → a.answer ≡ tells.Job job → (fate ≡ None) × (new ≡ with_job job (stepped a s)) × (appended ≡ text ++ line_of (job_of (length s.jobs + 1) pid))) → IsDone (Performs s s (event.Take pid) (done_by s (event.Take pid)) fate) new text appended
 taken-done s pid a fate new text appended room rule told =
     let is : a.answer ≡ tells.Job rule.0 = ap (λ (x : Accepted NodeState Answer Note). x.answer) rule.4 in
     let said = told rule.0 is in
-    subst (λ f. IsDone (Performs s s (event.Take pid) (λ b. took (stepped b s) pid b.answer) f) new text appended) (sym said.0) (took (stepped a s) pid a.answer, accepted room a rule, said.1 ∙ ap (λ (x : Answer). (took (stepped a s) pid x).after) (sym is), said.2 ∙ ap (λ (x : Answer). text ++ (took (stepped a s) pid x).text) (sym is))
+    subst (λ f. IsDone (Performs s s (event.Take pid) (done_by s (event.Take pid)) f) new text appended) (sym said.0) (done_by s (event.Take pid) a, accepted room a rule, said.1 ∙ ap (λ (x : Answer). job_kept x (stepped a s)) (sym is), said.2)
 
 -- a process that runs a job refuses no retake
 unrefused_at : (o : Option Living) (job : Job) → job_at o ≡ Some job → retake_refusal_of o ≡ None

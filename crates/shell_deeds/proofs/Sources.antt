@@ -14,7 +14,7 @@ use Rattle.shell_answers.specs.declared.faults.SourceFault.{SourceFault}
 use Rattle.shell_answers.specs.declared.faults.SourceFault.TheVariants as source
 use Rattle.shell_requests.specs.declared.request.Arrival.{Arrival}
 use Rattle.shell_requests.specs.declared.request.Arrival.TheVariants as arrivals
-use Rattle.shell_deeds.specs.Deeds.{Loads, Misses, Performs, accepted, another, arrival_answer, missing, no_source, read, tried, unread}
+use Rattle.shell_deeds.specs.Deeds.{Loads, Misses, Performs, accepted, another, arrival_answer, done_by, missing, no_source, read, tried, unread}
 use Rattle.shell_deeds.specs.Done.{IsDone, IsSourced, Unsourced, not_loaded}
 use Rattle.shell_deeds.specs.Halts.{Halts, HaltsBy, MayAllRunOut, RefusesAll}
 use Rattle.shell_deeds.specs.State.{ShellState, carried, next_number, stepped}
@@ -36,9 +36,9 @@ unsourced s name path bytes found (failures.Refused why) says none = (bytes, fou
 unsourced s name path bytes found failures.Memory says none = (bytes, found)
 
 module _ (s : ShellState) (name path : List ℕ) (new : ShellState) (fate : Option Fate) (text appended : List ℕ) where
-  pub source-read : (m : Forms) → IsSourced s name path m → IsDone (Performs s s (event.Load m) (λ a. carried (stepped a s) (event.Load m) (loaded m.name)) fate) new text appended → IsDone (Loads s name path fate) new text appended
+  pub source-read : (m : Forms) → IsSourced s name path m → IsDone (Performs s s (event.Load m) (done_by s (event.Load m)) fate) new text appended → IsDone (Loads s name path fate) new text appended
   source-read m it done =
-      done-as new text appended (λ d does. read it.bytes m fate d it.stands it.source it.named (subst (λ (n : List ℕ). Performs s s (event.Load m) (λ a. carried (stepped a s) (event.Load m) (loaded n)) fate d) it.named does)) done
+      done-as new text appended (λ d does. read it.bytes m fate d it.stands it.source it.named does) done
 
   pub source-unread : (bytes : List ℕ) → file_of path s.files ≡ Some bytes → IsDone (Misses s event.Load fate) new text appended → IsDone (Loads s name path fate) new text appended
   source-unread bytes found done = done-as new text appended (λ d does. unread bytes fate d found does) done

@@ -66,12 +66,7 @@ pub data Misses {X : Type 0} (s : ShellState) (e : X → Event) : Option Fate �
   unread_refused : (IsFull s → ⊥) → (why : Refusal) → RefusesAll s e why → Misses s e (Some Unread) (answered s (refusal_of why))
   no_memory_to_read : (IsFull s → ⊥) → MayAllRunOut s e → Misses s e (Some Refused) (answered s (fixed words.Memory))
 
--- `delete`, `purge`, `soft_purge MOD`
-
-abbrev pub change_event : Change → List ℕ → Event
-change_event changes.Delete name = event.Delete name
-change_event changes.Purge name = event.Purge name
-change_event changes.SoftPurge name = event.SoftPurge name
+-- What an event is answered that is accepted, one clause an event; and what is done of it.
 
 -- `true` or `false`, where it is told whether processes were killed, and else `true`
 abbrev pub truth_in : Answer → Tree
@@ -81,9 +76,60 @@ truth_in (tells.Killed true) = fixed words.True
 truth_in (tells.Killed false) = fixed words.False
 truth_in tells.Unit = fixed words.True
 
+-- the pid that is told
+abbrev pub revived_in : Answer → Tree
+revived_in (tells.Job job) = fixed words.Done
+revived_in (tells.Revived pid) = revived pid
+revived_in (tells.Killed b) = fixed words.Done
+revived_in tells.Unit = fixed words.Done
+
+-- the number of a call
+abbrev pub arrived_as : Body → Tree
+arrived_as (body.Call number t) = called number
+arrived_as (body.Cast t) = fixed words.Done
+arrived_as (body.Info t) = fixed words.Done
+
+abbrev pub answer_to : ShellState → Event → Accepted NodeState Answer Note → Tree
+answer_to s (event.Arrive client name b) a = arrived_as b
+answer_to s (event.Take pid) a = job_of (length s.jobs + 1) pid
+answer_to s (event.Commit done) a = committed a.note.replies
+answer_to s (event.Revive app id) a = revived_in a.answer
+answer_to s (event.Load m) a = loaded m.name
+answer_to s (event.Delete name) a = truth_in a.answer
+answer_to s (event.Purge name) a = truth_in a.answer
+answer_to s (event.SoftPurge name) a = truth_in a.answer
+
+-- the job that an answer tells is kept
+abbrev pub job_kept : Answer → ShellState → ShellState
+job_kept (tells.Job job) s = with_job job s
+job_kept (tells.Revived pid) s = s
+job_kept (tells.Killed b) s = s
+job_kept tells.Unit s = s
+
+abbrev pub keeping : Event → Answer → ShellState → ShellState
+keeping (event.Arrive client name b) answer s = s
+keeping (event.Take pid) answer s = job_kept answer s
+keeping (event.Commit done) answer s = s
+keeping (event.Revive app id) answer s = s
+keeping (event.Load m) answer s = s
+keeping (event.Delete name) answer s = s
+keeping (event.Purge name) answer s = s
+keeping (event.SoftPurge name) answer s = s
+
+-- it is carried out, its replies are kept, and it is answered
+abbrev pub done_by : ShellState → Event → Accepted NodeState Answer Note → Deed
+done_by s e a = carried (keeping e a.answer (stepped a s)) e (answer_to s e a)
+
+-- `delete`, `purge`, `soft_purge MOD`
+
+abbrev pub change_event : Change → List ℕ → Event
+change_event changes.Delete name = event.Delete name
+change_event changes.Purge name = event.Purge name
+change_event changes.SoftPurge name = event.SoftPurge name
+
 abbrev pub Changes : ShellState → Change → List ℕ → Option Fate → Deed → Type 0
 Changes s kind name fate d =
-    Performs s s (change_event kind name) (λ a. carried (stepped a s) (change_event kind name) (truth_in a.answer)) fate d
+    Performs s s (change_event kind name) (done_by s (change_event kind name)) fate d
 
 -- `load MOD PATH`: what stands against the file is told first.
 pub data Loads (s : ShellState) (name path : List ℕ) : Option Fate → Deed → Type 0 where
@@ -93,7 +139,7 @@ pub data Loads (s : ShellState) (name path : List ℕ) : Option Fate → Deed �
   another : (bytes : List ℕ) (m : Forms) → file_of path s.files ≡ Some bytes → IsSource bytes m → m.name ≢ name →
       Loads s name path None (answered s (source_fault path source.WrongModule))
   read : (bytes : List ℕ) (m : Forms) (fate : Option Fate) (d : Deed) → file_of path s.files ≡ Some bytes → IsSource bytes m → m.name ≡ name →
-      Performs s s (event.Load m) (λ a. carried (stepped a s) (event.Load m) (loaded name)) fate d → Loads s name path fate d
+      Performs s s (event.Load m) (done_by s (event.Load m)) fate d → Loads s name path fate d
   unread : (bytes : List ℕ) (fate : Option Fate) (d : Deed) → file_of path s.files ≡ Some bytes → Misses s event.Load fate d → Loads s name path fate d
 
 -- `call`, `cast`, `send NAME TERM`: what stands against the term is told first. A call is counted where its arrival is tried: its term was
@@ -124,8 +170,7 @@ pub data Arrives (s : ShellState) (kind : Arrival) (name text : List ℕ) : Opti
   no_text : (fault : Fault) (at : ℕ) → IsRead text (faulty fault at) → Arrives s kind name text None (answered s (term_fault fault at))
   several : IsRead text not_one → Arrives s kind name text None (answered s (fixed words.BadCommand))
   read : (t : Term) (fate : Option Fate) (d : Deed) → IsRead text (one (tree t)) →
-      Performs s (tried kind s) (arrival_event s kind name t)
-      (λ a. carried (stepped a (tried kind s)) (arrival_event s kind name t) (arrival_answer kind (next_number s))) fate d →
+      Performs s (tried kind s) (arrival_event s kind name t) (done_by (tried kind s) (arrival_event s kind name t)) fate d →
       Arrives s kind name text fate d
   unread : (fate : Option Fate) (d : Deed) → Misses s (arrival_event s kind name) fate d → Arrives s kind name text fate d
 
@@ -135,13 +180,6 @@ pub data Arrives (s : ShellState) (kind : Arrival) (name text : List ℕ) : Opti
 abbrev pub pid_meant : Who → NodeState → Option ℕ
 pid_meant (numbered pid) n = Some pid
 pid_meant (named name) n = pid_of name n.processes
-
--- the job that an answer tells is kept
-abbrev pub took : ShellState → ℕ → Answer → Deed
-took after pid (tells.Job job) = carried (with_job job after) (event.Take pid) (job_of (length after.jobs + 1) pid)
-took after pid (tells.Revived n) = carried after (event.Take pid) (fixed words.Done)
-took after pid (tells.Killed b) = carried after (event.Take pid) (fixed words.Done)
-took after pid tells.Unit = carried after (event.Take pid) (fixed words.Done)
 
 pub data Retakes (s : ShellState) (pid : ℕ) : Option Fate → Deed → Type 0 where
   kept_again : (job : Job) → job_at (living pid (node_of s).processes) ≡ Some job →
@@ -155,7 +193,7 @@ shown (Some l) = process_of l.process
 
 abbrev pub ServesAs : ShellState → Service → Option ℕ → Option Fate → Deed → Type 0
 ServesAs s service None fate d = (fate ≡ None) × (d ≡ answered s (fixed words.NoProc))
-ServesAs s services.Take (Some pid) fate d = Performs s s (event.Take pid) (λ a. took (stepped a s) pid a.answer) fate d
+ServesAs s services.Take (Some pid) fate d = Performs s s (event.Take pid) (done_by s (event.Take pid)) fate d
 ServesAs s services.Retake (Some pid) fate d = Retakes s pid fate d
 ServesAs s services.Show (Some pid) fate d = (fate ≡ None) × (d ≡ answered s (shown (living pid (node_of s).processes)))
 
@@ -167,7 +205,7 @@ kept_job (suc place) jobs = slice_get jobs place
 
 pub data Commits (s : ShellState) (job : Job) : Option Fate → Deed → Type 0 where
   ran : (done : Done) (fate : Option Fate) (d : Deed) → done.job ≡ job →
-      Performs s s (event.Commit done) (λ a. carried (stepped a s) (event.Commit done) (committed a.note.replies)) fate d → Commits s job fate d
+      Performs s s (event.Commit done) (done_by s (event.Commit done)) fate d → Commits s job fate d
   -- what stands against the result stands against the job, whatever it gives
   not_run_full : IsFull s → Commits s job None (answered s (fixed words.SerialEnd))
   not_run : (IsFull s → ⊥) → (why : Refusal) → RefusesResult s job why → Commits s job None (answered s (refusal_of why))
@@ -179,15 +217,9 @@ CommitsKept s (Some job) fate d = Commits s job fate d
 
 -- `revive APP ID`
 
-abbrev pub revived_in : Answer → Tree
-revived_in (tells.Job job) = fixed words.Done
-revived_in (tells.Revived pid) = revived pid
-revived_in (tells.Killed b) = fixed words.Done
-revived_in tells.Unit = fixed words.Done
-
 abbrev pub RevivesChild : ShellState → List ℕ → List ℕ → Option Fate → Deed → Type 0
 RevivesChild s app id fate d =
-    Performs s s (event.Revive app (Atom id)) (λ a. carried (stepped a s) (event.Revive app (Atom id)) (revived_in a.answer)) fate d
+    Performs s s (event.Revive app (Atom id)) (done_by s (event.Revive app (Atom id))) fate d
 
 -- `undo K`: a mark below the first station's is forgotten, any other without a station dead. Else the stations after it are cut; an undo
 -- that found no memory stops at a living mark, its own or a later one, and at its own only where it cut nothing.

@@ -5,7 +5,7 @@ ghost use Rattle.erl_term.specs.Term.{tree};
 ghost use Rattle.erl_term.specs.declared.term.Term.{Term};
 ghost use Rattle.process_table.specs.Steps.{arrive_refusal, kind_of};
 ghost use Rattle.shell_answers.specs.Answers.{line_of};
-ghost use Rattle.shell_deeds.specs.Deeds.{Arrives, Performs, arrival_answer, arrival_event, body_of, event_of_arrival, tried};
+ghost use Rattle.shell_deeds.specs.Deeds.{Arrives, Performs, arrival_answer, arrival_event, body_of, done_by, event_of_arrival, tried};
 ghost use Rattle.shell_deeds.specs.Done.{IsDone, after_missed};
 ghost use Rattle.shell_deeds.specs.Halts.{HaltsBy, MayAllRunOut, RefusesAll, halt_answer, halt_fate, missed_fate};
 ghost use Rattle.shell_deeds.specs.declared.stepping.Halt.{Halt};
@@ -64,7 +64,7 @@ impl Holdings {
     /// Has a term arrive for a name.
     fn arrive_named(&mut self, kind: Arrival, name: Atom, term: Term, out: &mut Vec<u8>) -> Said
         ensures { IfOk result (λ fate. IsDone (Performs self.old (tried kind self.old) (event_of_arrival kind (next_number self.old) name term)
-            (λ a. carried (stepped a (tried kind self.old)) (event_of_arrival kind (next_number self.old) name term) (arrival_answer kind (next_number self.old))) fate) self.new out.old.items out.new.items) }
+            (done_by (tried kind self.old) (event_of_arrival kind (next_number self.old) name term)) fate) self.new out.old.items out.new.items) }
     {
         let number = self.next_number();
         match self.perform(arrival_event(kind, number, name, term)) {

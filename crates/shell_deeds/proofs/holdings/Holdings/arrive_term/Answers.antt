@@ -5,9 +5,9 @@ use Rattle.node_types.specs.declared.event.Event.{Event}
 use Rattle.shell_deeds.proofs.Deeds.{IfOk-then}
 use Rattle.shell_deeds.proofs.Performing.{done-as, kept_out}
 use Rattle.shell_deeds.proofs.Sources.{halts-at}
-use Rattle.shell_deeds.specs.Deeds.{Performs, arrival_answer, arrival_event, event_of_arrival, read, tried}
+use Rattle.shell_deeds.specs.Deeds.{Performs, arrival_event, done_by, event_of_arrival, read, tried}
 use Rattle.shell_deeds.specs.Done.{IsDone}
-use Rattle.shell_deeds.specs.State.{carried, next_number, stepped}
+use Rattle.shell_deeds.specs.State.{next_number}
 use Rattle.shell_deeds.proofs.holdings.Holdings.arrive_term.Goals as goal
 
 pub returns-in_default : goal.returns-in_default
@@ -20,7 +20,7 @@ returns-in_default c =
     let new = c.tell_unnamed.new.self in
     let here = c.args.out.now.items in
     let out = c.tell_unnamed.new.out.items in
-    IfOk-then c.tell_unnamed.result _ _ c.tell_unnamed.ensures (λ fate told. λ text is. done-as new here out (λ d does. read t fate d is does) (kept_out s new kind e (λ a. carried (stepped a (tried kind s)) e (arrival_answer kind (next_number s))) told.0 fate here out (halts-at s (arrival_event s kind name) told.0 told.1 t) (told.2, told.3, told.4)))
+    IfOk-then c.tell_unnamed.result _ _ c.tell_unnamed.ensures (λ fate told. λ text is. done-as new here out (λ d does. read t fate d is does) (kept_out s new kind e (done_by (tried kind s) e) told.0 fate here out (halts-at s (arrival_event s kind name) told.0 told.1 t) (told.2, told.3, told.4)))
 
 pub returns : goal.returns
 returns c =
@@ -32,4 +32,4 @@ returns c =
     let out = c.arrive_named.new.out.items in
     let here = c.args.out.now.items in
     let same : event_of_arrival kind (next_number s) c.in-Ok.atom t ≡ arrival_event s kind name t = ap (λ n. event_of_arrival kind (next_number s) n t) c.in-Ok.ensures in
-    IfOk-then c.arrive_named.result _ _ c.arrive_named.ensures (λ fate done. λ text is. done-as new here out (λ d does. read t fate d is does) (subst (λ (e : Event). IsDone (Performs s (tried kind s) e (λ a. carried (stepped a (tried kind s)) e (arrival_answer kind (next_number s))) fate) new here out) same done))
+    IfOk-then c.arrive_named.result _ _ c.arrive_named.ensures (λ fate done. λ text is. done-as new here out (λ d does. read t fate d is does) (subst (λ (e : Event). IsDone (Performs s (tried kind s) e (done_by (tried kind s) e) fate) new here out) same done))

@@ -7,7 +7,7 @@ use Rattle.node_types.specs.declared.event.Answer.{Answer}
 use Rattle.node_types.specs.declared.event.Event.TheVariants as event
 use Rattle.node_types.specs.Note.{Note}
 use Rattle.shell_answers.specs.Answers.{job_of, line_of}
-use Rattle.shell_deeds.specs.Deeds.{Performs, took}
+use Rattle.shell_deeds.specs.Deeds.{Performs, done_by}
 use Rattle.shell_deeds.specs.Done.{IsDone}
 use Rattle.shell_deeds.specs.State.{ShellState, joined, stepped}
 use Rattle.shell_deeds.proofs.Deeds.{IfOk-then}
@@ -23,7 +23,7 @@ returns-then-is_err c =
     let s : ShellState = record { files = h.files; timeline = h.journal; jobs = c.reserve.new.self.items; calls = h.calls; sent = joined h.sent.items } in
     let old : ShellState = record { files = h.files; timeline = h.journal; jobs = h.jobs.items; calls = h.calls; sent = joined h.sent.items } in
     let same : s ≡ old = (λ i. record { files = h.files; timeline = h.journal; jobs = c.reserve.ensures.items i; calls = h.calls; sent = joined h.sent.items }) in
-    subst (λ (t : ShellState). IfOk c.tell_halt.result (λ fate. IsDone (Performs t t (event.Take pid) (λ a. took (stepped a t) pid a.answer) fate) s here out)) (same ∙ c.self.view_is) (IfOk-then c.tell_halt.result _ _ c.tell_halt.ensures (λ fate told. halted s (event.Take pid) (λ a. took (stepped a s) pid a.answer) c.halt_of.result fate here out (c.halt_of.ensures s refl) told))
+    subst (λ (t : ShellState). IfOk c.tell_halt.result (λ fate. IsDone (Performs t t (event.Take pid) (done_by t (event.Take pid)) fate) s here out)) (same ∙ c.self.view_is) (IfOk-then c.tell_halt.result _ _ c.tell_halt.ensures (λ fate told. halted s (event.Take pid) (done_by s (event.Take pid)) c.halt_of.result fate here out (c.halt_of.ensures s refl) told))
 
 pub returns-in-Ok : goal.returns-in-Ok
 returns-in-Ok c =
@@ -35,7 +35,7 @@ returns-in-Ok c =
     let it = c.in-Ok.ensures.told s refl in
     let new : ShellState = record { files = h.files; timeline = c.step.new.journal; jobs = c.tell_taken.new.jobs.items; calls = h.calls; sent = joined c.send_told-answer.new.sent.items } in
     let sent = c.send_told-answer.ensures.sent ∙ ap (λ (t : Told Answer Note). joined c.step.new.sent.items ++ t.note.replies) it.is ∙ ap (λ (rs : List Reply). rs ++ it.accepted.note.replies) c.step.ensures.sent in
-    subst (λ (t : ShellState). IfOk c.tell_taken.result (λ fate. IsDone (Performs t t (event.Take pid) (λ b. took (stepped b t) pid b.answer) fate) new here out)) c.self.view_is (IfOk-then c.tell_taken.result _ _ c.tell_taken.ensures (λ fate told. taken-done s pid it.accepted fate new here out it.room it.rule (λ job is.
+    subst (λ (t : ShellState). IfOk c.tell_taken.result (λ fate. IsDone (Performs t t (event.Take pid) (done_by t (event.Take pid)) fate) new here out)) c.self.view_is (IfOk-then c.tell_taken.result _ _ c.tell_taken.ensures (λ fate told. taken-done s pid it.accepted fate new here out it.room it.rule (λ job is.
     let said = told job (c.send_told-answer.ensures.answer ∙ ap (λ (t : Told Answer Note). t.answer) it.is ∙ is) in
     let jobs = said.1 ∙ ap (λ (js : List Job). js ++ job ∷ []) c.reserve.ensures.items in (
       said.0,
@@ -52,4 +52,4 @@ returns c =
     let s : ShellState = record { files = h.files; timeline = h.journal; jobs = h.jobs.items; calls = h.calls; sent = joined h.sent.items } in
     let new : ShellState = record { files = h.files; timeline = c.step.new.journal; jobs = c.reserve.new.self.items; calls = h.calls; sent = joined c.step.new.sent.items } in
     let same : new ≡ s = (λ i. record { files = h.files; timeline = c.in-Err.ensures.err i; jobs = c.reserve.ensures.items i; calls = h.calls; sent = c.step.ensures.sent i }) in
-    subst (λ (t : ShellState). IfOk c.tell_halt-in-Err.result (λ fate. IsDone (Performs t t (event.Take pid) (λ b. took (stepped b t) pid b.answer) fate) new here out)) c.self.view_is (IfOk-then c.tell_halt-in-Err.result _ _ c.tell_halt-in-Err.ensures (λ fate told. subst (λ (u : ShellState). IsDone (Performs s s (event.Take pid) (λ b. took (stepped b s) pid b.answer) fate) u here out) (sym same) (halted s (event.Take pid) (λ b. took (stepped b s) pid b.answer) c.in-Err.halt fate here out (c.in-Err.ensures.halted s refl) told)))
+    subst (λ (t : ShellState). IfOk c.tell_halt-in-Err.result (λ fate. IsDone (Performs t t (event.Take pid) (done_by t (event.Take pid)) fate) new here out)) c.self.view_is (IfOk-then c.tell_halt-in-Err.result _ _ c.tell_halt-in-Err.ensures (λ fate told. subst (λ (u : ShellState). IsDone (Performs s s (event.Take pid) (done_by s (event.Take pid)) fate) u here out) (sym same) (halted s (event.Take pid) (done_by s (event.Take pid)) c.in-Err.halt fate here out (c.in-Err.ensures.halted s refl) told)))
