@@ -7,7 +7,7 @@
 # make trials: builds and runs the tests in trials/, which are too dear to prove at each gate (tools/trials);
 #   make trials NAME=name runs one crate of them. Its last line is 'N passed, M failed'.
 # make relnode: proves and builds the program, and leaves it at crates/relnode/out/relnode.
-# make demo: the program on the example tree.
+# make demo: a session of the program on the example tree, tried with checks and not proved: in two minutes on a new machine (tools/demo).
 RT ?= rt
 
 .PHONY: test transcripts check edits trials demo relnode
@@ -32,6 +32,5 @@ relnode:
 	@cd crates/relnode && $(RT) run -- data/tree Z < /dev/null > /dev/null
 	@echo crates/relnode/out/relnode
 
-# A call is answered, a mark is set, the state of a process changes, and an undo reports what it took back.
-demo: relnode
-	@tools/demo
+demo:
+	@RT="$(RT)" tools/demo

@@ -215,8 +215,8 @@ impl DeepRow {
         Ok(DeepRow { items, depth })
     }
 
-    /// A row of two trees.
-    #[inline(always)]
+    /// A row of two trees. Its frame is its own: its caller's stays while trees in trees are read.
+    #[inline(never)]
     pub(crate) fn pair(alloc: Global, first: Deep, second: Deep) -> Result<DeepRow, AllocError>
         ensures { IfOk result (λ row. row ≡ more first (more second none)) }
     {
@@ -241,7 +241,8 @@ impl DeepRow {
         Ok(DeepRow { items, depth })
     }
 
-    /// Puts a tree behind the row.
+    /// Puts a tree behind the row. Its frame is its own, as that of `pair`.
+    #[inline(never)]
     #[tactic(auto, using(crate::proofs::Rows::trees_push, crate::proofs::Rows::depth_push))]
     pub(crate) fn push(&mut self, last: Deep) -> Result<(), AllocError>
         ensures { IfOk result (λ _. self.new ≡ with_last self.old last) }

@@ -4,8 +4,13 @@
 //! tried by hand; that the paths are read in their byte order, and that the walk keeps its bounds and ends, is proved.
 #![tactic(auto)]
 
-ghost use Rattle.std.specs.Prelude.{◌≡◌, ◌+◌, ◌≤◌, length, IfOk, OnOk, IsSorted, string_cmp};
+mod contents;
+mod identity;
 
+ghost use Rattle.std.specs.Prelude.{◌≡◌, ◌+◌, ◌≤◌, length, IfOk, IsTrue, OnOk, IsSorted, string_cmp};
+
+use contents::read_contents;
+use identity::Identity;
 use release_files::Files;
 use std::alloc::{AllocError, Global};
 use std::fs::{DirEntry, FileType};
@@ -24,20 +29,20 @@ const MAX_DEPTH: usize = 64;
 /// How many files, folders and links are looked at in all.
 const MAX_ENTRIES: usize = 1_000_000;
 
-/// Why the files below a folder were not read. The message is one line, whatever the names hold.
+/// Why the files below a folder were not read.
 #[derive(Debug, Drop, Error)]
 pub enum TreeError {
     /// This folder cannot be read.
-    #[error("cannot read the folder {0:?}: {1}")]
+    #[error("{0}: cannot read this folder: {1}")]
     Folder(String, io::Error),
     /// This file, or what this link leads to, cannot be read.
-    #[error("cannot read the file {0:?}: {1}")]
+    #[error("{0}: cannot read this file: {1}")]
     File(String, io::Error),
     /// This folder has a name that is not UTF-8.
-    #[error("the folder {0:?} holds a name that is not UTF-8")]
+    #[error("{0}: this folder holds a name that is not UTF-8")]
     Name(String),
     /// Below this folder are too many files, folders and links.
-    #[error("the folder {0:?} holds over {max} files, folders and links", max = MAX_ENTRIES)]
+    #[error("{0}: this folder holds over {max} files, folders and links", max = MAX_ENTRIES)]
     TooMany(String),
     /// Memory was refused.
     #[error("no memory to read the files")]
@@ -47,12 +52,13 @@ pub enum TreeError {
 /// All files below a folder: their paths, with their parts joined by `/` and without the folder's own,
 /// and their bytes, in the byte order of the paths. The paths are hashed by `hashing`.
 ///
-/// Folders are read however deep they stand. A link to a file is read as that file. A link to a folder is
-/// read as that folder where at most 8 links to folders were followed on the way to it, and it stands at
-/// most 64 folders below ROOT; other links to folders are left out, so a loop of links ends. A link that
-/// leads nowhere, or round in a circle to itself, is a file that cannot be read. Pipes, sockets and
-/// devices, and links to them, are left out. In all at most 1,000,000 files, folders and links are looked
-/// at, each time that one is met on a way of its own.
+/// Folders are read however deep they stand. A link to a file is read as that file. A link to a folder is read as that folder, but
+/// left out where it leads back to a folder on the way to it, as the system's numbers of devices and files tell it, where over 8
+/// links to folders were followed on that way, and where it stands over 64 folders below ROOT. So a loop of links ends where it
+/// meets a folder again. A link that leads nowhere, or round in a circle to itself, is a file that cannot be read. Pipes, sockets
+/// and devices, and links to them, are left out, and not opened. In all at most 1,000,000 files, folders and links are looked
+/// at, each time that one is met on a way of its own. Of a file that grows meanwhile the bytes are read that it had when it was
+/// opened.
 ///
 /// # Errors
 ///
@@ -95,9 +101,12 @@ fn read_file<R: FileSystem + AllocGlobal>(
     path: &str,
 ) -> Result<Vec<u8>, TreeError> {
     let whole = joined(rt.alloc(), root, path)?;
-    match fs::read(rt, whole.as_str()) {
+    match read_contents(rt, whole.as_str()) {
         Ok(bytes) => Ok(bytes),
-        Err(error) => Err(TreeError::File(whole, error)),
+        Err(error) => match error.kind() {
+            io::ErrorKind::OutOfMemory => Err(TreeError::Memory(AllocError)),
+            _ => Err(TreeError::File(whole, error)),
+        },
     }
 }
 
@@ -121,6 +130,8 @@ struct Walk<'a> {
     root: &'a str,
     folders: Vec<Folder>,
     files: Vec<String>,
+    /// The folders on the way to the one that is being listed, the root first, and that one.
+    way: Vec<Identity>,
     entries: usize,
     // At most `MAX_ENTRIES`.
     ghost counted: { (length files.items + length folders.items ≤ entries) × (entries ≤ 1000000) },
@@ -165,6 +176,7 @@ impl<'a> Walk<'a> {
             root,
             folders: Vec::new(alloc),
             files: Vec::new(alloc),
+            way: Vec::new(alloc),
             entries: 0,
         }
     }
@@ -181,6 +193,7 @@ impl<'a> Walk<'a> {
         folder: &Folder,
     ) -> Result<(), TreeError> {
         let whole = joined(self.alloc, self.root, folder.path.as_str())?;
+        self.enter(folder.depth, Identity::at(rt, whole.as_str()))?;
         let entries = match fs::read_dir(rt, whole.as_str()) {
             Ok(entries) => entries,
             Err(error) => return Err(TreeError::Folder(whole, error)),
@@ -191,6 +204,18 @@ impl<'a> Walk<'a> {
                 Err(error) => return Err(listing_fault(whole, error)),
             }
         }
+        Ok(())
+    }
+
+    /// Comes to a folder that stands so deep. The folders that are listed between another and one below it all stand below that other, so
+    /// the first of the way are those on the way to this one.
+    fn enter(&mut self, depth: usize, folder: Identity) -> Result<(), AllocError>
+        ensures entries { self.new.entries ≡ self.old.entries }
+        ensures files { self.new.files ≡ self.old.files }
+        ensures folders { self.new.folders ≡ self.old.folders }
+    {
+        self.way.truncate(depth);
+        self.way.push(folder)?;
         Ok(())
     }
 
@@ -207,15 +232,25 @@ impl<'a> Walk<'a> {
             return self.take(path, kind, folder.depth, folder.links);
         }
         let whole = joined(self.alloc, self.root, path.as_str())?;
-        let target = fs::metadata(rt, whole.as_str()).map(|data| data.file_type());
-        let kind = self.kind_of(path.as_str(), target)?;
+        let target = fs::metadata(rt, whole.as_str());
+        let identity = Identity::of_target(&target);
+        let kind = self.kind_of(path.as_str(), target.map(|data| data.file_type()))?;
         if !kind.is_dir() {
             self.take(path, kind, folder.depth, folder.links)
-        } else if folder.links <= MAX_LINKS && folder.depth < MAX_DEPTH {
+        } else if self.is_followed(folder, identity) {
             self.take(path, kind, folder.depth, folder.links + 1)
         } else {
             self.count()
         }
+    }
+
+    /// Whether a link that stands in a folder, and leads to this one, is followed.
+    fn is_followed(&self, folder: &Folder, target: Identity) -> bool
+        ensures { IsTrue result → folder.now.links ≤ MAX_LINKS }
+    {
+        folder.links <= MAX_LINKS
+            && folder.depth < MAX_DEPTH
+            && !(target.is_known() && self.way.contains(&target))
     }
 
     /// The type that the system gave for the path, or the fault of a file.

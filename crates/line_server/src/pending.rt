@@ -83,7 +83,12 @@ impl Pending {
         }
     }
 
-    /// Answers the lines that end in a chunk, and writes the answers.
+    /// Whether the answers are to be written before the line that begins with these bytes: many wait, or it may take long.
+    fn is_due<S: Session>(&self, session: &S, rest: &[u8]) -> bool {
+        self.answers.are_many() || session.may_take_long(rest)
+    }
+
+    /// Answers the lines that end in a chunk, and writes the answers: while many wait, before a line that may take long, and in the end.
     pub(crate) fn take_chunk<S: Session, W: Write>(
         &mut self,
         session: &mut S,
@@ -102,7 +107,7 @@ impl Pending {
                 Ok(left) => left,
                 Err(AllocError) => return Err(self.answers.give_up(writer)),
             };
-            if self.answers.are_many() {
+            if self.is_due(session, rest) {
                 self.answers.write(writer)?;
             }
         }

@@ -14,6 +14,10 @@ pub trait Session: Drop {
     /// How the session may answer a line, by what want of memory made of it.
     ghost turn: { Turns Self Self.Fate };
 
+    /// Whether a line that begins with these bytes, others behind it among them, may take long to answer. The answers of the lines
+    /// before it are written first then, so that nobody waits for them.
+    fn may_take_long(&self, start: &[u8]) -> bool;
+
     /// Answers a line of at most 65,536 bytes, without its newline: appends the answer.
     ///
     /// # Errors

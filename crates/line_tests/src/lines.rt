@@ -135,3 +135,27 @@ fn answers_come_before_the_next_read(rt: HostRuntime) -> Result<(), Fail> {
     assert!(rt; ended.fault.is_none() && reader.lines == 3);
     Ok(())
 }
+
+/// How many lines of an input are answered until its first answers can't be written.
+fn answered_unwritten(alloc: Global, input: &[u8]) -> Result<u64, Fail> {
+    let how = how_of("writes:0")?;
+    let mut session = Counting {
+        alloc,
+        lines: 0,
+        refused: None,
+        failed: None,
+    };
+    let (mut reader, mut writer) = (reader(&how, input), writer(alloc, &how));
+    let _ = serve(alloc, &mut session, &mut reader, &mut writer);
+    Ok(session.lines)
+}
+
+#[test]
+fn answers_come_before_a_line_that_may_take_long(rt: HostRuntime) -> Result<(), Fail> {
+    let alloc = rt.alloc();
+    assert!(rt; answered_unwritten(alloc, b"ab\ncd\nef\n")? == 3);
+    assert!(rt; answered_unwritten(alloc, b"ab\nslow\nef\n")? == 1);
+    assert!(rt; answered_unwritten(alloc, b"ab\ncd\nslow")? == 2);
+    assert!(rt; answered_unwritten(alloc, b"slow\nslow\n")? == 1);
+    Ok(())
+}

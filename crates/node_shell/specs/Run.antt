@@ -23,9 +23,10 @@ pub record Starts (files : Contents) (vsn : List ℕ) (node : NodeState) : Type 
   pub is_release : IsRelease files vsn release
   pub boots : Boots release node.modules node.processes node.apps
 
--- Why no node starts: the first fault of the release's files, or why it doesn't boot; or memory was refused.
+-- Why no node starts: the first fault of the release's files, with which these are handed back; or why it doesn't boot; or memory was
+-- refused.
 abbrev pub StartFails : StartFault → Contents → List ℕ → Type 0
-StartFails (fault.OfFiles f) files vsn = (f.fault ≡ Memory) ⊎ IsFirstFault files vsn (string_bytes f.path) f.fault
+StartFails (fault.OfFiles f kept) files vsn = (kept ≡ files) × ((f.fault ≡ Memory) ⊎ IsFirstFault files vsn (string_bytes f.path) f.fault)
 StartFails (fault.OfBoot e) files vsn = (release : Release) × IsRelease files vsn release × BootFails e release
 StartFails fault.NoMemory files vsn = Unit {0}
 

@@ -1,6 +1,6 @@
 // From the bytes of commands to the bytes of answers.
 ghost use Rattle.std.specs.Prelude.{◌≡◌, ℕ, List, IfErr, IfOk, None, Some, false};
-ghost use Rattle.node_shell.specs.Run.{Runs, RunsWhole, StartFails, Starts};
+ghost use Rattle.node_shell.specs.Run.{Runs, RunsWhole, StartFails};
 ghost use Rattle.shell_deeds.specs.State.{opened_shell};
 
 use crate::fault::StartFault;
@@ -11,22 +11,7 @@ use release_files::{Files, read_release};
 use std::alloc::Global;
 use std::hash::RandomState;
 use std::io::{Read, Write};
-use std::mem::forget;
-
-/// The node of the release of a version that files say.
-fn boot(alloc: Global, hashing: RandomState, files: &Files, vsn: &str) -> Result<Node, StartFault>
-    ensures started { IfOk result (λ node. Starts files.now vsn.now node) }
-    ensures failed { IfErr result (λ fault. StartFails fault files.now vsn.now) }
-{
-    let release = match read_release(alloc, files, vsn) {
-        Ok(release) => release,
-        Err(fault) => return Err(StartFault::OfFiles(fault)),
-    };
-    match Node::boot(alloc, hashing, &release) {
-        Ok(node) => Ok(node),
-        Err(error) => Err(StartFault::OfBoot(error)),
-    }
-}
+use std::mem::{drop, forget};
 
 /// Boots the release of a version that files say, reads commands, one a line, and writes their answers.
 ///
@@ -39,8 +24,8 @@ fn boot(alloc: Global, hashing: RandomState, files: &Files, vsn: &str) -> Result
 ///
 /// # Errors
 ///
-/// Why no node has started: `OfFiles` with the first fault of the release's files, `OfBoot` with why it doesn't boot, and want of memory,
-/// which may hide another fault. Nothing was read then, and nothing written.
+/// Why no node has started: `OfFiles` with the first fault of the release's files, and all files, `OfBoot` with why it doesn't boot, and
+/// want of memory, which may hide another fault. Nothing was read then, and nothing written.
 pub fn run<R: Read, W: Write>(
     alloc: Global,
     hashing: RandomState,
@@ -61,7 +46,16 @@ pub fn run<R: Read, W: Write>(
     ensures failed { IfErr result (λ fault. StartFails fault files vsn.now) }
     ensures unread { IfErr result (λ fault. (R.remaining reader.new ≡ R.remaining reader.old) × (W.contents writer.new ≡ W.contents writer.old)) }
 {
-    let node = boot(alloc, hashing, &files, vsn)?;
+    let release = match read_release(alloc, &files, vsn) {
+        Ok(release) => release,
+        Err(fault) => return Err(StartFault::OfFiles { fault, files }),
+    };
+    let node = match Node::boot(alloc, hashing, &release) {
+        Ok(node) => node,
+        Err(error) => return Err(StartFault::OfBoot(error)),
+    };
+    // What the node keeps of the release it has a copy of.
+    drop(release);
     let Ok(mut shell) = Shell::new(alloc, hashing, files, node) else {
         return Err(StartFault::NoMemory);
     };

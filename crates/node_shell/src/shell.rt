@@ -7,6 +7,7 @@ use line_server::Session;
 use node_core::Node;
 use release_files::Files;
 use shell_deeds::{Fate, Holdings};
+use shell_requests::runs_code;
 use std::alloc::{AllocError, Global};
 use std::hash::RandomState;
 use std::marker::Model;
@@ -59,6 +60,10 @@ impl Session for Shell {
     type Fate = Fate;
 
     ghost turn = { shell_turn };
+
+    fn may_take_long(&self, start: &[u8]) -> bool {
+        runs_code(start)
+    }
 
     fn line(&mut self, line: &[u8], out: &mut Vec<u8>) -> Result<Option<Fate>, AllocError> {
         self.answer.clear();

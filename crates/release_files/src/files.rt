@@ -72,8 +72,8 @@ impl Files {
         }
     }
 
-    /// The paths.
-    pub(crate) fn paths(&self) -> &[String]
+    /// The paths, in the order in which the files were added. Takes no memory.
+    pub fn paths(&self) -> &[String]
         ensures { map (λ path. string_bytes path) result.now ≡ paths_of self.now }
     {
         self.list.keys().as_slice()

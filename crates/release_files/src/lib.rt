@@ -35,4 +35,5 @@ mod spec;
 
 pub use fault::{FileFault, ReleaseFault};
 pub use files::Files;
+pub use rel_path::{first_rel, is_rel_name};
 pub use release::read_release;

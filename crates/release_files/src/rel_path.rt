@@ -5,7 +5,7 @@ ghost use Rattle.release_files.specs.Paths.{HasNoRel, IsBefore, IsRelName, IsRel
 
 /// The first path, in the order of their bytes, that is `releases/VSN/NAME.rel`, where no `/` stands in NAME. Looks at each
 /// path once.
-pub(crate) fn first_rel<'a>(paths: &'a [String], vsn: &str) -> Option<&'a str>
+pub fn first_rel<'a>(paths: &'a [String], vsn: &str) -> Option<&'a str>
     ensures { MatchOption result (HasNoRel (map (λ path. string_bytes path) paths.now) vsn.now)
         (λ path. IsRelPath (map (λ path. string_bytes path) paths.now) vsn.now path.now) }
 {
@@ -30,7 +30,7 @@ fn lesser<'a>(first: Option<&'a str>, path: &'a str) -> &'a str
 }
 
 /// Whether a path is `releases/VSN/NAME.rel`, where no `/` stands in NAME.
-fn is_rel_name(path: &[u8], vsn: &[u8]) -> bool
+pub fn is_rel_name(path: &[u8], vsn: &[u8]) -> bool
     ensures { IsTrue result ↔ IsRelName vsn.now path.now }
 {
     match rel_name(path, vsn) {

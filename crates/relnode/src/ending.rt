@@ -3,16 +3,14 @@ ghost use Rattle.std.specs.Prelude.{◌≡◌};
 ghost use Rattle.std.specs.Process.{exit_status};
 ghost use Rattle.relnode.specs.Ending.{EndsSo, end_by, status_of, status_of_words};
 
-use erl_term::{Atom, Term, print};
 use file_tree::TreeError;
 use node_shell::{Files, StartFault, run};
-use release_boot::BootError;
 use relnode_options::OptionsError;
-use std::alloc::{AllocError, Global};
+use std::alloc::Global;
 use std::hash::RandomState;
+use std::io;
 use std::io::{Read, Write};
 use std::process::ExitCode;
-use std::{io, str};
 use thiserror::Error;
 
 /// Why the program ends with a status other than 0.
@@ -68,28 +66,6 @@ fn end_by(fault: Option<line_server::Fault>) -> Result<(), Fault>
         None => Ok(()),
         Some(fault) => Err(Fault::Commands(fault)),
     }
-}
-
-/// What stands behind the program's name in the line of a fault: of an application that doesn't start its name, and why.
-///
-/// # Errors
-///
-/// `AllocError` where memory is refused.
-pub fn line_of(alloc: Global, fault: &Fault) -> Result<String, AllocError> {
-    match fault {
-        Fault::Start(StartFault::OfBoot(BootError::NotStarted { app, reason })) => {
-            not_started(alloc, app, reason)
-        }
-        _ => format!(in alloc; "{fault}"),
-    }
-}
-
-/// That an application doesn't start, and why.
-fn not_started(alloc: Global, app: &Atom, reason: &Term) -> Result<String, AllocError> {
-    let mut shown = Vec::new(alloc);
-    print(reason, &mut shown)?;
-    let shown = str::from_utf8(shown.as_slice()).unwrap_or("");
-    format!(in alloc; "{} doesn't start: {shown}", app.as_str())
 }
 
 /// The exit code of the program: 0 at the end of the input, 2 after a bad command line, and else 1.

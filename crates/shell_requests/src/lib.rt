@@ -14,5 +14,5 @@ mod request;
 mod words;
 
 pub use name::Name;
-pub use reading::read_line;
+pub use reading::{read_line, runs_code};
 pub use request::{Arrival, Change, Line, Proc, Question, Request, Service, Shape};

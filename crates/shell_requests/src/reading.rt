@@ -62,6 +62,13 @@ pub fn read_line(line: &[u8]) -> Line<'_>
     }
 }
 
+/// Whether the line that bytes begin with asks for code of modules to be run, which may take long: a `commit` runs a job, and a `revive`
+/// a start function.
+pub fn runs_code(start: &[u8]) -> bool {
+    let words = start.trim_ascii_start();
+    words.starts_with(b"commit ") || words.starts_with(b"revive ")
+}
+
 /// What a text asks for, if it does.
 fn read_request(text: &str) -> Option<Request<'_>>
     ensures { option_map meant result ≡ request_of text.now }

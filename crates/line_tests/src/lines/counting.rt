@@ -6,7 +6,7 @@ use line_server::Session;
 use std::alloc::{AllocError, Global};
 
 /// Answers its N-th line by `N:LENGTH`, or by `N:long`. The line after `refused` lines has no answer,
-/// once, and that after `failed` lines has no memory for one.
+/// once, and that after `failed` lines has no memory for one. A line that begins with `slow` may take long.
 #[derive(Drop)]
 pub(super) struct Counting {
     pub(super) alloc: Global,
@@ -30,6 +30,10 @@ impl Session for Counting {
       | Some unanswered ↦ (s.refused ≡ Some s.lines) × IsSome line × (t.text ≡ [])
           × (t.after ≡ record s { refused = None })
     ] };
+
+    fn may_take_long(&self, start: &[u8]) -> bool {
+        start.starts_with(b"slow")
+    }
 
     fn line(&mut self, line: &[u8], out: &mut Vec<u8>) -> Result<Option<Unanswered>, AllocError> {
         if self.failed == Some(self.lines) {

@@ -1,0 +1,8 @@
+-- What was one line still is.
+use Rattle.std.proofs.Common.{◌≤◌, string_bytes}
+use Rattle.std.specs.Str.{chars}
+use Rattle.diagnostics.specs.Shown.{IsOneLine}
+use Rattle.diagnostics.proofs.shown.push_hexadecimal.Given as goal
+
+abbrev pub invariant-loop-place : goal.invariant-loop-place
+invariant-loop-place l = IsOneLine (chars (string_bytes l.initial.out)) → IsOneLine (chars (string_bytes l.out))

@@ -1,0 +1,117 @@
+// What is told of a fault of a release's files.
+use crate::excerpt::Excerpt;
+use crate::file_kind::FileKind;
+use crate::position::{Position, position_of};
+use crate::words::{Finding, Looked};
+use release_files::{FileFault, Files, ReleaseFault};
+use std::alloc::{AllocError, Global};
+use std::{fmt, str};
+
+/// What is told of a fault of a file: as a text `PATH:LINE:COLUMN: ` and what is wrong, or `PATH: ` where it is at no place.
+#[derive(Debug, Drop)]
+pub struct Diagnostic {
+    /// The path of the file, below the root.
+    path: String,
+    /// Where the fault stands, if at a place.
+    position: Option<Position>,
+    /// What is wrong.
+    message: String,
+    /// The line in which it stands, if at a place.
+    pub excerpt: Option<Excerpt>,
+}
+
+/// What is told of a fault, by the bytes of the files.
+///
+/// # Errors
+///
+/// `AllocError` where memory is refused.
+pub fn diagnose(
+    alloc: Global,
+    files: &Files,
+    fault: &ReleaseFault,
+) -> Result<Diagnostic, AllocError> {
+    let path = fault.path.as_str();
+    let bytes = files.get(path).unwrap_or(b"");
+    let looked = Looked {
+        alloc,
+        kind: FileKind::of_path(path),
+        text: str::from_utf8(bytes).unwrap_or(""),
+    };
+    let Finding { at, message } = finding_of(looked, files, path, fault.fault)?;
+    Ok(Diagnostic {
+        path: String::from_str(alloc, path)?,
+        position: at.map(|place| position_of(bytes, place)),
+        message,
+        excerpt: excerpt_of(alloc, bytes, at)?,
+    })
+}
+
+/// The line in which a place stands, if there is one.
+fn excerpt_of(
+    alloc: Global,
+    bytes: &[u8],
+    at: Option<usize>,
+) -> Result<Option<Excerpt>, AllocError> {
+    match at {
+        Some(place) => Ok(Some(Excerpt::around(alloc, bytes, place)?)),
+        None => Ok(None),
+    }
+}
+
+/// What is wrong with the file at a path.
+fn finding_of(
+    looked: Looked<'_>,
+    files: &Files,
+    path: &str,
+    fault: FileFault,
+) -> Result<Finding, AllocError> {
+    match fault {
+        FileFault::Missing => looked.whole(missing_words(files, path)),
+        FileFault::File(error) => looked.of_file(error),
+        FileFault::Lang(error) => looked.of_source(error),
+        FileFault::WrongModule => looked.of_module("the path names another module than this:"),
+        FileFault::DuplicateModule => {
+            looked.of_module("an earlier source of the release is this module's too:")
+        }
+        FileFault::Memory => looked.whole("out of memory"),
+    }
+}
+
+/// That a file is missing, or a release's `.rel`, whose folder may be there.
+fn missing_words(files: &Files, path: &str) -> &'static str {
+    if !path.starts_with("releases/") {
+        "there is no such file"
+    } else if files
+        .paths()
+        .iter()
+        .any(|other| is_below(other.as_str(), path))
+    {
+        "the folder is there, but it holds no file with a name that ends in .rel"
+    } else {
+        "there is no such folder, or no file stands below it"
+    }
+}
+
+/// Whether a path leads to what stands below a folder.
+fn is_below(path: &str, folder: &str) -> bool {
+    match path.strip_prefix(folder) {
+        Some(rest) => rest.starts_with('/'),
+        None => false,
+    }
+}
+
+impl fmt::Display for Diagnostic {
+    fn fmt<W: fmt::Write>(&self, f: &mut fmt::Formatter<W>) -> fmt::Result {
+        // Of want of memory there may be no path.
+        if !self.path.is_empty() {
+            write!(f, "{}:", self.path)?;
+        }
+        if let Some(position) = self.position {
+            write!(f, "{}:{}:", position.line, position.column)?;
+        }
+        if !self.path.is_empty() {
+            f.write_str(" ")?;
+        }
+        f.write_str(self.message.as_str())
+    }
+}
