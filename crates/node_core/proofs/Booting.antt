@@ -29,6 +29,7 @@ use Rattle.release_boot.specs.Boot as boot
 use Rattle.release_boot.specs.Boot.{Boots, boot_apps, spec_of, to_start}
 use Rattle.release_table.specs.declared.table.Release.{Release}
 use Rattle.sys_protocol.specs.Refusals.{Runs, module_of}
+use Rattle.release_statuses.specs.declared.listed.Listed.{Listed}
 use Rattle.node_core.proofs.Starting.{all_start_live, loaded_live}
 use Rattle.node_core.specs.Node.{IsKept}
 
@@ -75,8 +76,8 @@ empty_is_consistent m sound = record {
   enter = of_nobody (λ l. Enters l.process);
 }
 
-pub booted_is_kept : (r : Release) (m : Loaded Forms) (t : Table) (apps : List Application) → Boots r m t apps → IsSound m → IsKept (record { modules = m; processes = t; apps = apps })
-booted_is_kept r m t apps boots sound =
+pub booted_is_kept : (r : Release) (m : Loaded Forms) (t : Table) (apps : List Application) (releases : List Listed) → Boots r m t apps → IsSound m → IsKept (record { modules = m; processes = t; apps = apps; releases = releases })
+booted_is_kept r m t apps releases boots sound =
     let starts = subst (λ (code : List Instance). boot.AllStart code (to_start r.rel.apps) (boot_apps r) no_processes apps t) (sym (ap current_code boots.0)) boots.1 in
     record {
       consistent = all_keep m (current_code m) (steps_keep_code.currents m sound) (to_start r.rel.apps) (boot_apps r) no_processes apps t starts (empty_is_consistent m sound);

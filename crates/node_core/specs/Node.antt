@@ -1,4 +1,4 @@
--- A node: its modules, its processes and its applications.
+-- A node: its modules, its processes, its applications and its releases.
 use Rattle.std.specs.Prelude.{◌≡◌, ℕ, List, Option, Some, IsSome, option_and_then}
 use Rattle.erl_forms.specs.Module.{Forms}
 use Rattle.code_loading.specs.Consistent.{IsConsistent}
@@ -7,12 +7,14 @@ use Rattle.process_store.specs.Table.{Table, living}
 use Rattle.app_table.specs.Applications.{Application, child_at}
 use Rattle.app_table.specs.Ordered.{pid_in}
 use Rattle.app_table.specs.declared.spot.Spot.{Spot}
+use Rattle.release_statuses.specs.declared.listed.Listed.{Listed}
 
 -- The next serial of a load stands in the table of modules, and the next pid in that of processes.
 pub record NodeState : Type 0 where
   pub modules : Loaded Forms
   pub processes : Table
   pub apps : List Application
+  pub releases : List Listed
 
 -- the pid of the process that the child at a spot runs as, where it runs
 abbrev pub runs_at : Spot → List Application → Option ℕ
@@ -35,3 +37,6 @@ with_processes t n = record n { processes = t }
 
 abbrev pub with_modules : Loaded Forms → NodeState → NodeState
 with_modules m n = record n { modules = m }
+
+abbrev pub with_releases : List Listed → NodeState → NodeState
+with_releases r n = record n { releases = r }

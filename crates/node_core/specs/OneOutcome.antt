@@ -35,7 +35,7 @@ use Rattle.node_core.specs.Step.{Commits, IsRevived, Outcome, Revives, Step, Tak
 use Rattle.node_types.specs.declared.event.Answer.{Answer}
 use Rattle.node_types.specs.declared.event.Answer.TheVariants as answer
 use Rattle.node_types.specs.declared.event.Event.{Event}
-use Rattle.node_types.specs.declared.event.Event.TheVariants.{Arrive, Take, Commit, Revive, Load, Delete, Purge, SoftPurge}
+use Rattle.node_types.specs.declared.event.Event.TheVariants.{Arrive, Take, Commit, Revive, Load, Delete, Purge, SoftPurge, SetUnpacked, Remove}
 use Rattle.node_types.specs.Note.{Note}
 use Rattle.node_types.specs.declared.event.Refusal.TheVariants.{OfProcesses, OfApps}
 
@@ -188,3 +188,5 @@ one_outcome_of n (Load m) r s first second = first ∙ sym second
 one_outcome_of n (Delete name) r s first second = first ∙ sym second
 one_outcome_of n (Purge name) r s first second = first ∙ sym second
 one_outcome_of n (SoftPurge name) r s first second = first ∙ sym second
+one_outcome_of n (SetUnpacked release) r s first second = first ∙ sym second
+one_outcome_of n (Remove vsn) r s first second = first ∙ sym second

@@ -6,9 +6,10 @@ use Rattle.process_table.specs.Undo.{TakesBackEnds}
 use Rattle.app_table.specs.Applications.{Application}
 use Rattle.app_table.specs.Undo as apps
 use Rattle.app_table.specs.declared.undo.Undo as apps_undo
+use Rattle.release_statuses.specs.Undo as releases
 use Rattle.node_core.specs.Node.{IsKept, NodeState}
 use Rattle.node_core.specs.declared.record.Record.{Record}
-use Rattle.node_core.specs.declared.record.Record.TheVariants.{OfProcesses, OfChildren, OfCode, OfDeletion}
+use Rattle.node_core.specs.declared.record.Record.TheVariants.{OfProcesses, OfChildren, OfCode, OfDeletion, OfReleases}
 
 -- of the applications, where any were changed
 abbrev pub AppsBack : Option apps_undo.Undo → List Application → List Application → Type 0
@@ -27,6 +28,8 @@ Restores (OfCode undo ended) before after =
     (after ≡ record before { modules = after.modules; processes = after.processes; apps = after.apps })
 Restores (OfDeletion undo) before after =
     code.Fits undo after.modules × (code.undone undo after.modules ≡ before.modules) × (after ≡ record before { modules = after.modules })
+Restores (OfReleases undo) before after =
+    releases.TakesBack undo before.releases after.releases × (after ≡ record before { releases = after.releases })
 
 -- It gives the node before, which kept what every node keeps.
 abbrev pub Undoes : Record → NodeState → NodeState → Type 0

@@ -26,15 +26,17 @@ use Rattle.process_table.specs.declared.error.ProcError.{ProcError}
 use Rattle.app_table.specs.Applications.{Application, all_ended, child_of, revived}
 use Rattle.sys_protocol.specs.Refusals.{IsDue, RefusesRevive}
 use Rattle.sys_protocol.specs.declared.error.SysError.{SysError}
+use Rattle.release_statuses.specs.Statuses.{remove_refusal, removed, unpack_refusal, unpacked}
+use Rattle.release_table.specs.declared.table.Release.{Release}
 use Rattle.undo_journal.specs.Reversible.{Accepted}
-use Rattle.node_core.specs.Node.{NodeState, with_modules, with_processes}
+use Rattle.node_core.specs.Node.{NodeState, with_modules, with_processes, with_releases}
 use Rattle.node_types.specs.declared.event.Answer.{Answer}
 use Rattle.node_types.specs.declared.event.Answer.TheVariants as answer
 use Rattle.node_types.specs.declared.event.Event.{Event}
-use Rattle.node_types.specs.declared.event.Event.TheVariants.{Arrive, Take, Commit, Revive, Load, Delete, Purge, SoftPurge}
+use Rattle.node_types.specs.declared.event.Event.TheVariants.{Arrive, Take, Commit, Revive, Load, Delete, Purge, SoftPurge, SetUnpacked, Remove}
 use Rattle.node_types.specs.Note.{Note}
 use Rattle.node_types.specs.declared.event.Refusal.{Refusal}
-use Rattle.node_types.specs.declared.event.Refusal.TheVariants.{OfProcesses, OfModules, OfApps}
+use Rattle.node_types.specs.declared.event.Refusal.TheVariants.{OfProcesses, OfModules, OfApps, OfReleases}
 
 abbrev pub Outcome : Type 0
 Outcome = Result (Accepted NodeState Answer Note) Refusal
@@ -148,6 +150,22 @@ code_soft_purged name n = unless (soft_purge_refusal name n) OfModules (record {
   note = reporting [];
 })
 
+-- Set unpacked: the node knows a release from then on. Remove: it doesn't any more; its code stays as it is.
+
+abbrev pub set_unpacked : Release → NodeState → Outcome
+set_unpacked release n = unless (unpack_refusal release.rel.vsn n.releases) OfReleases (record {
+  node = with_releases (unpacked release n.releases) n;
+  answer = answer.Unit;
+  note = reporting [];
+})
+
+abbrev pub release_removed : List ℕ → NodeState → Outcome
+release_removed vsn n = unless (remove_refusal vsn n.releases) OfReleases (record {
+  node = with_releases (removed vsn n.releases) n;
+  answer = answer.Unit;
+  note = reporting [];
+})
+
 -- The rule of a node.
 abbrev pub Step : NodeState → Event → Outcome → Type 0
 Step n (Arrive client name body) r = r ≡ arrived client name body n
@@ -158,6 +176,8 @@ Step n (Load m) r = r ≡ code_loaded m n
 Step n (Delete name) r = r ≡ code_deleted name n
 Step n (Purge name) r = r ≡ code_purged name n
 Step n (SoftPurge name) r = r ≡ code_soft_purged name n
+Step n (SetUnpacked release) r = r ≡ set_unpacked release n
+Step n (Remove vsn) r = r ≡ release_removed vsn n
 
 -- Memory may be wanting where nothing stands against an event that is told without memory. A child that fails is told only once its
 -- start function was evaluated, which takes memory.
@@ -170,3 +190,5 @@ MayRunOut n (Load m) = load_refusal m.name (purged m.name n.modules) ≡ None
 MayRunOut n (Delete name) = delete_refusal name n.modules ≡ None
 MayRunOut n (Purge name) = Unit {0}
 MayRunOut n (SoftPurge name) = soft_purge_refusal name n ≡ None
+MayRunOut n (SetUnpacked release) = unpack_refusal release.rel.vsn n.releases ≡ None
+MayRunOut n (Remove vsn) = remove_refusal vsn n.releases ≡ None

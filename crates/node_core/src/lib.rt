@@ -1,8 +1,8 @@
 //! The node: what happens to it, and how that is taken back.
 //!
-//! A [`Node`] is its modules, its processes and its applications. It boots from a release ([`Node::boot`]), and makes a step for each
+//! A [`Node`] is its modules, its processes, its applications and its releases. It boots from a release ([`Node::boot`]), and makes a step for each
 //! [`Event`]: a message arrives, a process takes one, what a job has done is committed, a child is revived, code is loaded, deleted and
-//! purged. It is [`undo_journal::Reversible`], so a journal over it keeps marks and takes its steps back.
+//! purged, releases are set unpacked and removed. It is [`undo_journal::Reversible`], so a journal over it keeps marks and takes its steps back.
 //!
 //! # What is proved
 //!
@@ -17,7 +17,9 @@
 //!   a process uses is its module's current or old code, and that each child that runs is a process that lives, and no two are one
 //!   (`IsKept`, `ChildrenLive`); [`Node::modules`] tells it.
 //! - Of its processes it tells who lives under a pid ([`Node::process`]) and under a name ([`Node::pid_of`]), which job one runs
-//!   ([`Node::retake`]), and which could take a message now ([`Node::is_runnable`], [`Node::runnable`]: `IsNextRunnable`).
+//!   ([`Node::retake`]), and which could take a message now ([`Node::is_runnable`], [`Node::runnable`]: `IsNextRunnable`); of its releases
+//!   the status of each ([`Node::status_of`]).
+//! - The release that has booted is the node's only one, and permanent (`booted`).
 //!
 //! # What no contract says
 //!
@@ -30,6 +32,7 @@ mod node;
 mod processes;
 mod reading;
 mod record;
+mod releasing;
 mod reverting;
 mod reviving;
 mod stepping;

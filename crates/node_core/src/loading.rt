@@ -144,7 +144,7 @@ impl Node {
     }
 
     /// What is told of an event of which nothing is reported, in `n` equal values.
-    fn quiet(&self, n: usize) -> Result<Vec<Told<Answer, Note>>, AllocError>
+    pub(crate) fn quiet(&self, n: usize) -> Result<Vec<Told<Answer, Note>>, AllocError>
         ensures { IfOk result (λ it. it.items ≡ replicate n (record { answer = answer.Unit; note = reporting [] })) }
     {
         let note = reporting(Vec::new(self.alloc));

@@ -2,25 +2,29 @@
 ghost use Rattle.std.specs.Prelude.{◌≡◌, IfErr, IfOk};
 ghost use Rattle.code_server.specs.Modules.{IsSound};
 ghost use Rattle.release_boot.specs.Boot.{BootFails, Boots};
+ghost use Rattle.release_statuses.specs.Statuses.{booted};
 ghost use Rattle.node_core.specs.Node.{IsKept};
 
 use code_server::Modules;
 use erl_forms::Module;
 use process_table::Processes;
 use release_boot::{BootError, Booted, boot};
+use release_statuses::Releases;
 use release_table::Release;
 use std::alloc::Global;
 use std::hash::RandomState;
 use std::marker::Model;
 use sys_protocol::AppTable;
+use values::Duplicate;
 
-/// A node: its modules, its processes and its applications.
+/// A node: its modules, its processes, its applications and its releases.
 #[derive(Drop)]
 pub struct Node {
     pub(crate) alloc: Global,
     pub(crate) modules: Modules<Module>,
     pub(crate) processes: Processes,
     pub(crate) apps: AppTable,
+    pub(crate) releases: Releases,
 }
 
 impl Model for Node {
@@ -33,9 +37,9 @@ impl Model for Node {
 
     ghost coded = { Prim.hlevel (codes, terms.the_row.coded, forms.the_row.coded) };
 
-    ghost view = { λ n. record { modules = n.modules; processes = n.processes; apps = n.apps } };
+    ghost view = { λ n. record { modules = n.modules; processes = n.processes; apps = n.apps; releases = n.releases } };
 
-    ghost invariant = { λ n. IsKept (record { modules = n.modules; processes = n.processes; apps = n.apps }) };
+    ghost invariant = { λ n. IsKept (record { modules = n.modules; processes = n.processes; apps = n.apps; releases = n.releases }) };
 }
 
 /// That modules differ in name, and have one or two instances each, whose serials differ: their table keeps it.
@@ -46,14 +50,15 @@ fn are_sound(modules: &Modules<Module>)
 }
 
 impl Node {
-    /// The node that a release boots: the code of all its applications is loaded first, and then they start, in order. Names are hashed by
-    /// `hashing`.
+    /// The node that a release boots: the code of all its applications is loaded first, and then they start, in order. The release is the
+    /// node's only one, and permanent. Names are hashed by `hashing`.
     ///
     /// # Errors
     ///
     /// `NotStarted` of the first application that doesn't start, and `Memory`.
     pub fn boot(alloc: Global, hashing: RandomState, release: &Release) -> Result<Node, BootError>
         ensures booted { IfOk result (λ n. Boots release.now n.modules n.processes n.apps) }
+        ensures releases { IfOk result (λ n. n.releases ≡ booted release.now) }
         ensures failed { IfErr result (λ e. BootFails e release.now) }
     {
         let Booted {
@@ -62,11 +67,13 @@ impl Node {
             apps,
         } = boot(alloc, hashing, release)?;
         are_sound(&modules);
+        let releases = Releases::booted(alloc, release.copy(alloc)?)?;
         Ok(Node {
             alloc,
             modules,
             processes,
             apps,
+            releases,
         })
     }
 
@@ -83,6 +90,13 @@ impl Node {
         ensures { result.now ≡ self.now.processes }
     {
         &self.processes
+    }
+
+    /// Its releases, with their statuses. Takes no memory.
+    pub fn releases(&self) -> &Releases
+        ensures { result.now ≡ self.now.releases }
+    {
+        &self.releases
     }
 
     /// Its applications. Takes no memory.

@@ -74,7 +74,7 @@ pub(crate) fn unend(apps: &mut AppTable, undo: Option<Boxed<sys_protocol::Undo>>
 
 /// What takes a change of processes back, and with it that of children, if any.
 fn record_of(undo: process_table::Undo, ended: Option<Boxed<sys_protocol::Undo>>) -> Record
-    ensures { (before after : NodeState) → IsKept before → after.modules ≡ before.modules
+    ensures { (before after : NodeState) → IsKept before → after.modules ≡ before.modules → after.releases ≡ before.releases
         → TakesBackEnds undo before.processes after.processes → AppsBack ended before.apps after.apps → Undoes result before after }
 {
     match ended {

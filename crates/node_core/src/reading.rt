@@ -6,11 +6,13 @@ ghost use Rattle.values.specs.Failure.{Tells};
 ghost use Rattle.process_effects.specs.Commits.{job_at};
 ghost use Rattle.process_store.specs.Table.{living, pid_of};
 ghost use Rattle.process_table.specs.Steps.{IsNextRunnable, is_runnable, retake_refusal};
+ghost use Rattle.release_statuses.specs.Statuses.{status_of};
 
 use crate::node::Node;
 use erl_semantics::Job;
 use process::Process;
 use process_table::ProcError;
+use release_statuses::Status;
 use values::Failure;
 
 impl Node {
@@ -60,5 +62,15 @@ impl Node {
         ensures { IsNextRunnable after result self.now.processes }
     {
         self.processes.runnable(after)
+    }
+
+    /// The status of the release of a version, where the node knows it. Takes no memory.
+    pub fn status_of(&self, vsn: &str) -> Option<Status>
+        ensures { result ≡ status_of (chars vsn.now) self.now.releases }
+    {
+        match self.releases.get(vsn) {
+            Some(it) => Some(it.status),
+            None => None,
+        }
     }
 }

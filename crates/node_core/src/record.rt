@@ -13,4 +13,6 @@ pub enum Record {
     OfCode(Boxed<code_loading::Undo>, Option<Boxed<sys_protocol::Undo>>),
     /// A module was deleted.
     OfDeletion(Boxed<code_server::Undo<Module>>),
+    /// A release was set unpacked, or removed.
+    OfReleases(Boxed<release_statuses::Undo>),
 }

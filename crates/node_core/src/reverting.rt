@@ -81,4 +81,21 @@ impl Node {
             Err(undo) => Err(Record::OfDeletion(room.fill(undo))),
         }
     }
+
+    /// Takes back what was done to the releases.
+    pub(crate) fn revert_releases(
+        &mut self,
+        undo: Boxed<release_statuses::Undo>,
+    ) -> Result<(), Record>
+        requires { (before : NodeState) × Undoes (record_of.OfReleases undo) before self.old }
+        ensures ok { OnOk result ((before : NodeState) → Undoes (record_of.OfReleases undo) before self.old → self.new ≡ before) }
+        ensures err { OnErr result (self.new ≡ self.old) }
+        ensures back { IfErr result (λ it. it ≡ record_of.OfReleases undo) }
+    {
+        let (undo, room) = undo.open();
+        match self.releases.revert(undo) {
+            Ok(()) => Ok(()),
+            Err(undo) => Err(Record::OfReleases(room.fill(undo))),
+        }
+    }
 }

@@ -2,7 +2,7 @@
 ghost use Rattle.node_core.specs.Record.{Undoes};
 ghost use Rattle.std.specs.Prelude.{◌≡◌, option_map};
 ghost use Rattle.node_core.specs.Step.{MayRunOut, Step as Steps, soft_purge_refusal};
-ghost use Rattle.node_types.specs.declared.event.Refusal.TheVariants.{OfApps, OfModules, OfProcesses};
+ghost use Rattle.node_types.specs.declared.event.Refusal.TheVariants.{OfApps, OfModules, OfProcesses, OfReleases};
 ghost use Rattle.node_core.specs.OneOutcome.{one_outcome_of};
 
 use crate::node::Node;
@@ -13,6 +13,7 @@ use code_server::CodeError;
 use erl_term::Atom;
 use node_types::{Answer, Event, Note, Refusal};
 use process_table::ProcError;
+use release_statuses::RelError;
 use sys_protocol::{SysError, revive_refusal};
 use undo_journal::Reversible;
 use values::Failure;
@@ -36,6 +37,13 @@ fn of_apps(refusal: Option<SysError>) -> Option<Refusal>
     ensures { result ≡ option_map OfApps refusal }
 {
     Some(Refusal::OfApps(refusal?))
+}
+
+/// A refusal of the releases, if there is one.
+fn of_releases(refusal: Option<RelError>) -> Option<Refusal>
+    ensures { result ≡ option_map OfReleases refusal }
+{
+    Some(Refusal::OfReleases(refusal?))
 }
 
 impl Node {
@@ -80,6 +88,8 @@ impl Reversible for Node {
             Event::Delete(name) => self.delete(name, n),
             Event::Purge(name) => self.purge(name, n),
             Event::SoftPurge(name) => self.soft_purge(name, n),
+            Event::SetUnpacked(release) => self.set_unpacked(release, n),
+            Event::Remove(vsn) => self.remove(vsn, n),
         }
     }
 
@@ -89,6 +99,7 @@ impl Reversible for Node {
             Record::OfChildren(undo, ended) => self.revert_children(undo, ended),
             Record::OfCode(undo, ended) => self.revert_code(undo, ended),
             Record::OfDeletion(undo) => self.revert_deletion(undo),
+            Record::OfReleases(undo) => self.revert_releases(undo),
         }
     }
 
@@ -104,6 +115,10 @@ impl Reversible for Node {
             Event::Delete(name) => of_modules(self.modules.delete_refusal(name)),
             Event::Purge(_) => None,
             Event::SoftPurge(name) => self.soft_purge_refusal(name),
+            Event::SetUnpacked(release) => of_releases(
+                self.releases.unpack_refusal(release.rel.vsn.as_str()),
+            ),
+            Event::Remove(vsn) => of_releases(self.releases.remove_refusal(vsn.as_str())),
         }
     }
 

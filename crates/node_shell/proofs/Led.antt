@@ -1,5 +1,5 @@
 -- Whatever the shell does of a line, the line's command leads to the journal after it.
-use Rattle.std.proofs.Common.{◌≡◌, ℕ, List, Option, None, Some, Ok, option_map, option_to_list, unwrap_or, refl, sym, ap, subst}
+use Rattle.std.proofs.Common.{◌≡◌, ℕ, List, [], Option, None, Some, Ok, option_map, option_to_list, unwrap_or, refl, sym, ap, subst}
 use Rattle.erl_term.specs.Tree.{Tree}
 use Rattle.erl_term.specs.declared.term.Term.{Term}
 use Rattle.erl_term.specs.declared.term.Term.TheVariants as term
@@ -17,11 +17,15 @@ use Rattle.node_types.specs.declared.event.Answer.TheVariants as tells
 use Rattle.node_types.specs.declared.event.Event.{Event}
 use Rattle.node_types.specs.declared.event.Event.TheVariants as event
 use Rattle.node_types.specs.Note.{Note}
-use Rattle.shell_requests.specs.Request.{Request, Spoken, ask, change, load, undo, commit, arrive, serve, revive, too_long, silent, unknown, asks}
+use Rattle.shell_requests.specs.Request.{Request, Spoken, ask, change, load, undo, commit, arrive, serve, revive, release, too_long, silent, unknown, asks}
 use Rattle.shell_requests.specs.declared.request.Arrival.{Arrival}
 use Rattle.shell_requests.specs.declared.request.Arrival.TheVariants as arrivals
 use Rattle.shell_requests.specs.declared.request.Change.{Change}
 use Rattle.shell_requests.specs.declared.request.Change.TheVariants as changes
+use Rattle.std.specs.Str.{chars}
+use Rattle.shell_requests.specs.declared.request.Question.{Question}
+use Rattle.shell_requests.specs.declared.request.ReleaseChange.{ReleaseChange}
+use Rattle.shell_requests.specs.declared.request.ReleaseChange.TheVariants as releases
 use Rattle.shell_requests.specs.declared.request.Service.{Service}
 use Rattle.shell_requests.specs.declared.request.Service.TheVariants as services
 use Rattle.shell_deeds.specs.Deeds as deeds
@@ -38,16 +42,16 @@ abbrev pub IsLed : ShellState → Deed → Type 0
 IsLed s d = AreAfter Step (option_to_list d.command) s.timeline d.after.timeline × (d.after.timeline.first ≡ s.timeline.first)
 
 module _ (s : ShellState) where
-  performs : (tried : ShellState) (e : Event) (done : Accepted NodeState Answer Note → Deed) (fate : Option Fate) (d : Deed) → tried.timeline ≡ s.timeline → ((a : Accepted NodeState Answer Note) → Step (node_of s) e (Ok a) → IsLed s (done a)) → deeds.Performs s tried e done fate d → IsLed s d
-  performs tried e done _ _ same each (deeds.full is) = (same, ap (λ t. t.first) same)
-  performs tried e done _ _ same each (deeds.accepted room a rule) = each a rule
-  performs tried e done _ _ same each (deeds.refused room why rule) = (same, ap (λ t. t.first) same)
-  performs tried e done _ _ same each (deeds.no_memory room may) = (refl, refl)
+  performs : (tried : ShellState) (e : Event) (vsn : List ℕ) (done : Accepted NodeState Answer Note → Deed) (fate : Option Fate) (d : Deed) → tried.timeline ≡ s.timeline → ((a : Accepted NodeState Answer Note) → Step (node_of s) e (Ok a) → IsLed s (done a)) → deeds.Performs s tried e vsn done fate d → IsLed s d
+  performs tried e vsn done _ _ same each (deeds.full is) = (same, ap (λ t. t.first) same)
+  performs tried e vsn done _ _ same each (deeds.accepted room a rule) = each a rule
+  performs tried e vsn done _ _ same each (deeds.refused room why rule) = (same, ap (λ t. t.first) same)
+  performs tried e vsn done _ _ same each (deeds.no_memory room may) = (refl, refl)
 
-  misses : {X : Type 0} (e : X → Event) (fate : Option Fate) (d : Deed) → deeds.Misses s e fate d → IsLed s d
-  misses e _ _ (deeds.unread_full is) = (refl, refl)
-  misses e _ _ (deeds.unread_refused room why rule) = (refl, refl)
-  misses e _ _ (deeds.no_memory_to_read room may) = (refl, refl)
+  misses : {X : Type 0} (vsn : List ℕ) (e : X → Event) (fate : Option Fate) (d : Deed) → deeds.Misses s vsn e fate d → IsLed s d
+  misses vsn e _ _ (deeds.unread_full is) = (refl, refl)
+  misses vsn e _ _ (deeds.unread_refused room why rule) = (refl, refl)
+  misses vsn e _ _ (deeds.no_memory_to_read room may) = (refl, refl)
 
   carried : (e : Event) (a : Accepted NodeState Answer Note) → Step (node_of s) e (Ok a) → AreAfter Step (option_to_list (Some (command.Perform e))) s.timeline (appended s.timeline a.node a.note) × ((appended s.timeline a.node a.note).first ≡ s.timeline.first)
   carried e a rule = ((appended s.timeline a.node a.note, (Ok a, rule, refl), refl), refl)
@@ -68,8 +72,8 @@ module _ (s : ShellState) where
   loads name path _ _ (deeds.no_source bytes why found says none) = (refl, refl)
   loads name path _ _ (deeds.another bytes m found source other) = (refl, refl)
   loads name path _ _ (deeds.read bytes m fate d found source same does) =
-      performs s (event.Load m) _ fate d refl (carried (event.Load m)) does
-  loads name path _ _ (deeds.unread bytes fate d found does) = misses event.Load fate d does
+      performs s (event.Load m) [] _ fate d refl (carried (event.Load m)) does
+  loads name path _ _ (deeds.unread bytes fate d found does) = misses [] event.Load fate d does
 
   tried_same : (kind : Arrival) → (deeds.tried kind s).timeline ≡ s.timeline
   tried_same arrivals.Call = refl
@@ -86,8 +90,8 @@ module _ (s : ShellState) where
   arrives kind name text _ _ (deeds.several is) = (refl, refl)
   arrives kind name text _ _ (deeds.read t fate d is does) =
       let e = deeds.arrival_event s kind name t in
-      performs (deeds.tried kind s) e (deeds.done_by (deeds.tried kind s) e) fate d (tried_same kind) (arrived kind (next_number s) name t) does
-  arrives kind name text _ _ (deeds.unread fate d does) = misses _ fate d does
+      performs (deeds.tried kind s) e [] (deeds.done_by (deeds.tried kind s) e) fate d (tried_same kind) (arrived kind (next_number s) name t) does
+  arrives kind name text _ _ (deeds.unread fate d does) = misses [] _ fate d does
 
   retakes : (pid : ℕ) (fate : Option Fate) (d : Deed) → deeds.Retakes s pid fate d → IsLed s d
   retakes pid _ _ (deeds.kept_again job is) = (refl, refl)
@@ -101,13 +105,13 @@ module _ (s : ShellState) where
   serves services.Take None fate d does = told (fixed words.NoProc) fate d does
   serves services.Retake None fate d does = told (fixed words.NoProc) fate d does
   serves services.Show None fate d does = told (fixed words.NoProc) fate d does
-  serves services.Take (Some pid) fate d does = performs s (event.Take pid) _ fate d refl (λ a rule. took pid a (deeds.answer_to s (event.Take pid) a) a.answer rule) does
+  serves services.Take (Some pid) fate d does = performs s (event.Take pid) [] _ fate d refl (λ a rule. took pid a (deeds.answer_to s (event.Take pid) a) a.answer rule) does
   serves services.Retake (Some pid) fate d does = retakes pid fate d does
   serves services.Show (Some pid) fate d does = told (deeds.shown (living pid (node_of s).processes)) fate d does
 
   commits : (job : Option Job) (fate : Option Fate) (d : Deed) → deeds.CommitsKept s job fate d → IsLed s d
   commits None fate d does = told (fixed words.NoJob) fate d does
-  commits (Some job) _ _ (deeds.ran done fate d is does) = performs s (event.Commit done) _ fate d refl (carried (event.Commit done)) does
+  commits (Some job) _ _ (deeds.ran done fate d is does) = performs s (event.Commit done) [] _ fate d refl (carried (event.Commit done)) does
   commits (Some job) _ _ (deeds.not_run_full is) = (refl, refl)
   commits (Some job) _ _ (deeds.not_run room why refuses) = (refl, refl)
   commits (Some job) _ _ (deeds.no_memory_to_run room may) = (refl, refl)
@@ -118,15 +122,31 @@ module _ (s : ShellState) where
   undoes mark _ _ (deeds.cut end is) = ((end, ap (λ o. unwrap_or o s.timeline) (sym is), refl), (cut_to-parts mark s.timeline end is).1)
   undoes mark _ _ (deeds.stopped reached end alive behind is uncut) = ((end, ap (λ o. unwrap_or o s.timeline) (sym is), refl), (cut_to-parts reached s.timeline end is).1)
 
+  asks-nothing : (question : Question) (fate : Option Fate) (d : Deed) → deeds.Asks s question fate d → IsLed s d
+  asks-nothing question _ _ deeds.is_told = (refl, refl)
+  asks-nothing question _ _ (deeds.no_memory_to_tell may) = (refl, refl)
+
+  unpacks : (vsn : List ℕ) (fate : Option Fate) (d : Deed) → deeds.Unpacks s vsn fate d → IsLed s d
+  unpacks vsn _ _ (deeds.no_release path why is) = (refl, refl)
+  unpacks vsn _ _ (deeds.release_read r fate d is does) =
+      performs s (event.SetUnpacked r) (chars vsn) _ fate d refl (carried (event.SetUnpacked r)) does
+  unpacks vsn _ _ (deeds.release_unread fate d does) = misses (chars vsn) (deeds.unpack_event vsn) fate d does
+
+  alters : (kind : ReleaseChange) (vsn : List ℕ) (fate : Option Fate) (d : Deed) → deeds.AltersReleases s kind vsn fate d → IsLed s d
+  alters releases.Unpack vsn fate d does = unpacks vsn fate d does
+  alters releases.Remove vsn fate d does =
+      performs s (event.Remove (chars vsn)) (chars vsn) _ fate d refl (carried (event.Remove (chars vsn))) does
+
   obeys : (fate : Option Fate) (request : Request) (d : Deed) → deeds.Obeys fate s request d → IsLed s d
-  obeys fate (ask question) d does = told (deeds.told s question) fate d does
-  obeys fate (change kind name) d does = performs s (deeds.change_event kind name) _ fate d refl (changed kind name) does
+  obeys fate (ask question) d does = asks-nothing question fate d does
+  obeys fate (change kind name) d does = performs s (deeds.change_event kind name) [] _ fate d refl (changed kind name) does
   obeys fate (load name path) d does = loads name path fate d does
   obeys fate (undo mark) d does = undoes mark fate d does
   obeys fate (commit place) d does = commits (deeds.kept_job place s.jobs) fate d does
   obeys fate (arrive kind name text) d does = arrives kind name text fate d does
   obeys fate (serve service who) d does = serves service (deeds.pid_meant who (node_of s)) fate d does
-  obeys fate (revive app id) d does = performs s (event.Revive app (term.Atom id)) _ fate d refl (carried (event.Revive app (term.Atom id))) does
+  obeys fate (revive app id) d does = performs s (event.Revive app (term.Atom id)) [] _ fate d refl (carried (event.Revive app (term.Atom id))) does
+  obeys fate (release kind vsn) d does = alters kind vsn fate d does
 
 -- what may be done of what is said in a line
 pub Does-led : (fate : Option Fate) (s : ShellState) (line : Spoken) (d : Deed) → deeds.Does fate s line d → IsLed s d

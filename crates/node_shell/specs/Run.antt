@@ -10,6 +10,7 @@ use Rattle.release_files.specs.Files.{Contents}
 use Rattle.release_files.specs.Releases.{IsRelease}
 use Rattle.release_files.specs.declared.fault.FileFault.TheVariants.{Memory}
 use Rattle.release_boot.specs.Boot.{BootFails, Boots}
+use Rattle.release_statuses.specs.Statuses.{booted}
 use Rattle.node_core.specs.Node.{NodeState}
 use Rattle.shell_deeds.specs.State.{ShellState, opened_shell}
 use Rattle.node_shell.specs.Replay.{Obeyed, AreObeyed, IsHeadline, answered_as}
@@ -17,11 +18,12 @@ use Rattle.node_shell.specs.Shell.{shell_turn}
 use Rattle.node_shell.specs.declared.fault.StartFault.{StartFault}
 use Rattle.node_shell.specs.declared.fault.StartFault.TheVariants as fault
 
--- The files say a release of this version, and it boots as this node.
+-- The files say a release of this version, and it boots as this node, whose only release it is.
 pub record Starts (files : Contents) (vsn : List ℕ) (node : NodeState) : Type 0 where
   pub release : Release
   pub is_release : IsRelease files vsn release
   pub boots : Boots release node.modules node.processes node.apps
+  pub known : node.releases ≡ booted release
 
 -- Why no node starts: the first fault of the release's files, with which these are handed back; or why it doesn't boot; or memory was
 -- refused.

@@ -4,6 +4,8 @@ use erl_forms::Module;
 use erl_semantics::{Done, Job};
 use erl_term::{Atom, Term};
 use process_table::{Body, ProcError};
+use release_statuses::{RelError, Vsn};
+use release_table::Release;
 use std::alloc::{AllocError, Global};
 use std::fmt;
 use sys_protocol::SysError;
@@ -41,6 +43,10 @@ pub enum Event {
     Purge(Atom),
     /// A module's old code is purged, where nobody lingers in it.
     SoftPurge(Atom),
+    /// A release is set unpacked: the node knows it from then on.
+    SetUnpacked(Release),
+    /// The release of a version is removed, unless it is the permanent one.
+    Remove(Vsn),
 }
 
 /// The answer to an event that is accepted.
@@ -68,6 +74,9 @@ pub enum Refusal {
     /// The applications refuse it.
     #[error("{0}")]
     OfApps(SysError),
+    /// The releases refuse it.
+    #[error("{0}")]
+    OfReleases(RelError),
 }
 
 /// As it is displayed.
@@ -119,6 +128,8 @@ impl Same for Event {
             (Event::Delete(name), Event::Delete(with)) => name.same(with),
             (Event::Purge(name), Event::Purge(with)) => name.same(with),
             (Event::SoftPurge(name), Event::SoftPurge(with)) => name.same(with),
+            (Event::SetUnpacked(release), Event::SetUnpacked(with)) => release.same(with),
+            (Event::Remove(vsn), Event::Remove(with)) => vsn.same(with),
             (_, _) => false,
         }
     }
@@ -142,6 +153,8 @@ impl Duplicate for Event {
             Event::Delete(name) => Ok(Event::Delete(name.copy(alloc)?)),
             Event::Purge(name) => Ok(Event::Purge(name.copy(alloc)?)),
             Event::SoftPurge(name) => Ok(Event::SoftPurge(name.copy(alloc)?)),
+            Event::SetUnpacked(release) => Ok(Event::SetUnpacked(release.copy(alloc)?)),
+            Event::Remove(vsn) => Ok(Event::Remove(vsn.copy(alloc)?)),
         }
     }
 }
@@ -152,6 +165,7 @@ impl Same for Refusal {
             (Refusal::OfProcesses(why), Refusal::OfProcesses(with)) => *why == *with,
             (Refusal::OfModules(why), Refusal::OfModules(with)) => *why == *with,
             (Refusal::OfApps(why), Refusal::OfApps(with)) => why.same(with),
+            (Refusal::OfReleases(why), Refusal::OfReleases(with)) => *why == *with,
             (_, _) => false,
         }
     }
@@ -163,6 +177,7 @@ impl Duplicate for Refusal {
             Refusal::OfProcesses(why) => Ok(Refusal::OfProcesses(*why)),
             Refusal::OfModules(why) => Ok(Refusal::OfModules(*why)),
             Refusal::OfApps(why) => Ok(Refusal::OfApps(why.copy(alloc)?)),
+            Refusal::OfReleases(why) => Ok(Refusal::OfReleases(*why)),
         }
     }
 }

@@ -1,8 +1,9 @@
 -- Lemmas on what is written: pieces appended one after the other, and the bytes of tuples, lists and numbers.
-use Rattle.std.proofs.Common.{◌≡◌, ℕ, ◌+◌, ◌^◌, ◌<◌, drop, eqb, length, slice_get, Some, pos, Bool, true, false, ◌&&◌, List, [], ◌∷◌, ◌++◌, codes, Result, Ok, Err, OnOk, append_assoc, append-nil, refl, sym, ap, ◌∙◌, arith}
+use Rattle.std.proofs.Common.{◌≡◌, ℕ, ◌+◌, ◌-◌, ◌^◌, ◌<◌, drop, take, reverse, get_or, eqb, length, slice_get, Some, pos, Bool, true, false, ◌&&◌, List, [], ◌∷◌, ◌++◌, codes, Result, Ok, Err, OnOk, append_assoc, append-nil, refl, sym, ap, ◌∙◌, arith}
 use Rattle.std.specs.Fmt.{decimal}
 use Rattle.std.specs.Option.{unwrap_or}
 use Rattle.std.proofs.lemmas.Bool.{ne_eqb}
+use Rattle.std.proofs.lemmas.List.{reverse-append, take_more}
 use Rattle.std.proofs.lemmas.Option.{unwrap_or-slice_get}
 use Rattle.erl_semantics.proofs.Tests.{from_here}
 use lib.Utf8.{encode}
@@ -49,7 +50,7 @@ open-front : (cs : List ℕ) → utf8 (123 ∷ cs) ≡ 123 ∷ utf8 cs
 unfolding utf8 encode
 open-front cs = refl
 
-bracket-front : (cs : List ℕ) → utf8 (91 ∷ cs) ≡ 91 ∷ utf8 cs
+pub bracket-front : (cs : List ℕ) → utf8 (91 ∷ cs) ≡ 91 ∷ utf8 cs
 unfolding utf8 encode
 bracket-front cs = refl
 
@@ -57,7 +58,7 @@ close-bytes : utf8 (125 ∷ []) ≡ 125 ∷ []
 unfolding utf8 encode
 close-bytes = refl
 
-bracket-bytes : utf8 (93 ∷ []) ≡ 93 ∷ []
+pub bracket-bytes : utf8 (93 ∷ []) ≡ 93 ∷ []
 unfolding utf8 encode
 bracket-bytes = refl
 
@@ -171,3 +172,11 @@ at_place xs place x within is = from_here xs place x within (ap (λ o. unwrap_or
 -- behind an element none is the first
 pub not_first : (place : ℕ) → eqb (place + 1) 0 ≡ false
 not_first place = ne_eqb (place + 1) 0 (λ e. absurd (omega (arith, e)))
+
+-- the elements from the end: the one at a place, and those before it
+pub at_end : {A : Type 0} (xs : List A) (place k : ℕ) (x : A) → place + (k + 1) ≡ length xs → x ≡ get_or xs k x → reverse (take (length xs - place) xs) ≡ x ∷ reverse (take (length xs - (place + 1)) xs)
+at_end xs place k x is e =
+    let here : length xs - place ≡ k + 1 = omega (arith, is) in
+    let behind : length xs - (place + 1) ≡ k = omega (arith, is) in
+    let within : k < length xs = omega (arith, is) in
+    ap (λ n. reverse (take n xs)) here ∙ ap reverse (take_more xs k x within) ∙ reverse-append (take k xs) (get_or xs k x ∷ []) ∙ ap (λ y. y ∷ reverse (take k xs)) (sym e) ∙ ap (λ n. x ∷ reverse (take n xs)) (sym behind)

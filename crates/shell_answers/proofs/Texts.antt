@@ -1,6 +1,8 @@
 -- The bytes of each line, as its pieces are written.
-use Rattle.std.proofs.Common.{◌≡◌, ℕ, pos, List, [], ◌∷◌, ◌++◌, codes, true, Option, None, Some, append_assoc, refl, sym, ap, ◌∙◌}
+use Rattle.std.proofs.Common.{◌≡◌, ◌<◌, ℕ, pos, List, length, get_or, arith, Vec, String, Global, IsUtf8, encode_utf8, [], ◌∷◌, ◌++◌, codes, true, Option, None, Some, append-nil, append_assoc, refl, sym, ap, ◌∙◌}
 use lib.Utf8.{encode}
+use Rattle.std.proofs.lemmas.List.{get_or-map, length-map}
+use Rattle.std.proofs.lemmas.Str.{chars-append, chars-encodes}
 use Rattle.erl_term.specs.Tree.{Tree, Trees, int, atom, pid, tuple, list, none, more}
 use Rattle.std.specs.Str.{chars}
 use Rattle.erl_scan.specs.declared.error.Fault.{Fault}
@@ -16,13 +18,18 @@ use Rattle.node_types.specs.Note.{Note}
 use Rattle.code_server.specs.Modules.{Entry}
 use Rattle.erl_forms.specs.Module.{Forms}
 use Rattle.app_table.specs.Applications.{Application}
-use Rattle.shell_answers.specs.declared.faults.SourceFault.{SourceFault}
-use Rattle.erl_term.specs.Text.{elements_text, is_quoted_word, utf8}
+use Rattle.release_files.specs.declared.fault.FileFault.{FileFault}
+use Rattle.release_statuses.specs.declared.listed.Listed.{Listed}
+use Rattle.release_statuses.specs.declared.status.Status.{Status}
+use Rattle.erl_term.specs.Conversions.{rows}
+use Rattle.release_words.specs.Words.{string_tree}
+use Rattle.shell_answers.specs.Refusals.{bad_status, of_version}
+use Rattle.erl_term.specs.Text.{elements_text, is_quoted_word, text, utf8}
 use Rattle.erl_term.specs.declared.term.Term.{Term}
 use Rattle.erl_semantics.specs.declared.acts.Place.TheVariants.{Loop}
-use Rattle.shell_answers.specs.Answers.{activity_of, apps_of, arrival_of, arrivals_of, committed, line_of, listed, loaded, modules_of, process_of, replied_by, replies_in, replies_of, rows_of, stopped_undo, undone_steps, mark_at, called, job_of, pair, place_of, revived, told_as, triple}
-use Rattle.shell_answers.specs.Faults.{fault_of, kind_word, placed, source_fault, start_failed, term_fault}
-use Rattle.shell_answers.proofs.Pieces.{AreTuples, AreTuples-append, bytes, list-alone, list-bytes, pid-pieces, tuple-alone, tuple-bytes}
+use Rattle.shell_answers.specs.Answers.{AreNames, activity_of, characters_of, apps_of, arrival_of, arrivals_of, committed, line_of, listed, loaded, modules_of, process_of, replied_by, replies_in, replies_of, rows_of, stopped_undo, undone_steps, mark_at, called, job_of, pair, named_versions, place_of, release_of, releases_in, revived, set_unpacked, status_of, told_as, triple}
+use Rattle.shell_answers.specs.Faults.{fault_of, kind_word, file_fault, placed, start_failed, term_fault}
+use Rattle.shell_answers.proofs.Pieces.{AreTuples, AreTuples-append, bytes, bracket-front, bracket-bytes, list-alone, list-bytes, part, pid-pieces, tuple-alone, tuple-bytes}
 
 -- Tuples of two and of three
 
@@ -118,9 +125,9 @@ unfolding utf8 is_quoted_word encode
 term_fault-line kind at =
     ap (λ l. codes "{error," ++ (l ++ codes "}\n")) (placed-pieces (kind_word kind) at (kind-bytes kind)) ∙ sym (tuple-bytes (atom (codes "error")) (more (placed (kind_word kind) at) none) (10 ∷ []))
 
-pub source_fault-line : (path : List ℕ) (fault : SourceFault) → codes "{error,{file," ++ (bytes (list (integers (chars path))) ++ (44 ∷ [] ++ (bytes (fault_of fault) ++ codes "}}\n"))) ≡ line_of (source_fault path fault)
+pub file_fault-line : (path : List ℕ) (fault : FileFault) → codes "{error,{file," ++ (bytes (list (integers (chars path))) ++ (44 ∷ [] ++ (bytes (fault_of fault) ++ codes "}}\n"))) ≡ line_of (file_fault path fault)
 unfolding utf8 is_quoted_word encode
-source_fault-line path fault =
+file_fault-line path fault =
     let shown = list (integers (chars path)) in
     sym (tuple-bytes (atom (codes "error")) (more (triple (atom (codes "file")) shown (fault_of fault)) none) (10 ∷ []) ∙ ap (λ l. codes "{error," ++ l) (tuple-bytes (atom (codes "file")) (more shown (more (fault_of fault) none)) (125 ∷ 10 ∷ [])))
 
@@ -245,3 +252,123 @@ running-word = refl
 pub none-word : bytes (atom (codes "none")) ≡ codes "none"
 unfolding utf8 is_quoted_word encode
 none-word = refl
+
+pub no_term-word : bytes (atom (codes "no_term")) ≡ codes "no_term"
+unfolding utf8 is_quoted_word encode
+no_term-word = refl
+
+pub many_terms-word : bytes (atom (codes "many_terms")) ≡ codes "many_terms"
+unfolding utf8 is_quoted_word encode
+many_terms-word = refl
+
+pub shape-word : bytes (atom (codes "shape")) ≡ codes "shape"
+unfolding utf8 is_quoted_word encode
+shape-word = refl
+
+pub duplicate_key-word : bytes (atom (codes "duplicate_key")) ≡ codes "duplicate_key"
+unfolding utf8 is_quoted_word encode
+duplicate_key-word = refl
+
+pub bad_instruction-word : bytes (atom (codes "bad_instruction")) ≡ codes "bad_instruction"
+unfolding utf8 is_quoted_word encode
+bad_instruction-word = refl
+
+pub pattern_version-word : bytes (atom (codes "pattern_version")) ≡ codes "pattern_version"
+unfolding utf8 is_quoted_word encode
+pattern_version-word = refl
+
+pub out_of_profile-word : bytes (atom (codes "out_of_profile")) ≡ codes "out_of_profile"
+unfolding utf8 is_quoted_word encode
+out_of_profile-word = refl
+
+pub memory-word : bytes (atom (codes "memory")) ≡ codes "memory"
+unfolding utf8 is_quoted_word encode
+memory-word = refl
+
+pub duplicate_module-word : bytes (atom (codes "duplicate_module")) ≡ codes "duplicate_module"
+unfolding utf8 is_quoted_word encode
+duplicate_module-word = refl
+
+pub unpacked-word : bytes (atom (codes "unpacked")) ≡ codes "unpacked"
+unfolding utf8 is_quoted_word encode
+unpacked-word = refl
+
+pub current-word : bytes (atom (codes "current")) ≡ codes "current"
+unfolding utf8 is_quoted_word encode
+current-word = refl
+
+pub permanent-word : bytes (atom (codes "permanent")) ≡ codes "permanent"
+unfolding utf8 is_quoted_word encode
+permanent-word = refl
+
+pub old-word : bytes (atom (codes "old")) ≡ codes "old"
+unfolding utf8 is_quoted_word encode
+old-word = refl
+
+pub exists-word : bytes (atom (codes "exists")) ≡ codes "exists"
+unfolding utf8 is_quoted_word encode
+exists-word = refl
+
+pub no_such_release-word : bytes (atom (codes "no_such_release")) ≡ codes "no_such_release"
+unfolding utf8 is_quoted_word encode
+no_such_release-word = refl
+
+pub already_installed-word : bytes (atom (codes "already_installed")) ≡ codes "already_installed"
+unfolding utf8 is_quoted_word encode
+already_installed-word = refl
+
+-- Releases
+
+pub unpacked-line : (vsn : List ℕ) → codes "{ok," ++ (bytes (string_tree vsn) ++ codes "}\n") ≡ line_of (set_unpacked vsn)
+unfolding utf8 is_quoted_word encode
+unpacked-line vsn = sym (tuple-bytes (atom (codes "ok")) (more (string_tree vsn) none) (10 ∷ []))
+
+bracketed-strings : (names : List (List ℕ)) → text (list (rows string_tree names)) ≡ 91 ∷ (elements_text (rows string_tree names) ++ 93 ∷ [])
+bracketed-strings [] = refl
+bracketed-strings (name ∷ names) = refl
+
+strings-bytes : (names : List (List ℕ)) → bytes (list (rows string_tree names)) ≡ 91 ∷ (utf8 (elements_text (rows string_tree names)) ++ 93 ∷ [])
+strings-bytes names =
+    let inner = elements_text (rows string_tree names) in
+    ap utf8 (bracketed-strings names) ∙ bracket-front (inner ++ 93 ∷ []) ∙ ap (λ l. 91 ∷ l) (part inner (93 ∷ []) (utf8 inner) (93 ∷ []) refl bracket-bytes)
+
+pub release-pieces : (it : Listed) → codes "{" ++ (bytes (string_tree it.release.rel.name) ++ (codes "," ++ (bytes (string_tree it.release.rel.vsn) ++ (codes ",[" ++ (utf8 (elements_text (rows string_tree (named_versions it))) ++ (codes "]," ++ (bytes (status_of it.status) ++ codes "}"))))))) ≡ bytes (release_of it)
+release-pieces it =
+    let name = string_tree it.release.rel.name in
+    let vsn = string_tree it.release.rel.vsn in
+    let names = list (rows string_tree (named_versions it)) in
+    let inner = utf8 (elements_text (rows string_tree (named_versions it))) in
+    let status = bytes (status_of it.status) in
+    sym (tuple-alone name (more vsn (more names (more (status_of it.status) none)))
+    ∙ ap (λ l. 123 ∷ (bytes name ++ 44 ∷ (bytes vsn ++ 44 ∷ (l ++ 44 ∷ (status ++ 125 ∷ []))))) (strings-bytes (named_versions it))
+    ∙ ap (λ l. 123 ∷ (bytes name ++ 44 ∷ (bytes vsn ++ 44 ∷ 91 ∷ l))) (append_assoc inner (93 ∷ []) (44 ∷ (status ++ 125 ∷ []))))
+
+pub releases-tuples : (releases : List Listed) → AreTuples (releases_in releases)
+releases-tuples [] = tt
+releases-tuples (it ∷ others) = releases-tuples others
+
+pub of_version-line : (word vsn : List ℕ) → bytes (atom word) ≡ word → codes "{error,{" ++ (word ++ (44 ∷ [] ++ (bytes (string_tree vsn) ++ codes "}}\n"))) ≡ line_of (of_version word vsn)
+unfolding utf8 is_quoted_word encode
+of_version-line word vsn is =
+    ap (λ w. codes "{error,{" ++ (w ++ (44 ∷ (bytes (string_tree vsn) ++ codes "}}\n")))) (sym is) ∙ sym (tuple-bytes (atom (codes "error")) (more (pair (atom word) (string_tree vsn)) none) (10 ∷ []) ∙ ap (λ l. codes "{error," ++ l) (tuple-bytes (atom word) (more (string_tree vsn) none) (125 ∷ 10 ∷ [])))
+
+pub bad_status-line : (vsn : List ℕ) (status : Status) → codes "{error,{bad_status," ++ (bytes (string_tree vsn) ++ (44 ∷ [] ++ (bytes (status_of status) ++ codes "}}\n"))) ≡ line_of (bad_status vsn status)
+unfolding utf8 is_quoted_word encode
+bad_status-line vsn status =
+    sym (tuple-bytes (atom (codes "error")) (more (triple (atom (codes "bad_status")) (string_tree vsn) (status_of status)) none) (10 ∷ []) ∙ ap (λ l. codes "{error," ++ l) (tuple-bytes (atom (codes "bad_status")) (more (string_tree vsn) (more (status_of status) none)) (125 ∷ 10 ∷ [])))
+
+-- a name, a dash and a version
+pub dashed : (name vsn first mid whole : List ℕ) → IsUtf8 name → IsUtf8 mid → first ≡ name → mid ≡ first ++ encode_utf8 45 → whole ≡ mid ++ vsn → chars whole ≡ chars name ++ 45 ∷ chars vsn
+dashed name vsn first mid whole valid also p q r =
+    let encoded = chars-encodes (45 ∷ []) refl in
+    let one : chars (encode_utf8 45) ≡ 45 ∷ [] = rw append-nil at encoded in
+    let front : chars mid ≡ chars name ++ 45 ∷ [] = ap chars (q ∙ ap (λ l. l ++ encode_utf8 45) p) ∙ chars-append name (encode_utf8 45) valid ∙ ap (λ cs. chars name ++ cs) one in
+    ap chars r ∙ chars-append mid vsn also ∙ ap (λ cs. cs ++ chars vsn) front ∙ append_assoc (chars name) (45 ∷ []) (chars vsn)
+
+-- the names of the release at a place
+pub names_at : (names : List (Vec (String Global) Global)) (releases : List Listed) (k : ℕ) (row : Vec (String Global) Global) (it : Listed) → AreNames names releases → k < length releases → row ≡ get_or names k row → it ≡ get_or releases k it → characters_of row ≡ named_versions it
+names_at names releases k row it are within is_row is =
+    let long : length names ≡ length releases = sym (length-map names characters_of) ∙ ap length are ∙ length-map releases named_versions in
+    let among : k < length names = omega (arith, long, within) in
+    let none = characters_of row in
+    ap characters_of is_row ∙ sym (get_or-map characters_of names k row none among) ∙ ap (λ rows. get_or rows k none) are ∙ get_or-map named_versions releases k it none within ∙ ap named_versions (sym is)

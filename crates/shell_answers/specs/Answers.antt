@@ -1,7 +1,11 @@
 -- What the shell answers: terms, each printed on a line of its own.
-use Rattle.std.specs.Prelude.{ℕ, pos, Bool, true, false, List, [], ◌∷◌, ◌++◌, codes, Option, None, Some}
+use Rattle.std.specs.Prelude.{ℕ, ◌≡◌, pos, Bool, true, false, List, [], ◌∷◌, ◌++◌, codes, map, Option, None, Some}
+use Rattle.std.specs.Prelude.{Vec, String, string_bytes}
+use Rattle.std.specs.Global.{Global}
+use Rattle.std.specs.Str.{chars}
 use Rattle.erl_term.specs.Tree.{Tree, Trees, int, atom, pid, tuple, list, none, more}
 use Rattle.erl_term.specs.Term.{tree, trees}
+use Rattle.erl_term.specs.Conversions.{rows}
 use Rattle.erl_term.specs.Rows.{append_trees}
 use Rattle.erl_term.specs.Text.{utf8, text, elements_text, others_text}
 use Rattle.erl_term.specs.declared.term.Term.{Term}
@@ -18,6 +22,11 @@ use Rattle.process_effects.specs.declared.told.Reply.{Reply}
 use Rattle.process_effects.specs.declared.told.ReplyBody.{ReplyBody}
 use Rattle.process_effects.specs.declared.told.ReplyBody.TheVariants.{Reply as Replied, Down}
 use Rattle.app_table.specs.Applications.{Application}
+use Rattle.otp_files.specs.declared.applications.RelApp.{RelApp}
+use Rattle.release_statuses.specs.Statuses.{which_releases}
+use Rattle.release_statuses.specs.declared.listed.Listed.{Listed}
+use Rattle.release_statuses.specs.declared.status.Status.{Status}
+use Rattle.release_statuses.specs.declared.status.Status.TheVariants.{Unpacked, Current, Permanent, Old}
 use Rattle.undo_journal.specs.declared.report.Report.{Report}
 use Rattle.node_types.specs.Note.{Note}
 use Rattle.shell_answers.specs.declared.fixed.Fixed.{Fixed}
@@ -155,6 +164,47 @@ app_of app = pair (atom app.spec.name) (string_tree app.spec.vsn)
 abbrev pub apps_of : List Application → Trees
 apps_of [] = none
 apps_of (app ∷ apps) = more (app_of app) (apps_of apps)
+
+-- Releases: `{ok,"Vsn"}`; and `[{Name,Vsn,["App-Vsn"],Status}]`, the latest that was set unpacked first.
+
+abbrev pub set_unpacked : List ℕ → Tree
+set_unpacked vsn = pair (atom (codes "ok")) (string_tree vsn)
+
+abbrev pub status_of : Status → Tree
+status_of Unpacked = atom (codes "unpacked")
+status_of Current = atom (codes "current")
+status_of Permanent = atom (codes "permanent")
+status_of Old = atom (codes "old")
+
+-- the characters of `App-Vsn`
+abbrev pub named_version : RelApp → List ℕ
+named_version app = app.name ++ 45 ∷ app.vsn
+
+-- those of a release's applications
+abbrev pub named_versions : Listed → List (List ℕ)
+named_versions it = map named_version it.release.rel.apps
+
+abbrev pub release_of : Listed → Tree
+release_of it = tuple (more (string_tree it.release.rel.name) (more (string_tree it.release.rel.vsn)
+    (more (list (rows string_tree (named_versions it))) (more (status_of it.status) none))))
+
+abbrev pub releases_in : List Listed → Trees
+releases_in [] = none
+releases_in (it ∷ others) = more (release_of it) (releases_in others)
+
+abbrev pub releases_of : List Listed → Tree
+releases_of releases = list (releases_in (which_releases releases))
+
+-- the characters of texts
+abbrev pub characters : String Global → List ℕ
+characters text = chars (string_bytes text)
+
+abbrev pub characters_of : Vec (String Global) Global → List (List ℕ)
+characters_of texts = map characters texts.items
+
+-- these are the texts `App-Vsn` of the applications, a row a release
+abbrev pub AreNames : List (Vec (String Global) Global) → List Listed → Type 0
+AreNames names releases = map characters_of names ≡ map named_versions releases
 
 -- Processes: `{proc,Pid,Place,State,Turn,Mailbox}`. Of one that runs the place is the one where it rested when it took its message.
 

@@ -11,8 +11,10 @@ use Rattle.erl_term.specs.Term.{tree}
 use Rattle.erl_term.specs.Tree.{Tree, int, atom, list}
 use Rattle.erl_term.specs.declared.term.Term.{Term}
 use Rattle.shell_answers.specs.Answers.{pair, triple}
-use Rattle.shell_answers.specs.declared.faults.SourceFault.{SourceFault}
-use Rattle.shell_answers.specs.declared.faults.SourceFault.TheVariants.{Missing, WrongModule, Lang}
+use Rattle.otp_files.specs.declared.error.FileError.{FileError}
+use Rattle.otp_files.specs.declared.error.FileError.TheVariants as file
+use Rattle.release_files.specs.declared.fault.FileFault.{FileFault}
+use Rattle.release_files.specs.declared.fault.FileFault.TheVariants as fault
 
 -- the word of a text's fault
 abbrev pub kind_word : Fault → List ℕ
@@ -46,14 +48,30 @@ lang_fault (DuplicateFunction at) = placed (codes "duplicate_function") at
 lang_fault (UnboundVariable at) = placed (codes "unbound_variable") at
 lang_fault (UndefinedLocal at) = placed (codes "undefined_local") at
 
-abbrev pub fault_of : SourceFault → Tree
-fault_of Missing = atom (codes "missing")
-fault_of WrongModule = atom (codes "wrong_module")
-fault_of (Lang e) = lang_fault e
+-- of a file of one term
+abbrev pub error_of : FileError → Tree
+error_of (file.Text e) = placed (kind_word e.kind) e.at
+error_of file.NoTerm = atom (codes "no_term")
+error_of file.ManyTerms = atom (codes "many_terms")
+error_of (file.Shape element) = placed (codes "shape") element
+error_of file.DuplicateKey = atom (codes "duplicate_key")
+error_of (file.BadInstruction place) = placed (codes "bad_instruction") place
+error_of file.PatternVersion = atom (codes "pattern_version")
+error_of (file.OutOfProfile place) = placed (codes "out_of_profile") place
+error_of file.Memory = atom (codes "memory")
 
-abbrev pub source_fault : List ℕ → SourceFault → Tree
-source_fault path fault =
-    pair (atom (codes "error")) (triple (atom (codes "file")) (list (integers (chars path))) (fault_of fault))
+-- of any file
+abbrev pub fault_of : FileFault → Tree
+fault_of fault.Missing = atom (codes "missing")
+fault_of (fault.File e) = error_of e
+fault_of (fault.Lang e) = lang_fault e
+fault_of fault.WrongModule = atom (codes "wrong_module")
+fault_of fault.DuplicateModule = atom (codes "duplicate_module")
+fault_of fault.Memory = atom (codes "memory")
+
+abbrev pub file_fault : List ℕ → FileFault → Tree
+file_fault path it =
+    pair (atom (codes "error")) (triple (atom (codes "file")) (list (integers (chars path))) (fault_of it))
 
 -- `{error,{start_failed,Id,Reason}}`
 abbrev pub start_failed : Term → Term → Tree

@@ -3,24 +3,15 @@ ghost use Rattle.std.specs.Prelude.{◌≡◌, ◌++◌, ◌∷◌, [], pos, OnO
 ghost use Rattle.erl_term.specs.Text.{text, utf8};
 ghost use Rattle.erl_term.specs.Tree.{int};
 ghost use Rattle.shell_answers.specs.Answers.{line_of};
-ghost use Rattle.shell_answers.specs.Faults.{fault_of, kind_word, lang_fault, source_fault, start_failed, term_fault};
+ghost use Rattle.shell_answers.specs.Faults.{error_of, fault_of, file_fault, kind_word, lang_fault, start_failed, term_fault};
 
 use crate::bytes::{put, put_number};
 use erl_parse::LangError;
 use erl_scan::Fault;
 use erl_term::{Term, print, print_string};
+use otp_files::FileError;
+use release_files::FileFault;
 use std::alloc::AllocError;
-
-/// What stands against the source of a module.
-#[derive(Clone, Copy)]
-pub enum SourceFault {
-    /// There is no such file.
-    Missing,
-    /// It is the source of another module.
-    WrongModule,
-    /// It is no source.
-    Lang(LangError),
-}
 
 /// The word of a text's fault.
 fn kind_word(kind: Fault) -> &'static [u8]
@@ -42,13 +33,13 @@ fn kind_word(kind: Fault) -> &'static [u8]
 }
 
 /// Appends `{Word,At}`.
-fn put_placed(word: &[u8], at: usize, out: &mut Vec<u8>) -> Result<(), AllocError>
+fn put_placed(word: &[u8], at: u64, out: &mut Vec<u8>) -> Result<(), AllocError>
     ensures { OnOk result (out.new.items ≡ out.old.items ++ 123 ∷ (word.now ++ 44 ∷ (utf8 (text (int (pos at))) ++ 125 ∷ []))) }
 {
     put(b"{", out)?;
     put(word, out)?;
     put(b",", out)?;
-    put_number(at as u64, out)?;
+    put_number(at, out)?;
     put(b"}", out)
 }
 
@@ -57,33 +48,49 @@ fn put_lang(error: LangError, out: &mut Vec<u8>) -> Result<(), AllocError>
     ensures { OnOk result (out.new.items ≡ out.old.items ++ utf8 (text (lang_fault error))) }
 {
     match error {
-        LangError::Text(error) => put_placed(kind_word(error.kind), error.at, out),
-        LangError::Syntax(at) => put_placed(b"syntax", at, out),
-        LangError::Unsupported(at) => put_placed(b"unsupported", at, out),
-        LangError::DuplicateFunction(at) => put_placed(b"duplicate_function", at, out),
-        LangError::UnboundVariable(at) => put_placed(b"unbound_variable", at, out),
-        LangError::UndefinedLocal(at) => put_placed(b"undefined_local", at, out),
+        LangError::Text(error) => put_placed(kind_word(error.kind), error.at as u64, out),
+        LangError::Syntax(at) => put_placed(b"syntax", at as u64, out),
+        LangError::Unsupported(at) => put_placed(b"unsupported", at as u64, out),
+        LangError::DuplicateFunction(at) => put_placed(b"duplicate_function", at as u64, out),
+        LangError::UnboundVariable(at) => put_placed(b"unbound_variable", at as u64, out),
+        LangError::UndefinedLocal(at) => put_placed(b"undefined_local", at as u64, out),
     }
 }
 
-/// Appends the fault of a source.
-fn put_fault(fault: SourceFault, out: &mut Vec<u8>) -> Result<(), AllocError>
+/// Appends what is wrong with a file of one term.
+fn put_error(error: FileError, out: &mut Vec<u8>) -> Result<(), AllocError>
+    ensures { OnOk result (out.new.items ≡ out.old.items ++ utf8 (text (error_of error))) }
+{
+    match error {
+        FileError::Text(error) => put_placed(kind_word(error.kind), error.at as u64, out),
+        FileError::NoTerm => put(b"no_term", out),
+        FileError::ManyTerms => put(b"many_terms", out),
+        FileError::Shape(element) => put_placed(b"shape", u64::from(element), out),
+        FileError::DuplicateKey => put(b"duplicate_key", out),
+        FileError::BadInstruction(place) => put_placed(b"bad_instruction", place, out),
+        FileError::PatternVersion => put(b"pattern_version", out),
+        FileError::OutOfProfile(place) => put_placed(b"out_of_profile", place, out),
+        FileError::Memory => put(b"memory", out),
+    }
+}
+
+/// Appends the fault of a file.
+fn put_fault(fault: FileFault, out: &mut Vec<u8>) -> Result<(), AllocError>
     ensures { OnOk result (out.new.items ≡ out.old.items ++ utf8 (text (fault_of fault))) }
 {
     match fault {
-        SourceFault::Missing => put(b"missing", out),
-        SourceFault::WrongModule => put(b"wrong_module", out),
-        SourceFault::Lang(error) => put_lang(error, out),
+        FileFault::Missing => put(b"missing", out),
+        FileFault::File(error) => put_error(error, out),
+        FileFault::Lang(error) => put_lang(error, out),
+        FileFault::WrongModule => put(b"wrong_module", out),
+        FileFault::DuplicateModule => put(b"duplicate_module", out),
+        FileFault::Memory => put(b"memory", out),
     }
 }
 
 /// Appends `{error,{file,Path,Fault}}`.
-pub fn write_source_fault(
-    path: &str,
-    fault: SourceFault,
-    out: &mut Vec<u8>,
-) -> Result<(), AllocError>
-    ensures { OnOk result (out.new.items ≡ out.old.items ++ line_of (source_fault path.now fault)) }
+pub fn write_file_fault(path: &str, fault: FileFault, out: &mut Vec<u8>) -> Result<(), AllocError>
+    ensures { OnOk result (out.new.items ≡ out.old.items ++ line_of (file_fault path.now fault)) }
 {
     put(b"{error,{file,", out)?;
     print_string(path, out)?;
@@ -97,7 +104,7 @@ pub fn write_term_fault(kind: Fault, at: usize, out: &mut Vec<u8>) -> Result<(),
     ensures { OnOk result (out.new.items ≡ out.old.items ++ line_of (term_fault kind at)) }
 {
     put(b"{error,", out)?;
-    put_placed(kind_word(kind), at, out)?;
+    put_placed(kind_word(kind), at as u64, out)?;
     put(b"}\n", out)
 }
 

@@ -16,13 +16,15 @@ mod lines;
 mod modules;
 mod processes;
 mod refusals;
+mod releases;
 mod replies;
 
 pub use apps::write_apps;
-pub use faults::{SourceFault, write_source_fault, write_start_failed, write_term_fault};
+pub use faults::{write_file_fault, write_start_failed, write_term_fault};
 pub use fixed::Fixed;
 pub use lines::{write_called, write_job, write_loaded, write_mark, write_revived};
 pub use modules::write_modules;
 pub use processes::write_process;
 pub use refusals::{code_refusal, proc_refusal, write_refusal};
+pub use releases::{names_in_releases, write_releases, write_unpacked};
 pub use replies::{write_committed, write_replies, write_stopped, write_undone};

@@ -40,28 +40,28 @@ use Rattle.shell_deeds.specs.declared.stepping.Halt.{Halt}
 use Rattle.shell_deeds.specs.declared.stepping.Halt.TheVariants as halts
 
 -- an event that was not performed is told, and leaves the shell as it is
-pub halted : (s : ShellState) (e : Event) (done : Accepted NodeState Answer Note → Deed) (h : Halt) (fate : Option Fate) (text appended : List ℕ) → Halts h s e → (fate ≡ halt_fate h) × (appended ≡ text ++ line_of (halt_answer h)) → IsDone (Performs s s e done fate) s text appended
-halted s e done halts.Full fate text appended is told =
-    subst (λ f. IsDone (Performs s s e done f) s text appended) (sym told.0) (_, full is, refl, told.1)
-halted s e done (halts.Refused why) fate text appended is told =
-    subst (λ f. IsDone (Performs s s e done f) s text appended) (sym told.0) (_, refused is.0 why is.1, refl, told.1)
-halted s e done halts.Memory fate text appended is told =
-    subst (λ f. IsDone (Performs s s e done f) s text appended) (sym told.0) (_, no_memory is.0 is.1, refl, told.1)
+pub halted : (s : ShellState) (e : Event) (vsn : List ℕ) (done : Accepted NodeState Answer Note → Deed) (h : Halt) (fate : Option Fate) (text appended : List ℕ) → Halts h s e → (fate ≡ halt_fate h) × (appended ≡ text ++ line_of (halt_answer vsn h)) → IsDone (Performs s s e vsn done fate) s text appended
+halted s e vsn done halts.Full fate text appended is told =
+    subst (λ f. IsDone (Performs s s e vsn done f) s text appended) (sym told.0) (_, full is, refl, told.1)
+halted s e vsn done (halts.Refused why) fate text appended is told =
+    subst (λ f. IsDone (Performs s s e vsn done f) s text appended) (sym told.0) (_, refused is.0 why is.1, refl, told.1)
+halted s e vsn done halts.Memory fate text appended is told =
+    subst (λ f. IsDone (Performs s s e vsn done f) s text appended) (sym told.0) (_, no_memory is.0 is.1, refl, told.1)
 
 -- and one that was performed does what is done of it
-pub performed : (s new : ShellState) (e : Event) (done : Accepted NodeState Answer Note → Deed) (answer : Answer) (fate : Option Fate) (after : ShellState) (text appended : List ℕ) (after_by : ShellState → Answer → ShellState) (text_by : ShellState → Answer → List ℕ) → IsStepped answer s e new → ((a : Accepted NodeState Answer Note) → (done a ≡ record { text = text_by (stepped a s) a.answer; after = after_by (stepped a s) a.answer; command = Some (Perform e) })) → (fate ≡ None) × (after ≡ after_by new answer) × (appended ≡ text ++ text_by new answer) → IsDone (Performs s s e done fate) after text appended
-performed s new e done answer fate after text appended after_by text_by is does told =
+pub performed : (s new : ShellState) (e : Event) (vsn : List ℕ) (done : Accepted NodeState Answer Note → Deed) (answer : Answer) (fate : Option Fate) (after : ShellState) (text appended : List ℕ) (after_by : ShellState → Answer → ShellState) (text_by : ShellState → Answer → List ℕ) → IsStepped answer s e new → ((a : Accepted NodeState Answer Note) → (done a ≡ record { text = text_by (stepped a s) a.answer; after = after_by (stepped a s) a.answer; command = Some (Perform e) })) → (fate ≡ None) × (after ≡ after_by new answer) × (appended ≡ text ++ text_by new answer) → IsDone (Performs s s e vsn done fate) after text appended
+performed s new e vsn done answer fate after text appended after_by text_by is does told =
     let a = is.accepted in
     let at : after ≡ (done a).after = told.1 ∙ (λ i. after_by (is.after i) (is.answer i)) ∙ ap (λ (d : Deed). d.after) (sym (does a)) in
     let text_at : appended ≡ text ++ (done a).text = told.2 ∙ (λ i. text ++ text_by (is.after i) (is.answer i)) ∙ ap (λ (d : Deed). text ++ d.text) (sym (does a)) in
-    subst (λ f. IsDone (Performs s s e done f) after text appended) (sym told.0) (done a, accepted is.room a is.rule, at, text_at)
+    subst (λ f. IsDone (Performs s s e vsn done f) after text appended) (sym told.0) (done a, accepted is.room a is.rule, at, text_at)
 
 -- and one that was accepted has its job kept
-pub taken-done : (s : ShellState) (pid : ℕ) (a : Accepted NodeState Answer Note) (fate : Option Fate) (new : ShellState) (text appended : List ℕ) → (IsFull s → ⊥) → Step (node_of s) (event.Take pid) (Ok a) → ((job : Job) → a.answer ≡ tells.Job job → (fate ≡ None) × (new ≡ with_job job (stepped a s)) × (appended ≡ text ++ line_of (job_of (length s.jobs + 1) pid))) → IsDone (Performs s s (event.Take pid) (done_by s (event.Take pid)) fate) new text appended
+pub taken-done : (s : ShellState) (pid : ℕ) (a : Accepted NodeState Answer Note) (fate : Option Fate) (new : ShellState) (text appended : List ℕ) → (IsFull s → ⊥) → Step (node_of s) (event.Take pid) (Ok a) → ((job : Job) → a.answer ≡ tells.Job job → (fate ≡ None) × (new ≡ with_job job (stepped a s)) × (appended ≡ text ++ line_of (job_of (length s.jobs + 1) pid))) → IsDone (Performs s s (event.Take pid) [] (done_by s (event.Take pid)) fate) new text appended
 taken-done s pid a fate new text appended room rule told =
     let is : a.answer ≡ tells.Job rule.0 = ap (λ (x : Accepted NodeState Answer Note). x.answer) rule.4 in
     let said = told rule.0 is in
-    subst (λ f. IsDone (Performs s s (event.Take pid) (done_by s (event.Take pid)) f) new text appended) (sym said.0) (done_by s (event.Take pid) a, accepted room a rule, said.1 ∙ ap (λ (x : Answer). job_kept x (stepped a s)) (sym is), said.2)
+    subst (λ f. IsDone (Performs s s (event.Take pid) [] (done_by s (event.Take pid)) f) new text appended) (sym said.0) (done_by s (event.Take pid) a, accepted room a rule, said.1 ∙ ap (λ (x : Answer). job_kept x (stepped a s)) (sym is), said.2)
 
 -- a process that runs a job refuses no retake
 unrefused_at : (o : Option Living) (job : Job) → job_at o ≡ Some job → retake_refusal_of o ≡ None
@@ -98,15 +98,15 @@ failed s e r (error.Memory mark reports) is at_end fails =
 
 -- Where a part was not read, and where a job was not run.
 
-pub missed : {X : Type 0} (s : ShellState) (e : X → Event) (h : Halt) (fate : Option Fate) (text appended : List ℕ) → HaltsBy (RefusesAll s e) (MayAllRunOut s e) h s → (fate ≡ missed_fate h) × (appended ≡ text ++ line_of (halt_answer h)) → IsDone (Misses s e fate) s text appended
-missed s e halts.Full fate text appended is told =
-    subst (λ f. IsDone (Misses s e f) s text appended) (sym told.0) (_, unread_full is, refl, told.1)
-missed s e (halts.Refused why) fate text appended is told =
-    subst (λ f. IsDone (Misses s e f) s text appended) (sym told.0) (_, unread_refused is.0 why is.1, refl, told.1)
-missed s e halts.Memory fate text appended is told =
-    subst (λ f. IsDone (Misses s e f) s text appended) (sym told.0) (_, no_memory_to_read is.0 is.1, refl, told.1)
+pub missed : {X : Type 0} (s : ShellState) (vsn : List ℕ) (e : X → Event) (h : Halt) (fate : Option Fate) (text appended : List ℕ) → HaltsBy (RefusesAll s e) (MayAllRunOut s e) h s → (fate ≡ missed_fate h) × (appended ≡ text ++ line_of (halt_answer vsn h)) → IsDone (Misses s vsn e fate) s text appended
+missed s vsn e halts.Full fate text appended is told =
+    subst (λ f. IsDone (Misses s vsn e f) s text appended) (sym told.0) (_, unread_full is, refl, told.1)
+missed s vsn e (halts.Refused why) fate text appended is told =
+    subst (λ f. IsDone (Misses s vsn e f) s text appended) (sym told.0) (_, unread_refused is.0 why is.1, refl, told.1)
+missed s vsn e halts.Memory fate text appended is told =
+    subst (λ f. IsDone (Misses s vsn e f) s text appended) (sym told.0) (_, no_memory_to_read is.0 is.1, refl, told.1)
 
-pub unrun : (s : ShellState) (job : Job) (h : Halt) (fate : Option Fate) (text appended : List ℕ) → HaltsBy (RefusesResult s job) (MayCommit s job) h s → (fate ≡ halt_fate h) × (appended ≡ text ++ line_of (halt_answer h)) → IsDone (Commits s job fate) s text appended
+pub unrun : (s : ShellState) (job : Job) (h : Halt) (fate : Option Fate) (text appended : List ℕ) → HaltsBy (RefusesResult s job) (MayCommit s job) h s → (fate ≡ halt_fate h) × (appended ≡ text ++ line_of (halt_answer [] h)) → IsDone (Commits s job fate) s text appended
 unrun s job halts.Full fate text appended is told =
     subst (λ f. IsDone (Commits s job f) s text appended) (sym told.0) (_, not_run_full is, refl, told.1)
 unrun s job (halts.Refused why) fate text appended is told =
@@ -116,13 +116,13 @@ unrun s job halts.Memory fate text appended is told =
 
 -- Arrivals: a call that was tried is counted.
 
-pub kept_out : (s new : ShellState) (kind : Arrival) (e : Event) (done : Accepted NodeState Answer Note → Deed) (h : Halt) (fate : Option Fate) (text appended : List ℕ) → Halts h s e → (fate ≡ halt_fate h) × (new ≡ after_missed h kind s) × (appended ≡ text ++ line_of (halt_answer h)) → IsDone (Performs s (tried kind s) e done fate) new text appended
+pub kept_out : (s new : ShellState) (kind : Arrival) (e : Event) (done : Accepted NodeState Answer Note → Deed) (h : Halt) (fate : Option Fate) (text appended : List ℕ) → Halts h s e → (fate ≡ halt_fate h) × (new ≡ after_missed h kind s) × (appended ≡ text ++ line_of (halt_answer [] h)) → IsDone (Performs s (tried kind s) e [] done fate) new text appended
 kept_out s new kind e done halts.Full fate text appended is told =
-    subst (λ f. IsDone (Performs s (tried kind s) e done f) new text appended) (sym told.0) (_, full is, told.1, told.2)
+    subst (λ f. IsDone (Performs s (tried kind s) e [] done f) new text appended) (sym told.0) (_, full is, told.1, told.2)
 kept_out s new kind e done (halts.Refused why) fate text appended is told =
-    subst (λ f. IsDone (Performs s (tried kind s) e done f) new text appended) (sym told.0) (_, refused is.0 why is.1, told.1, told.2)
+    subst (λ f. IsDone (Performs s (tried kind s) e [] done f) new text appended) (sym told.0) (_, refused is.0 why is.1, told.1, told.2)
 kept_out s new kind e done halts.Memory fate text appended is told =
-    subst (λ f. IsDone (Performs s (tried kind s) e done f) new text appended) (sym told.0) (_, no_memory is.0 is.1, told.1, told.2)
+    subst (λ f. IsDone (Performs s (tried kind s) e [] done f) new text appended) (sym told.0) (_, no_memory is.0 is.1, told.1, told.2)
 
 -- what is done as one deed is done as another that it is
 pub done-as : {P Q : Deed → Type 0} (new : ShellState) (text appended : List ℕ) → ((d : Deed) → P d → Q d) → IsDone P new text appended → IsDone Q new text appended

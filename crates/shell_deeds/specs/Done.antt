@@ -1,5 +1,5 @@
 -- How a line ends: what was done, and what an event that was not performed answers.
-use Rattle.std.specs.Prelude.{◌≡◌, ◌≢◌, ◌+◌, ℕ, Bool, length, slice_get, option_and_then, position, List, [], ◌∷◌, ◌++◌, Option, None, Some, Result, Ok, Err, Vec}
+use Rattle.std.specs.Prelude.{◌≡◌, ◌≢◌, ◌⊎◌, ◌+◌, ℕ, Bool, string_bytes, length, slice_get, option_and_then, position, List, [], ◌∷◌, ◌++◌, Option, None, Some, Result, Ok, Err, Vec}
 use Rattle.std.specs.Global.{Global}
 use Rattle.std.specs.Ordering.{eq_by_cmp, on}
 use Rattle.erl_forms.specs.Module.{Forms}
@@ -18,9 +18,11 @@ use Rattle.undo_journal.specs.declared.error.JournalError.{JournalError}
 use Rattle.undo_journal.specs.declared.error.JournalError.TheVariants as error
 use Rattle.node_types.specs.Note.{Note}
 use Rattle.node_types.specs.declared.event.Refusal.{Refusal}
+use Rattle.release_files.specs.Faults.{IsFirstFault}
 use Rattle.release_files.specs.Files.{file_of}
+use Rattle.release_files.specs.declared.fault.ReleaseFault.{ReleaseFault}
 use Rattle.shell_answers.specs.Answers.{fixed, job_of, line_of, stopped_undo, undone_steps}
-use Rattle.shell_answers.specs.declared.faults.SourceFault.TheVariants as source
+use Rattle.release_files.specs.declared.fault.FileFault.TheVariants as file
 use Rattle.shell_answers.specs.declared.fixed.Fixed.TheVariants as words
 use Rattle.shell_requests.specs.declared.request.Arrival.{Arrival}
 use Rattle.shell_deeds.specs.Deeds.{tried}
@@ -105,16 +107,23 @@ pub record IsSourced (s : ShellState) (name path : List ℕ) (m : Forms) : Type 
   pub named : m.name ≡ name
 
 abbrev pub Unsourced : ShellState → List ℕ → List ℕ → Unloaded → Type 0
-Unsourced s name path (Faulted source.Missing) = file_of path s.files ≡ None
-Unsourced s name path (Faulted source.WrongModule) =
+Unsourced s name path (Faulted file.Missing) = file_of path s.files ≡ None
+Unsourced s name path (Faulted (file.File e)) = ⊥
+Unsourced s name path (Faulted file.DuplicateModule) = ⊥
+Unsourced s name path (Faulted file.Memory) = ⊥
+Unsourced s name path (Faulted file.WrongModule) =
     (bytes : List ℕ) × (m : Forms) × (file_of path s.files ≡ Some bytes) × IsSource bytes m × (m.name ≢ name)
-Unsourced s name path (Faulted (source.Lang why)) =
+Unsourced s name path (Faulted (file.Lang why)) =
     (bytes : List ℕ) × (file_of path s.files ≡ Some bytes) × Says bytes why × IsNoSource bytes
 Unsourced s name path Unread = (bytes : List ℕ) × (file_of path s.files ≡ Some bytes)
 
+-- why the files are no release, memory that was refused aside
+abbrev pub IsUnreadRelease : ShellState → List ℕ → ReleaseFault → Type 0
+IsUnreadRelease s vsn it = (it.fault ≡ file.Memory) ⊎ IsFirstFault s.files vsn (string_bytes it.path) it.fault
+
 -- by what is told of its source
 abbrev pub not_loaded : Failure LangError → Unloaded
-not_loaded (failures.Refused why) = Faulted (source.Lang why)
+not_loaded (failures.Refused why) = Faulted (file.Lang why)
 not_loaded failures.Memory = Unread
 
 -- what is told of an arrival that was not performed: a call is counted, unless memory was refused

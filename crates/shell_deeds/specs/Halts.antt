@@ -66,10 +66,11 @@ refusal_of_change changes.SoftPurge name n = soft_purge_refusal name n
 
 -- What is told.
 
-abbrev pub halt_answer : Halt → Tree
-halt_answer Full = fixed words.SerialEnd
-halt_answer (Refused why) = refusal_of why
-halt_answer Memory = fixed words.Memory
+-- with the version that the event names, if it names one
+abbrev pub halt_answer : List ℕ → Halt → Tree
+halt_answer vsn Full = fixed words.SerialEnd
+halt_answer vsn (Refused why) = refusal_of vsn why
+halt_answer vsn Memory = fixed words.Memory
 
 -- what became of an event that was not performed
 abbrev pub halt_fate : Halt → Option Fate

@@ -1,5 +1,5 @@
 // What arrives for processes.
-ghost use Rattle.std.specs.Prelude.{◌≡◌, ◌++◌, ℕ, List, IfOk, None};
+ghost use Rattle.std.specs.Prelude.{[], ◌≡◌, ◌++◌, ℕ, List, IfOk, None};
 ghost use Rattle.std.specs.Str.{chars};
 ghost use Rattle.erl_term.specs.Term.{tree};
 ghost use Rattle.erl_term.specs.declared.term.Term.{Term};
@@ -45,7 +45,7 @@ impl Holdings {
     fn tell_unread(&self, kind: Arrival, name: Name<'_>, out: &mut Vec<u8>) -> Said
         ensures { IfOk result (λ fate. (halt : Halt)
             × HaltsBy (RefusesAll self.now (arrival_event self.now kind (chars name.entry.text.now))) (MayAllRunOut self.now (arrival_event self.now kind (chars name.entry.text.now))) halt self.now
-            × (fate ≡ missed_fate halt) × (out.new.items ≡ out.old.items ++ line_of (halt_answer halt))) }
+            × (fate ≡ missed_fate halt) × (out.new.items ≡ out.old.items ++ line_of (halt_answer [] halt))) }
     {
         tell_missed(self.halt_of_arrival(kind, name), out)
     }
@@ -63,7 +63,7 @@ impl Holdings {
 
     /// Has a term arrive for a name.
     fn arrive_named(&mut self, kind: Arrival, name: Atom, term: Term, out: &mut Vec<u8>) -> Said
-        ensures { IfOk result (λ fate. IsDone (Performs self.old (tried kind self.old) (event_of_arrival kind (next_number self.old) name term)
+        ensures { IfOk result (λ fate. IsDone (Performs self.old (tried kind self.old) (event_of_arrival kind (next_number self.old) name term) []
             (done_by (tried kind self.old) (event_of_arrival kind (next_number self.old) name term)) fate) self.new out.old.items out.new.items) }
     {
         let number = self.next_number();
@@ -108,7 +108,7 @@ impl Holdings {
     fn tell_unnamed(&mut self, kind: Arrival, name: Name<'_>, out: &mut Vec<u8>) -> Said
         ensures { IfOk result (λ fate. (halt : Halt)
             × HaltsBy (RefusesAll self.old (arrival_event self.old kind (chars name.entry.text.now))) (MayAllRunOut self.old (arrival_event self.old kind (chars name.entry.text.now))) halt self.old
-            × (fate ≡ halt_fate halt) × (self.new ≡ after_missed halt kind self.old) × (out.new.items ≡ out.old.items ++ line_of (halt_answer halt))) }
+            × (fate ≡ halt_fate halt) × (self.new ≡ after_missed halt kind self.old) × (out.new.items ≡ out.old.items ++ line_of (halt_answer [] halt))) }
     {
         let halt = self.halt_of_arrival(kind, name);
         self.tell_kept_out(halt, kind, out)
@@ -116,7 +116,7 @@ impl Holdings {
 
     /// Tells why it has not arrived. A call is counted, unless memory was refused.
     fn tell_kept_out(&mut self, halt: Halt, kind: Arrival, out: &mut Vec<u8>) -> Said
-        ensures { IfOk result (λ fate. (fate ≡ halt_fate halt) × (self.new ≡ after_missed halt kind self.old) × (out.new.items ≡ out.old.items ++ line_of (halt_answer halt))) }
+        ensures { IfOk result (λ fate. (fate ≡ halt_fate halt) × (self.new ≡ after_missed halt kind self.old) × (out.new.items ≡ out.old.items ++ line_of (halt_answer [] halt))) }
     {
         self.count_unless_refused(&halt, kind);
         tell_halt(halt, out)

@@ -25,6 +25,7 @@ mod lines;
 mod loading;
 mod naming;
 mod reading;
+mod releasing;
 mod reviving;
 mod serving;
 mod stepping;

@@ -51,6 +51,7 @@ impl Holdings {
             Request::Arrive(kind, name, text) => self.arrive(kind, name, text, out),
             Request::Serve(service, process) => self.serve(service, process, out),
             Request::Revive(app, id) => self.revive(app, id, out),
+            Request::Release(kind, vsn) => self.alter_releases(kind, vsn, out),
         }
     }
 

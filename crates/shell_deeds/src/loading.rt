@@ -1,5 +1,5 @@
 // Loads of modules.
-ghost use Rattle.std.specs.Prelude.{◌≡◌, ◌++◌, IfOk, MatchResult, None};
+ghost use Rattle.std.specs.Prelude.{[], ◌≡◌, ◌++◌, IfOk, MatchResult, None};
 ghost use Rattle.std.specs.Str.{chars};
 ghost use Rattle.node_types.specs.declared.event.Event.TheVariants.{Load};
 ghost use Rattle.shell_answers.specs.Answers.{line_of, loaded};
@@ -11,12 +11,13 @@ ghost use Rattle.shell_deeds.specs.State.{carried, stepped};
 use crate::holdings::Holdings;
 use crate::naming::spells;
 use crate::stepping::Halt;
-use crate::telling::{Said, say_source_fault, tell_halt, tell_missed};
+use crate::telling::{Said, say_file_fault, tell_halt, tell_missed};
 use erl_forms::Module;
 use erl_parse::{LangError, read_module};
 use erl_term::Atom;
 use node_types::{Event, Refusal};
-use shell_answers::{SourceFault, write_loaded};
+use release_files::FileFault;
+use shell_answers::write_loaded;
 use shell_requests::Name;
 use values::{Duplicate, Failure};
 
@@ -24,7 +25,7 @@ use values::{Duplicate, Failure};
 #[derive(Clone, Copy)]
 pub(crate) enum Unloaded {
     /// This stands against the file.
-    Faulted(SourceFault),
+    Faulted(FileFault),
     /// There was no memory to read its source.
     Unread,
 }
@@ -36,7 +37,7 @@ impl Holdings {
     {
         match self.source_of(name, path) {
             Ok(code) => self.load_module(code, out),
-            Err(Unloaded::Faulted(fault)) => say_source_fault(path, fault, out),
+            Err(Unloaded::Faulted(fault)) => say_file_fault(path, fault, out),
             Err(Unloaded::Unread) => tell_missed(self.halt_of_load(), out),
         }
     }
@@ -46,11 +47,11 @@ impl Holdings {
         ensures { MatchResult result (IsSourced self.now (chars name.entry.text.now) path.now) (Unsourced self.now (chars name.entry.text.now) path.now) }
     {
         let Some(bytes) = self.files.get(path) else {
-            return Err(Unloaded::Faulted(SourceFault::Missing));
+            return Err(Unloaded::Faulted(FileFault::Missing));
         };
         match read_module(self.alloc, self.hashing, bytes) {
             Ok(code) if spells(code.name(), name.as_str()) => Ok(code),
-            Ok(_) => Err(Unloaded::Faulted(SourceFault::WrongModule)),
+            Ok(_) => Err(Unloaded::Faulted(FileFault::WrongModule)),
             Err(failure) => Err(not_loaded(failure)),
         }
     }
@@ -70,7 +71,7 @@ impl Holdings {
 
     /// Loads a module.
     fn load_module(&mut self, code: Module, out: &mut Vec<u8>) -> Said
-        ensures { IfOk result (λ fate. IsDone (Performs self.old self.old (Load code)
+        ensures { IfOk result (λ fate. IsDone (Performs self.old self.old (Load code) []
             (λ a. carried (stepped a self.old) (Load code) (loaded code.name)) fate) self.new out.old.items out.new.items) }
     {
         let Ok(name) = code.name().copy(self.alloc) else {
@@ -88,7 +89,7 @@ fn not_loaded(failure: Failure<LangError>) -> Unloaded
     ensures { result ≡ not_loaded failure }
 {
     match failure {
-        Failure::Refused(why) => Unloaded::Faulted(SourceFault::Lang(why)),
+        Failure::Refused(why) => Unloaded::Faulted(FileFault::Lang(why)),
         Failure::Memory => Unloaded::Unread,
     }
 }

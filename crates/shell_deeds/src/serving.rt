@@ -1,20 +1,26 @@
 // What a process is asked for.
-ghost use Rattle.std.specs.Prelude.{◌≡◌, ◌+◌, ◌<◌, ◌++◌, ◌∷◌, [], IfOk, None, Some, length, vec_capacity, vec_len};
+ghost use Rattle.std.specs.Prelude.{◌≡◌, ◌+◌, ◌<◌, ◌++◌, ◌∷◌, [], IfErr, IfOk, None, OnErr, OnOk, Some, length, vec_capacity, vec_len};
 ghost use Rattle.erl_semantics.specs.declared.jobs.Job.{Job};
 ghost use Rattle.node_types.specs.declared.event.Answer.TheVariants as tells;
 ghost use Rattle.node_types.specs.declared.event.Event.TheVariants as event;
 ghost use Rattle.shell_deeds.specs.Deeds.{ServesAs};
 ghost use Rattle.shell_answers.specs.Answers.{job_of, line_of};
 ghost use Rattle.shell_deeds.specs.Done.{IsDone, IsKept};
+ghost use Rattle.shell_deeds.specs.Halts.{Halts};
+ghost use Rattle.shell_deeds.specs.State.{ShellState, joined};
+ghost use Rattle.shell_deeds.specs.Stepping.{IsTold};
 ghost use Rattle.shell_requests.specs.declared.request.Service.TheVariants.{Retake, Show, Take};
 
 use crate::holdings::Holdings;
-use crate::stepping::{halt_of, send_told, step};
+use crate::stepping::{Halt, halt_of, send_told, step};
 use crate::telling::{Said, refuse, say, tell_halt};
 use erl_semantics::Job;
-use node_types::{Answer, Event};
+use node_core::Node;
+use node_types::{Answer, Event, Note};
+use process_effects::Reply;
 use shell_answers::{Fixed, proc_refusal, write_job, write_process};
-use values::Failure;
+use undo_journal::{Journal, Told};
+use values::{Failure, Row};
 
 impl Holdings {
     /// Takes the next message of a process, and keeps the job.
@@ -22,9 +28,9 @@ impl Holdings {
         ensures { IfOk result (λ fate. IsDone (ServesAs self.old Take (Some pid) fate) self.new out.old.items out.new.items) }
     {
         if self.jobs.reserve(1).is_err() {
-            return tell_halt(halt_of(&self.journal, &Event::Take(pid)), out);
+            return tell_halt(halt_of_take(&self.journal, pid), out);
         }
-        match step(&mut self.journal, &mut self.sent, &Event::Take(pid)) {
+        match step_take(&mut self.journal, &mut self.sent, pid) {
             Ok(told) => {
                 let answer = send_told(self.alloc, &mut self.sent, told);
                 tell_taken(&mut self.jobs, pid, answer, out)
@@ -68,6 +74,32 @@ impl Holdings {
             None => say(Fixed::NoProc, out),
         }
     }
+}
+
+/// Takes the next message of a process, and hands out what is told of it. There is room for a row of its replies then.
+///
+/// # Errors
+///
+/// Why it was not taken. All is then as it was.
+fn step_take(
+    journal: &mut Journal<Node>,
+    sent: &mut Vec<Row<Reply>>,
+    pid: u64,
+) -> Result<Told<Answer, Note>, Halt>
+    ensures told { IfOk result (λ told. (s : ShellState) → s.timeline ≡ journal.old → IsTold told s (event.Take pid) journal.new) }
+    ensures halted { IfErr result (λ halt. (s : ShellState) → s.timeline ≡ journal.old → Halts halt s (event.Take pid)) }
+    ensures err { OnErr result (journal.new ≡ journal.old) }
+    ensures sent { joined sent.new.items ≡ joined sent.old.items }
+    ensures room { OnOk result (vec_len sent.new < vec_capacity sent.new) }
+{
+    step(journal, sent, &Event::Take(pid))
+}
+
+/// What stands against a take that is told without memory, or else want of it.
+fn halt_of_take(journal: &Journal<Node>, pid: u64) -> Halt
+    ensures { (s : ShellState) → s.timeline ≡ journal.now → Halts result s (event.Take pid) }
+{
+    halt_of(journal, &Event::Take(pid))
 }
 
 /// Keeps the job of an answer, for which there is room. An answer of another kind is dropped.

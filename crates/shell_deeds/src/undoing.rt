@@ -4,7 +4,7 @@ ghost use Rattle.erl_term.specs.Tree.{list};
 ghost use Rattle.shell_answers.specs.Answers.{line_of, replies_in, stopped_undo, undone_steps};
 ghost use Rattle.undo_journal.specs.Journal.{UndoFails};
 ghost use Rattle.undo_journal.specs.Timeline.{cut_stations, cut_to, report_of};
-ghost use Rattle.shell_deeds.specs.Deeds.{Undoes, told};
+ghost use Rattle.shell_deeds.specs.Deeds.{Asks, Undoes};
 ghost use Rattle.shell_deeds.specs.Done.{IsDone, IsUnbegun, first_of, undo_answer, undo_fate, unfinished_answer, unfinished_fate};
 ghost use Rattle.shell_deeds.specs.declared.fate.Fate.TheVariants.{StoppedAt};
 
@@ -27,13 +27,14 @@ type Undone = Result<Vec<Report<Note>>, JournalError<Refusal, Note>>;
 impl Holdings {
     /// Tells what is asked.
     pub(crate) fn tell(&self, question: Question, out: &mut Vec<u8>) -> Said
-        ensures { IfOk result (λ fate. (fate ≡ None) × (out.new.items ≡ out.old.items ++ line_of (told self.now question))) }
+        ensures { IfOk result (λ fate. IsDone (Asks self.now question fate) self.now out.old.items out.new.items) }
     {
         match question {
             Question::Modules => write_modules(self.journal.state().modules(), out)?,
             Question::Apps => write_apps(self.journal.state().apps(), out)?,
             Question::Replies => self.tell_replies(out)?,
             Question::Mark => write_mark(self.journal.mark(), out)?,
+            Question::Which => return self.tell_releases(out),
         }
         Ok(None)
     }

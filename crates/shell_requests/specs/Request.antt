@@ -8,11 +8,13 @@ use Rattle.shell_requests.specs.declared.request.Arrival.TheVariants.{Call, Cast
 use Rattle.shell_requests.specs.declared.request.Change.{Change}
 use Rattle.shell_requests.specs.declared.request.Change.TheVariants.{Delete, Purge, SoftPurge}
 use Rattle.shell_requests.specs.declared.request.Question.{Question}
-use Rattle.shell_requests.specs.declared.request.Question.TheVariants.{Modules, Apps, Replies, Mark as MarkNow}
+use Rattle.shell_requests.specs.declared.request.Question.TheVariants.{Modules, Apps, Replies, Mark as MarkNow, Which}
+use Rattle.shell_requests.specs.declared.request.ReleaseChange.{ReleaseChange}
+use Rattle.shell_requests.specs.declared.request.ReleaseChange.TheVariants.{Unpack, Remove}
 use Rattle.shell_requests.specs.declared.request.Service.{Service}
 use Rattle.shell_requests.specs.declared.request.Service.TheVariants.{Take, Retake, Show}
 use Rattle.shell_requests.specs.declared.request.Shape.{Shape}
-use Rattle.shell_requests.specs.declared.request.Shape.TheVariants.{Nothing, Module, ModuleAndPath, Mark, Result, NameAndTerm, Process, AppAndChild}
+use Rattle.shell_requests.specs.declared.request.Shape.TheVariants.{Nothing, Module, ModuleAndPath, Mark, Result, NameAndTerm, Process, AppAndChild, Version}
 use Rattle.shell_requests.specs.Words.{behind_word, is_silent, number_of, only_word, two_words, with_rest, words_of}
 
 -- A process, by its pid or by the characters of its name.
@@ -20,7 +22,7 @@ pub data Who : Type 0 where
   numbered : ℕ → Who
   named : List ℕ → Who
 
--- A request. Modules, processes, applications and children are named by their characters, a file by the bytes of its path; a term stands
+-- A request. Modules, processes, applications and children are named by their characters, a file and a version by its bytes; a term stands
 -- as its text's bytes.
 pub data Request : Type 0 where
   ask : Question → Request
@@ -31,6 +33,7 @@ pub data Request : Type 0 where
   arrive : Arrival → List ℕ → List ℕ → Request
   serve : Service → Who → Request
   revive : List ℕ → List ℕ → Request
+  release : ReleaseChange → List ℕ → Request
 
 -- the commands
 abbrev pub commands : List (List ℕ × Shape)
@@ -40,7 +43,8 @@ commands =
     ∷ (codes "soft_purge", Module SoftPurge) ∷ (codes "load", ModuleAndPath) ∷ (codes "undo", Mark)
     ∷ (codes "commit", Result) ∷ (codes "call", NameAndTerm Call) ∷ (codes "cast", NameAndTerm Cast)
     ∷ (codes "send", NameAndTerm Info) ∷ (codes "take", Process Take) ∷ (codes "retake", Process Retake)
-    ∷ (codes "proc", Process Show) ∷ (codes "revive", AppAndChild) ∷ []
+    ∷ (codes "proc", Process Show) ∷ (codes "revive", AppAndChild) ∷ (codes "which", Nothing Which)
+    ∷ (codes "unpack", Version Unpack) ∷ (codes "remove", Version Remove) ∷ []
 
 abbrev pub shape_of : List ℕ → Option Shape
 shape_of verb = lookup (bytes_eq verb) commands
@@ -89,6 +93,7 @@ request_by Result rest = option_and_then of_result (only_word (words_of rest))
 request_by (NameAndTerm kind) rest = option_and_then (of_arrival kind) (with_rest (words_of rest) (behind_word rest))
 request_by (Process service) rest = option_and_then (of_process service) (only_word (words_of rest))
 request_by AppAndChild rest = option_and_then of_child (two_words (words_of rest))
+request_by (Version kind) rest = option_map (release kind) (only_word (words_of rest))
 
 -- what a text asks for, if it does: its first word is a command's, and what stands behind that has its shape
 abbrev pub request_behind : List (List ℕ) → List ℕ → Option Request

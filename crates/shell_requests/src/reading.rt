@@ -5,7 +5,9 @@ ghost use Rattle.shell_requests.specs.Reading.{meant, said, who_is};
 ghost use Rattle.shell_requests.specs.Request.{process_of, request_by, request_of, shape_of, spoken};
 
 use crate::name::Name;
-use crate::request::{Arrival, Change, Line, Proc, Question, Request, Service, Shape};
+use crate::request::{
+    Arrival, Change, Line, Proc, Question, ReleaseChange, Request, Service, Shape,
+};
 use crate::words::{
     has_digits_alone, has_no_word, is_silent, next_word, number, one_word, pair_of_words,
     word_and_rest,
@@ -43,6 +45,9 @@ fn shape_of(verb: &str) -> Option<Shape>
         "retake" => Shape::Process(Service::Retake),
         "proc" => Shape::Process(Service::Show),
         "revive" => Shape::AppAndChild,
+        "which" => Shape::Nothing(Question::Which),
+        "unpack" => Shape::Version(ReleaseChange::Unpack),
+        "remove" => Shape::Version(ReleaseChange::Remove),
     )
 }
 
@@ -91,6 +96,7 @@ fn read_words(shape: Shape, rest: &str) -> Option<Request<'_>>
         Shape::NameAndTerm(arrival) => of_arrival(arrival, rest),
         Shape::Process(service) => of_process(service, rest),
         Shape::AppAndChild => of_child(rest),
+        Shape::Version(change) => of_release(change, rest),
     }
 }
 
@@ -178,4 +184,12 @@ fn of_child(rest: &str) -> Option<Request<'_>>
     let app = Name::new(app)?;
     let id = Name::new(id)?;
     Some(Request::Revive(app, id))
+}
+
+/// `VSN`
+fn of_release(change: ReleaseChange, rest: &str) -> Option<Request<'_>>
+    ensures { option_map meant result ≡ request_by (Shape.Version change) rest.now }
+{
+    let vsn = one_word(rest)?;
+    Some(Request::Release(change, vsn))
 }

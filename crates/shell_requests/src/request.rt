@@ -13,6 +13,17 @@ pub enum Question {
     Replies,
     /// `mark`
     Mark,
+    /// `which`
+    Which,
+}
+
+/// A change of the releases that a node knows.
+#[derive(Clone, Copy)]
+pub enum ReleaseChange {
+    /// `unpack`
+    Unpack,
+    /// `remove`
+    Remove,
 }
 
 /// A change of a module that needs nothing but its name.
@@ -67,6 +78,8 @@ pub enum Shape {
     Process(Service),
     /// `APP ID`: the command revives a child.
     AppAndChild,
+    /// `VSN`: the command makes this change of the releases.
+    Version(ReleaseChange),
 }
 
 /// A process, as it is named.
@@ -97,6 +110,8 @@ pub enum Request<'a> {
     Serve(Service, Proc<'a>),
     /// To revive a child of an application, by its Id.
     Revive(Name<'a>, Name<'a>),
+    /// To unpack the release of a version, or to remove it.
+    Release(ReleaseChange, &'a str),
 }
 
 /// What a line of at most 65,536 bytes says.

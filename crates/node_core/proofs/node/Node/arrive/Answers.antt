@@ -38,12 +38,12 @@ returns-clause-accepted c =
     let m = c.self.inside.modules in
     let t = c.self.inside.processes in
     let apps = c.self.inside.apps in
-    let n : NodeState = record { modules = m; processes = t; apps = apps } in
+    let n : NodeState = record { modules = m; processes = t; apps = apps; releases = c.self.inside.releases } in
     let k = c.args.n in
     let name = c.args.name.now in
     let body = c.args.body.now in
     let came = arrival_of name (message_of body) in
     let a : Accepted NodeState Answer Note = record { node = with_processes (after_arrival c.args.client name body t) n; answer = answer.Unit; note = record { replies = []; arrival = came } } in
-    let new : NodeState = record { modules = m; processes = c.arrive.new.self; apps = apps } in
+    let new : NodeState = record { modules = m; processes = c.arrive.new.self; apps = apps; releases = c.self.inside.releases } in
     let said : Option (List ℕ × Term) → Told Answer Note = λ o. record { answer = answer.Unit; note = record { replies = []; arrival = o } } in
     accepted_of n c.args.self.now (event.Arrive c.args.client name body) a new k c.tell_arrivals.result.items c.self.view_is (unless_none (arrive_refusal name (kind_of body) t) OfProcesses a c.in-Ok-arrive.ensures.ok) (ap (λ (u : Table). with_processes u n) c.in-Ok-arrive.ensures.arrived) (c.tell_arrivals.ensures ∙ all_told said c.in-Ok-arrive.arrivals.items came k c.in-Ok-arrive.ensures.told)

@@ -21,9 +21,9 @@ invariant_of-self-in-Ok-commit c =
     let t = c.self.inside.processes in
     let apps = c.self.inside.apps in
     let done = c.args.done.now in
-    let made : NodeState = record { modules = m; processes = committed done t; apps = ended_by done.job.pid done.outcome.end apps } in
-    let new : NodeState = record { modules = m; processes = c.commit.new.self; apps = c.end_child.new.apps } in
-    let is : new ≡ made = (λ i. record { modules = m; processes = c.in-Ok-commit.ensures.committed i; apps = c.in-Ok-end_child.ensures.ended i }) in
+    let made : NodeState = record { modules = m; processes = committed done t; apps = ended_by done.job.pid done.outcome.end apps; releases = c.self.inside.releases } in
+    let new : NodeState = record { modules = m; processes = c.commit.new.self; apps = c.end_child.new.apps; releases = c.self.inside.releases } in
+    let is : new ≡ made = (λ i. record { modules = m; processes = c.in-Ok-commit.ensures.committed i; apps = c.in-Ok-end_child.ensures.ended i; releases = c.self.inside.releases }) in
     subst IsKept (sym is) (record { consistent = steps_keep_code.commits done m t c.self.invariant.consistent c.in-Ok-commit.ensures.ok.0; children = committed_live done t apps c.self.invariant.children })
 
 pub returns-in-Ok-commit-clause-accepted : goal.returns-in-Ok-commit-clause-accepted
@@ -31,11 +31,11 @@ returns-in-Ok-commit-clause-accepted c =
     let m = c.self.inside.modules in
     let t = c.self.inside.processes in
     let apps = c.self.inside.apps in
-    let n : NodeState = record { modules = m; processes = t; apps = apps } in
+    let n : NodeState = record { modules = m; processes = t; apps = apps; releases = c.self.inside.releases } in
     let k = c.args.n in
     let done = c.args.done.now in
-    let a : Accepted NodeState Answer Note = record { node = record { modules = m; processes = committed done t; apps = ended_by done.job.pid done.outcome.end apps }; answer = answer.Unit; note = reporting (commit_told done t) } in
-    let new : NodeState = record { modules = m; processes = c.commit.new.self; apps = c.end_child.new.apps } in
+    let a : Accepted NodeState Answer Note = record { node = record { modules = m; processes = committed done t; apps = ended_by done.job.pid done.outcome.end apps; releases = c.self.inside.releases }; answer = answer.Unit; note = reporting (commit_told done t) } in
+    let new : NodeState = record { modules = m; processes = c.commit.new.self; apps = c.end_child.new.apps; releases = c.self.inside.releases } in
     let said : List Reply → Told Answer Note = λ rs. record { answer = answer.Unit; note = record { replies = rs; arrival = None } } in
-    let is : new ≡ a.node = (λ i. record { modules = m; processes = c.in-Ok-commit.ensures.committed i; apps = c.in-Ok-end_child.ensures.ended i }) in
+    let is : new ≡ a.node = (λ i. record { modules = m; processes = c.in-Ok-commit.ensures.committed i; apps = c.in-Ok-end_child.ensures.ended i; releases = c.self.inside.releases }) in
     accepted_of n c.args.self.now (event.Commit done) a new k c.tell_replies.result.items c.self.view_is (c.in-Ok-commit.ensures.ok, refl) is (c.tell_replies.ensures ∙ ap (map said) c.in-Ok-commit.ensures.told ∙ each_of said (commit_told done t) k)

@@ -28,9 +28,9 @@ returns-clause-accepted c =
     let m = c.self.inside.modules in
     let t = c.self.inside.processes in
     let apps = c.self.inside.apps in
-    let n : NodeState = record { modules = m; processes = t; apps = apps } in
+    let n : NodeState = record { modules = m; processes = t; apps = apps; releases = c.self.inside.releases } in
     let k = c.args.n in
     let name = c.args.name.now in
     let a : Accepted NodeState Answer Note = record { node = with_modules (deleted name m) n; answer = answer.Unit; note = reporting [] } in
-    let new : NodeState = record { modules = c.delete.new.self; processes = t; apps = apps } in
+    let new : NodeState = record { modules = c.delete.new.self; processes = t; apps = apps; releases = c.self.inside.releases } in
     accepted_of n c.args.self.now (event.Delete name) a new k c.in-Ok.told.items c.self.view_is (unless_none (delete_refusal name m) OfModules a c.in-Ok-delete.ensures.refused) (ap (λ (x : Loaded Forms). with_modules x n) c.in-Ok-delete.ensures.deleted) c.in-Ok.ensures

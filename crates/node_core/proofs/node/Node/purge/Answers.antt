@@ -18,10 +18,10 @@ invariant_of-self-in-Ok-purge c =
     let m = c.self.inside.modules in
     let t = c.self.inside.processes in
     let apps = c.self.inside.apps in
-    let n : NodeState = record { modules = m; processes = t; apps = apps } in
+    let n : NodeState = record { modules = m; processes = t; apps = apps; releases = c.self.inside.releases } in
     let name = c.args.name.now in
-    let new : NodeState = record { modules = c.purge.new.modules; processes = c.purge.new.processes; apps = c.end_lingering.new.apps } in
-    let is : new ≡ without_lingering name n = (λ i. record { modules = c.in-Ok-purge.ensures.modules i; processes = c.in-Ok-purge.ensures.processes i; apps = c.in-Ok-end_lingering.ensures.ended i }) in
+    let new : NodeState = record { modules = c.purge.new.modules; processes = c.purge.new.processes; apps = c.end_lingering.new.apps; releases = c.self.inside.releases } in
+    let is : new ≡ without_lingering name n = (λ i. record { modules = c.in-Ok-purge.ensures.modules i; processes = c.in-Ok-purge.ensures.processes i; apps = c.in-Ok-end_lingering.ensures.ended i; releases = c.self.inside.releases }) in
     subst IsKept (sym is) (record { consistent = purge_keeps name m t c.self.invariant.consistent; children = spared_live name m t apps c.self.invariant.children })
 
 pub returns-in-Ok-purge-clause-accepted : goal.returns-in-Ok-purge-clause-accepted
@@ -29,11 +29,11 @@ returns-in-Ok-purge-clause-accepted c =
     let m = c.self.inside.modules in
     let t = c.self.inside.processes in
     let apps = c.self.inside.apps in
-    let n : NodeState = record { modules = m; processes = t; apps = apps } in
+    let n : NodeState = record { modules = m; processes = t; apps = apps; releases = c.self.inside.releases } in
     let k = c.args.n in
     let name = c.args.name.now in
     let a : Accepted NodeState Answer Note = record { node = without_lingering name n; answer = answer.Killed (is_lingered_in name m t); note = reporting (purge_told name m t) } in
-    let new : NodeState = record { modules = c.purge.new.modules; processes = c.purge.new.processes; apps = c.end_lingering.new.apps } in
-    let is : new ≡ a.node = (λ i. record { modules = c.in-Ok-purge.ensures.modules i; processes = c.in-Ok-purge.ensures.processes i; apps = c.in-Ok-end_lingering.ensures.ended i }) in
+    let new : NodeState = record { modules = c.purge.new.modules; processes = c.purge.new.processes; apps = c.end_lingering.new.apps; releases = c.self.inside.releases } in
+    let is : new ≡ a.node = (λ i. record { modules = c.in-Ok-purge.ensures.modules i; processes = c.in-Ok-purge.ensures.processes i; apps = c.in-Ok-end_lingering.ensures.ended i; releases = c.self.inside.releases }) in
     let tells = c.in-Ok.ensures ∙ ap (λ b. replicate k (record { answer = answer.Killed b; note = reporting (purge_told name m t) })) c.is_lingered_in.ensures in
     accepted_of n c.args.self.now (event.Purge name) a new k c.in-Ok.told.items c.self.view_is refl is tells

@@ -44,7 +44,7 @@ returns-in-Ok-revive-clause-accepted c =
     let m = c.self.inside.modules in
     let t = c.self.inside.processes in
     let apps = c.self.inside.apps in
-    let n : NodeState = record { modules = m; processes = t; apps = apps } in
+    let n : NodeState = record { modules = m; processes = t; apps = apps; releases = c.self.inside.releases } in
     let k = c.args.n in
     let app = c.args.app.now in
     let id = c.args.id.now in
@@ -54,7 +54,7 @@ returns-in-Ok-revive-clause-accepted c =
     let code = c.as_slice.ensures.value ∙ c.in-Ok.ensures in
     let again = subst (λ (is : List Instance). Restarts is child.spec t it.pid after told) code restarts in
     let a : Accepted NodeState Answer Note = revived_as app id it.pid after told n in
-    let new : NodeState = record { modules = m; processes = after; apps = c.revive.new.apps } in
+    let new : NodeState = record { modules = m; processes = after; apps = c.revive.new.apps; releases = c.self.inside.releases } in
     let said : List Reply → Told Answer Note = λ rs. record { answer = answer.Revived it.pid; note = record { replies = rs; arrival = None } } in
-    let is : new ≡ a.node = ap (λ (xs : List Application). record { modules = m; processes = after; apps = xs }) changed in
+    let is : new ≡ a.node = ap (λ (xs : List Application). record { modules = m; processes = after; apps = xs; releases = c.self.inside.releases }) changed in
     accepted_of n c.args.self.now (event.Revive app id) a new k c.tell_revived.result.items c.self.view_is (record { child = child; found = found; due = due; pid = it.pid; after = after; told = told; restarts = again; is = refl }) is (c.tell_revived.ensures ∙ ap (map said) tells ∙ each_of said told k)

@@ -28,7 +28,7 @@ invariant_of-self c =
     let m = c.self.inside.modules in
     let t = c.self.inside.processes in
     let name = c.args.name.now in
-    let n : NodeState = record { modules = m; processes = t; apps = c.self.inside.apps } in
+    let n : NodeState = record { modules = m; processes = t; apps = c.self.inside.apps; releases = c.self.inside.releases } in
     let spares = nobody_lingers name m t (unlingered (is_lingered_in name m t) (subst (λ (x : NodeState). soft_purge_refusal name x ≡ None) (sym c.self.view_is) c.requires)) in
     record {
       consistent = subst (λ (x : Loaded Forms). IsConsistent x t) (sym c.in-Ok-soft_purge.ensures.modules) (subst (λ (u : Table). IsConsistent (purged name m) u) spares (purge_keeps name m t c.self.invariant.consistent));
@@ -40,10 +40,10 @@ returns-clause-accepted c =
     let m = c.self.inside.modules in
     let t = c.self.inside.processes in
     let apps = c.self.inside.apps in
-    let n : NodeState = record { modules = m; processes = t; apps = apps } in
+    let n : NodeState = record { modules = m; processes = t; apps = apps; releases = c.self.inside.releases } in
     let k = c.args.n in
     let name = c.args.name.now in
     let a : Accepted NodeState Answer Note = record { node = with_modules (purged name m) n; answer = answer.Unit; note = reporting [] } in
-    let new : NodeState = record { modules = c.soft_purge.new.modules; processes = t; apps = apps } in
+    let new : NodeState = record { modules = c.soft_purge.new.modules; processes = t; apps = apps; releases = c.self.inside.releases } in
     let free = subst (λ (x : NodeState). soft_purge_refusal name x ≡ None) (sym c.self.view_is) c.requires in
     accepted_of n c.args.self.now (event.SoftPurge name) a new k c.in-Ok.told.items c.self.view_is (unless_none (soft_purge_refusal name n) OfModules a free) (ap (λ (x : Loaded Forms). with_modules x n) c.in-Ok-soft_purge.ensures.modules) c.in-Ok.ensures

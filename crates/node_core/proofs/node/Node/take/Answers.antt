@@ -37,13 +37,13 @@ returns-clause-accepted c =
     let m = c.self.inside.modules in
     let t = c.self.inside.processes in
     let apps = c.self.inside.apps in
-    let n : NodeState = record { modules = m; processes = t; apps = apps } in
+    let n : NodeState = record { modules = m; processes = t; apps = apps; releases = c.self.inside.releases } in
     let k = c.args.n in
     let pid = c.args.pid in
     let takes = c.in-Ok-take.ensures.taken in
     let job = takes.job in
     let a : Accepted NodeState Answer Note = record { node = run_taken pid job n; answer = answer.Job job; note = reporting [] } in
-    let new : NodeState = record { modules = m; processes = c.take.new.self; apps = apps } in
+    let new : NodeState = record { modules = m; processes = c.take.new.self; apps = apps; releases = c.self.inside.releases } in
     let said : Job → Told Answer Note = λ j. record { answer = answer.Job j; note = record { replies = []; arrival = None } } in
     let runs = ap (λ (u : Table). job_at (living pid u)) (sym takes.table) ∙ takes.runs in
     accepted_of n c.args.self.now (event.Take pid) a new k c.tell_jobs.result.items c.self.view_is (job, c.in-Ok-take.ensures.ok, takes.code, runs, refl) (ap (λ (u : Table). with_processes u n) takes.table) (c.tell_jobs.ensures ∙ ap (map said) takes.told ∙ each_of said job k)

@@ -21,7 +21,7 @@ returns-in-Arrive c =
     let body = c.in-Arrive.body in
     let client = c.in-Arrive.client in
     let t = c.self.inside.processes in
-    let n : NodeState = record { modules = c.self.inside.modules; processes = t; apps = c.self.inside.apps } in
+    let n : NodeState = record { modules = c.self.inside.modules; processes = t; apps = c.self.inside.apps; releases = c.self.inside.releases } in
     let a : Accepted NodeState Answer Note = record { node = with_processes (after_arrival client name body t) n; answer = answer.Unit; note = record { replies = []; arrival = arrival_of name (message_of body) } } in
     let r = c.of_processes.result in
     let told = refused_or_not (arrive_refusal name (kind_of body) t) r a (c.of_processes.ensures ∙ ap (option_map OfProcesses) (c.arrive_refusal.ensures ∙ (λ i. arrive_refusal (c.as_str.ensures.chars i) (c.kind.ensures i) t))) in

@@ -1,5 +1,5 @@
 -- The term of the text arrives, or it is told what stands against it.
-use Rattle.std.proofs.Common.{refl, subst, sym}
+use Rattle.std.proofs.Common.{[], refl, subst, sym}
 use Rattle.std.specs.Str.{chars}
 use Rattle.shell_deeds.proofs.Deeds.{IfOk-then}
 use Rattle.shell_deeds.proofs.Performing.{done-as, missed}
@@ -29,4 +29,4 @@ returns-in-Err-NoMemory c =
     let name = chars c.args.name.text.now in
     let here = c.args.out.now.items in
     let out = c.tell_unread.new.out.items in
-    IfOk-then c.tell_unread.result _ _ c.tell_unread.ensures (λ fate told. done-as s here out (λ d does. unread fate d does) (missed s (arrival_event s c.args.kind name) told.0 fate here out told.1 (told.2, told.3)))
+    IfOk-then c.tell_unread.result _ _ c.tell_unread.ensures (λ fate told. done-as s here out (λ d does. unread fate d does) (missed s [] (arrival_event s c.args.kind name) told.0 fate here out told.1 (told.2, told.3)))

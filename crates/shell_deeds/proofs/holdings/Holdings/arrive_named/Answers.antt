@@ -1,5 +1,5 @@
 -- It has arrived under the next number, or it is told why it has not.
-use Rattle.std.proofs.Common.{◌≡◌, IfOk, ap, subst, ◌∙◌}
+use Rattle.std.proofs.Common.{[], ◌≡◌, IfOk, ap, subst, ◌∙◌}
 use Rattle.node_core.specs.Node.{NodeState}
 use Rattle.node_types.specs.Note.{Note}
 use Rattle.node_types.specs.declared.event.Answer.{Answer}
@@ -24,7 +24,7 @@ returns-in-Ok c =
     let e = c.arrival_event.result in
     let number = c.next_number-number.ensures in
     let same : e ≡ event_of_arrival kind (next_number s) c.args.name c.args.term = c.arrival_event.ensures ∙ ap (λ n. event_of_arrival kind n c.args.name c.args.term) number in
-    subst (λ (done : Accepted NodeState Answer Note → Deed). IfOk c.tell_arrived.result (λ fate. IsDone (Performs s (tried kind s) (event_of_arrival kind (next_number s) c.args.name c.args.term) done fate) new here out)) (arrival_done (tried kind s) kind (next_number s) c.args.name c.args.term) (IfOk-then c.tell_arrived.result _ _ c.tell_arrived.ensures (λ fate told. subst (λ (x : Event). IsDone (Performs s (tried kind s) x (λ a. carried (stepped a (tried kind s)) x (arrival_answer kind (next_number s))) fate) new here out) same (arrived-done s c.perform.new.self new kind e c.next_number-number.result c.in-Ok.field-0 fate here out c.in-Ok.ensures.stepped number told)))
+    subst (λ (done : Accepted NodeState Answer Note → Deed). IfOk c.tell_arrived.result (λ fate. IsDone (Performs s (tried kind s) (event_of_arrival kind (next_number s) c.args.name c.args.term) [] done fate) new here out)) (arrival_done (tried kind s) kind (next_number s) c.args.name c.args.term) (IfOk-then c.tell_arrived.result _ _ c.tell_arrived.ensures (λ fate told. subst (λ (x : Event). IsDone (Performs s (tried kind s) x [] (λ a. carried (stepped a (tried kind s)) x (arrival_answer kind (next_number s))) fate) new here out) same (arrived-done s c.perform.new.self new kind e c.next_number-number.result c.in-Ok.field-0 fate here out c.in-Ok.ensures.stepped number told)))
 
 pub returns : goal.returns
 returns c =
@@ -35,4 +35,4 @@ returns c =
     let new = c.tell_kept_out.new.self in
     let e = c.arrival_event.result in
     let same : e ≡ event_of_arrival kind (next_number s) c.args.name c.args.term = c.arrival_event.ensures ∙ ap (λ n. event_of_arrival kind n c.args.name c.args.term) c.next_number-number.ensures in
-    subst (λ (done : Accepted NodeState Answer Note → Deed). IfOk c.tell_kept_out.result (λ fate. IsDone (Performs s (tried kind s) (event_of_arrival kind (next_number s) c.args.name c.args.term) done fate) new here out)) (arrival_done (tried kind s) kind (next_number s) c.args.name c.args.term) (IfOk-then c.tell_kept_out.result _ _ c.tell_kept_out.ensures (λ fate told. subst (λ (x : Event). IsDone (Performs s (tried kind s) x (λ a. carried (stepped a (tried kind s)) x (arrival_answer kind (next_number s))) fate) new here out) same (kept_out s new kind e (λ a. carried (stepped a (tried kind s)) e (arrival_answer kind (next_number s))) c.in-Err.halt fate here out c.in-Err.ensures.halted (told.0, subst (λ (u : ShellState). new ≡ after_missed c.in-Err.halt kind u) c.in-Err.ensures.err told.1, told.2))))
+    subst (λ (done : Accepted NodeState Answer Note → Deed). IfOk c.tell_kept_out.result (λ fate. IsDone (Performs s (tried kind s) (event_of_arrival kind (next_number s) c.args.name c.args.term) [] done fate) new here out)) (arrival_done (tried kind s) kind (next_number s) c.args.name c.args.term) (IfOk-then c.tell_kept_out.result _ _ c.tell_kept_out.ensures (λ fate told. subst (λ (x : Event). IsDone (Performs s (tried kind s) x [] (λ a. carried (stepped a (tried kind s)) x (arrival_answer kind (next_number s))) fate) new here out) same (kept_out s new kind e (λ a. carried (stepped a (tried kind s)) e (arrival_answer kind (next_number s))) c.in-Err.halt fate here out c.in-Err.ensures.halted (told.0, subst (λ (u : ShellState). new ≡ after_missed c.in-Err.halt kind u) c.in-Err.ensures.err told.1, told.2))))

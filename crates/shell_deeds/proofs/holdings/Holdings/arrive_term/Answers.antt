@@ -1,5 +1,5 @@
 -- The term has arrived, or it is told why it has not.
-use Rattle.std.proofs.Common.{◌≡◌, ap, subst}
+use Rattle.std.proofs.Common.{[], ◌≡◌, ap, subst}
 use Rattle.std.specs.Str.{chars}
 use Rattle.node_types.specs.declared.event.Event.{Event}
 use Rattle.shell_deeds.proofs.Deeds.{IfOk-then}
@@ -32,4 +32,4 @@ returns c =
     let out = c.arrive_named.new.out.items in
     let here = c.args.out.now.items in
     let same : event_of_arrival kind (next_number s) c.in-Ok.atom t ≡ arrival_event s kind name t = ap (λ n. event_of_arrival kind (next_number s) n t) c.in-Ok.ensures in
-    IfOk-then c.arrive_named.result _ _ c.arrive_named.ensures (λ fate done. λ text is. done-as new here out (λ d does. read t fate d is does) (subst (λ (e : Event). IsDone (Performs s (tried kind s) e (done_by (tried kind s) e) fate) new here out) same done))
+    IfOk-then c.arrive_named.result _ _ c.arrive_named.ensures (λ fate done. λ text is. done-as new here out (λ d does. read t fate d is does) (subst (λ (e : Event). IsDone (Performs s (tried kind s) e [] (done_by (tried kind s) e) fate) new here out) same done))

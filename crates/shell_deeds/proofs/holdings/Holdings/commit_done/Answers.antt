@@ -1,5 +1,5 @@
 -- The replies are told and sent, or it is told why there are none.
-use Rattle.std.proofs.Common.{◌≡◌, ◌++◌, List, IfOk, None, ap, refl, subst, sym, ◌∙◌}
+use Rattle.std.proofs.Common.{[], ◌≡◌, ◌++◌, List, IfOk, None, ap, refl, subst, sym, ◌∙◌}
 use Rattle.process_effects.specs.declared.told.Reply.{Reply}
 use Rattle.undo_journal.specs.declared.reversible.Told.{Told}
 use Rattle.node_types.specs.declared.event.Answer.{Answer}
@@ -37,4 +37,4 @@ returns c =
     let s : ShellState = record { files = h.files; timeline = h.journal; jobs = h.jobs.items; calls = h.calls; sent = joined h.sent.items } in
     let new : ShellState = record { files = h.files; timeline = c.step.new.journal; jobs = h.jobs.items; calls = h.calls; sent = joined c.step.new.sent.items } in
     let same : new ≡ s = (λ i. record { files = h.files; timeline = c.in-Err.ensures.err i; jobs = h.jobs.items; calls = h.calls; sent = c.step.ensures.sent i }) in
-    subst (λ (t : ShellState). IfOk c.tell_halt.result (λ fate. IsDone (Commits t done.job fate) new here out)) c.self.view_is (IfOk-then c.tell_halt.result _ _ c.tell_halt.ensures (λ fate told. subst (λ (u : ShellState). IsDone (Commits s done.job fate) u here out) (sym same) (done-as s here out (λ d does. ran done fate d refl does) (halted s (event.Commit done) (λ a. carried (stepped a s) (event.Commit done) (committed a.note.replies)) c.in-Err.halt fate here out (c.in-Err.ensures.halted s refl) told))))
+    subst (λ (t : ShellState). IfOk c.tell_halt.result (λ fate. IsDone (Commits t done.job fate) new here out)) c.self.view_is (IfOk-then c.tell_halt.result _ _ c.tell_halt.ensures (λ fate told. subst (λ (u : ShellState). IsDone (Commits s done.job fate) u here out) (sym same) (done-as s here out (λ d does. ran done fate d refl does) (halted s (event.Commit done) [] (λ a. carried (stepped a s) (event.Commit done) (committed a.note.replies)) c.in-Err.halt fate here out (c.in-Err.ensures.halted s refl) told))))

@@ -1,5 +1,5 @@
 -- The module of the file is loaded, or it is told what stands against it.
-use Rattle.std.proofs.Common.{subst}
+use Rattle.std.proofs.Common.{[], subst}
 use Rattle.std.specs.Str.{chars}
 use Rattle.node_types.specs.declared.event.Event.TheVariants as event
 use Rattle.shell_deeds.proofs.Deeds.{IfOk-then}
@@ -15,10 +15,10 @@ returns-in-Ok c =
 
 pub returns-in-Err-Faulted : goal.returns-in-Err-Faulted
 returns-in-Err-Faulted c =
-    IfOk-then c.say_source_fault.result _ _ c.say_source_fault.ensures (λ fate told. source-faulted c.args.self.now (chars c.args.name.text.now) c.args.path.now c.in-Err-Faulted.fault fate c.args.out.now.items c.say_source_fault.new.out.items (subst (λ (u : Unloaded). Unsourced c.args.self.now (chars c.args.name.text.now) c.args.path.now u) c.in-Err-Faulted.field-0-is c.in-Err-Faulted.ensures) told)
+    IfOk-then c.say_file_fault.result _ _ c.say_file_fault.ensures (λ fate told. source-faulted c.args.self.now (chars c.args.name.text.now) c.args.path.now c.in-Err-Faulted.fault fate c.args.out.now.items c.say_file_fault.new.out.items (subst (λ (u : Unloaded). Unsourced c.args.self.now (chars c.args.name.text.now) c.args.path.now u) c.in-Err-Faulted.field-0-is c.in-Err-Faulted.ensures) told)
 
 pub returns-in-Err-Unread : goal.returns-in-Err-Unread
 returns-in-Err-Unread c =
     let s = c.args.self.now in
     let there = subst (λ (u : Unloaded). Unsourced s (chars c.args.name.text.now) c.args.path.now u) c.in-Err-Unread.field-0-is c.in-Err-Unread.ensures in
-    IfOk-then c.tell_missed.result _ _ c.tell_missed.ensures (λ fate told. source-unread s (chars c.args.name.text.now) c.args.path.now s fate c.args.out.now.items c.tell_missed.new.out.items there.0 there.1 (missed s event.Load c.halt_of_load.result fate c.args.out.now.items c.tell_missed.new.out.items c.halt_of_load.ensures told))
+    IfOk-then c.tell_missed.result _ _ c.tell_missed.ensures (λ fate told. source-unread s (chars c.args.name.text.now) c.args.path.now s fate c.args.out.now.items c.tell_missed.new.out.items there.0 there.1 (missed s [] event.Load c.halt_of_load.result fate c.args.out.now.items c.tell_missed.new.out.items c.halt_of_load.ensures told))

@@ -1,0 +1,133 @@
+-- The release of a version at its place, and what a change of statuses leaves of it.
+use Rattle.std.proofs.Common.{◌≡◌, ℕ, ◌+◌, ◌<◌, Bool, true, false, not, cond, List, [], ◌∷◌, length, map, get_or, slice_get}
+use Rattle.std.proofs.Common.{Option, None, Some, IsSome, is_some, option_and_then, option_map, inl, inr, refl, sym, ap, ◌∙◌}
+use Rattle.std.proofs.Common.{arith}
+use Rattle.std.specs.List.{position, position_or_len}
+use Rattle.std.specs.Prelude.{nat_lt}
+use Rattle.std.specs.Str.{bytes_eq}
+use Rattle.std.proofs.lemmas.List.{length-map}
+use Rattle.std.proofs.lemmas.Bool.{false≢true}
+use Rattle.std.proofs.lemmas.Option.{slice_get_cases, slice_get_read}
+use Rattle.values.proofs.Edits.{map-changed_at}
+use Rattle.release_table.specs.declared.table.Release.{Release}
+use Rattle.release_statuses.specs.declared.listed.Listed.{Listed}
+use Rattle.release_statuses.specs.declared.status.Status.{Status}
+use Rattle.release_statuses.specs.declared.status.Status.TheVariants.{Current, Permanent, Old}
+use Rattle.release_statuses.specs.Statuses.{first_with, has_status, installed, is_permanent, made_permanent, or_else}
+use Rattle.release_statuses.specs.Statuses.{place_of, place_with, rebooted, restarted, running, set_at, set_status, status_of}
+use Rattle.release_statuses.specs.Statuses.{turned, vsn_of, with_status}
+use Rattle.release_statuses.proofs.Tests.{first-within}
+
+-- one release, turned
+abbrev pub turned_one : Status → Status → Listed → Listed
+turned_one from to it = cond (has_status from it) (with_status to it) it
+
+abbrev pub releases_of : List Listed → List Release
+releases_of xs = map (λ (it : Listed). it.release) xs
+
+abbrev pub statuses_of : List Listed → List Status
+statuses_of xs = map (λ (it : Listed). it.status) xs
+
+pub none_unless : {A : Type 0} (o : Option A) → ((x : A) → o ≡ Some x → ⊥) → o ≡ None
+none_unless None some = refl
+none_unless (Some x) some = absurd (some x refl)
+
+-- A release stands at its place.
+
+pub record Stands (vsn : List ℕ) (xs : List Listed) (place : ℕ) : Type 0 where
+  pub it : Listed
+  pub there : slice_get xs place ≡ Some it
+  pub within : place < length xs
+  pub status : status_of vsn xs ≡ Some it.status
+
+pub Stands-place : (vsn : List ℕ) (xs : List Listed) (place : ℕ) → place_of vsn xs ≡ Some place → Stands vsn xs place
+Stands-place vsn xs place at =
+    let within = first-within (λ (it : Listed). bytes_eq vsn (vsn_of it)) xs place at in
+    elim (slice_get_cases xs place).1 [
+      | inl some ↦ record {
+        it = some.0;
+        there = some.2;
+        within = within;
+        status = ap (λ o. option_map (λ (it : Listed). it.status) (option_and_then (slice_get xs) o)) at ∙
+            ap (option_map (λ (it : Listed). it.status)) some.2;
+      }
+      | inr past ↦ absurd (omega (arith, within, past.0))
+    ]
+
+-- a release that has a status stands somewhere
+pub place-status : (vsn : List ℕ) (xs : List Listed) → IsSome (status_of vsn xs) → (place : ℕ) × (place_of vsn xs ≡ Some place)
+place-status vsn xs some =
+    by (place_of vsn xs) refl
+  where
+    by : (o : Option ℕ) → place_of vsn xs ≡ o → (place : ℕ) × (place_of vsn xs ≡ Some place)
+    by None none =
+        let nowhere = ap (λ o. option_map (λ (it : Listed). it.status) (option_and_then (slice_get xs) o)) none in
+        absurd (false≢true (sym (ap is_some nowhere) ∙ some))
+    by (Some place) at = (place, at)
+
+-- No change of statuses touches the releases.
+
+release-turned_one : (b : Bool) (to : Status) (it : Listed) → (cond b (with_status to it) it).release ≡ it.release
+release-turned_one true to it = refl
+release-turned_one false to it = refl
+
+pub releases-turned : (from to : Status) (xs : List Listed) → releases_of (turned from to xs) ≡ releases_of xs
+releases-turned from to [] = refl
+releases-turned from to (x ∷ xs) = λ i. release-turned_one (has_status from x) to x i ∷ releases-turned from to xs i
+
+pub releases-set_at : (status : Status) (place : Option ℕ) (xs : List Listed) →
+    releases_of (set_at status place xs) ≡ releases_of xs
+releases-set_at status None xs = refl
+releases-set_at status (Some place) xs = map-changed_at (λ (it : Listed). it.release) (with_status status) (λ it. refl) xs place
+
+releases-cond : (b : Bool) (xs ys zs : List Listed) → releases_of xs ≡ releases_of zs → releases_of ys ≡ releases_of zs →
+    releases_of (cond b xs ys) ≡ releases_of zs
+releases-cond true xs ys zs one other = one
+releases-cond false xs ys zs one other = other
+
+pub releases-installed : (vsn : List ℕ) (xs : List Listed) → releases_of (installed vsn xs) ≡ releases_of xs
+releases-installed vsn xs =
+    let ts = turned Current Old xs in
+    let same = releases-turned Current Old xs in
+    releases-cond (is_permanent (status_of vsn xs)) ts (set_status vsn Current ts) xs same
+    (releases-set_at Current (place_of vsn ts) ts ∙ same)
+
+pub releases-made_permanent : (vsn : List ℕ) (xs : List Listed) → releases_of (made_permanent vsn xs) ≡ releases_of xs
+releases-made_permanent vsn xs =
+    let ts = turned Permanent Old xs in
+    releases-cond (is_permanent (status_of vsn xs)) xs (set_status vsn Permanent ts) xs refl
+    (releases-set_at Permanent (place_of vsn ts) ts ∙ releases-turned Permanent Old xs)
+
+pub releases-rebooted : (vsn : List ℕ) (xs : List Listed) → releases_of (rebooted vsn xs) ≡ releases_of xs
+releases-rebooted vsn xs =
+    let rs = restarted xs in
+    let ts = turned Permanent Old rs in
+    releases-set_at Permanent (place_of vsn ts) ts ∙ releases-turned Permanent Old rs ∙ releases-turned Current Old xs
+
+-- So each stands where it stood.
+
+place-releases : (q : Release → Bool) (xs : List Listed) →
+    position_or_len (λ (it : Listed). q it.release) xs ≡ position_or_len q (releases_of xs)
+place-releases q [] = refl
+place-releases q (x ∷ xs) = ap (λ n. cond (not (q x.release)) (1 + n) 0) (place-releases q xs)
+
+position-releases : (q : Release → Bool) (xs : List Listed) →
+    position (λ (it : Listed). q it.release) xs ≡ position q (releases_of xs)
+position-releases q xs =
+    let first = place-releases q xs in
+    let long = length-map xs (λ (it : Listed). it.release) in
+    λ i. cond (nat_lt (first i) (sym long i)) (Some (first i)) None
+
+pub place_of-same : (vsn : List ℕ) (xs ys : List Listed) → releases_of ys ≡ releases_of xs → place_of vsn ys ≡ place_of vsn xs
+place_of-same vsn xs ys same =
+    let of_vsn = λ (r : Release). bytes_eq vsn r.rel.vsn in
+    position-releases of_vsn ys ∙ ap (position of_vsn) same ∙ sym (position-releases of_vsn xs)
+
+-- The release that runs, where none is current.
+pub running-permanent : (xs : List Listed) (place : ℕ) (it : Listed) → place_with Current xs ≡ None →
+    place_with Permanent xs ≡ Some place → it ≡ get_or xs place it → running xs ≡ Some it
+running-permanent xs place it none at is =
+    let within = first-within (has_status Permanent) xs place at in
+    let there = slice_get_read xs (length xs) place it refl within is in
+    ap (λ o. or_else (option_and_then (slice_get xs) o) (first_with Permanent xs)) none ∙
+    ap (option_and_then (slice_get xs)) at ∙ there

@@ -1,0 +1,159 @@
+// The releases of a node, and why a change of them is refused.
+mod changes;
+
+ghost use Rattle.std.specs.Prelude.{◌≡◌, IfOk, Some};
+ghost use Rattle.std.specs.Option.{option_copied};
+ghost use Rattle.std.specs.Str.{chars};
+
+use crate::error::RelError;
+use crate::listed::Listed;
+use crate::places::{is_of, listed, place_of, place_with, status_of};
+use crate::status::Status;
+use release_table::Release;
+use std::alloc::{AllocError, Global};
+use std::marker::Model;
+
+/// The releases of a node, in the order in which they were set unpacked, each with its status. One of them is permanent.
+///
+/// A release is found by its version among all, of which there are few. Where a version is named, it is the text of the version.
+#[derive(Drop)]
+pub struct Releases {
+    alloc: Global,
+    list: Vec<Listed>,
+}
+
+impl Model for Releases {
+    ghost use Rattle.std.specs.Prelude.{List};
+    ghost use Rattle.std.specs.Coded.{coded_list};
+    ghost use Rattle.release_statuses.specs.declared.listed.Listed.{Listed as OneListed};
+    ghost use Rattle.release_statuses.specs.contracts.listed.Listed as one_listed;
+    ghost use Rattle.release_statuses.specs.Statuses.{HasPermanent};
+
+    ghost Value = { List OneListed };
+
+    ghost coded = { coded_list one_listed.the_row.coded };
+
+    ghost view = { λ a. a.list.items };
+
+    ghost invariant = { λ a. HasPermanent a.list.items };
+}
+
+impl Releases {
+    ghost use Rattle.release_statuses.specs.Statuses.{HasPermanent, booted, install_refusal, listed, permanent_refusal};
+    ghost use Rattle.release_statuses.specs.Statuses.{reboot_refusal, remove_refusal, running, status_of, unpack_refusal};
+
+    /// The release that a node has booted: it is the only one, and permanent.
+    ///
+    /// # Errors
+    ///
+    /// `AllocError` where memory is refused. The release is then dropped.
+    pub fn booted(alloc: Global, release: Release) -> Result<Releases, AllocError>
+        ensures { IfOk result (λ it. it ≡ booted release) }
+    {
+        let mut list = Vec::new(alloc);
+        list.push(Listed {
+            release,
+            status: Status::Permanent,
+        })?;
+        Ok(Releases { alloc, list })
+    }
+
+    /// The releases, in the order in which they were set unpacked; the one that booted stands first. Takes no memory.
+    pub fn as_slice(&self) -> &[Listed]
+        ensures items { result.now ≡ self.now }
+        ensures kept { HasPermanent self.now }
+    {
+        self.list.as_slice()
+    }
+
+    /// The release of a version, if it is there. Takes no memory.
+    pub fn get(&self, vsn: &str) -> Option<&Listed>
+        ensures { option_copied result ≡ listed (chars vsn.now) self.now }
+    {
+        listed(&self.list, vsn)
+    }
+
+    /// The status of the release of a version.
+    fn status(&self, vsn: &str) -> Option<Status>
+        ensures { result ≡ status_of (chars vsn.now) self.now }
+    {
+        status_of(&self.list, vsn)
+    }
+
+    /// The release that runs: the current one, or else the permanent one. Takes no memory.
+    pub fn running(&self) -> &Listed
+        ensures { running self.now ≡ Some result.now }
+    {
+        if let Some(place) = place_with(&self.list, Status::Current) {
+            return &self.list[place];
+        }
+        match place_with(&self.list, Status::Permanent) {
+            Some(place) => &self.list[place],
+            None => unreachable!(),
+        }
+    }
+
+    /// Why a release of the version would not be set unpacked, but for want of memory: `Exists` where one is there. Takes no
+    /// memory.
+    pub fn unpack_refusal(&self, vsn: &str) -> Option<RelError>
+        ensures { result ≡ unpack_refusal (chars vsn.now) self.now }
+    {
+        match place_of(&self.list, vsn) {
+            Some(_) => Some(RelError::Exists),
+            None => None,
+        }
+    }
+
+    /// Why the release of the version would not be removed: `NoSuchRelease` where there is none, and `Permanent` where it is
+    /// permanent. Takes no memory.
+    pub fn remove_refusal(&self, vsn: &str) -> Option<RelError>
+        ensures { result ≡ remove_refusal (chars vsn.now) self.now }
+    {
+        match self.status(vsn) {
+            None => Some(RelError::NoSuchRelease),
+            Some(Status::Permanent) => Some(RelError::Permanent),
+            Some(Status::Unpacked | Status::Current | Status::Old) => None,
+        }
+    }
+
+    /// Why an install of the release of the version would be refused: `NoSuchRelease` where there is none, and
+    /// `AlreadyInstalled` where it runs. Takes no memory.
+    pub fn install_refusal(&self, vsn: &str) -> Option<RelError>
+        ensures { result ≡ install_refusal (chars vsn.now) self.now }
+    {
+        if place_of(&self.list, vsn).is_none() {
+            return Some(RelError::NoSuchRelease);
+        }
+        if is_of(self.running(), vsn) {
+            return Some(RelError::AlreadyInstalled);
+        }
+        None
+    }
+
+    /// Why the release of the version would not be made permanent, but for want of memory: `NoSuchRelease` where there is none,
+    /// and `BadStatus` where it is neither current nor permanent. Takes no memory.
+    pub fn permanent_refusal(&self, vsn: &str) -> Option<RelError>
+        ensures { result ≡ permanent_refusal (chars vsn.now) self.now }
+    {
+        match self.status(vsn) {
+            None => Some(RelError::NoSuchRelease),
+            Some(Status::Unpacked) => Some(RelError::BadStatus(Status::Unpacked)),
+            Some(Status::Old) => Some(RelError::BadStatus(Status::Old)),
+            Some(Status::Current | Status::Permanent) => None,
+        }
+    }
+
+    /// Why the node would not be restarted with the release of the version, but for want of memory: `NoSuchRelease` where there
+    /// is none, and `BadStatus` where it isn't old. Takes no memory.
+    pub fn reboot_refusal(&self, vsn: &str) -> Option<RelError>
+        ensures { result ≡ reboot_refusal (chars vsn.now) self.now }
+    {
+        match self.status(vsn) {
+            None => Some(RelError::NoSuchRelease),
+            Some(Status::Unpacked) => Some(RelError::BadStatus(Status::Unpacked)),
+            Some(Status::Current) => Some(RelError::BadStatus(Status::Current)),
+            Some(Status::Permanent) => Some(RelError::BadStatus(Status::Permanent)),
+            Some(Status::Old) => None,
+        }
+    }
+}

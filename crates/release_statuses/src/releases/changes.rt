@@ -1,0 +1,178 @@
+// Changes of the releases, and what takes them back.
+ghost use Rattle.std.specs.Prelude.{◌≡◌, ◌++◌, ◌≢◌, [], ◌∷◌, IfErr, IfOk, IsSome, None, OnErr, OnOk};
+ghost use Rattle.std.specs.Str.{chars};
+
+use crate::error::RelError;
+use crate::listed::Listed;
+use crate::places::{place_of, statuses};
+use crate::releases::Releases;
+use crate::status::Status;
+use crate::turns::{install, make_permanent, reboot, restore, turn};
+use crate::undo::Undo;
+use release_table::Release;
+use std::alloc::AllocError;
+use values::{Failure, Row};
+
+/// Puts a release last.
+fn push(list: &mut Vec<Listed>, it: Listed) -> Result<(), AllocError>
+    ensures pushed { OnOk result (list.new.items ≡ list.old.items ++ it ∷ []) }
+    ensures err { OnErr result (list.new.items ≡ list.old.items) }
+{
+    list.push(it)?;
+    Ok(())
+}
+
+impl Releases {
+    ghost use Rattle.values.specs.Failure.{Tells};
+    ghost use Rattle.values.specs.declared.failure.Failure.TheVariants.{Memory};
+    ghost use Rattle.release_statuses.specs.Statuses.{installed, made_permanent, permanent_refusal, place_of, reboot_refusal};
+    ghost use Rattle.release_statuses.specs.Statuses.{rebooted, remove_refusal, removed, restarted, unpack_refusal, unpacked};
+    ghost use Rattle.release_statuses.specs.Undo.{Fits, IsRemoval, TakesBack, undone};
+
+    /// Sets a release unpacked: it goes last.
+    ///
+    /// # Errors
+    ///
+    /// What [`Releases::unpack_refusal`] says, and else `Memory`. The releases are then as they were; the release is dropped.
+    pub fn set_unpacked(&mut self, release: Release) -> Result<Undo, Failure<RelError>>
+        ensures ok { OnOk result (self.new ≡ unpacked release self.old) }
+        ensures unrefused { OnOk result (unpack_refusal release.rel.vsn self.old ≡ None) }
+        ensures takes_back { IfOk result (λ undo. TakesBack undo self.old self.new) }
+        ensures refused { IfErr result (λ e. Tells e (unpack_refusal release.rel.vsn self.old)) }
+        ensures err { OnErr result (self.new ≡ self.old) }
+    {
+        if let Some(refusal) = self.unpack_refusal(release.rel.vsn.as_str()) {
+            return Err(Failure::Refused(refusal));
+        }
+        let it = Listed {
+            release,
+            status: Status::Unpacked,
+        };
+        push(&mut self.list, it)?;
+        Ok(Undo::Added)
+    }
+
+    /// Removes the release of a version, which is not permanent. Takes no memory.
+    ///
+    /// # Errors
+    ///
+    /// What [`Releases::remove_refusal`] says. The releases are then as they were.
+    pub fn remove(&mut self, vsn: &str) -> Result<Undo, Failure<RelError>>
+        ensures ok { OnOk result (self.new ≡ removed (chars vsn.now) self.old) }
+        ensures unrefused { OnOk result (remove_refusal (chars vsn.now) self.old ≡ None) }
+        ensures takes_back { IfOk result (λ undo. TakesBack undo self.old self.new) }
+        ensures refused { IfErr result (λ e. Tells e (remove_refusal (chars vsn.now) self.old)) }
+        ensures memory { IfErr result (λ e. e ≢ Memory) }
+        ensures err { OnErr result (self.new ≡ self.old) }
+    {
+        if let Some(refusal) = self.remove_refusal(vsn) {
+            return Err(Failure::Refused(refusal));
+        }
+        match place_of(&self.list, vsn) {
+            Some(place) => Ok(Undo::Removed(place, self.list.remove(place))),
+            None => Err(Failure::Refused(RelError::NoSuchRelease)),
+        }
+    }
+
+    /// An install of the release of a version is finished: what was current is old, and the release is current, or stays
+    /// permanent.
+    ///
+    /// # Errors
+    ///
+    /// `AllocError` where memory is refused. The releases are then as they were.
+    pub fn installed(&mut self, vsn: &str) -> Result<Undo, AllocError>
+        requires { IsSome (place_of (chars vsn.now) self.old) }
+        ensures ok { OnOk result (self.new ≡ installed (chars vsn.now) self.old) }
+        ensures takes_back { IfOk result (λ undo. TakesBack undo self.old self.new) }
+        ensures err { OnErr result (self.new ≡ self.old) }
+    {
+        let former = statuses(self.alloc, &self.list)?;
+        install(self.list.as_mut_slice(), vsn);
+        Ok(Undo::Statuses(Row::new(former)))
+    }
+
+    /// Makes the release of a version permanent, which is current: what was permanent is old. Of a permanent one nothing
+    /// changes.
+    ///
+    /// # Errors
+    ///
+    /// What [`Releases::permanent_refusal`] says, and else `Memory`. The releases are then as they were.
+    pub fn make_permanent(&mut self, vsn: &str) -> Result<Undo, Failure<RelError>>
+        ensures ok { OnOk result (self.new ≡ made_permanent (chars vsn.now) self.old) }
+        ensures unrefused { OnOk result (permanent_refusal (chars vsn.now) self.old ≡ None) }
+        ensures takes_back { IfOk result (λ undo. TakesBack undo self.old self.new) }
+        ensures refused { IfErr result (λ e. Tells e (permanent_refusal (chars vsn.now) self.old)) }
+        ensures err { OnErr result (self.new ≡ self.old) }
+    {
+        if let Some(refusal) = self.permanent_refusal(vsn) {
+            return Err(Failure::Refused(refusal));
+        }
+        let former = statuses(self.alloc, &self.list)?;
+        make_permanent(self.list.as_mut_slice(), vsn);
+        Ok(Undo::Statuses(Row::new(former)))
+    }
+
+    /// The node restarts with the release of a version, which is old: it is permanent, and what was permanent or current is
+    /// old.
+    ///
+    /// # Errors
+    ///
+    /// What [`Releases::reboot_refusal`] says, and else `Memory`. The releases are then as they were.
+    pub fn reboot_old(&mut self, vsn: &str) -> Result<Undo, Failure<RelError>>
+        ensures ok { OnOk result (self.new ≡ rebooted (chars vsn.now) self.old) }
+        ensures unrefused { OnOk result (reboot_refusal (chars vsn.now) self.old ≡ None) }
+        ensures takes_back { IfOk result (λ undo. TakesBack undo self.old self.new) }
+        ensures refused { IfErr result (λ e. Tells e (reboot_refusal (chars vsn.now) self.old)) }
+        ensures err { OnErr result (self.new ≡ self.old) }
+    {
+        if let Some(refusal) = self.reboot_refusal(vsn) {
+            return Err(Failure::Refused(refusal));
+        }
+        let former = statuses(self.alloc, &self.list)?;
+        reboot(self.list.as_mut_slice(), vsn);
+        Ok(Undo::Statuses(Row::new(former)))
+    }
+
+    /// The node restarts with the permanent release: what was current is old.
+    ///
+    /// # Errors
+    ///
+    /// `AllocError` where memory is refused. The releases are then as they were.
+    pub fn restarted(&mut self) -> Result<Undo, AllocError>
+        ensures ok { OnOk result (self.new ≡ restarted self.old) }
+        ensures takes_back { IfOk result (λ undo. TakesBack undo self.old self.new) }
+        ensures err { OnErr result (self.new ≡ self.old) }
+    {
+        let former = statuses(self.alloc, &self.list)?;
+        turn(self.list.as_mut_slice(), Status::Current, Status::Old);
+        Ok(Undo::Statuses(Row::new(former)))
+    }
+
+    /// Takes the newest change back. Memory is asked for only where a release comes back to the list.
+    ///
+    /// # Errors
+    ///
+    /// The undo, where memory is refused. The releases are then as they were.
+    pub fn revert(&mut self, undo: Undo) -> Result<(), Undo>
+        requires { Fits undo self.old }
+        ensures ok { OnOk result (self.new ≡ undone undo self.old) }
+        ensures back { IfErr result (λ it. it ≡ undo) }
+        ensures removal { OnErr result (IsRemoval undo) }
+        ensures err { OnErr result (self.new ≡ self.old) }
+    {
+        match undo {
+            Undo::Added => {
+                let _ = self.list.pop();
+                Ok(())
+            }
+            Undo::Removed(place, it) => match self.list.insert(place, it) {
+                Ok(()) => Ok(()),
+                Err(refused) => Err(Undo::Removed(place, refused.value)),
+            },
+            Undo::Statuses(former) => {
+                restore(self.list.as_mut_slice(), former.as_slice());
+                Ok(())
+            }
+        }
+    }
+}

@@ -1,0 +1,15 @@
+// What takes a change of the releases back.
+use crate::listed::Listed;
+use crate::status::Status;
+use values::Row;
+
+/// What takes a change of the releases back.
+#[derive(Drop)]
+pub enum Undo {
+    /// A release was set unpacked: the last one.
+    Added,
+    /// This release stood at this place.
+    Removed(usize, Listed),
+    /// The releases had these statuses, in their order.
+    Statuses(Row<Status>),
+}
