@@ -1,13 +1,17 @@
 -- A change that is made and taken back.
-use Rattle.std.proofs.Common.{◌≡◌, ℕ, zero, suc, Bool, false, true, List, [], ◌∷◌, ◌++◌, Option, None, Some, refl, sym, ap, ◌∙◌, subst, slice_get}
+use Rattle.std.proofs.Common.{◌≡◌, ℕ, zero, suc, Bool, false, true, List, [], ◌∷◌, ◌++◌, Option, None, Some, refl, sym, ap, ◌∙◌, subst, map, slice_get}
 use Rattle.std.specs.Prelude.{option_and_then}
 use Rattle.values.specs.Edits.{changed_at}
 use Rattle.app_table.proofs.Options.{none_some, some_is}
 use Rattle.app_table.specs.Applications.{Application, changed_child, child_at, with_child, with_children}
-use Rattle.app_table.specs.Undo.{all_unended, unended}
+use Rattle.app_table.specs.Changes.{app_stopped, stopped}
+use Rattle.app_table.specs.Children.{in_state}
+use Rattle.app_table.specs.Undo.{all_unended, in_states, unended, unstopped}
 use Rattle.app_table.specs.declared.child.Child.{Child}
+use Rattle.app_table.specs.declared.child.ChildState.{ChildState}
+use Rattle.app_table.specs.declared.child.ChildState.TheVariants.{Stopped}
 use Rattle.app_table.specs.declared.spot.Spot.{Spot}
-use Rattle.app_table.specs.declared.undo.Ended.{Ended}
+use Rattle.app_table.specs.declared.undo.ChildProcess.{ChildProcess}
 
 module _ {A : Type 0} where
   pub changed_back : (f g : A → A) (xs : List A) (place : ℕ) (x : A) → slice_get xs place ≡ Some x → g (f x) ≡ x → changed_at g (changed_at f xs place) place ≡ xs
@@ -37,6 +41,18 @@ started_back children before apps place a at stopped same =
 
 -- of those that have ended: one more
 
-pub one_more : (es : List Ended) (e : Ended) (apps : List Application) → all_unended (es ++ e ∷ []) apps ≡ all_unended es (unended e apps)
+pub one_more : (es : List ChildProcess) (e : ChildProcess) (apps : List Application) → all_unended (es ++ e ∷ []) apps ≡ all_unended es (unended e apps)
 one_more [] e apps = refl
 one_more (first ∷ es) e apps = ap (λ t. unended first t) (one_more es e apps)
+
+-- of the states of children that were stopped
+
+states_back : (cs : List Child) → in_states (map (λ c. c.state) cs) (map (in_state Stopped) cs) ≡ cs
+states_back [] = refl
+states_back (c ∷ cs) = ap (λ (rest : List Child). c ∷ rest) (states_back cs)
+
+pub app_back : (states : List ChildState) (apps : List Application) (place : ℕ) (a : Application) → slice_get apps place ≡ Some a → a.is_started ≡ true → states ≡ map (λ c. c.state) a.children → changed_at (unstopped states) (app_stopped place apps) place ≡ apps
+app_back states apps place a at started are =
+    changed_back stopped (unstopped states) apps place a at (
+    ap (λ (b : Bool). record { spec = a.spec; is_started = b; children = in_states states (map (in_state Stopped) a.children) }) (sym started) ∙ ap (λ (ss : List ChildState). record { spec = a.spec; is_started = a.is_started; children = in_states ss (map (in_state Stopped) a.children) }) are ∙ ap (λ (cs : List Child). record { spec = a.spec; is_started = a.is_started; children = cs }) (states_back a.children)
+    )

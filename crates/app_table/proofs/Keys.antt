@@ -1,5 +1,5 @@
 -- The two keys by which children are found.
-use Rattle.std.proofs.Common.{◌≡◌, ◌<◌, ◌≤◌, ◌==◌, ℕ, zero, suc, true, false, List, [], ◌∷◌, Option, None, Some, refl, sym, ap, ◌∙◌, subst, arith, length, get_or, slice_get}
+use Rattle.std.proofs.Common.{◌≡◌, ◌<◌, ◌≤◌, ◌==◌, ℕ, zero, suc, true, false, List, [], ◌∷◌, Option, None, Some, refl, sym, ap, ◌∙◌, subst, arith, length, get_or, lt-ltb, ltb, slice_get}
 use Rattle.std.specs.Cmp.{IsTotalOrder}
 use Rattle.std.specs.Cmp.Lexicographic.{options_total}
 use Rattle.std.specs.Option.{option_cmp}
@@ -7,6 +7,8 @@ use Rattle.std.specs.Ordering.{is_eq, is_lt, nat_cmp, on, ordering_then}
 use Rattle.std.specs.List.{insert, range_with_len, remove}
 use Rattle.std.specs.List.Sorted.{IsPartitionPoint}
 use Rattle.std.specs.Prelude.{All, IsPermutation, option_and_then, option_map}
+use mathlib.Core.Logic.{⊎_elim}
+use Rattle.std.proofs.lemmas.Bool.{cases_lt}
 use Rattle.std.proofs.lemmas.Bool.Decides.{nat_tests}
 use Rattle.std.proofs.lemmas.Cmp.{nat_cmp_total}
 use Rattle.std.proofs.lemmas.Grind.{get_or_default_zero}
@@ -66,10 +68,17 @@ id_tells id row j d within =
 
 -- where no child is
 
-past : {A : Type 0} (row : List A) (p : ℕ) → length row ≤ p → slice_get row p ≡ None
+pub past : {A : Type 0} (row : List A) (p : ℕ) → length row ≤ p → slice_get row p ≡ None
 past [] p over = refl
 past (x ∷ row) zero over = absurd (omega arith)
 past (x ∷ row) (suc p) over = past row p (omega arith)
+
+pub nothing_at : {A : Type 0} (row : List A) (p : ℕ) → false ≡ ltb p (length row) → slice_get row p ≡ None
+nothing_at row p none =
+    ⊎_elim
+    (λ (below : p < length row). absurd (false_true (none ∙ lt-ltb p (length row) below)))
+    (λ (over : length row ≤ p). past row p over)
+    (cases_lt p (length row))
 
 pub no_pid : (pid : ℕ) (row : List Child) (p : ℕ) → length row ≤ p → is_eq (option_cmp nat_cmp (pid_at row p) (Some pid)) ≡ true → ⊥
 no_pid pid row p over hit =

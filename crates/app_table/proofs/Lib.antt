@@ -1,6 +1,12 @@
 pub mod Backs
 pub mod Keys
+pub mod Once
 pub mod Options
 pub mod Places
+pub mod Replacing
+pub mod Restoring
 pub mod Spots
+pub mod States
+pub mod Turns
+pub mod Walks
 pub mod Writes

@@ -1,7 +1,7 @@
 -- Places in an order: what is found there, and what an edit keeps.
-use Rattle.std.proofs.Common.{◌≡◌, ◌<◌, ◌≤◌, ◌+◌, ℕ, zero, suc, Bool, true, false, List, [], ◌∷◌, ◌++◌, None, Some, refl, sym, ap, ◌∙◌, subst, arith, length, get_or, cond, position, ltb, lt-ltb, le-ltb, zero-add, ◌-◌, slice_set, length-append}
+use Rattle.std.proofs.Common.{◌≡◌, ◌<◌, ◌≤◌, ◌+◌, ℕ, zero, suc, Bool, true, false, List, [], ◌∷◌, ◌++◌, None, Some, refl, sym, ap, ◌∙◌, subst, arith, length, get_or, cond, position, ltb, lt-ltb, le-ltb, zero-add, ◌-◌, length-append}
 use Rattle.std.specs.Prelude.{All, IsPermutation}
-use Rattle.std.specs.List.{Contains, insert, position_or_len, range_with_len, remove, swap}
+use Rattle.std.specs.List.{Contains, insert, position_or_len, range_with_len, remove}
 use Rattle.std.specs.List.Sorted.{IsPartitionPoint, IsPartitionedBy}
 use Rattle.std.specs.Ordering.{is_eq, is_lt, nat_cmp, ordering_then, ordering_reverse}
 use Rattle.std.specs.Cmp.{IsTotalOrder}
@@ -15,9 +15,8 @@ use Rattle.std.proofs.lemmas.List.FromFn.{get_or-range_with_len, length-range_wi
 use Rattle.std.proofs.lemmas.List.Sorted.{All-permutation, Contains-permutation, IsPermutation-cons, IsPermutation-remove, IsPermutation-to_front, IsPermutation-trans}
 use Rattle.std.proofs.lemmas.List.Sums.{position_or_len_is}
 use mathlib.Core.Logic.{⊎_elim}
-use Rattle.values.proofs.Edits.{All-insert, All-remove, insert-remove}
+use Rattle.values.proofs.Edits.{All-insert, All-remove}
 use Rattle.app_table.proofs.Options.{false_true}
-use Rattle.app_table.proofs.Spots.{got}
 use Rattle.app_table.specs.Ordered.{IsOrderOf, Rises, by_key}
 
 pub is_less : (r : Ordering) → is_lt r ≡ true → r ≡ Less
@@ -155,38 +154,16 @@ module _ (order : ℕ → ℕ → Ordering) where
         subst (λ e. is_lt (order e p) ≡ false) (sym (back_at xs ys k d over)) (point.1 (k - length xs) d (omega arith) (omega (arith, length-append xs ys))),
   )
 
--- ---- an entry moves by one
-
-up_by : (d : ℕ) (xs : List ℕ) (k p : ℕ) → k < length xs → slice_set (slice_set (insert xs k p) k (get_or (insert xs k p) (suc k) d)) (suc k) (get_or (insert xs k p) k d) ≡ insert xs (suc k) p
-up_by d [] k p within = absurd (omega arith)
-up_by d (x ∷ xs) zero p within = refl
-up_by d (x ∷ xs) (suc k) p within = ap (λ ys. x ∷ ys) (up_by d xs k p (omega arith))
-
-pub swap_up : (xs : List ℕ) (k p : ℕ) → k < length xs → swap (insert xs k p) k (suc k) ≡ insert xs (suc k) p
-swap_up [] k p within = absurd (omega arith)
-swap_up (x ∷ xs) zero p within = refl
-swap_up (x ∷ xs) (suc k) p within = ap (λ ys. x ∷ ys) (up_by x xs k p (omega arith))
-
-down_by_one : (d : ℕ) (xs : List ℕ) (k p : ℕ) → k < length xs → slice_set (slice_set (insert xs (suc k) p) k (get_or (insert xs (suc k) p) (suc k) d)) (suc k) (get_or (insert xs (suc k) p) k d) ≡ insert xs k p
-down_by_one d [] k p within = absurd (omega arith)
-down_by_one d (x ∷ xs) zero p within = refl
-down_by_one d (x ∷ xs) (suc k) p within = ap (λ ys. x ∷ ys) (down_by_one d xs k p (omega arith))
-
-pub swap_down : (xs : List ℕ) (k p : ℕ) → k < length xs → swap (insert xs (suc k) p) k (suc k) ≡ insert xs k p
-swap_down [] k p within = absurd (omega arith)
-swap_down (x ∷ xs) zero p within = refl
-swap_down (x ∷ xs) (suc k) p within = ap (λ ys. x ∷ ys) (down_by_one x xs k p (omega arith))
-
--- an entry that stays
-pub stays : (xs : List ℕ) (k : ℕ) → k < length xs → xs ≡ insert (remove xs k) k (get_or xs k 0)
-stays xs k within = sym (insert-remove xs k (get_or xs k 0) (got xs k 0 within))
-
 -- ---- one place more
 
 range_more : (a n : ℕ) → range_with_len a (suc n) ≡ range_with_len a n ++ (a + n) ∷ []
 range_more a zero = ap (λ b. b ∷ []) (let e : a ≡ a + 0 = omega arith in e)
 range_more a (suc n) =
     ap (λ xs. a ∷ xs) (range_more (a + 1) n ∙ ap (λ b. range_with_len (a + 1) n ++ b ∷ []) (let e : (a + 1) + n ≡ a + suc n = omega arith in e))
+
+pub range_next : (count : ℕ) → range_with_len 0 (count + 1) ≡ range_with_len 0 count ++ count ∷ []
+range_next count =
+    ap (range_with_len 0) (let e : count + 1 ≡ suc count = omega arith in e) ∙ range_more 0 count ∙ ap (λ b. range_with_len 0 count ++ b ∷ []) (zero-add count)
 
 pub fresh : (count : ℕ) (xs : List ℕ) → IsPermutation (range_with_len 0 count) xs → All (λ e. e ≡ count → ⊥) xs
 fresh count xs once =
@@ -199,8 +176,7 @@ pub one_more : (count : ℕ) (xs ys : List ℕ) → IsPermutation (range_with_le
 one_more count xs ys once more =
     let counted = range_with_len 0 count in
     let front = IsPermutation-trans (range_with_len 0 count ++ count ∷ []) (count ∷ range_with_len 0 count) (count ∷ xs) (IsPermutation-to_front (range_with_len 0 count) count) (IsPermutation-cons count (range_with_len 0 count) xs once) in
-    let is : range_with_len 0 (count + 1) ≡ range_with_len 0 count ++ count ∷ [] = ap (range_with_len 0) (let e : count + 1 ≡ suc count = omega arith in e) ∙ range_more 0 count ∙ ap (λ b. range_with_len 0 count ++ b ∷ []) (zero-add count) in
-    subst (λ zs. IsPermutation zs ys) (sym is) (IsPermutation-trans (range_with_len 0 count ++ count ∷ []) (count ∷ xs) ys front more)
+    subst (λ zs. IsPermutation zs ys) (sym (range_next count)) (IsPermutation-trans (range_with_len 0 count ++ count ∷ []) (count ∷ xs) ys front more)
 
 pub less_is : (a b : ℕ) → is_lt (nat_cmp a b) ≡ true → a < b
 less_is a b h = ranked a b Less (sym (is_less (nat_cmp a b) h))

@@ -1,5 +1,6 @@
 -- A write at a place is a change there.
-use Rattle.std.proofs.Common.{◌≡◌, ℕ, zero, suc, ◌<◌, ◌≤◌, List, [], ◌∷◌, length, slice_set, get_or, refl, ap, ◌∙◌, arith, subst}
+use Rattle.std.proofs.Common.{◌≡◌, ℕ, zero, suc, ◌<◌, ◌≤◌, ◌+◌, List, [], ◌∷◌, ◌++◌, length, slice_set, get_or, drop, append_assoc, refl, sym, ap, ◌∙◌, arith, subst}
+use Rattle.std.proofs.lemmas.List.{drop_more, set_at}
 use Rattle.values.specs.Edits.{changed_at}
 
 module _ {A : Type 0} where
@@ -19,3 +20,8 @@ module _ {A : Type 0} where
   changed_there f g [] place x is same = refl
   changed_there f g (y ∷ xs) zero x is same = ap (λ z. z ∷ xs) (subst (λ z. f z ≡ g z) is same)
   changed_there f g (y ∷ xs) (suc place) x is same = ap (λ ys. y ∷ ys) (changed_there f g xs place x is same)
+
+  -- a write behind a front
+  pub set_front : (p xs : List A) (n : ℕ) (v : A) → length p ≡ n → n < length xs → slice_set (p ++ drop n xs) n v ≡ (p ++ v ∷ []) ++ drop (n + 1) xs
+  set_front p xs n v long below =
+      ap (λ t. slice_set (p ++ t) n v) (drop_more xs n v below) ∙ set_at p (get_or xs n v) (drop (n + 1) xs) v n long ∙ sym (append_assoc p (v ∷ []) (drop (n + 1) xs))

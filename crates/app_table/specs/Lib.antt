@@ -1,4 +1,7 @@
 pub mod Applications
+pub mod Changes
 pub mod Children
+pub mod Modules
 pub mod Ordered
+pub mod Pieces
 pub mod Undo

@@ -1,16 +1,23 @@
 // Applications.
-ghost use Rattle.std.specs.Prelude.{◌≡◌, position};
+ghost use Rattle.std.specs.Prelude.{◌≡◌, ◌++◌, OnOk, Some, position, slice_get};
 ghost use Rattle.app_table.specs.Applications.{has_id, has_process, loaded, with_child, with_children};
+ghost use Rattle.app_table.specs.Changes.{stopped, with_spec};
 ghost use Rattle.app_table.specs.Children.{after_end, in_state, runs_as};
+ghost use Rattle.app_table.specs.Modules.{each_child, idle_for, is_startable, name_for, runs_for};
+ghost use Rattle.app_table.specs.Undo.{unstopped};
 
 use crate::child::{Child, ChildState};
 use crate::children::Children;
 use crate::clean::is_due_after;
-use erl_term::Term;
+use crate::name::{ChildName, is_named_in};
+use crate::spot::Spot;
+use crate::undo::ChildProcess;
+use erl_term::{Atom, Term};
 use otp_files::AppSpec;
-use std::alloc::Global;
+use std::alloc::{AllocError, Global};
 use std::marker::Model;
 use std::mem;
+use values::Duplicate;
 
 /// An application of a node: its specification, whether it is started, and the children of its supervisor.
 #[derive(Drop)]
@@ -113,6 +120,132 @@ impl App {
         let state = state_after(self.is_started, reason, child);
         self.children.set(place, state);
     }
+
+    /// It isn't started, and none of its children has a process or is due.
+    pub(crate) fn stop(&mut self)
+        ensures { self.new ≡ stopped self.old }
+    {
+        self.is_started = false;
+        self.children.stop_all();
+    }
+
+    /// It is started, and its children are in these states.
+    pub(crate) fn unstop(&mut self, states: &[ChildState])
+        ensures { self.new ≡ unstopped states.now self.old }
+    {
+        self.is_started = true;
+        self.children.set_states(states);
+    }
+
+    /// Its specification and another one change places.
+    pub(crate) fn swap_spec(&mut self, spec: &mut AppSpec)
+        ensures set { self.new ≡ with_spec spec.old self.old }
+        ensures left { spec.new ≡ self.old.spec }
+    {
+        mem::swap(&mut self.spec, spec);
+    }
+
+    /// Puts those of its children behind others that run and have a module, and none of those before it. It stands at a place.
+    pub(crate) fn push_running(
+        &self,
+        before: &[Atom],
+        name: &Atom,
+        app: usize,
+        found: &mut Vec<ChildProcess>,
+    ) -> Result<(), AllocError>
+        ensures { OnOk result
+            (found.new.items ≡ found.old.items ++ each_child (runs_for before.now name.now) self.now app 0 self.now.children) }
+    {
+        let children = self.children();
+        for (child, each) in children.iter().enumerate() {
+            self.push_child(before, name, Spot { app, child }, each, found)?;
+        }
+        Ok(())
+    }
+
+    /// Puts its child at a spot behind others, if it runs and has a module, and none of those before it.
+    fn push_child(
+        &self,
+        before: &[Atom],
+        name: &Atom,
+        spot: Spot,
+        child: &Child,
+        found: &mut Vec<ChildProcess>,
+    ) -> Result<(), AllocError>
+        ensures { OnOk result (found.new.items ≡ found.old.items ++ runs_for before.now name.now self.now spot child.now) }
+    {
+        if !child.is_first_for(before, name) {
+            return Ok(());
+        }
+        match child.pid() {
+            Some(pid) => Ok(found.push(ChildProcess { spot, pid })?),
+            None => Ok(()),
+        }
+    }
+
+    /// Puts those of its children behind others that have no process, are among these names, and have a module, and none of
+    /// those before it. It stands at a place.
+    pub(crate) fn push_idle(
+        &self,
+        names: &[ChildName],
+        before: &[Atom],
+        name: &Atom,
+        app: usize,
+        found: &mut Vec<Spot>,
+    ) -> Result<(), AllocError>
+        ensures { OnOk result
+            (found.new.items ≡ found.old.items ++ each_child (idle_for names.now before.now name.now) self.now app 0 self.now.children) }
+    {
+        let children = self.children();
+        for (child, each) in children.iter().enumerate() {
+            if self.is_startable(names, before, name, each) {
+                found.push(Spot { app, child })?;
+            }
+        }
+        Ok(())
+    }
+
+    /// Puts the name of its child at a place behind others, if there is one.
+    pub(crate) fn push_name(
+        &self,
+        alloc: Global,
+        place: usize,
+        names: &mut Vec<ChildName>,
+    ) -> Result<(), AllocError>
+        ensures { OnOk result
+            (names.new.items ≡ names.old.items ++ name_for self.now.spec.name (slice_get self.now.children place)) }
+    {
+        match self.children().get(place) {
+            Some(child) => push_child_name(alloc, &self.spec.name, child, names),
+            None => Ok(()),
+        }
+    }
+
+    /// Whether it is started and a child of it has no process, is among these names, and has a module, and none of those before
+    /// it.
+    fn is_startable(&self, names: &[ChildName], before: &[Atom], name: &Atom, child: &Child) -> bool
+        ensures { result ≡ is_startable names.now before.now name.now self.now child.now }
+    {
+        self.is_started
+            && child.has_none()
+            && child.is_first_for(before, name)
+            && is_named_in(names, &self.spec.name, child)
+    }
+}
+
+/// Puts the name of a child of the application of a name behind others.
+fn push_child_name(
+    alloc: Global,
+    app: &Atom,
+    child: &Child,
+    names: &mut Vec<ChildName>,
+) -> Result<(), AllocError>
+    ensures { OnOk result (names.new.items ≡ names.old.items ++ name_for app.now (Some child.now)) }
+{
+    let app = app.copy(alloc)?;
+    let id = child.spec.id.copy(alloc)?;
+    names.push(ChildName { app, id })?;
+    Ok(())
 }
 
 /// The state of a child whose process has ended for a reason: it is due only in an application that is started.

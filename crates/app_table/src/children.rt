@@ -1,11 +1,18 @@
 // The children of a supervisor, which are found by their Ids and by their pids.
-ghost use Rattle.std.specs.Prelude.{◌≡◌, IfOk, [], position};
+ghost use Rattle.std.specs.Prelude.{◌≡◌, IfOk, [], map, position, reverse};
+ghost use Rattle.std.specs.List.{filter_map};
 ghost use Rattle.app_table.specs.Applications.{has_id};
 ghost use Rattle.app_table.specs.Children.{in_state, runs_as};
+ghost use Rattle.app_table.specs.Changes.{pids_back};
+ghost use Rattle.app_table.specs.Undo.{in_states};
+ghost use Rattle.app_table.specs.declared.child.ChildState.TheVariants.{Stopped};
 ghost use Rattle.values.specs.Edits.{changed_at};
 
 use crate::child::{Child, ChildState};
-use crate::orders::{first_of_id, first_of_pid, order_by_id, order_by_pid, set_state};
+use crate::orders::{
+    first_of_id, first_of_pid, order_by_id, order_by_pid, order_places, put_all_in_by_pid,
+    set_state,
+};
 use erl_term::Term;
 use std::alloc::{AllocError, Global};
 use std::marker::Model;
@@ -13,8 +20,8 @@ use values::Row;
 
 /// The children of a supervisor, in order, each of which is found by its Id and by the pid that it runs as.
 ///
-/// To find one takes the logarithm of their number. One whose state is set moves in the order of pids, and with it those between, 8 bytes
-/// each.
+/// To find one takes the logarithm of their number. One whose state is set moves in the order of pids, and with it those
+/// between, 8 bytes each.
 #[derive(Drop)]
 pub struct Children {
     row: Vec<Child>,
@@ -39,8 +46,8 @@ impl Model for Children {
 }
 
 impl Children {
-    /// These children. Each place is put in where it belongs, so those that come in order take the least time, and others move those that
-    /// stand behind them: at worst all that are there already, 8 bytes each.
+    /// These children. Each place is put in where it belongs, so those that come in order take the least time, and others move
+    /// those that stand behind them: at worst all that are there already, 8 bytes each.
     ///
     /// # Errors
     ///
@@ -94,4 +101,71 @@ impl Children {
             set_state(&mut self.row, self.pids.as_mut_slice(), place, state);
         }
     }
+
+    /// None has a process or is due. Writes the order of pids in one pass, for it is that of the places. Takes no memory.
+    pub(crate) fn stop_all(&mut self)
+        ensures { self.new ≡ map (in_state Stopped) self.old }
+    {
+        stop_each(self.row.as_mut_slice());
+        order_places(self.pids.as_mut_slice());
+    }
+
+    /// They are in these states, in order; those for which there is none stay. Puts each place in where it belongs in the order
+    /// of pids. Takes no memory.
+    pub(crate) fn set_states(&mut self, states: &[ChildState])
+        ensures { self.new ≡ in_states states.now self.old }
+    {
+        set_each(self.row.as_mut_slice(), states);
+        put_all_in_by_pid(self.row.as_slice(), &mut self.pids);
+    }
+}
+
+/// Each of these has no process, and isn't due.
+fn stop_each(row: &mut [Child])
+    ensures { row.new ≡ map (in_state Stopped) row.old }
+{
+    for child in row.iter_mut() {
+        child.set(ChildState::Stopped);
+    }
+}
+
+/// These are in these states, in order; those for which there is none stay.
+fn set_each(row: &mut [Child], states: &[ChildState])
+    ensures { row.new ≡ in_states states.now row.old }
+{
+    for place in 0..row.len().min(states.len()) {
+        row[place].set(states[place]);
+    }
+}
+
+/// The pids of those that run, from the last to the first.
+///
+/// # Errors
+///
+/// `AllocError` where memory is refused.
+pub(crate) fn pids_back(alloc: Global, row: &[Child]) -> Result<Vec<u64>, AllocError>
+    ensures { IfOk result (λ it. it.items ≡ pids_back row.now) }
+{
+    let mut pids = Vec::new(alloc);
+    for place in (0..row.len()).rev() {
+        if let Some(pid) = row[place].pid() {
+            pids.push(pid)?;
+        }
+    }
+    Ok(pids)
+}
+
+/// The states of children, in order.
+///
+/// # Errors
+///
+/// `AllocError` where memory is refused.
+pub(crate) fn states_of(alloc: Global, row: &[Child]) -> Result<Vec<ChildState>, AllocError>
+    ensures { IfOk result (λ it. it.items ≡ map (λ c. c.state) row.now) }
+{
+    let mut states = Vec::with_capacity(alloc, row.len())?;
+    for child in row {
+        states.push_reserved(child.state);
+    }
+    Ok(states)
 }

@@ -1,6 +1,6 @@
 // The places of children in the order of their Ids, and of the pids that they run as.
 ghost use Rattle.std.specs.Prelude.{◌≡◌, ◌+◌, ◌<◌, ◌≤◌, ◌∷◌, All, IfOk, IsPermutation, Some, length, position, slice_index, true, vec_capacity, vec_len};
-ghost use Rattle.std.specs.List.{insert, remove};
+ghost use Rattle.std.specs.List.{insert, range_with_len, remove};
 ghost use Rattle.std.specs.Option.{option_cmp};
 ghost use Rattle.std.specs.Ordering.{is_lt, nat_cmp, on};
 ghost use Rattle.erl_term.specs.Order.{tree_cmp};
@@ -176,10 +176,28 @@ pub(crate) fn order_by_pid(alloc: Global, row: &[Child]) -> Result<Vec<usize>, A
     ensures { IfOk result (λ pids. IsOrderOf (by_pid row.now) (length row.now) pids.items) }
 {
     let mut pids = Vec::with_capacity(alloc, row.len())?;
-    for place in 0..row.len() {
-        put_in_by_pid(row, &mut pids, place);
-    }
+    put_all_in_by_pid(row, &mut pids);
     Ok(pids)
+}
+
+/// The places of children in the order of the pids that they run as, in a list that has room for them. Takes no memory.
+pub(crate) fn put_all_in_by_pid(row: &[Child], pids: &mut Vec<usize>)
+    requires { length row.now ≤ vec_capacity pids.old }
+    ensures { IsOrderOf (by_pid row.now) (length row.now) pids.new.items }
+{
+    pids.clear();
+    for place in 0..row.len() {
+        put_in_by_pid(row, pids, place);
+    }
+}
+
+/// The places in their own order.
+pub(crate) fn order_places(places: &mut [usize])
+    ensures { places.new ≡ range_with_len 0 (length places.old) }
+{
+    for place in 0..places.len() {
+        places[place] = place;
+    }
 }
 
 /// Where a place belongs among the others of an order of pids, from which it is left out where it stands.
@@ -204,9 +222,7 @@ fn shift_up(pids: &mut [usize], from: usize, to: usize)
     requires within { to < length pids.old }
     ensures { pids.new ≡ insert (remove pids.old from) to (slice_index pids.old from) }
 {
-    for at in from..to {
-        pids.swap(at, at + 1);
-    }
+    pids[from..to + 1].rotate_left(1);
 }
 
 /// Moves an entry towards the front, and those between by one.
@@ -215,9 +231,7 @@ fn shift_down(pids: &mut [usize], from: usize, to: usize)
     requires within { from < length pids.old }
     ensures { pids.new ≡ insert (remove pids.old from) to (slice_index pids.old from) }
 {
-    for at in (to..from).rev() {
-        pids.swap(at, at + 1);
-    }
+    pids[to..from + 1].rotate_right(1);
 }
 
 /// Moves an entry from one place to another, and those between by one.

@@ -3,16 +3,21 @@ ghost use Rattle.std.specs.Prelude.{◌≡◌, ◌↔◌, ◌+◌, ◌≤◌, �
 ghost use Rattle.std.specs.Option.{option_copied};
 ghost use Rattle.app_table.specs.Applications.{Application, all_ended, changed_child, child_at, ended, has_process, loaded, place_of, set_child, spot_by_pid, spot_of, with_children};
 ghost use Rattle.app_table.specs.Children.{after_end, is_due};
+ghost use Rattle.app_table.specs.Pieces.{child_pieces, held};
 ghost use Rattle.app_table.specs.Undo.{all_unended, undone, unended};
 ghost use Rattle.app_table.specs.declared.child.Child.{Child as OneChild};
 ghost use Rattle.app_table.specs.declared.child.ChildState.TheVariants.{Running};
 ghost use Rattle.values.specs.Edits.{changed_at};
 
+mod changing;
+mod modules;
+mod specs;
+
 use crate::app::App;
 use crate::child::{Child, ChildState};
 use crate::children::Children;
 use crate::spot::Spot;
-use crate::undo::{Ended, Undo};
+use crate::undo::{ChildProcess, Undo};
 use erl_term::{Atom, Term};
 use otp_files::AppSpec;
 use std::alloc::{AllocError, Global};
@@ -45,6 +50,13 @@ fn push_loaded(list: &mut Vec<App>, alloc: Global, spec: AppSpec) -> Result<(), 
 {
     list.push(App::new(alloc, spec))?;
     Ok(())
+}
+
+/// The place of the application of a name.
+fn place_in(list: &[App], name: &Atom) -> Option<usize>
+    ensures { result ≡ place_of name.now list.now }
+{
+    list.iter().position(|app| app.spec().name == *name)
 }
 
 impl AppTable {
@@ -88,7 +100,7 @@ impl AppTable {
     pub fn place_of(&self, name: &Atom) -> Option<usize>
         ensures { result ≡ place_of name.now self.now }
     {
-        self.list.iter().position(|app| app.spec().name == *name)
+        place_in(self.list.as_slice(), name)
     }
 
     /// The application at a place, counted from 0, where there is one. Takes no memory.
@@ -132,8 +144,8 @@ impl AppTable {
         Some(Spot { app, child })
     }
 
-    /// The application at a place is started, or not, and has these children. Those that it had are handed out; where there is none at
-    /// the place, these.
+    /// The application at a place is started, or not, and has these children. Those that it had are handed out; where there is
+    /// none at the place, these.
     #[tactic(auto, using(crate::proofs::Writes::changed_from_write, crate::proofs::Writes::changed_past))]
     fn set_children(&mut self, app: usize, is_started: bool, children: Children) -> Children
         ensures set { self.new ≡ changed_at (with_children is_started children) self.old app }
@@ -170,6 +182,7 @@ impl AppTable {
         requires { (a : Application) × (slice_get self.old app ≡ Some a) × (a.is_started ≡ false) }
         ensures started { self.new ≡ changed_at (with_children true children) self.old app }
         ensures inverse { undone result self.new ≡ self.old }
+        ensures pieces { IfSome (slice_get self.old app) (λ a. held result self.new ≡ child_pieces a.spec.name a.children) }
     {
         Undo::Started(app, self.set_children(app, true, children))
     }
@@ -179,14 +192,15 @@ impl AppTable {
         requires { (c : OneChild) × (child_at spot self.old ≡ Some c) × (is_due c ≡ true) }
         ensures revived { self.new ≡ set_child (Running pid) spot self.old }
         ensures inverse { undone result self.new ≡ self.old }
+        ensures pieces { held result self.new ≡ [] }
     {
         self.set_child(spot, ChildState::Running(pid));
         Undo::Revived(spot)
     }
 
-    /// The process of a pid has ended for a reason: if it was a child's, the child is due now, or stopped. There is room for what takes it
-    /// back.
-    fn end(&mut self, pid: u64, reason: &Term, undo: &mut Vec<Ended>)
+    /// The process of a pid has ended for a reason: if it was a child's, the child is due now, or stopped. There is room for
+    /// what takes it back.
+    fn end(&mut self, pid: u64, reason: &Term, undo: &mut Vec<ChildProcess>)
         requires { vec_len undo.old < vec_capacity undo.old }
         ensures ended { self.new ≡ ended reason.now pid self.old }
         ensures back { all_unended undo.new.items self.new ≡ all_unended undo.old.items self.old }
@@ -196,11 +210,11 @@ impl AppTable {
             return;
         };
         self.stop_child(spot, reason);
-        undo.push_reserved(Ended { spot, pid });
+        undo.push_reserved(ChildProcess { spot, pid });
     }
 
-    /// Processes have ended for a reason, one after the other: a child whose process has ended is due where its Restart and the reason say
-    /// so and its application is started, and else stopped.
+    /// Processes have ended for a reason, one after the other: a child whose process has ended is due where its Restart and the
+    /// reason say so and its application is started, and else stopped.
     ///
     /// # Errors
     ///
@@ -208,6 +222,7 @@ impl AppTable {
     pub fn ended(&mut self, pids: &[u64], reason: &Term) -> Result<Undo, AllocError>
         ensures ended { OnOk result (self.new ≡ all_ended reason.now pids.now self.old) }
         ensures inverse { IfOk result (λ undo. undone undo self.new ≡ self.old) }
+        ensures pieces { IfOk result (λ undo. held undo self.new ≡ []) }
         ensures err { OnErr result (self.new ≡ self.old) }
     {
         let mut undo = Vec::with_capacity(self.alloc, pids.len())?;
@@ -218,7 +233,7 @@ impl AppTable {
     }
 
     /// Children run again as the processes that have ended, the last first.
-    fn unend(&mut self, ended: &[Ended])
+    fn unend(&mut self, ended: &[ChildProcess])
         ensures { self.new ≡ all_unended ended.now self.old }
     {
         for place in (0..ended.len()).rev() {
@@ -237,6 +252,8 @@ impl AppTable {
             }
             Undo::Revived(spot) => self.set_child(spot, ChildState::Due),
             Undo::AllEnded(ended) => self.unend(ended.as_slice()),
+            Undo::AllRun(reruns) => self.unrun(reruns.as_slice()),
+            Undo::AppStopped(app, states) => self.unstop_app(app, states.as_slice()),
         }
     }
 }

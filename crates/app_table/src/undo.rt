@@ -1,15 +1,27 @@
 // What takes a step of applications back.
+use crate::app::App;
+use crate::child::ChildState;
 use crate::children::Children;
+use crate::specs::Replaced;
 use crate::spot::Spot;
 use values::Row;
 
-/// A child whose process has ended.
+/// A child and a process that it runs as, or has run as.
 #[derive(Clone, Copy, Debug, PartialEq, Eq, Drop)]
-pub struct Ended {
-    /// Where it stands.
+pub struct ChildProcess {
+    /// Where the child stands.
     pub spot: Spot,
     /// The pid of the process.
     pub pid: u64,
+}
+
+/// A child that runs again, and whether it was due before.
+#[derive(Clone, Copy, Debug, PartialEq, Eq, Drop)]
+pub struct Rerun {
+    /// Where the child stands.
+    pub spot: Spot,
+    /// Whether it was due, and not stopped.
+    pub was_due: bool,
 }
 
 /// What takes a step of applications back.
@@ -20,5 +32,27 @@ pub enum Undo {
     /// The child at a spot was due, and runs.
     Revived(Spot),
     /// Children have ended, in this order.
-    AllEnded(Row<Ended>),
+    AllEnded(Row<ChildProcess>),
+    /// Children run that had no process, in this order.
+    AllRun(Row<Rerun>),
+    /// The application at a place was stopped, whose children were in these states, in order.
+    AppStopped(usize, Row<ChildState>),
+}
+
+/// An application that was unloaded, whole.
+#[derive(Drop)]
+pub struct Unloaded {
+    /// The place where it stood, counted from 0.
+    pub place: usize,
+    /// The application.
+    pub app: App,
+}
+
+/// Specifications that were put in place of others, and put back: what they were, and the applications that were added with them.
+#[derive(Drop)]
+pub struct PutBack {
+    /// The specifications that are replaced no more, at their places, in order.
+    pub replaced: Row<Replaced>,
+    /// The applications that were added, in order.
+    pub added: Row<App>,
 }

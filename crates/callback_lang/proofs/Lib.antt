@@ -1,3 +1,4 @@
+pub mod Evaluated
 pub mod Finishing
 pub mod Gives
 pub mod Tags

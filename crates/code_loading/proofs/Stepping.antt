@@ -31,27 +31,28 @@ use Rattle.process.specs.JobCode.{IsJobCode, job_code}
 use Rattle.process.specs.Named.{StandsIn, as_current}
 use Rattle.process.proofs.Living.{held-all}
 use Rattle.process.specs.Ended.{PlaceStands, CodeStands, held}
-use Rattle.process.specs.Process.{ProcessState, job_by, run_by, started}
+use Rattle.process.specs.Process.{ProcessState, job_by, resumed_by, run_by, started, suspended_by, with_state}
 use Rattle.process.specs.declared.activity.Activity.{Activity}
 use Rattle.process.specs.declared.activity.Activity.TheVariants.{Idle, Suspended, Runs}
 use Rattle.process_effects.specs.Begins.{act_begun, acts_begun, name_left}
 use Rattle.process_effects.specs.Acts.{act_done, acts_done, closed_at, receiver_of, sent}
 use Rattle.process_effects.specs.Commits.{IsRunning, is_loaded_as, job_at, loaded_as, rests_in}
 use Rattle.process_effects.proofs.Ends.{others_stay}
-use Rattle.process_effects.specs.Ends.{Stands}
+use Rattle.process_effects.specs.Ends.{Stands, all_vacated}
 use Rattle.process_index.specs.declared.calls.Call.{Call}
 use Rattle.process_store.proofs.Slots.{kept_all}
-use Rattle.process_store.specs.Changes.{closed_living, owner_of, rest_living}
+use Rattle.process_store.specs.Changes.{closed_living, owner_of, rest_living, restate_living, resume_living, suspend_living}
 use Rattle.process_store.specs.Living.{arrived, run, takes_next}
 use Rattle.process_store.specs.Table.{Table, added, changed, changed_slots, living, living_at, next_pid, pid_of}
 use Rattle.process_store.specs.declared.living.Living.{Living}
 use Rattle.process_table.specs.Commit.{committed, concluded}
 use Rattle.process_table.specs.Messages.{message_of}
+use Rattle.process_table.specs.States.{all_resumed, all_suspended}
 use Rattle.process_table.specs.Steps.{IsCode, IsCodeOf, after_arrival, arrived_at, call_of, entered, taken, taken_at}
 use Rattle.code_loading.specs.Current.{current_code, current_in, named}
 use Rattle.code_loading.proofs.Naming.{rests, starts_in}
 use Rattle.code_loading.specs.Laws.{StartsIn, StepsKeepCode}
-use Rattle.code_loading.specs.Consistent.{Enters, EntersAt, IsConsistent, RestsAt}
+use Rattle.code_loading.specs.Consistent.{Enters, EntersAt, EntersBy, IsConsistent, RestsAt}
 
 -- What holds of each process that lives, by the table of modules.
 
@@ -269,12 +270,71 @@ currents_stand m sound = all_stand m m.entries current
     current j entry at =
         current-at_place entry.0 m j (place-of_entry m.entries j entry sound.distinct at) ∙ ap (option_and_then (λ e. e.1.current)) at
 
+-- Processes are suspended and resumed, get another state, and end.
+
+suspended_stands : (m : Loaded Forms) (a : Activity) → CodeStands m a → CodeStands m (suspended_by a)
+suspended_stands m Idle stands = tt
+suspended_stands m Suspended stands = tt
+suspended_stands m (Runs r) stands = stands
+
+resumed_stands : (m : Loaded Forms) (a : Activity) → CodeStands m a → CodeStands m (resumed_by a)
+resumed_stands m Idle stands = tt
+resumed_stands m Suspended stands = tt
+resumed_stands m (Runs r) stands = stands
+
+suspended_enters : (rests : Option Instance) (a : Activity) → EntersBy rests a → EntersBy rests (suspended_by a)
+suspended_enters rests Idle enters = tt
+suspended_enters rests Suspended enters = tt
+suspended_enters rests (Runs r) enters = enters
+
+resumed_enters : (rests : Option Instance) (a : Activity) → EntersBy rests a → EntersBy rests (resumed_by a)
+resumed_enters rests Idle enters = tt
+resumed_enters rests Suspended enters = tt
+resumed_enters rests (Runs r) enters = enters
+
+stated_rests : (state : Term) (at : Place) (rests : Option Instance) → RestsAt at rests → RestsAt (with_state state at) rests
+stated_rests state (Server m s) rests is = is
+stated_rests state (Loop m serial f args) rests is = is
+
+module _ (m : Loaded Forms) where
+  suspended_holds : (l : Living) → Holds m l → Holds m (suspend_living l)
+  suspended_holds l holds =
+      let p = l.process in
+      ((holds.0.0, suspended_stands m p.activity holds.0.1), (holds.1.0, suspended_enters p.rests_in p.activity holds.1.1))
+
+  resumed_holds : (l : Living) → Holds m l → Holds m (resume_living l)
+  resumed_holds l holds =
+      let p = l.process in
+      ((holds.0.0, resumed_stands m p.activity holds.0.1), (holds.1.0, resumed_enters p.rests_in p.activity holds.1.1))
+
+  restated_holds : (state : Term) (turns : ℕ) (l : Living) → Holds m l → Holds m (restate_living state turns l)
+  restated_holds state turns l holds = (holds.0, (stated_rests state l.process.place l.process.rests_in holds.1.0, holds.1.1))
+
+  all_suspended_kept : (pids : List ℕ) (t : Table) → AllHold m t → AllHold m (all_suspended pids t)
+  all_suspended_kept [] t all = all
+  all_suspended_kept (pid ∷ pids) t all =
+      all_suspended_kept pids (changed suspend_living pid t) (λ q. kept_all (Holds m) suspend_living suspended_holds t.slots pid q (all q))
+
+  all_resumed_kept : (pids : List ℕ) (t : Table) → AllHold m t → AllHold m (all_resumed pids t)
+  all_resumed_kept [] t all = all
+  all_resumed_kept (pid ∷ pids) t all =
+      all_resumed_kept pids (changed resume_living pid t) (λ q. kept_all (Holds m) resume_living resumed_holds t.slots pid q (all q))
+
+  all_ended_kept : (pids : List ℕ) (t : Table) → AllHold m t → AllHold m (all_vacated pids t)
+  all_ended_kept [] t all = all
+  all_ended_kept (pid ∷ pids) t all = λ q. others_stay (Holds m) (all_vacated pids t).slots pid q (all_ended_kept pids t all q)
+
 pub steps_keep_code : StepsKeepCode
 steps_keep_code = record {
   arrivals = λ client name body m t kept. consistent m (after_arrival client name body t) kept.sound (arrived_to m (pid_of name t) (message_of body) (call_of client body) t (all_hold m t kept));
   takes = λ pid job m t kept it. consistent m (taken pid job.entry_serial job.code t) kept.sound (taken_kept m (takes_next (living pid t)) pid job t kept.sound (all_hold m t kept) it);
   commits = λ done m t kept is. consistent m (committed done t) kept.sound (concluded_kept m done.job done.outcome.acts done.outcome.end t (done_in done done.outcome.end refl) (all_hold m t kept) is);
   starts = λ name code acts m t kept stands named. consistent m (acts_begun name code acts t) kept.sound (all_begun_kept m name code acts t stands named (all_hold m t kept));
+  suspends = λ pids m t kept. consistent m (all_suspended pids t) kept.sound (all_suspended_kept m pids t (all_hold m t kept));
+  resumes = λ pids m t kept. consistent m (all_resumed pids t) kept.sound (all_resumed_kept m pids t (all_hold m t kept));
+  restates = λ state turns pid m t kept. consistent m (changed (restate_living state turns) pid t) kept.sound
+      (λ q. kept_all (Holds m) (restate_living state turns) (restated_holds m state turns) t.slots pid q (all_hold m t kept q));
+  ends = λ pids m t kept. consistent m (all_vacated pids t) kept.sound (all_ended_kept m pids t (all_hold m t kept));
   currents = currents_stand;
   evaluated = calls_start_in;
 }

@@ -14,9 +14,13 @@ use Rattle.erl_semantics.specs.Views.{outcome_of, instance}
 use Rattle.erl_semantics.specs.declared.instance.Instance.{Instance}
 use Rattle.process.specs.Named.{StandsIn}
 use Rattle.process_effects.specs.Begins.{acts_begun}
+use Rattle.erl_term.specs.declared.term.Term.{Term}
 use Rattle.process_effects.specs.Commits.{IsRunning, rests_in}
-use Rattle.process_store.specs.Table.{Table, living}
+use Rattle.process_effects.specs.Ends.{all_vacated}
+use Rattle.process_store.specs.Changes.{restate_living}
+use Rattle.process_store.specs.Table.{Table, changed, living}
 use Rattle.process_table.specs.Commit.{committed}
+use Rattle.process_table.specs.States.{all_resumed, all_suspended}
 use Rattle.process_table.specs.Steps.{IsCodeOf, after_arrival, taken}
 use Rattle.process_table.specs.declared.body.Body.{Body}
 use Rattle.code_loading.specs.Current.{current_code}
@@ -36,11 +40,15 @@ StartsIn code (acts.Start place) = RestsAt place (rests_in place code)
 StartsIn code (acts.Name name by_register) = Unit {0}
 
 -- Nor does any other step of the processes: what comes to run is current code, or what the process rested in; and what comes to rest
--- does so in the code of its job.
+-- does so in the code of its job. One that is suspended, resumed, or gets another state uses what it used, and one that ends nothing.
 pub record StepsKeepCode : Type 0 where
   pub arrivals : (client : ℕ) (name : List ℕ) (body : Body) (modules : Loaded Forms) (t : Table) → IsConsistent modules t → IsConsistent modules (after_arrival client name body t)
   pub takes : (pid : ℕ) (job : Job) (modules : Loaded Forms) (t : Table) → IsConsistent modules t → IsCodeOf modules (living pid t) job → IsConsistent modules (taken pid job.entry_serial job.code t)
   pub commits : (done : Done) (modules : Loaded Forms) (t : Table) → IsConsistent modules t → IsRunning done.job t → IsConsistent modules (committed done t)
   pub starts : (name : Option (List ℕ)) (code : List Instance) (acts : List Act) (modules : Loaded Forms) (t : Table) → IsConsistent modules t → All (StandsIn modules) (map instance code) → All (StartsIn code) acts → IsConsistent modules (acts_begun name code acts t)
+  pub suspends : (pids : List ℕ) (modules : Loaded Forms) (t : Table) → IsConsistent modules t → IsConsistent modules (all_suspended pids t)
+  pub resumes : (pids : List ℕ) (modules : Loaded Forms) (t : Table) → IsConsistent modules t → IsConsistent modules (all_resumed pids t)
+  pub restates : (state : Term) (turns pid : ℕ) (modules : Loaded Forms) (t : Table) → IsConsistent modules t → IsConsistent modules (changed (restate_living state turns) pid t)
+  pub ends : (pids : List ℕ) (modules : Loaded Forms) (t : Table) → IsConsistent modules t → IsConsistent modules (all_vacated pids t)
   pub currents : (modules : Loaded Forms) → IsSound modules → All (StandsIn modules) (map instance (current_code modules))
   pub evaluated : (w : World) (code : List Instance) (m f : List ℕ) (args : Trees) (o : Outcome) → w.code ≡ map instance code → Evaluates w m f args (outcome_of o) → All (StartsIn code) o.acts

@@ -10,7 +10,7 @@ use Rattle.code_server.specs.declared.error.CodeError.TheVariants.{NotLoaded, No
 use Rattle.code_server.specs.declared.modules.Instance.{Instance}
 use Rattle.code_server.specs.declared.modules.Slots.{Slots}
 use Rattle.code_server.specs.declared.undo.Undo.{Undo}
-use Rattle.code_server.specs.declared.undo.Undo.TheVariants.{Nothing, Added, Stacked, Replaced, Retired, Purged, Removed}
+use Rattle.code_server.specs.declared.undo.Undo.TheVariants.{Nothing, Added, Stacked, Replaced, Retired, Demoted, Purged, Removed}
 use Rattle.code_server.specs.Modules.{Entry, Table, HasCode, IsSound, current_of, old_of, place_of, with_slots, load_refusal, stacked, delete_refusal, retired, purged_slots, purged_at, purged}
 use Rattle.code_server.specs.Places.{current_at, former_at}
 use Rattle.code_server.specs.Undo.{Fits, IsPlaced, restored, swapped_back, undone, unpurged}
@@ -113,6 +113,12 @@ module _ {C : Type 0} where
       let back = with_slots-back (stacked instance) (swapped_back former) name t.entries es place at slots is in
       let count : t.next + 1 - 1 ≡ t.next = omega arith in
       taken_back (Replaced place former) (record { entries = es; next = t.next + 1 }) t now (within_changed (stacked instance) name t.entries es place at is) (λ j. record { entries = back j; next = count j }) sound same
+
+  pub Demoted-back : (name : List ℕ) (t now : Table C) (place : ℕ) (es : List (Entry C)) (former : Instance C) (at : Stands name t.entries place) → at.slots.former ≡ Some former → es ≡ with_slots retired t.entries place → IsSound t → t ≡ now → Fits (Demoted place former) (record { entries = es; next = t.next }) × (undone (Demoted place former) (record { entries = es; next = t.next }) ≡ now)
+  Demoted-back name t now place es former at some is sound same =
+      let slots = same_slots at.slots.current (Some former) at.slots refl some in
+      let back = with_slots-back retired (swapped_back former) name t.entries es place at slots is in
+      taken_back (Demoted place former) (record { entries = es; next = t.next }) t now (within_changed retired name t.entries es place at is) (λ j. record { entries = back j; next = t.next }) sound same
 
   pub Purged-back : (name : List ℕ) (t now : Table C) (place : ℕ) (es : List (Entry C)) (former : Instance C) (at : Stands name t.entries place) → at.slots.former ≡ Some former → es ≡ with_slots purged_slots t.entries place → IsSound t → t ≡ now → Fits (Purged place former) (record { entries = es; next = t.next }) × (undone (Purged place former) (record { entries = es; next = t.next }) ≡ now)
   Purged-back name t now place es former at some is sound same =

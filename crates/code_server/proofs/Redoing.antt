@@ -6,9 +6,9 @@ use Rattle.values.proofs.Edits.{changed_at-back, remove-insert, slice_get-change
 use Rattle.code_server.specs.declared.modules.Instance.{Instance}
 use Rattle.code_server.specs.declared.modules.Slots.{Slots}
 use Rattle.code_server.specs.declared.undo.Redo.{Redo}
-use Rattle.code_server.specs.declared.undo.Redo.TheVariants.{Replace, Move, Purge, Remove}
+use Rattle.code_server.specs.declared.undo.Redo.TheVariants.{Replace, Demote, Move, Purge, Remove}
 use Rattle.code_server.specs.declared.undo.Undo.{Undo}
-use Rattle.code_server.specs.declared.undo.Undo.TheVariants.{Replaced, Moved, Purged, Removed}
+use Rattle.code_server.specs.declared.undo.Undo.TheVariants.{Replaced, Demoted, Moved, Purged, Removed}
 use Rattle.code_server.specs.Modules.{Entry, Table, IsSound, with_slots}
 use Rattle.code_server.specs.Places.{current_at, former_at, old_alone}
 use Rattle.code_server.specs.Undo.{Fits, Redoes, moved_back, moved_last, replaced, swapped_back, unpurged, with_old}
@@ -43,6 +43,20 @@ module _ {C : Type 0} where
         hands = ap (option_map (Replaced place)) (former-changed (swapped_back instance) t.entries es place there.0 there.1 is);
         fits = fits;
         back = λ j. record { entries = sym is j; next = less j };
+        sound = sound;
+      }
+
+  pub Demoted-again : (place : ℕ) (instance : Instance C) (gone : Option (Instance C)) (t : Table C) (es : List (Entry C)) → IsSound t → es ≡ with_slots (swapped_back instance) t.entries place → gone ≡ current_at t.entries place → Fits (Demoted place instance) t → Redoes (Demote place gone) (Demoted place instance) t (record { entries = es; next = t.next })
+  Demoted-again place instance gone t es sound is went fits =
+      let there = entry_at t.entries place fits.placed in
+      let lost = went ∙ ap (option_and_then (λ e. e.1.current)) there.1 in
+      let slots = same_slots gone there.0.1.former there.0.1 (sym lost) refl in
+      let entries = changed-again (swapped_back instance) (replaced gone) t.entries es place there.0 there.1 slots is in
+      record {
+        again = λ j. record { entries = entries j; next = t.next };
+        hands = ap (option_map (Demoted place)) (former-changed (swapped_back instance) t.entries es place there.0 there.1 is);
+        fits = fits;
+        back = λ j. record { entries = sym is j; next = t.next };
         sound = sound;
       }
 

@@ -23,7 +23,7 @@ module _ {C : Type 0} where
   -- No old code stays
 
   -- the module's place, where its instances changed
-  place_of-with_slots : (f : Slots C → Slots C) (name : List ℕ) (es : List (Entry C)) (place : ℕ) → place_of name es ≡ Some place → place_of name (with_slots f es place) ≡ Some place
+  pub place_of-with_slots : (f : Slots C → Slots C) (name : List ℕ) (es : List (Entry C)) (place : ℕ) → place_of name es ≡ Some place → place_of name (with_slots f es place) ≡ Some place
   place_of-with_slots f name es place found =
       ap (position (bytes_eq name)) (keys-with_slots f es place) ∙ found
 

@@ -98,6 +98,10 @@ purged name t = record {
   next = t.next;
 }
 
+-- Remove: a purge, and then a delete where there is current code. A module that has old code alone leaves the table.
+abbrev pub removed : {C : Type 0} → List ℕ → Table C → Table C
+removed name t = deleted name (purged name t)
+
 -- Soft purge: a purge that is refused where there is old code and somebody uses it.
 abbrev pub soft_purge_refusal : {C : Type 0} → List ℕ → Bool → Table C → Option CodeError
 soft_purge_refusal name in_use t = if is_some (old_of name t) && in_use then Some OldInUse else None

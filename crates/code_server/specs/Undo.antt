@@ -5,9 +5,9 @@ use Rattle.std.specs.Str.{bytes_eq}
 use Rattle.code_server.specs.declared.modules.Instance.{Instance}
 use Rattle.code_server.specs.declared.modules.Slots.{Slots}
 use Rattle.code_server.specs.declared.undo.Undo.{Undo}
-use Rattle.code_server.specs.declared.undo.Undo.TheVariants.{Nothing, Added, Stacked, Replaced, Moved, Retired, Purged, Removed}
+use Rattle.code_server.specs.declared.undo.Undo.TheVariants.{Nothing, Added, Stacked, Replaced, Moved, Retired, Demoted, Purged, Removed}
 use Rattle.code_server.specs.declared.undo.Redo.{Redo}
-use Rattle.code_server.specs.declared.undo.Redo.TheVariants.{Replace, Move, Purge, Remove}
+use Rattle.code_server.specs.declared.undo.Redo.TheVariants.{Replace, Demote, Move, Purge, Remove}
 use Rattle.code_server.specs.Modules.{Entry, Table, IsSound, with_slots}
 use Rattle.code_server.specs.Places.{former_at}
 
@@ -39,6 +39,7 @@ undone (Moved place instance) t = record {
   next = t.next - 1;
 }
 undone (Retired place) t = record { entries = with_slots restored t.entries place; next = t.next }
+undone (Demoted place instance) t = record { entries = with_slots (swapped_back instance) t.entries place; next = t.next }
 undone (Purged place instance) t = record { entries = with_slots (unpurged instance) t.entries place; next = t.next }
 undone (Removed place name instance) t = record {
   entries = insert t.entries place (name, record { current = None; former = Some instance });
@@ -53,6 +54,7 @@ IsPlaced (Stacked place) t = place < length t.entries
 IsPlaced (Replaced place instance) t = place < length t.entries
 IsPlaced (Moved place instance) t = place < length t.entries
 IsPlaced (Retired place) t = place < length t.entries
+IsPlaced (Demoted place instance) t = place < length t.entries
 IsPlaced (Purged place instance) t = place < length t.entries
 IsPlaced (Removed place name instance) t = (place ≤ length t.entries) × (lookup (bytes_eq name) t.entries ≡ None)
 
@@ -69,6 +71,7 @@ IsRemoval (Stacked place) = ⊥
 IsRemoval (Replaced place instance) = ⊥
 IsRemoval (Moved place instance) = ⊥
 IsRemoval (Retired place) = ⊥
+IsRemoval (Demoted place instance) = ⊥
 IsRemoval (Purged place instance) = ⊥
 IsRemoval (Removed place name instance) = Unit {0}
 
@@ -80,6 +83,7 @@ HasPurged (Stacked place) = ⊥
 HasPurged (Replaced place instance) = Unit {0}
 HasPurged (Moved place instance) = Unit {0}
 HasPurged (Retired place) = ⊥
+HasPurged (Demoted place instance) = Unit {0}
 HasPurged (Purged place instance) = Unit {0}
 HasPurged (Removed place name instance) = Unit {0}
 
@@ -101,6 +105,7 @@ moved_last slots (Some entry) others = others ++ (entry.0, slots) ∷ []
 -- the table that the change leads to
 abbrev pub redone : {C : Type 0} → Redo C → Table C → Table C
 redone (Replace place instance) t = record { entries = with_slots (replaced instance) t.entries place; next = t.next + 1 }
+redone (Demote place instance) t = record { entries = with_slots (replaced instance) t.entries place; next = t.next }
 redone (Move place slots) t = record {
   entries = moved_last slots (slice_get t.entries place) (remove t.entries place);
   next = t.next + 1;
@@ -111,6 +116,7 @@ redone (Remove place) t = record { entries = remove t.entries place; next = t.ne
 -- the undo that the change hands out: with it is the old code that the module at the place has, which goes
 abbrev pub undo_of : {C : Type 0} → Redo C → Table C → Option (Undo C)
 undo_of (Replace place instance) t = option_map (Replaced place) (former_at t.entries place)
+undo_of (Demote place instance) t = option_map (Demoted place) (former_at t.entries place)
 undo_of (Move place slots) t = option_map (Moved place) (former_at t.entries place)
 undo_of (Purge place instance) t = option_map (Purged place) (former_at t.entries place)
 undo_of (Remove place) t =

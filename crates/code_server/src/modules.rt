@@ -1,5 +1,6 @@
 // The table of modules.
 mod redoing;
+mod removing;
 
 ghost use Rattle.std.specs.Prelude.{◌≡◌, ◌↔◌, ℕ, List, [], None, Some, length, slice_get, IsSome, IsTrue, IfOk, IfErr, OnOk, OnErr, MatchOption, MatchResult};
 ghost use Rattle.std.specs.Str.{chars};
@@ -343,7 +344,11 @@ impl<C: Drop> Modules<C> {
                 let _ = change_at(&mut self.table, place, SlotChange::Unstack(None));
                 Ok(())
             }
-            Undo::Replaced(..) | Undo::Moved(..) | Undo::Purged(..) | Undo::Removed(..) => {
+            Undo::Replaced(..) | Undo::Moved(..) | Undo::Demoted(..) => {
+                self.unpurge(undo)?;
+                Ok(())
+            }
+            Undo::Purged(..) | Undo::Removed(..) => {
                 self.unpurge(undo)?;
                 Ok(())
             }

@@ -19,6 +19,8 @@ pub enum Undo<C> {
     Moved(usize, Instance<C>),
     /// A delete of the module at this place made its current code old.
     Retired(usize),
+    /// A removal of the module at this place made its current code old, and purged this old code.
+    Demoted(usize, Instance<C>),
     /// The module at this place lost this old code.
     Purged(usize, Instance<C>),
     /// The module with this name stood at this place, and left the table with this old code, its last.
@@ -32,6 +34,9 @@ pub enum Redo<C> {
     /// A load makes the current code of the module at this place old, and purges its old code. The instance is the load's,
     /// which is current again.
     Replace(usize, Option<Instance<C>>),
+    /// A removal makes the current code of the module at this place old, and purges its old code. The instance is what the removal left for
+    /// current code: none.
+    Demote(usize, Option<Instance<C>>),
     /// A load of the module at this place, which has old code alone, purges that, and puts the module last. The instances
     /// are those that the load left it with.
     Move(usize, Slots<C>),

@@ -6,4 +6,5 @@ pub mod Living
 pub mod Mailboxes
 pub mod Places
 pub mod Reruns
+pub mod Restating
 pub mod Standing

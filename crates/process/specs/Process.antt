@@ -4,6 +4,7 @@ use Rattle.std.specs.Prelude.{Option, None, Some}
 use Rattle.erl_term.specs.Term.{tree}
 use Rattle.erl_term.specs.declared.term.Term.{Term}
 use Rattle.erl_semantics.specs.declared.acts.Place.{Place}
+use Rattle.erl_semantics.specs.declared.acts.Place.TheVariants.{Server, Loop}
 use Rattle.erl_semantics.specs.Acts.{place}
 use Rattle.erl_semantics.specs.Jobs.{accepts}
 use Rattle.erl_semantics.specs.State as state
@@ -168,3 +169,21 @@ unrested ran p = record p {
   activity = Runs ran.running;
   turn = p.turn - 1;
 }
+
+-- A change of its code gives a callback module's process another state, and counts it on by so many turns (gen_server(3),
+-- code_change/3); a loop function's has none.
+
+abbrev pub is_server_at : Place → Bool
+is_server_at (Server m s) = true
+is_server_at (Loop m serial f args) = false
+
+abbrev pub with_state : Term → Place → Place
+with_state state (Server m s) = Server m state
+with_state state (Loop m serial f args) = Loop m serial f args
+
+abbrev pub restated : Term → ℕ → ProcessState → ProcessState
+restated state turns p = record p { place = with_state state p.place; turn = p.turn + turns }
+
+-- it has its former state again, and so many turns less
+abbrev pub unrestated : Term → ℕ → ProcessState → ProcessState
+unrestated state turns p = record p { place = with_state state p.place; turn = p.turn - turns }

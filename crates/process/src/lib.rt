@@ -6,7 +6,8 @@
 //! they take a message; what a job gives is decided by whoever runs it.
 //!
 //! Contracts see a process as [`Process`]'s fields but one: the position of the message that it takes next, which the type
-//! keeps right, is no part of the value.
+//! keeps right, is no part of the value. It stays while messages come behind it, while the process is suspended and where it gets another
+//! state, and is looked for anew where the process rests again. An [`Ended`] doesn't keep it, for it depends on code, which isn't held.
 //!
 //! A process that ends may live again where its end is taken back. Until then it is an [`Ended`], which holds no code: the
 //! instances that it used are told by names and serials, so that a purge frees them.
@@ -29,6 +30,8 @@
 //!   process is as it was.
 //! - [`Process::suspend`] makes an idle process suspended, [`Process::resume`] a suspended one idle, and nothing else;
 //!   [`Process::is_suspended`] tells which it is.
+//! - [`Process::restate`] gives a process of a callback module another state, so many turns on, and hands out the one that it had;
+//!   nothing else of it changes. [`Process::unrestate`] takes that back (`restated`, `unrestated`).
 //! - [`Process::undeliver`], [`Process::untake`] and [`Process::unrest`] take the others back. What `rest_next` hands out gives
 //!   the process that ran, whole.
 //! - [`Process::job`] gives the job that the process runs, and [`Process::runs`] tells exactly whether it is one that is asked

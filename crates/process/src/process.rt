@@ -6,6 +6,7 @@ ghost use Rattle.process.specs.Process.{awaited, IsRunning, can_take, delivered,
 mod ending;
 mod reading;
 mod rerunning;
+mod restating;
 
 use crate::activity::{Activity, Running};
 pub use ending::{Did, Ended, NamedRunning, Told, ended_processes_live};

@@ -14,7 +14,7 @@ use Rattle.process_effects.specs.declared.answers.Answer.{Answer}
 use Rattle.process_index.specs.declared.calls.Call.{Call}
 use Rattle.process_store.proofs.Slots.{living_before}
 use Rattle.process_store.specs.Changes.{call_at, closed_living, owner_at, owner_of}
-use Rattle.process_store.specs.Table.{Table, added, changed, changed_slots, is_asked, living, living_at}
+use Rattle.process_store.specs.Table.{Table, added, changed, changed_slots, is_asked, living}
 use Rattle.process_store.specs.declared.living.Living.{Living}
 
 -- who is found, where the last is not

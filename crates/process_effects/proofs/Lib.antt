@@ -16,5 +16,6 @@ pub mod Reopening
 pub mod Replies
 pub mod Rests
 pub mod Returns
+pub mod Several
 pub mod Undoing
 pub mod Unsending

@@ -1,7 +1,7 @@
 -- Processes leave the last first, and come back the last first.
-use Rattle.std.proofs.Common.{◌≡◌, ℕ, All, List, [], ◌∷◌, ◌++◌, map, Option, None, Some, IfSome, option_to_list, get_or, refl, sym, ap, subst, ◌∙◌}
+use Rattle.std.proofs.Common.{◌≡◌, ℕ, All, List, [], ◌∷◌, ◌++◌, map, Option, None, Some, option_to_list, get_or, refl, sym, ap, subst, ◌∙◌}
 use Rattle.std.proofs.lemmas.List.{append-nil, append_assoc}
-use Rattle.std.proofs.lemmas.List.Elements.{All-pop, All-push, All-same}
+use Rattle.std.proofs.lemmas.List.Elements.{All-pop}
 use Rattle.std.proofs.lemmas.Option.{none-some, same_Some}
 use Rattle.erl_forms.specs.Module.{Forms}
 use Rattle.code_server.specs.Modules.{Table as Loaded}
@@ -88,8 +88,3 @@ who_leaves (Some l) before t after es e p there is gone stands one all =
 pub kills_back : (before t after : Table) (es now : List EndedProcess) (e : EndedProcess) (p : ToldProcess) → Some e ≡ ended_of p (living p.pid t) → after ≡ vacated p.pid t → now ≡ es ++ e ∷ [] → ((modules : Loaded Forms) → AllStand modules before → AllStand modules t) → EndsBack e t after → KillsBack es before t → KillsBack now before after
 kills_back before t after es now e p is gone more stands one all =
     subst (λ x. KillsBack x before after) (sym more) (who_leaves (living p.pid t) before t after es e p refl is gone stands one all)
-
--- one more user is told
-pub told_on : (t : Table) (it : Option ToldProcess) (ps now : List ToldProcess) → All (λ p. IsTold p.told (living p.pid t)) ps → IfSome it (λ p. IsTold p.told (living p.pid t)) → now ≡ ps ++ option_to_list it → All (λ p. IsTold p.told (living p.pid t)) now
-told_on t None ps now all one is = All-same (λ p. IsTold p.told (living p.pid t)) now ps (is ∙ append-nil ps) all
-told_on t (Some p) ps now all one is = All-same (λ q. IsTold q.told (living q.pid t)) now (ps ++ p ∷ []) is (All-push (λ q. IsTold q.told (living q.pid t)) ps p all one)

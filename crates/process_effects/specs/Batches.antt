@@ -1,5 +1,5 @@
 -- Changes of the processes that stand together or are given up together, and what takes them back.
-use Rattle.std.specs.Prelude.{ℕ, ◌-◌, List, [], ◌∷◌, None}
+use Rattle.std.specs.Prelude.{◌-◌, List, [], ◌∷◌, None}
 use Rattle.process_effects.specs.Parted.{AllReopen, all_reopened}
 use Rattle.process_store.specs.Inverses.{WasStarted}
 use Rattle.process_store.specs.Living.{unarrived}

@@ -1,9 +1,8 @@
 -- What evaluating has done, done to the processes: its acts in order, among them the start of a process, which gets the name that the
 -- acts ask for, if they ask for one (gen_server(3), start_link; Erlang Reference Manual, Processes).
-use Rattle.std.specs.Prelude.{◌≡◌, ℕ, Bool, List, [], ◌∷◌, ◌++◌, Option, None, Some}
+use Rattle.std.specs.Prelude.{◌≡◌, ℕ, List, [], ◌∷◌, ◌++◌, Option, None}
 use Rattle.erl_semantics.specs.declared.acts.Act.{Act}
 use Rattle.erl_semantics.specs.declared.acts.Act.TheVariants as act
-use Rattle.erl_semantics.specs.declared.acts.Place.{Place}
 use Rattle.erl_semantics.specs.declared.instance.Instance.{Instance}
 use Rattle.process_effects.specs.Acts.{act_told, answered, receiver_of, sent}
 use Rattle.process_effects.specs.Commits.{rests_in}

@@ -1,6 +1,7 @@
 -- The kill of all users of an instance (Erlang Reference Manual, Code Replacement; code(3), purge).
 use Rattle.std.specs.Prelude.{ℕ, if◌then◌else◌, List, map, Option, None}
 use Rattle.std.specs.List.{flat_map}
+use Rattle.erl_term.specs.declared.term.Term.{Term}
 use Rattle.process_effects.specs.Told.{downs, killed}
 use Rattle.process_effects.specs.Uses.{users, uses}
 use Rattle.process_effects.specs.declared.told.Reply.{Reply}
@@ -18,3 +19,7 @@ without_users serial t = record { slots = map (unless_uses serial) t.slots }
 -- their open calls are told so: process after process in order of pid, of each in order of client and number
 abbrev pub told_by_kill : ℕ → Table → List Reply
 told_by_kill serial t = flat_map (λ pid. downs killed (living pid t)) (users serial t)
+
+-- what clients are told where these processes end for a reason, one after the other: the open calls of each, in order of client and number
+abbrev pub all_downs : Term → List ℕ → Table → List Reply
+all_downs reason pids t = flat_map (λ pid. downs reason (living pid t)) pids

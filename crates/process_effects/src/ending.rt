@@ -1,5 +1,5 @@
 // A process ends, and lives again.
-ghost use Rattle.std.specs.Prelude.{◌≡◌, IfErr, IfOk, IfSome, IsSome, OnErr, OnOk};
+ghost use Rattle.std.specs.Prelude.{◌≡◌, IfErr, IfOk, IfSome, OnErr, OnOk};
 ghost use Rattle.process_store.specs.Pieces.{HoldsLost};
 ghost use Rattle.process_store.specs.Table.{living};
 ghost use Rattle.process_store.specs.Vacating.{vacated};
@@ -11,7 +11,7 @@ use erl_forms::Module;
 use process::{Ended, Told};
 use process_index::{Call, Calls};
 use process_store::{Living, ProcessStore};
-use std::alloc::{AllocError, Global};
+use std::alloc::Global;
 
 /// A process that has ended, with the calls that were open to it.
 #[derive(Drop)]
@@ -56,28 +56,6 @@ pub(crate) fn take_out(store: &mut ProcessStore, leaves: ToldProcess) -> Option<
     match store.remove(pid) {
         Some(living) => Some(ended_process(pid, living, told)),
         None => None,
-    }
-}
-
-/// A process ends: it leaves, with its name, its mailbox and its open calls. What its clients are told is made of its calls before.
-///
-/// # Errors
-///
-/// `AllocError` where memory is refused. The processes are then as they were.
-pub fn end(store: &mut ProcessStore, alloc: Global, pid: u64) -> Result<EndedProcess, AllocError>
-    requires { IsSome (living pid store.old) }
-    ensures ended { OnOk result (store.new ≡ vacated pid store.old) }
-    ensures inverse { IfOk result (λ e. EndsBack e store.old store.new) }
-    ensures pieces { IfOk result (λ e. HoldsLost (held_by e) store.old store.new) }
-    ensures err { OnErr result (store.new ≡ store.old) }
-{
-    let Some(living) = store.get(pid) else {
-        unreachable!()
-    };
-    let told = living.process.told(alloc)?;
-    match take_out(store, ToldProcess { pid, told }) {
-        Some(ended) => Ok(ended),
-        None => unreachable!(),
     }
 }
 

@@ -1,65 +1,46 @@
-// All processes that use an instance are killed.
-ghost use Rattle.std.specs.Prelude.{◌≡◌, ◌+◌, ◌++◌, ◌≤◌, [], All, IfOk, IfSome, OnErr, OnOk, if◌then◌else◌, None, Some, map, option_map, vec_capacity, vec_len};
-ghost use Rattle.std.specs.List.{flat_map};
+// Processes end together, as all do that use an instance which is purged.
+ghost use Rattle.std.specs.Prelude.{◌≡◌, ◌+◌, ◌++◌, ◌≤◌, [], All, IfOk, OnErr, OnOk, map, vec_capacity, vec_len};
 ghost use Rattle.process_store.specs.Pieces.{HoldsLost};
 ghost use Rattle.process_store.specs.Table.{living};
 ghost use Rattle.process_effects.specs.Ends.{IsTold, KillsBack, all_vacated};
-ghost use Rattle.process_effects.specs.Kills.{told_by_kill, without_users};
+ghost use Rattle.process_effects.specs.Kills.{all_downs, told_by_kill, without_users};
 ghost use Rattle.process_effects.specs.EndedPieces.{held_by_all};
 ghost use Rattle.process_effects.specs.Told.{downs, killed};
-ghost use Rattle.process_effects.specs.Uses.{users, uses};
 
 use crate::ending::{EndedProcess, ToldProcess, take_out};
 use crate::told::{Reply, tell};
-use crate::using::{users, uses};
-use erl_term::{Atom, Term};
-use process_store::{Living, ProcessStore};
+use crate::using::users;
+use erl_term::{Atom, Predefined, Term};
+use process_store::ProcessStore;
 use std::alloc::{AllocError, Global};
 
-/// The reason of a process that is killed.
-fn killed(alloc: Global) -> Result<Term, AllocError>
-    ensures { IfOk result (λ it. it ≡ killed) }
+/// The reason of a process that is killed. Takes no memory.
+fn killed() -> Term
+    ensures { result ≡ killed }
 {
-    Ok(Term::Atom(Atom::word(alloc, "killed")?))
+    Term::Atom(Atom::predefined(Predefined::Killed))
 }
 
-/// A process that lives under a pid, where it uses the instance of a serial, and what tells its instances.
-fn told_user(
-    alloc: Global,
-    pid: u64,
-    living: &Living,
-    serial: u64,
-) -> Result<Option<ToldProcess>, AllocError>
-    ensures user { IfOk result (λ it. option_map (λ p. p.pid) it ≡ (if uses serial (Some living.now) then Some pid else None)) }
-    ensures told { IfOk result (λ it. IfSome it (λ p. (p.pid ≡ pid) × IsTold p.told (Some living.now))) }
-{
-    if uses(&living.process, serial) {
-        let told = living.process.told(alloc)?;
-        Ok(Some(ToldProcess { pid, told }))
-    } else {
-        Ok(None)
-    }
-}
-
-/// The processes that use the instance of a serial, in order of pid, and what tells their instances.
-fn told_users(
+/// Those of these processes that live, in order, and what tells their instances.
+fn told_processes(
     store: &ProcessStore,
     alloc: Global,
-    serial: u64,
+    pids: &[u64],
 ) -> Result<Vec<ToldProcess>, AllocError>
-    ensures users { IfOk result (λ it. map (λ p. p.pid) it.items ≡ users serial store.now) }
+    ensures leave { IfOk result (λ it. all_vacated (map (λ p. p.pid) it.items) store.now ≡ all_vacated pids.now store.now) }
     ensures told { IfOk result (λ it. All (λ p. IsTold p.told (living p.pid store.now)) it.items) }
 {
     let mut leaving = Vec::new(alloc);
-    for (pid, living) in store.iter() {
-        if let Some(process) = told_user(alloc, *pid, living, serial)? {
-            leaving.push(process)?;
+    for pid in pids {
+        if let Some(living) = store.get(*pid) {
+            let told = living.process.told(alloc)?;
+            leaving.push(ToldProcess { pid: *pid, told })?;
         }
     }
     Ok(leaving)
 }
 
-/// What clients are told where the process of a pid is killed, behind what is told already.
+/// What clients are told where the process of a pid ends, behind what is told already.
 fn tell_of(
     replies: &mut Vec<Reply>,
     store: &ProcessStore,
@@ -75,24 +56,29 @@ fn tell_of(
     }
 }
 
-/// What clients are told where these processes are killed, in order.
-fn replies_of(
+/// What clients would be told where these processes ended for a reason: of each open call of the first that it is down, in order
+/// of client and number, then of the next, and so on. Nothing of a pid that no process has.
+///
+/// # Errors
+///
+/// `AllocError` where memory is refused.
+pub fn all_downs(
     store: &ProcessStore,
     alloc: Global,
-    leaving: &[ToldProcess],
+    pids: &[u64],
+    reason: &Term,
 ) -> Result<Vec<Reply>, AllocError>
-    ensures { IfOk result (λ it. it.items ≡ flat_map (λ p. downs killed (living p.pid store.now)) leaving.now) }
+    ensures { IfOk result (λ it. it.items ≡ all_downs reason.now pids.now store.now) }
 {
-    let reason = killed(alloc)?;
     let mut replies = Vec::new(alloc);
-    for process in leaving {
-        tell_of(&mut replies, store, alloc, process.pid, &reason)?;
+    for pid in pids {
+        tell_of(&mut replies, store, alloc, *pid, reason)?;
     }
     Ok(replies)
 }
 
-/// What clients would be told by the kill of all users of the instance of a serial: that the processes of their calls were killed,
-/// process after process in order of pid.
+/// What clients would be told by the kill of all users of the instance of a serial: that the processes of their calls were
+/// killed, process after process in order of pid.
 ///
 /// # Errors
 ///
@@ -104,13 +90,8 @@ pub fn told_by_kill(
 ) -> Result<Vec<Reply>, AllocError>
     ensures { IfOk result (λ it. it.items ≡ told_by_kill serial store.now) }
 {
-    let reason = killed(alloc)?;
     let pids = users(store, alloc, serial)?;
-    let mut replies = Vec::new(alloc);
-    for pid in pids.as_slice() {
-        tell_of(&mut replies, store, alloc, *pid, &reason)?;
-    }
-    Ok(replies)
+    all_downs(store, alloc, pids.as_slice(), &killed())
 }
 
 /// Takes processes out, the last first. There is room for what they are then, which takes no memory.
@@ -134,8 +115,29 @@ fn take_all_out(
     ended
 }
 
-/// Kills each process that uses the instance of a serial: it leaves, with its name, its mailbox and its open calls. What clients are
-/// told is handed out, and what lets the processes live again.
+/// Processes end together: each of them that lives leaves, with its name, its mailbox and its open calls. What their clients are
+/// told is made of their calls before ([`all_downs`]).
+///
+/// # Errors
+///
+/// `AllocError` where memory is refused. The processes are then as they were.
+pub fn end_all(
+    store: &mut ProcessStore,
+    alloc: Global,
+    pids: &[u64],
+) -> Result<Vec<EndedProcess>, AllocError>
+    ensures ended { OnOk result (store.new ≡ all_vacated pids.now store.old) }
+    ensures inverse { IfOk result (λ it. KillsBack it.items store.old store.new) }
+    ensures pieces { IfOk result (λ it. HoldsLost (held_by_all it.items) store.old store.new) }
+    ensures err { OnErr result (store.new ≡ store.old) }
+{
+    let leaving = told_processes(store, alloc, pids)?;
+    let room = Vec::with_capacity(alloc, leaving.len())?;
+    Ok(take_all_out(store, leaving, room))
+}
+
+/// Kills each process that uses the instance of a serial: it leaves, with its name, its mailbox and its open calls. What clients
+/// are told is handed out, and what lets the processes live again.
 ///
 /// # Errors
 ///
@@ -151,9 +153,8 @@ pub fn kill_users(
     ensures pieces { IfOk result (λ it. HoldsLost (held_by_all it.1.items) store.old store.new) }
     ensures err { OnErr result (store.new ≡ store.old) }
 {
-    let leaving = told_users(store, alloc, serial)?;
-    let replies = replies_of(store, alloc, leaving.as_slice())?;
-    let room = Vec::with_capacity(alloc, leaving.len())?;
-    let ended = take_all_out(store, leaving, room);
+    let pids = users(store, alloc, serial)?;
+    let replies = all_downs(store, alloc, pids.as_slice(), &killed())?;
+    let ended = end_all(store, alloc, pids.as_slice())?;
     Ok((replies, ended))
 }

@@ -3,9 +3,10 @@
 //! - **Acts.** What a job has done is done, all of it or nothing, and then its process rests again ([`commit_rest`]) or ends
 //!   ([`commit_exit`]); whether it may, because the process runs that very job, is asked by the crate above. [`revert_rest`] and
 //!   [`revert_exit`] take a commit back.
-//! - **Ends.** [`end`] takes one process out of the table, and [`kill_users`] each that uses an instance. What they hand out,
-//!   [`EndedProcess`], lets the processes live again: [`return_ended`] and [`return_all`].
-//! - **Batches.** What start functions, `init`, `code_change` and calls from outside have done while they were evaluated, one after the
+//! - **Ends.** [`end_all`] takes processes out of the table, and [`kill_users`] each that uses an instance; [`all_downs`] and
+//!   [`told_by_kill`] tell before what their clients are told. What they hand out, [`EndedProcess`], lets the processes live again:
+//!   [`return_ended`] and [`return_all`].
+//! - **Batches.** What start functions, `init`, `code_change` and applied functions have done while they were evaluated, one after the
 //!   other, stands together or is given up together. A [`Batch`] is begun with nothing; [`begin`] does what one evaluation has done;
 //!   [`finish`] lets all of it stand, [`give_up`] none of it, without memory. [`revert_batch`] takes back what stands.
 //! - **What is told.** A step hands out what clients are told once, and can't be refused any more then. So copies of all that may be told
@@ -19,10 +20,10 @@
 //!   nowhere where there is none; a reply closes the open call of its number, whosever it is. What is handed out is what the rules tell
 //!   clients, in order: the replies, and then, of a process that ends, its open calls (`acts_told`, `exit_told`).
 //! - [`users`] are the pids of the processes that use an instance, in order: while a process runs it uses the code of its job, and while
-//!   it rests the instance in which it rests, where this is a loop function. After [`end`] the process is gone, with its name and its open
-//!   calls (`vacated`), and after [`kill_users`] each user is, and nobody else (`without_users`).
-//! - [`downs_of`] tells each open call of a process once, in order of client and number; a kill tells those of each process that it
-//!   kills, in order of pid (`told_by_kill`), that it was killed (`killed`).
+//!   it rests the instance in which it rests, where this is a loop function. After [`end_all`] each of the processes is gone that lived,
+//!   with its name and its open calls (`all_vacated`), and after [`kill_users`] each user is, and nobody else (`without_users`).
+//! - [`all_downs`] tells each open call of each process once, process after process, of each in order of client and number; a kill tells
+//!   those of each process that it kills, in order of pid (`told_by_kill`), that it was killed (`killed`).
 //! - What stands of a batch is what the acts of all evaluations make, one by one in their order, and clients are told what these tell
 //!   (`IsUnderWay`, `acts_begun`, `begun_told`, in `specs/Begins`). One that is given up leaves the processes as they were before it.
 //! - What is made before to tell is all that it takes, whatever the processes are when it is told (`IsReadyFor`); all lists are equal to
@@ -43,8 +44,8 @@
 //!
 //! That there is memory, and what a call costs: each act one look-up, a delivery as [`process`] says, a commit that rests again one look
 //! at the mailbox from its front up to the next message that is taken, and for each value that is told a copy of each reply and of the
-//! reason for each open call, where copies of terms share. A kill asks for all memory before the first process leaves; it walks over the
-//! processes that live, and of each that it kills over its calls.
+//! reason for each open call, where copies of terms share. An end of several, and a kill, ask for all memory before the first process
+//! leaves, and walk over the calls of each that leaves; a kill also walks over the processes that live.
 #![tactic(auto)]
 
 mod acting;
@@ -65,11 +66,11 @@ mod using;
 
 pub use answers::Closed;
 pub use batch::{Batch, Batched, begin, finish, give_up, revert_batch};
-pub use ending::{EndedProcess, end, ended_process, return_ended};
+pub use ending::{EndedProcess, ended_process, return_ended};
 pub use exiting::{Exited, commit_exit, revert_exit};
-pub use killing::{kill_users, told_by_kill};
+pub use killing::{all_downs, end_all, kill_users, told_by_kill};
 pub use resting::{Rested, commit_rest, rests_in, revert_rest};
 pub use returning::return_all;
 pub use telling::Telling;
-pub use told::{Reply, ReplyBody, downs_of};
+pub use told::{Reply, ReplyBody};
 pub use using::{users, uses};

@@ -1,5 +1,5 @@
 // What clients are told of their calls.
-ghost use Rattle.std.specs.Prelude.{◌≡◌, ◌++◌, map, IfOk, OnOk};
+ghost use Rattle.std.specs.Prelude.{◌≡◌, ◌++◌, map, OnOk};
 ghost use Rattle.process_effects.specs.Told.{down};
 
 use erl_term::Term;
@@ -80,17 +80,4 @@ pub(crate) fn tell(
         })?;
     }
     Ok(())
-}
-
-/// That a process has ended, told to its open calls, in their order.
-///
-/// # Errors
-///
-/// `AllocError` where memory is refused.
-pub fn downs_of(alloc: Global, calls: &Calls, reason: &Term) -> Result<Vec<Reply>, AllocError>
-    ensures { IfOk result (λ it. it.items ≡ map (down reason.now) calls.now) }
-{
-    let mut replies = Vec::new(alloc);
-    tell(&mut replies, alloc, calls, reason)?;
-    Ok(replies)
 }

@@ -6,7 +6,9 @@
 //!
 //! Contracts see each as a value that says what there is and nothing more: calls as the list in order, slots as the list of what
 //! lives at each place, an index as a finite map (`FinMap` of std), from a name's characters to a pid, or from a number to the
-//! call's [`Owner`]. Two that mean the same are equal: no order of entries, no capacity, no hash is seen.
+//! call's [`Owner`]. Two that mean the same are equal: no order of entries, no capacity, no hash is seen. An index is a finite map
+//! and not a function from keys, since that is one value for all that it says, where contracts would have to tell two functions
+//! apart.
 //!
 //! # What is proved
 //!

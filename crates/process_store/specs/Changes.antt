@@ -1,12 +1,13 @@
 -- Elementary changes of one process of the table, each with the one that takes it back.
-use Rattle.std.specs.Prelude.{◌≡◌, ℕ, ◌+◌, ◌<◌, ◌^◌, ◌==◌, Bool, true, false, if◌then◌else◌, List, [], ◌∷◌, position}
+use Rattle.std.specs.Prelude.{◌≡◌, ℕ, ◌+◌, ◌<◌, ◌≤◌, ◌^◌, ◌==◌, Bool, true, false, if◌then◌else◌, List, [], ◌∷◌, position}
 use Rattle.std.specs.Prelude.{Option, None, Some, IfSome, IsSome, option_map}
+use Rattle.erl_term.specs.declared.term.Term.{Term}
 use Rattle.erl_semantics.specs.declared.acts.Place.{Place}
 use Rattle.erl_semantics.specs.declared.instance.Instance.{Instance}
 use Rattle.process.specs.declared.activity.Activity.{Activity}
 use Rattle.process.specs.declared.activity.Activity.TheVariants as activity
 use Rattle.process.specs.declared.process.Ran.{Ran}
-use Rattle.process.specs.Process.{IsRunning, first_taken, rested, resumed, suspended, unrested}
+use Rattle.process.specs.Process.{IsRunning, first_taken, is_server_at, rested, restated, resumed, suspended, unrestated, unrested}
 use Rattle.process_index.specs.Calls.{with_call, without}
 use Rattle.process_index.specs.declared.calls.Call.{Call}
 use Rattle.process_store.specs.declared.living.Living.{Living}
@@ -104,3 +105,21 @@ owner_of number t = owner_at number (position (is_asked number) t.slots) t
 -- A call can be open to a process that lives, where none of its number is open.
 abbrev pub CanReopen : ℕ → Call → Table → Type 0
 CanReopen pid c t = IsSome (living pid t) × (is_open c.number t ≡ false)
+
+-- A gen_server process gets another state, so many turns on; and its former one again.
+
+abbrev pub restate_living : Term → ℕ → Living → Living
+restate_living state turns l = record l { process = restated state turns l.process }
+
+abbrev pub unrestate_living : Term → ℕ → Living → Living
+unrestate_living state turns l = record l { process = unrestated state turns l.process }
+
+-- a gen_server process lives, and its turn can be counted on by so many, and back
+
+abbrev pub CanRestate : ℕ → Option Living → Type 0
+CanRestate turns None = ⊥
+CanRestate turns (Some l) = (is_server_at l.process.place ≡ true) × (0 < turns) × (l.process.turn + turns < 2 ^ 64)
+
+abbrev pub CanUnrestate : ℕ → Option Living → Type 0
+CanUnrestate turns None = ⊥
+CanUnrestate turns (Some l) = (is_server_at l.process.place ≡ true) × (0 < turns) × (turns ≤ l.process.turn)

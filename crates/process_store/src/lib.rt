@@ -4,6 +4,9 @@
 //! process and what the indexes say of it; beside each change stands the one that takes it back. What a step of the node is made
 //! of, and when it is refused, is said by the crates above.
 //!
+//! Contracts see a [`ProcessStore`] as a `Table`: of each pid that was given the process that lives under it, with its open calls, and
+//! none where it has ended. The two indexes are no part of it.
+//!
 //! # What is proved
 //!
 //! - Each change is a stated function of the table (`specs/Table`, `specs/Living`), and so is the one that takes it back; a clause
@@ -16,6 +19,8 @@
 //! - A process rests again, one turn on, and runs again what it ran; a call is closed by its number, whosever it is (`owner_of`), and
 //!   is open again; a message goes to a pid, or nowhere where nobody has it ([`ProcessStore::rest_next`], [`ProcessStore::close`],
 //!   [`ProcessStore::deliver`], and what takes each back). Of these a commit is to be made.
+//! - A gen_server process gets another state, so many turns on, and the one that it had is handed out, by which it has its former one
+//!   again ([`ProcessStore::restate`], [`ProcessStore::unrestate`]).
 //! - A name and an open call stand in the process that has them, so each is a living one's. A suspended process runs nothing, by
 //!   the type of what a process does.
 //!

@@ -1,7 +1,7 @@
 // Changes of the process of a pid in the table. Each says exactly what the processes are then.
 ghost use Rattle.std.specs.Prelude.{◌≡◌, false, IfSome, OnOk, OnErr};
 ghost use Rattle.process_index.specs.Calls.{has};
-ghost use Rattle.process_store.specs.Changes.{CanTurn, IsNext, LivesAndRuns, Turned, closed_living, reopened_living, rest_living, resume_living, suspend_living, unrest_living};
+ghost use Rattle.process_store.specs.Changes.{CanRestate, CanTurn, CanUnrestate, IsNext, LivesAndRuns, Turned, closed_living, reopened_living, rest_living, restate_living, resume_living, suspend_living, unrest_living, unrestate_living};
 ghost use Rattle.process_store.specs.Inverses.{WasTaken};
 ghost use Rattle.process_store.specs.Living.{arrived, run, unarrived, untook};
 ghost use Rattle.process_store.specs.Table.{changed_slots, living_at};
@@ -117,6 +117,30 @@ pub(crate) fn unrest_at(slots: &mut Slots<Living>, pid: u64, ran: Ran)
 {
     if let Some(living) = slots.get_mut(pid) {
         living.process.unrest(ran);
+    }
+}
+
+/// A gen_server process gets another state, so many turns on. The one that it had is handed out.
+pub(crate) fn restate_at(slots: &mut Slots<Living>, pid: u64, state: Term, turns: u64) -> Term
+    requires { CanRestate turns (living_at slots.old pid) }
+    ensures restated { slots.new ≡ changed_slots (restate_living state turns) pid slots.old }
+    ensures back { changed_slots (unrestate_living result turns) pid slots.new ≡ slots.old }
+{
+    match slots.get_mut(pid) {
+        Some(living) => living.process.restate(state, turns),
+        None => unreachable!(),
+    }
+}
+
+/// A gen_server process has its former state again, and so many turns less. The one that it had is handed out.
+pub(crate) fn unrestate_at(slots: &mut Slots<Living>, pid: u64, state: Term, turns: u64) -> Term
+    requires { CanUnrestate turns (living_at slots.old pid) }
+    ensures unrestated { slots.new ≡ changed_slots (unrestate_living state turns) pid slots.old }
+    ensures back { changed_slots (restate_living result turns) pid slots.new ≡ slots.old }
+{
+    match slots.get_mut(pid) {
+        Some(living) => living.process.unrestate(state, turns),
+        None => unreachable!(),
     }
 }
 

@@ -1,5 +1,6 @@
 pub mod Commit
 pub mod Jobs
 pub mod Messages
+pub mod States
 pub mod Steps
 pub mod Undo

@@ -133,9 +133,3 @@ abbrev pub IsNextRunnable : ℕ → Option ℕ → Table → Type 0
 IsNextRunnable after None t = NoneIsRunnable after (λ pid. Unit {0}) t
 IsNextRunnable after (Some next) t =
     (after < next) × (is_runnable (living next t) ≡ true) × NoneIsRunnable after (λ pid. pid < next) t
-
--- Suspend, resume, end: of a process that lives. One that rests takes no message until it is resumed, and one that runs goes on; one
--- that ends leaves its slot, with its name and its open calls.
-
-abbrev pub missing : ℕ → Table → Option ProcError
-missing pid t = if is_some (living pid t) then None else Some NoProc

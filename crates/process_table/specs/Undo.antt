@@ -7,15 +7,14 @@ use Rattle.process_effects.specs.Batches.{CanUnbatch, unbatched}
 use Rattle.process_effects.specs.Commits.{CanUnrest, unrested}
 use Rattle.process_effects.specs.Exits.{CanUnexit, unexited}
 use Rattle.process_effects.specs.CommitPieces.{held_of}
-use Rattle.process_effects.specs.Ends.{AllReturn, AllStand, Lives, Returns, all_returned, returned}
+use Rattle.process_effects.specs.Ends.{AllReturn, AllStand, Lives, all_returned}
 use Rattle.process_effects.specs.EndedPieces.{held_by, held_by_all}
-use Rattle.process_store.specs.Changes.{suspended_as}
 use Rattle.process_store.specs.Inverses.{WasCalled, WasStarted, WasTaken}
 use Rattle.process_store.specs.Living.{unarrived, untook}
 use Rattle.process_store.specs.Pieces.{Piece, no_pieces}
 use Rattle.process_store.specs.Table.{Table, changed, living, next_pid, without_last}
 use Rattle.process_table.specs.declared.undo.Undo.{Undo}
-use Rattle.process_table.specs.declared.undo.Undo.TheVariants.{Started, Arrived, Taken, Suspension, Rested, Exited, Batched, Ended, Killed}
+use Rattle.process_table.specs.declared.undo.Undo.TheVariants.{Started, Arrived, Taken, Rested, Exited, Batched, Killed}
 
 -- The table that an undo gives back. A process that has ended lives again with the instances that it used, as they stand in the
 -- table of modules.
@@ -23,11 +22,9 @@ abbrev pub undone : Loaded Forms → Undo → Table → Table
 undone modules Started t = without_last t
 undone modules (Arrived pid call) t = changed (unarrived call) pid t
 undone modules (Taken pid position) t = changed (untook position) pid t
-undone modules (Suspension pid was) t = changed (suspended_as was) pid t
 undone modules (Rested u) t = unrested modules u t
 undone modules (Exited u) t = unexited modules u t
 undone modules (Batched u) t = unbatched u t
-undone modules (Ended e) t = returned modules e t
 undone modules (Killed es) t = all_returned modules es t
 
 -- What `revert` needs: what the undo's step has left is there.
@@ -35,11 +32,9 @@ abbrev pub Fits : Loaded Forms → Undo → Table → Type 0
 Fits modules Started t = WasStarted (living (next_pid t - 1) t)
 Fits modules (Arrived pid call) t = WasCalled call (living pid t)
 Fits modules (Taken pid position) t = WasTaken position (living pid t)
-Fits modules (Suspension pid was) t = Unit {0}
 Fits modules (Rested u) t = CanUnrest u t
 Fits modules (Exited u) t = CanUnexit modules u t
 Fits modules (Batched u) t = CanUnbatch u t
-Fits modules (Ended e) t = Returns modules e t
 Fits modules (Killed es) t = AllReturn modules es t
 
 -- An undo that is done loses nothing: each process that has ended lives again, and one that ran runs again.
@@ -47,11 +42,9 @@ abbrev pub IsKept : Loaded Forms → Undo → Type 0
 IsKept modules Started = Unit {0}
 IsKept modules (Arrived pid call) = Unit {0}
 IsKept modules (Taken pid position) = Unit {0}
-IsKept modules (Suspension pid was) = Unit {0}
 IsKept modules (Rested u) = IsSome (runs_again modules u.ran)
 IsKept modules (Exited u) = Lives modules u.ended
 IsKept modules (Batched u) = Unit {0}
-IsKept modules (Ended e) = Lives modules e
 IsKept modules (Killed es) = All (Lives modules) es
 
 -- An undo can be asked for over any table of modules, and gives back the table before its step, whole.
@@ -69,9 +62,7 @@ abbrev pub held : Undo → Table → ℕ → List Piece
 held Started t = no_pieces
 held (Arrived pid call) t = no_pieces
 held (Taken pid position) t = no_pieces
-held (Suspension pid was) t = no_pieces
 held (Rested u) t = held_of u t
 held (Exited u) t = held_by u.ended
 held (Batched u) t = no_pieces
-held (Ended e) t = held_by e
 held (Killed es) t = held_by_all es

@@ -7,6 +7,7 @@ ghost use Rattle.process_index.specs.Standing.{alive};
 
 mod batching;
 mod committing;
+mod states;
 
 use crate::body::{Body, BodyKind};
 use crate::error::ProcError;
@@ -16,16 +17,13 @@ use code_server::Modules;
 use erl_forms::Module;
 use erl_semantics::{Instance, Job, Place};
 use erl_term::{Atom, Term};
-use process_effects::{
-    EndedProcess, Reply, downs_of, end, kill_users, rests_in, return_all, return_ended,
-    told_by_kill, users,
-};
+use process_effects::{EndedProcess, Reply, kill_users, rests_in, return_all, told_by_kill, users};
 use process_store::{Living, ProcessStore};
 use std::alloc::{AllocError, Global};
 use std::collections::btree_map::Iter;
 use std::hash::RandomState;
 use std::marker::Model;
-use values::{Boxed, Duplicate, Failure, Reserved, Row};
+use values::{Duplicate, Failure, Row};
 
 /// The processes of a node.
 #[derive(Drop)]
@@ -51,13 +49,10 @@ impl Processes {
     ghost use Rattle.values.specs.Failure.{Tells};
     ghost use Rattle.process_table.specs.Messages.{arrival_of, message_of};
     ghost use Rattle.process_table.specs.declared.body.BodyKind.TheVariants as kinds;
-    ghost use Rattle.process_table.specs.Steps.{IsNextRunnable, Takes, after_arrival, arrive_refusal, kind_of, kind_refusal, missing, retake_refusal, start_refusal, take_refusal, with_process};
-    ghost use Rattle.process_store.specs.Table.{changed, empty_table, is_open, is_taken, living, next_pid, pid_of};
+    ghost use Rattle.process_table.specs.Steps.{IsNextRunnable, Takes, after_arrival, arrive_refusal, kind_of, kind_refusal, retake_refusal, start_refusal, take_refusal, with_process};
+    ghost use Rattle.process_store.specs.Table.{empty_table, is_open, is_taken, living, next_pid, pid_of};
     ghost use Rattle.process_effects.specs.Commits.{job_at};
-    ghost use Rattle.process_store.specs.Changes.{resume_living, suspend_living};
-    ghost use Rattle.process_store.specs.Vacating.{vacated};
     ghost use Rattle.process_effects.specs.Kills.{told_by_kill, without_users};
-    ghost use Rattle.process_effects.specs.Told.{downs};
     ghost use Rattle.process_effects.specs.Uses.{users};
     ghost use Rattle.process_table.specs.Undo.{Fits, IsKept, TakesBack, TakesBackEnds, held, undone};
     ghost use Rattle.process_store.specs.Pieces.{HoldsLost};
@@ -338,83 +333,6 @@ impl Processes {
         users(&self.store, self.alloc, serial)
     }
 
-    /// A process takes no message until it is resumed, where it rests; one that runs goes on.
-    ///
-    /// # Errors
-    ///
-    /// `NoProc` where no process has the pid. Takes no memory.
-    pub fn suspend(&mut self, pid: u64) -> Result<Undo, ProcError>
-        ensures suspended { OnOk result (self.new ≡ changed suspend_living pid self.old) }
-        ensures inverse { IfOk result (λ undo. TakesBack undo self.old self.new) }
-        ensures pieces { IfOk result (λ undo. HoldsLost (held undo self.new) self.old self.new) }
-        ensures ok { OnOk result (missing pid self.old ≡ None) }
-        ensures refused { IfErr result (λ e. missing pid self.old ≡ Some e) }
-        ensures err { OnErr result (self.new ≡ self.old) }
-    {
-        if self.store.get(pid).is_none() {
-            return Err(ProcError::NoProc);
-        }
-        let was_suspended = self.store.suspend(pid);
-        Ok(Undo::Suspension { pid, was_suspended })
-    }
-
-    /// A process takes messages again, where it is suspended.
-    ///
-    /// # Errors
-    ///
-    /// `NoProc` where no process has the pid. Takes no memory.
-    pub fn resume(&mut self, pid: u64) -> Result<Undo, ProcError>
-        ensures resumed { OnOk result (self.new ≡ changed resume_living pid self.old) }
-        ensures inverse { IfOk result (λ undo. TakesBack undo self.old self.new) }
-        ensures pieces { IfOk result (λ undo. HoldsLost (held undo self.new) self.old self.new) }
-        ensures ok { OnOk result (missing pid self.old ≡ None) }
-        ensures refused { IfErr result (λ e. missing pid self.old ≡ Some e) }
-        ensures err { OnErr result (self.new ≡ self.old) }
-    {
-        if self.store.get(pid).is_none() {
-            return Err(ProcError::NoProc);
-        }
-        let was_suspended = self.store.resume(pid);
-        Ok(Undo::Suspension { pid, was_suspended })
-    }
-
-    /// What clients would be told where a process ended now: of each open call of it that it is down, and for what reason, in order of
-    /// client and number. Nothing, where no process has the pid.
-    ///
-    /// # Errors
-    ///
-    /// `AllocError` where memory is refused.
-    pub fn downs(&self, pid: u64, reason: &Term) -> Result<Vec<Reply>, AllocError>
-        ensures { IfOk result (λ it. it.items ≡ downs reason.now (living pid self.now)) }
-    {
-        match self.store.get(pid) {
-            Some(living) => downs_of(self.alloc, &living.calls, reason),
-            None => Ok(Vec::new(self.alloc)),
-        }
-    }
-
-    /// A process ends: it leaves, with its name, its mailbox and its open calls. What its clients are told is asked of
-    /// [`Processes::downs`] before.
-    ///
-    /// # Errors
-    ///
-    /// In this order: `NoProc` where no process has the pid, `Memory`. The table is then as it was.
-    pub fn end(&mut self, pid: u64) -> Result<Undo, Failure<ProcError>>
-        ensures ended { OnOk result (self.new ≡ vacated pid self.old) }
-        ensures inverse { IfOk result (λ undo. TakesBackEnds undo self.old self.new) }
-        ensures pieces { IfOk result (λ undo. HoldsLost (held undo self.new) self.old self.new) }
-        ensures ok { OnOk result (missing pid self.old ≡ None) }
-        ensures refused { IfErr result (λ failure. Tells failure (missing pid self.old)) }
-        ensures err { OnErr result (self.new ≡ self.old) }
-    {
-        if self.store.get(pid).is_none() {
-            return Err(Failure::Refused(ProcError::NoProc));
-        }
-        let room = Reserved::new(self.alloc)?;
-        let ended = end(&mut self.store, self.alloc, pid)?;
-        Ok(Undo::Ended(room.fill(ended)))
-    }
-
     /// What clients would be told by the kill of all users of the instance of a serial: that the processes of their calls were killed,
     /// process after process in order of pid.
     ///
@@ -444,26 +362,7 @@ impl Processes {
         Ok((replies, Undo::Killed(Row::new(killed))))
     }
 
-    /// A process that has ended lives again.
-    fn revert_end(
-        &mut self,
-        modules: &Modules<Module>,
-        ended: Boxed<EndedProcess>,
-    ) -> Result<(), Undo>
-        requires { Fits modules.now (Undo.Ended ended) self.old }
-        ensures ok { OnOk result (self.new ≡ undone modules.now (Undo.Ended ended) self.old) }
-        ensures kept { OnOk result (IsKept modules.now (Undo.Ended ended)) }
-        ensures back { IfErr result (λ it. it ≡ Undo.Ended ended) }
-        ensures err { OnErr result (self.new ≡ self.old) }
-    {
-        let (ended, room) = ended.open();
-        match return_ended(&mut self.store, self.alloc, modules, ended) {
-            Ok(_) => Ok(()),
-            Err(ended) => Err(Undo::Ended(room.fill(ended))),
-        }
-    }
-
-    /// Processes that were killed live again.
+    /// Processes that have ended live again.
     fn revert_kill(
         &mut self,
         modules: &Modules<Module>,
@@ -482,7 +381,7 @@ impl Processes {
     }
 
     /// Takes the newest step back. A process that has ended lives again, and one that has rested runs again, with the instances that it
-    /// used, as they stand in the table of modules; of several that were killed all live, or none.
+    /// used, as they stand in the table of modules; of several that have ended together all live, or none.
     ///
     /// # Errors
     ///
@@ -508,14 +407,9 @@ impl Processes {
                 Ok(()) => Ok(()),
                 Err(_) => Err(Undo::Taken { pid, position }),
             },
-            Undo::Suspension { pid, was_suspended } => {
-                self.store.set_suspended(pid, was_suspended);
-                Ok(())
-            }
             Undo::Rested(rested) => self.revert_rested(modules, rested),
             Undo::Exited(exited) => self.revert_exited(modules, exited),
             Undo::Batched(batched) => self.revert_batched(batched),
-            Undo::Ended(ended) => self.revert_end(modules, ended),
             Undo::Killed(killed) => self.revert_kill(modules, killed),
         }
     }

@@ -23,21 +23,12 @@ pub enum Undo {
         /// The position of the message in the mailbox, counted from 0.
         position: usize,
     },
-    /// A process was suspended, or resumed.
-    Suspension {
-        /// The process.
-        pid: u64,
-        /// Whether it was suspended before.
-        was_suspended: bool,
-    },
     /// A job was committed, and its process rests again.
     Rested(Boxed<Rested>),
     /// A job was committed, and its process has ended.
     Exited(Boxed<Exited>),
     /// What was evaluated inside a step is done.
     Batched(Boxed<Batched>),
-    /// A process has ended.
-    Ended(Boxed<EndedProcess>),
-    /// Processes were killed.
+    /// Processes have ended together, or were killed.
     Killed(Row<EndedProcess>),
 }

@@ -22,6 +22,7 @@ use Rattle.release_words.specs.declared.start_type.StartType.TheVariants as star
 use Rattle.app_table.specs.Applications.{Application, loaded as app_loaded, started}
 use Rattle.sys_protocol.specs.Refusals.{RefusesStart, Runs, module_of, start_refusal}
 use Rattle.sys_protocol.specs.declared.app_error.AppError.{AppError}
+use Rattle.sys_protocol.specs.declared.app_error.AppError.TheVariants as app_error
 use Rattle.sys_protocol.specs.declared.app_error.AppError.TheVariants.{NotLoaded, AlreadyStarted, BadInit, StartFailed}
 use Rattle.release_boot.specs.declared.error.BootError.{BootError}
 use Rattle.release_boot.specs.declared.error.BootError.TheVariants.{NotStarted, Memory}
@@ -89,6 +90,8 @@ reason_of name NotLoaded = of_word (codes "not_loaded") name
 reason_of name AlreadyStarted = of_word (codes "already_started") name
 reason_of name (BadInit reason) = reason
 reason_of name (StartFailed failed) = start_failed failed.child failed.reason
+reason_of name app_error.NotStarted = of_word (codes "not_started") name
+reason_of name app_error.Running = of_word (codes "running") name
 
 abbrev pub DoesNotStart : List Instance → List ℕ → List Application → Table → Term → Type 0
 DoesNotStart code name apps t reason = (e : AppError) × RefusesStart e code name apps t × (reason ≡ reason_of name e)

@@ -125,6 +125,8 @@ fn reason_of(alloc: Global, app: &Atom, refusal: AppError) -> Result<Term, Alloc
     match refusal {
         AppError::NotLoaded => of_word(alloc, "not_loaded", app),
         AppError::AlreadyStarted => of_word(alloc, "already_started", app),
+        AppError::NotStarted => of_word(alloc, "not_started", app),
+        AppError::Running => of_word(alloc, "running", app),
         AppError::BadInit(reason) => Ok(reason),
         AppError::StartFailed(StartFailed { child, reason }) => start_failed(alloc, child, reason),
     }

@@ -5,10 +5,10 @@ use Rattle.sys_protocol.specs.RunningChildren.{all_running}
 use Rattle.sys_protocol.specs.Laws.{ApplicationsStartOneWay}
 use Rattle.sys_protocol.specs.AppStarts.{AllRun, AppFails, AppStarts, FailsFor, InitGives, children_in, init_fault, initialized}
 use Rattle.sys_protocol.specs.declared.app_error.AppError.{AppError}
-use Rattle.sys_protocol.specs.declared.app_error.AppError.TheVariants.{NotLoaded, AlreadyStarted, BadInit, StartFailed}
+use Rattle.sys_protocol.specs.declared.app_error.AppError.TheVariants.{NotLoaded, AlreadyStarted, BadInit, StartFailed, NotStarted, Running}
 use Rattle.app_table.specs.declared.child.Child.{Child}
 use Rattle.child_specs.specs.declared.child.ChildSpec.{ChildSpec}
-use Rattle.sys_protocol.proofs.Evaluated.{evaluates-once}
+use Rattle.callback_lang.proofs.Evaluated.{evaluates-once}
 use Rattle.sys_protocol.proofs.ChildrenOneWay.{children_start_one_way}
 use Rattle.sys_protocol.specs.ChildFaults.{StartFails}
 use Rattle.erl_semantics.specs.State.{plain}
@@ -52,12 +52,18 @@ starts-once code m t after last children others told said first second =
 one_error : (code : List Instance) (t : Table) (o : Outcome) (e f : AppError) → FailsFor code o t e → FailsFor code o t f → e ≡ f
 one_error code t o NotLoaded f first second = absurd first
 one_error code t o AlreadyStarted f first second = absurd first
+one_error code t o NotStarted f first second = absurd first
+one_error code t o Running f first second = absurd first
 one_error code t o (BadInit reason) NotLoaded first second = absurd second
 one_error code t o (BadInit reason) AlreadyStarted first second = absurd second
+one_error code t o (BadInit reason) NotStarted first second = absurd second
+one_error code t o (BadInit reason) Running first second = absurd second
 one_error code t o (BadInit reason) (BadInit other) first second = ap BadInit (first.1 ∙ sym second.1)
 one_error code t o (BadInit reason) (StartFailed failed) first second = absurd (none-some second.0 (sym first.0 ∙ second.1))
 one_error code t o (StartFailed failed) NotLoaded first second = absurd second
 one_error code t o (StartFailed failed) AlreadyStarted first second = absurd second
+one_error code t o (StartFailed failed) NotStarted first second = absurd second
+one_error code t o (StartFailed failed) Running first second = absurd second
 one_error code t o (StartFailed failed) (BadInit reason) first second = absurd (none-some first.0 (sym second.0 ∙ first.1))
 one_error code t o (StartFailed failed) (StartFailed other) (cs, here, fails) (ds, there, fails_too) =
     let specs = same_Some cs ds (sym here ∙ there) in
@@ -72,6 +78,8 @@ fails-once code m t e f (o, gives, fails) (p, gives_too, fails_too) =
 runs_or_fails : (code : List Instance) (t : Table) (o : Outcome) (cs : List ChildSpec) (children : List Child) (after : Table) (told : List Reply) (e : AppError) → children_in o.end ≡ Some cs → AllRun code cs (initialized code o t) children after told → FailsFor code o t e → ⊥
 runs_or_fails code t o cs children after told NotLoaded here runs fails = fails
 runs_or_fails code t o cs children after told AlreadyStarted here runs fails = fails
+runs_or_fails code t o cs children after told NotStarted here runs fails = fails
+runs_or_fails code t o cs children after told Running here runs fails = fails
 runs_or_fails code t o cs children after told (BadInit reason) here runs fails = none-some cs (sym fails.0 ∙ here)
 runs_or_fails code t o cs children after told (StartFailed failed) here (pids, all, is) (ds, there, fails) =
     let specs = same_Some ds cs (sym there ∙ here) in

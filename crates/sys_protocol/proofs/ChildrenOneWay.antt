@@ -2,7 +2,7 @@
 use Rattle.std.proofs.Common.{◌≡◌, ℕ, List, [], ◌∷◌, ◌++◌, inl, inr, refl, sym, ap, subst, ◌∙◌, map}
 use Rattle.std.proofs.lemmas.Option.{none-some, same_Some}
 use Rattle.child_specs.specs.declared.child.ChildSpec.{ChildSpec}
-use Rattle.sys_protocol.proofs.Evaluated.{evaluates-once}
+use Rattle.callback_lang.proofs.Evaluated.{evaluates-once}
 use Rattle.sys_protocol.specs.ChildStarts.{AllStart, Fails, FirstFails, Gives, Starts, after_start, start_told}
 use Rattle.sys_protocol.specs.ChildFaults.{StartFails}
 use Rattle.sys_protocol.specs.Laws.{ChildrenStartOneWay}

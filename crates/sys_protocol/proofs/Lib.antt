@@ -1,6 +1,6 @@
 pub mod AllRunning
 pub mod ApplicationsOneWay
 pub mod ChildrenOneWay
-pub mod Evaluated
+pub mod Lengths
 pub mod Names
 pub mod Reached

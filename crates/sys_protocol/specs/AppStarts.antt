@@ -22,7 +22,7 @@ use Rattle.process_store.specs.Table.{Table}
 use Rattle.sys_protocol.specs.RunningChildren.{all_running}
 use Rattle.app_table.specs.declared.child.Child.{Child}
 use Rattle.sys_protocol.specs.declared.app_error.AppError.{AppError}
-use Rattle.sys_protocol.specs.declared.app_error.AppError.TheVariants.{NotLoaded, AlreadyStarted, BadInit, StartFailed}
+use Rattle.sys_protocol.specs.declared.app_error.AppError.TheVariants.{NotLoaded, AlreadyStarted, BadInit, StartFailed, NotStarted, Running}
 
 -- What `init` of the callback module gives, in this code. It is evaluated outside of all processes.
 abbrev pub InitGives : List Instance → StartModule → Outcome → Type 0
@@ -71,6 +71,8 @@ pub record AppStarts (code : List Instance) (m : StartModule) (t : Table) (child
 abbrev pub FailsFor : List Instance → Outcome → Table → AppError → Type 0
 FailsFor code o t NotLoaded = ⊥
 FailsFor code o t AlreadyStarted = ⊥
+FailsFor code o t NotStarted = ⊥
+FailsFor code o t Running = ⊥
 FailsFor code o t (BadInit reason) = (children_in o.end ≡ None) × (reason ≡ init_fault o.end)
 FailsFor code o t (StartFailed failed) =
     (cs : List ChildSpec) × (children_in o.end ≡ Some cs) × StartFails failed code cs (initialized code o t)

@@ -5,3 +5,4 @@ pub mod Laws
 pub mod Refusals
 pub mod RunningChildren
 pub mod StartResults
+pub mod Stopping

@@ -1,10 +1,10 @@
-// Why an application doesn't start.
+// Why an application doesn't start, stop or go.
 use crate::start_failed::StartFailed;
 use erl_term::Term;
 use std::fmt;
 use thiserror::Error;
 
-/// Why an application doesn't start (application(3)).
+/// Why an application doesn't start, isn't stopped, or isn't unloaded (application(3)).
 #[derive(Drop, Error)]
 pub enum AppError {
     /// It is not loaded.
@@ -19,6 +19,12 @@ pub enum AppError {
     /// A child has failed to start.
     #[error("a child has failed to start")]
     StartFailed(StartFailed),
+    /// It is not started.
+    #[error("the application is not started")]
+    NotStarted,
+    /// It is started, and can't be unloaded.
+    #[error("the application is started")]
+    Running,
 }
 
 /// As it is displayed.

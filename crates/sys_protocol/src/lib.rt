@@ -43,11 +43,15 @@ mod restarting;
 mod results;
 mod running;
 mod start_failed;
+mod starting_again;
+mod stopping;
 mod supervising;
 
 pub use app_error::AppError;
-pub use app_table::{App, AppTable, Child, ChildState, Ended, Undo};
+pub use app_table::{App, AppTable, Child, ChildProcess, ChildState, Undo};
 pub use apps::{AppStart, Revival, revive, revive_refusal, start_app};
 pub use error::SysError;
 pub use laws::{applications_start_one_way, children_start_one_way};
 pub use start_failed::StartFailed;
+pub use starting_again::{StartedAgain, start};
+pub use stopping::{AppStop, ChildStop, stop, stop_app, unload_app, unnote};

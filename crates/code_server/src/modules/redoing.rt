@@ -30,6 +30,10 @@ impl<C: Drop> Modules<C> {
                 self.last -= 1;
                 Ok(Redo::Replace(place, gone))
             }
+            Undo::Demoted(place, instance) => {
+                let gone = change_at(&mut self.table, place, SlotChange::Unstack(Some(instance)));
+                Ok(Redo::Demote(place, gone))
+            }
             Undo::Moved(place, instance) => {
                 let gone = move_back(&mut self.table, place, instance);
                 self.last -= 1;
@@ -60,6 +64,12 @@ impl<C: Drop> Modules<C> {
                 self.last += 1;
                 match change_at(&mut self.table, place, SlotChange::Stack(instance)) {
                     Some(former) => Undo::Replaced(place, former),
+                    None => unreachable!(),
+                }
+            }
+            Redo::Demote(place, instance) => {
+                match change_at(&mut self.table, place, SlotChange::Stack(instance)) {
+                    Some(former) => Undo::Demoted(place, former),
                     None => unreachable!(),
                 }
             }

@@ -1,6 +1,6 @@
 // Elementary changes of one process of the table, each with the one that takes it back.
 ghost use Rattle.std.specs.Prelude.{◌≡◌, IfNone, IfOk, IfSome, IsSome, None, OnErr, OnOk, Some};
-ghost use Rattle.process_store.specs.Changes.{CanReopen, CanTurnAt, HasTurned, IsNext, IsRunningAt, closed_in, is_suspended, owner_of, reopened, rest_living, resume_living, suspend_living, suspended_as, unrest_living, was_suspended};
+ghost use Rattle.process_store.specs.Changes.{CanReopen, CanRestate, CanTurnAt, CanUnrestate, HasTurned, IsNext, IsRunningAt, closed_in, is_suspended, owner_of, reopened, rest_living, restate_living, resume_living, suspend_living, suspended_as, unrest_living, unrestate_living, was_suspended};
 ghost use Rattle.std.specs.Option.{option_copied};
 ghost use Rattle.process_store.specs.Inverses.{WasCalled};
 ghost use Rattle.process_store.specs.Living.{arrived, unarrived};
@@ -8,7 +8,8 @@ ghost use Rattle.process_store.specs.Table.{changed, living};
 
 use super::ProcessStore;
 use crate::places::{
-    arrive_at, close_at, reopen_at, rest_at, resume_at, suspend_at, unarrive_at, unrest_at,
+    arrive_at, close_at, reopen_at, rest_at, restate_at, resume_at, suspend_at, unarrive_at,
+    unrest_at, unrestate_at,
 };
 use erl_semantics::{Instance, Place};
 use erl_term::Term;
@@ -136,6 +137,27 @@ impl ProcessStore {
         ensures { self.new ≡ changed (unrest_living ran) pid self.old }
     {
         unrest_at(&mut self.slots, pid, ran);
+    }
+
+    /// The gen_server process of a pid, which lives, gets another state, so many turns on. The one that it had is handed out, by
+    /// which [`ProcessStore::unrestate`] takes it back. Takes no memory.
+    pub fn restate(&mut self, pid: u64, state: Term, turns: u64) -> Term
+        requires { CanRestate turns (living pid self.old) }
+        ensures restated { self.new ≡ changed (restate_living state turns) pid self.old }
+        ensures back { changed (unrestate_living result turns) pid self.new ≡ self.old }
+        ensures fits { CanUnrestate turns (living pid self.new) }
+    {
+        restate_at(&mut self.slots, pid, state, turns)
+    }
+
+    /// The gen_server process of a pid has its former state again, and so many turns less. The one that it had is handed out, by
+    /// which [`ProcessStore::restate`] takes it back. Takes no memory.
+    pub fn unrestate(&mut self, pid: u64, state: Term, turns: u64) -> Term
+        requires { CanUnrestate turns (living pid self.old) }
+        ensures unrestated { self.new ≡ changed (unrestate_living state turns) pid self.old }
+        ensures back { changed (restate_living result turns) pid self.new ≡ self.old }
+    {
+        unrestate_at(&mut self.slots, pid, state, turns)
     }
 
     /// Closes the open call of a number, whosever process it is open to, and hands out the pid and the call. Found by key;

@@ -16,18 +16,18 @@ use crate::undo::Undo;
 use code_server::Modules;
 use erl_forms::Module;
 use erl_semantics::{Act, Done, End, Job, Place};
-use erl_term::{Atom, Term};
+use erl_term::{Atom, Predefined, Term};
 use process_effects::{
     Exited, Reply, Rested, Telling, commit_exit, commit_rest, revert_exit, revert_rest,
 };
-use std::alloc::{AllocError, Global};
+use std::alloc::AllocError;
 use values::{Boxed, Failure, Reserved, Row};
 
-/// The reason of a process that has given a value.
-fn normal(alloc: Global) -> Result<Term, AllocError>
-    ensures { IfOk result (λ it. it ≡ normal) }
+/// The reason of a process that has given a value. Takes no memory.
+fn normal() -> Term
+    ensures { result ≡ normal }
 {
-    Ok(Term::Atom(Atom::word(alloc, "normal")?))
+    Term::Atom(Atom::predefined(Predefined::Normal))
 }
 
 impl Processes {
@@ -95,8 +95,8 @@ impl Processes {
         Ok((telling.tell(replies), Undo::Exited(room.fill(exited))))
     }
 
-    /// What a job that a process runs has done is done, and the process rests or ends. What clients are told is handed out in `n` equal
-    /// values.
+    /// What a job that a process runs has done is done, and the process rests or ends. What clients are told is handed out in `n`
+    /// equal values.
     fn conclude(
         &mut self,
         job: &Job,
@@ -114,10 +114,7 @@ impl Processes {
     {
         match end {
             End::Rest(place) => self.rest(job, acts, place, n),
-            End::Value(_) => {
-                let normal = normal(self.alloc)?;
-                self.exit(job.pid, acts, &normal, n)
-            }
+            End::Value(_) => self.exit(job.pid, acts, &normal(), n),
             End::Exit(reason) => self.exit(job.pid, acts, reason, n),
         }
     }

@@ -1,34 +1,16 @@
--- It changes places with the entry before it.
-use Rattle.std.proofs.Common.{◌≡◌, ◌<◌, ◌+◌, ◌-◌, ◌∙◌, List, ℕ, suc, ap, sym, subst, arith, length, get_or}
-use Rattle.std.specs.List.{insert, remove, swap}
-use Rattle.std.proofs.lemmas.List.Edits.{length-remove}
-use Rattle.app_table.proofs.Places.{stays, swap_down}
+-- The entry and those between are turned.
+use Rattle.std.proofs.Common.{◌≡◌, ◌<◌, ◌+◌, ◌-◌, ◌∙◌, suc, ap, arith, drop, get_or, length, take, length-drop, length-take-le, ◌++◌}
+use Rattle.std.specs.List.{insert, remove}
+use borrow.Rule.Slice.PartMut.{put_mid}
+use Rattle.app_table.proofs.Turns.{turned_down}
 use Rattle.app_table.proofs.orders.shift_down.Goals as goal
-
-pub loop-at-init : goal.loop-at-init
-loop-at-init c = record {
-  moved = stays c.args.pids.now c.args.from c.requires.within;
-  above = c.requires.ordered;
-  below = omega arith;
-}
-
-pub loop-at-preserved : goal.loop-at-preserved
-loop-at-preserved c =
-    let rest = remove c.args.pids.now c.args.from in
-    let it = get_or c.args.pids.now c.args.from 0 in
-    let k = c.loop-at.at - 1 in
-    let long = length-remove c.args.pids.now c.args.from c.requires.within in
-    let one : c.loop-at.at ≡ suc (c.loop-at.at - 1) = omega (arith, c.loop-at-test.true, c.loop-at.invariant.above) in
-    let next : (c.loop-at.at - 1) + 1 ≡ suc (c.loop-at.at - 1) = omega arith in
-    let within : c.loop-at.at - 1 < length (remove c.args.pids.now c.args.from) = omega (arith, long, c.loop-at-test.true, c.loop-at.invariant.below, c.requires.within) in
-    let back = subst (λ n. swap (insert (remove c.args.pids.now c.args.from) n (get_or c.args.pids.now c.args.from 0)) (c.loop-at.at - 1) ((c.loop-at.at - 1) + 1) ≡ insert (remove c.args.pids.now c.args.from) (c.loop-at.at - 1) (get_or c.args.pids.now c.args.from 0)) (sym one) (subst (λ n. swap (insert (remove c.args.pids.now c.args.from) (suc (c.loop-at.at - 1)) (get_or c.args.pids.now c.args.from 0)) (c.loop-at.at - 1) n ≡ insert (remove c.args.pids.now c.args.from) (c.loop-at.at - 1) (get_or c.args.pids.now c.args.from 0)) (sym next) (swap_down rest k it within)) in
-    record {
-      moved = c.swap.ensures.after ∙ ap (λ (l : List ℕ). swap l (c.loop-at.at - 1) ((c.loop-at.at - 1) + 1)) c.loop-at.invariant.moved ∙ back;
-      above = omega (arith, c.loop-at-test.true);
-      below = omega (arith, c.loop-at.invariant.below);
-    }
 
 pub returns : goal.returns
 returns c =
-    let same : c.loop-at.at ≡ c.args.to = omega (arith, c.loop-at-test.false, c.loop-at.invariant.above) in
-    subst (λ n. c.loop-at.pids ≡ insert (remove c.args.pids.now c.args.from) n (get_or c.args.pids.now c.args.from 0)) same c.loop-at.invariant.moved
+    let xs = c.args.pids.now in
+    let count : (c.args.from + 1) - c.args.to ≡ suc (c.args.from - c.args.to) = omega (arith, c.requires.ordered) in
+    let from : c.args.to + (c.args.from - c.args.to) ≡ c.args.from = omega (arith, c.requires.ordered) in
+    let within : c.args.to + (c.args.from - c.args.to) < length c.args.pids.now = omega (arith, c.requires.ordered, c.requires.within) in
+    let long = length-take-le ((c.args.from + 1) - c.args.to) (drop c.args.to xs) (omega (arith, length-drop c.args.to xs, c.requires.ordered, c.requires.within)) in
+    let last : length (take ((c.args.from + 1) - c.args.to) (drop c.args.to c.args.pids.now)) - 1 ≡ c.args.from - c.args.to = omega (arith, long, count) in
+    ap (put_mid c.args.to ((c.args.from + 1) - c.args.to) xs) (c.rotate_right.ensures.after ∙ ap (λ n. drop n (take ((c.args.from + 1) - c.args.to) (drop c.args.to xs)) ++ take n (take ((c.args.from + 1) - c.args.to) (drop c.args.to xs))) last) ∙ ap (λ k. take c.args.to xs ++ ((drop (c.args.from - c.args.to) (take k (drop c.args.to xs)) ++ take (c.args.from - c.args.to) (take k (drop c.args.to xs))) ++ drop k (drop c.args.to xs))) count ∙ turned_down xs c.args.to (c.args.from - c.args.to) within ∙ ap (λ n. insert (remove xs n) c.args.to (get_or xs n 0)) from

@@ -1,5 +1,5 @@
 -- The acts without their replies, with the replies that are left to give then, make what the acts make in order.
-use Rattle.std.proofs.Common.{◌≡◌, ◌++◌, List, subst}
+use Rattle.std.proofs.Common.{◌++◌, List, subst}
 use Rattle.erl_semantics.specs.declared.acts.Act.{Act}
 use Rattle.process_effects.proofs.Beginning.{more_under_way}
 use Rattle.process_effects.specs.Begins.{acts_begun, begun_told, IsUnderWay}

@@ -1,9 +1,9 @@
 -- What makes the change again: what was taken away, at its place.
 use Rattle.std.proofs.Common.{◌≡◌, ◌+◌, ◌-◌, arith}
-use Rattle.code_server.specs.declared.undo.Redo.TheVariants.{Replace, Move, Purge, Remove}
-use Rattle.code_server.specs.declared.undo.Undo.TheVariants.{Replaced, Moved, Purged, Removed}
+use Rattle.code_server.specs.declared.undo.Redo.TheVariants.{Replace, Demote, Move, Purge, Remove}
+use Rattle.code_server.specs.declared.undo.Undo.TheVariants.{Replaced, Demoted, Moved, Purged, Removed}
 use Rattle.code_server.specs.Modules.{Table}
-use Rattle.code_server.proofs.Redoing.{Moved-again, Purged-again, Removed-again, Replaced-again, again_of}
+use Rattle.code_server.proofs.Redoing.{Demoted-again, Moved-again, Purged-again, Removed-again, Replaced-again, again_of}
 use Rattle.code_server.proofs.modules.Modules.unpurge.Goals as goal
 use Rattle.code_server.proofs.modules.Modules.unpurge.Goals.{in-Ok, in-Err}
 
@@ -16,6 +16,15 @@ returns-in-Replaced-clause-again g c =
     again_of (Replace place gone) c.args.undo (Replaced place instance) t c.args.self.now _ c.in-Replaced.is c.self.view_is c.requires.fits (λ fits.
     let count : c.self.inside.last - 1 + 1 + 1 ≡ t.next = omega (arith, fits.sound.counted.0) in
     Replaced-again place instance gone t c.change_at-gone.new.table.entries (c.self.inside.last - 1 + 1) c.self.invariant c.change_at-gone.ensures.changed c.change_at-gone.ensures.gone count fits)
+
+pub returns-in-Demoted-clause-again : goal.returns-in-Demoted-clause-again
+returns-in-Demoted-clause-again g c =
+    let t : Table g.row.C.Denot = record { entries = c.self.inside.table.entries; next = c.self.inside.last + 1 } in
+    let place = c.in-Demoted.place in
+    let instance = c.in-Demoted.instance in
+    let gone = c.change_at-gone-in-Demoted.result in
+    again_of (Demote place gone) c.args.undo (Demoted place instance) t c.args.self.now _ c.in-Demoted.is c.self.view_is c.requires.fits
+    (Demoted-again place instance gone t c.change_at-gone-in-Demoted.new.table.entries c.self.invariant c.change_at-gone-in-Demoted.ensures.changed c.change_at-gone-in-Demoted.ensures.gone)
 
 pub returns-in-Moved-clause-again : goal.returns-in-Moved-clause-again
 returns-in-Moved-clause-again g c =

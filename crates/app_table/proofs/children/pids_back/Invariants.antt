@@ -1,0 +1,7 @@
+-- The pids of those from here on.
+use Rattle.std.proofs.Common.{◌≡◌, drop}
+use Rattle.app_table.specs.Changes.{pids_back}
+use Rattle.app_table.proofs.children.pids_back.Given as goal
+
+abbrev pub invariant-loop-place : goal.invariant-loop-place
+invariant-loop-place l = l.pids.items ≡ pids_back (drop l.place l.row)

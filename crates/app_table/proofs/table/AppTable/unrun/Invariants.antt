@@ -1,0 +1,7 @@
+-- Those from here on have no process again.
+use Rattle.std.proofs.Common.{◌≡◌, drop}
+use Rattle.app_table.specs.Undo.{all_unrun}
+use Rattle.app_table.proofs.table.AppTable.unrun.Given as goal
+
+abbrev pub invariant-loop-place : goal.invariant-loop-place
+invariant-loop-place l = l.self ≡ all_unrun (drop l.place l.reruns) l.fn.self

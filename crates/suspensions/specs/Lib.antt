@@ -1,0 +1,2 @@
+pub mod Suspending
+pub mod Versions
