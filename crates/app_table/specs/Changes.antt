@@ -85,6 +85,25 @@ abbrev pub specs_set : List AppSpec → List Application → List Application
 specs_set [] apps = apps
 specs_set (spec ∷ specs) apps = specs_set specs (spec_set_at (place_of spec.name apps) spec apps)
 
+-- What they stand in place of: each former specification, with the place of its application, in the order in which they were
+-- replaced; and how many applications were added.
+
+abbrev pub replaced_as : ℕ → Option Application → List Replaced
+replaced_as place None = []
+replaced_as place (Some a) = record { place = place; spec = a.spec } ∷ []
+
+abbrev pub replaced_at : Option ℕ → List Application → List Replaced
+replaced_at None apps = []
+replaced_at (Some place) apps = replaced_as place (slice_get apps place)
+
+abbrev pub replaced_by : List AppSpec → List Application → List Replaced
+replaced_by [] apps = []
+replaced_by (spec ∷ specs) apps =
+    replaced_at (place_of spec.name apps) apps ++ replaced_by specs (spec_set_at (place_of spec.name apps) spec apps)
+
+abbrev pub former_specs : List AppSpec → List Application → FormerSpecs
+former_specs specs apps = record { replaced = replaced_by specs apps; added = length (specs_set specs apps) - length apps }
+
 -- They are put back: each application that has got one has its former specification again, the last first, and then those that
 -- were added last leave.
 

@@ -113,7 +113,7 @@ sound_purged_at name m place true sound at is =
 sound_purged_at name m place false sound at is =
     subst IsSound (sym (purged-gone name m place at is)) (IsSound-removed m place sound)
 
-sound_purged : (name : List ℕ) (m : Loaded Forms) (o : Option ℕ) → IsSound m → place_of name m.entries ≡ o → IsSound (purged name m)
+pub sound_purged : (name : List ℕ) (m : Loaded Forms) (o : Option ℕ) → IsSound m → place_of name m.entries ≡ o → IsSound (purged name m)
 sound_purged name m None sound at = subst IsSound (sym (purged-absent name m at)) sound
 sound_purged name m (Some place) sound at = sound_purged_at name m place (is_some (current_of name m)) sound at refl
 

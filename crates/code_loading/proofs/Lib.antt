@@ -1,6 +1,12 @@
+pub mod Alone
 pub mod Consistency
+pub mod Emptied
 pub mod Keeping
+pub mod LastFirst
 pub mod Lookups
+pub mod ModuleByModule
 pub mod Naming
+pub mod Removals
 pub mod Stepping
+pub mod Turns
 pub mod Users

@@ -1,5 +1,5 @@
 -- Where code has the instance that a place names, that is the one which is found there.
-use Rattle.std.proofs.Common.{◌≡◌, ℕ, zero, suc, ◌<◌, ◌==◌, ◌&&◌, Bool, true, false, List, [], ◌∷◌, map, length, All, refl, sym, ap, subst, ◌∙◌, Option, None, Some, cond, arith}
+use Rattle.std.proofs.Common.{◌≡◌, ℕ, zero, suc, ◌==◌, ◌&&◌, Bool, true, false, List, [], ◌∷◌, map, All, refl, sym, ap, ◌∙◌, Option, Some, cond, arith}
 use Rattle.std.specs.Prelude.{Contains}
 use Rattle.std.specs.Str.{bytes_eq}
 use Rattle.std.proofs.lemmas.List.Elements.{All-cons, All-nil}

@@ -6,7 +6,7 @@ use Rattle.erl_semantics.specs.State.{World}
 use Rattle.erl_semantics.specs.declared.acts.Act.{Act}
 use Rattle.erl_semantics.specs.declared.acts.Act.TheVariants as acts
 use Rattle.erl_forms.specs.Module.{Forms}
-use Rattle.code_server.specs.Modules.{IsSound, Table as Loaded, delete_refusal, deleted, load_refusal, loaded, purged}
+use Rattle.code_server.specs.Modules.{IsSound, Table as Loaded, delete_refusal, deleted, load_refusal, loaded, purged, removed}
 use Rattle.erl_semantics.specs.declared.jobs.Done.{Done}
 use Rattle.erl_semantics.specs.declared.jobs.Job.{Job}
 use Rattle.erl_semantics.specs.declared.outcome.Outcome.{Outcome}
@@ -26,11 +26,19 @@ use Rattle.process_table.specs.declared.body.Body.{Body}
 use Rattle.code_loading.specs.Current.{current_code}
 use Rattle.code_loading.specs.Consistent.{IsConsistent, RestsAt}
 use Rattle.code_loading.specs.Loading.{spared}
+use Rattle.code_loading.specs.Purging.{all_purged, all_spared}
 
 pub record LoadingKeepsCode : Type 0 where
   pub purges : (name : List ℕ) (modules : Loaded Forms) (t : Table) → IsConsistent modules t → IsConsistent (purged name modules) (spared name modules t)
   pub loads : (name : List ℕ) (code : Forms) (modules : Loaded Forms) (t : Table) → IsConsistent modules t → load_refusal name modules ≡ None → IsConsistent (loaded name code modules) t
   pub deletes : (name : List ℕ) (modules : Loaded Forms) (t : Table) → IsConsistent modules t → delete_refusal name modules ≡ None → IsConsistent (deleted name modules) t
+
+-- Nor does a removal, or several purges at once.
+pub record PurgesKeepCode : Type 0 where
+  pub removes : (name : List ℕ) (modules : Loaded Forms) (t : Table) → IsConsistent modules t →
+      IsConsistent (removed name modules) (spared name modules t)
+  pub purges : (names : List (List ℕ)) (modules : Loaded Forms) (t : Table) → IsConsistent modules t →
+      IsConsistent (all_purged names modules) (all_spared names modules t)
 
 -- A process that an act starts rests in this code.
 abbrev pub StartsIn : List Instance → Act → Type 0

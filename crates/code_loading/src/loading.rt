@@ -16,7 +16,7 @@ use std::alloc::{AllocError, Global};
 use values::{Duplicate, Failure};
 
 /// The serial of a module's old code, if it has any.
-fn old_serial(modules: &Modules<Module>, name: &Atom) -> Option<u64>
+pub(crate) fn old_serial(modules: &Modules<Module>, name: &Atom) -> Option<u64>
     ensures { result ≡ option_map (λ i. i.serial) (old_of name.now modules.now) }
 {
     match modules.old(name) {
@@ -86,7 +86,7 @@ pub fn purge_told(
 }
 
 /// Kills those who linger in a module, if it has old code.
-fn kill_lingering(
+pub(crate) fn kill_lingering(
     modules: &Modules<Module>,
     processes: &mut Processes,
     name: &Atom,

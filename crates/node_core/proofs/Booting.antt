@@ -25,12 +25,14 @@ use Rattle.process_effects.specs.Ends.{Stands}
 use Rattle.process_effects.specs.declared.told.Reply.{Reply}
 use Rattle.process_store.specs.Table.{Table, empty_table as no_processes, living, next_pid}
 use Rattle.process_store.specs.declared.living.Living.{Living}
+use Rattle.release_specs.specs.Specs.{spec_of}
 use Rattle.release_boot.specs.Boot as boot
-use Rattle.release_boot.specs.Boot.{Boots, boot_apps, spec_of, to_start}
+use Rattle.release_boot.specs.Boot.{Boots, boot_apps, to_start}
 use Rattle.release_table.specs.declared.table.Release.{Release}
 use Rattle.sys_protocol.specs.Refusals.{Runs, module_of}
 use Rattle.release_statuses.specs.declared.listed.Listed.{Listed}
-use Rattle.node_core.proofs.Starting.{all_start_live, loaded_live}
+use Rattle.children_live.proofs.Starting.{loaded_live}
+use Rattle.node_core.proofs.Starting.{all_start_live}
 use Rattle.node_core.specs.Node.{IsKept}
 
 -- what a start function gives, and `init` of a callback module, is of the code in which it was evaluated

@@ -1,12 +1,11 @@
 -- A node: its modules, its processes, its applications and its releases.
-use Rattle.std.specs.Prelude.{◌≡◌, ℕ, List, Option, Some, IsSome, option_and_then}
+use Rattle.std.specs.Prelude.{List}
 use Rattle.erl_forms.specs.Module.{Forms}
+use Rattle.children_live.specs.Children.{ChildrenLive}
 use Rattle.code_loading.specs.Consistent.{IsConsistent}
 use Rattle.code_server.specs.Modules.{Table as Loaded}
-use Rattle.process_store.specs.Table.{Table, living}
-use Rattle.app_table.specs.Applications.{Application, child_at}
-use Rattle.app_table.specs.Ordered.{pid_in}
-use Rattle.app_table.specs.declared.spot.Spot.{Spot}
+use Rattle.process_store.specs.Table.{Table}
+use Rattle.app_table.specs.Applications.{Application}
 use Rattle.release_statuses.specs.declared.listed.Listed.{Listed}
 
 -- The next serial of a load stands in the table of modules, and the next pid in that of processes.
@@ -15,15 +14,6 @@ pub record NodeState : Type 0 where
   pub processes : Table
   pub apps : List Application
   pub releases : List Listed
-
--- the pid of the process that the child at a spot runs as, where it runs
-abbrev pub runs_at : Spot → List Application → Option ℕ
-runs_at spot apps = option_and_then (λ c. pid_in c.state) (child_at spot apps)
-
--- Each child that runs is a process that lives, and no two are one process.
-pub record ChildrenLive (apps : List Application) (t : Table) : Type 0 where
-  pub live : (spot : Spot) (pid : ℕ) → runs_at spot apps ≡ Some pid → IsSome (living pid t)
-  pub apart : (one other : Spot) (pid : ℕ) → runs_at one apps ≡ Some pid → runs_at other apps ≡ Some pid → one ≡ other
 
 -- What every node keeps: modules differ in name, each has one or two instances, whose serials differ, each instance that a process uses
 -- is its module's current or old code, and one that rests in a loop function uses that which its place names; and each child that runs is

@@ -10,7 +10,8 @@ use Rattle.erl_forms.specs.Module.{Forms}
 use Rattle.erl_semantics.specs.declared.instance.Instance.{Instance}
 use Rattle.otp_files.specs.declared.app.AppSpec.{AppSpec}
 use Rattle.process_store.specs.Table.{Table}
-use Rattle.release_boot.specs.Boot.{EachStarts, Restarts, StartsOrIsPassedOver, boot_apps, boot_modules, spec_of, to_start}
+use Rattle.release_specs.specs.Specs.{spec_of}
+use Rattle.release_boot.specs.Boot.{EachStarts, Restarts, StartsOrIsPassedOver, boot_apps, boot_modules, to_start}
 use Rattle.release_boot.specs.Laws.{IsLoadedUnlessStarted, RestartsKeepApplications}
 use Rattle.release_table.specs.declared.table.Release.{Release}
 use Rattle.values.proofs.Edits.{All-changed_at, map-changed_at}

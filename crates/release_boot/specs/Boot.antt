@@ -1,7 +1,6 @@
 -- A release boots: the code of all its applications is loaded first, and then they start, in order (application(3); rel(4)).
-use Rattle.std.specs.Prelude.{◌≡◌, ◌⊎◌, ℕ, Bool, true, false, List, [], ◌∷◌, codes, filter, find, map, None, Option, Some}
+use Rattle.std.specs.Prelude.{◌≡◌, ◌⊎◌, ℕ, Bool, true, false, List, [], ◌∷◌, codes, filter, map, None}
 use Rattle.std.specs.List.{flat_map}
-use Rattle.std.specs.Str.{bytes_eq}
 use Rattle.code_loading.specs.Current.{current_code}
 use Rattle.code_server.specs.Modules.{Table as Loaded, empty_table as no_modules, loaded, purged}
 use Rattle.erl_forms.specs.Module.{Forms}
@@ -11,12 +10,12 @@ use Rattle.erl_term.specs.Tree.{atom, none, more}
 use Rattle.erl_term.specs.declared.term.Term.{Term}
 use Rattle.erl_term.specs.declared.term.Term.TheVariants as term
 use Rattle.app_table.specs.declared.child.Child.{Child}
-use Rattle.otp_files.specs.declared.app.AppSpec.{AppSpec}
 use Rattle.otp_files.specs.declared.applications.RelApp.{RelApp}
 use Rattle.process_effects.specs.declared.told.Reply.{Reply}
 use Rattle.process_store.specs.Table.{Table, empty_table as no_processes}
 use Rattle.release_table.specs.declared.table.AppFiles.{AppFiles}
 use Rattle.release_table.specs.declared.table.Release.{Release}
+use Rattle.release_specs.specs.Specs.{specs_of}
 use Rattle.release_words.specs.declared.start_type.StartType.{StartType}
 use Rattle.release_words.specs.declared.start_type.StartType.TheVariants as start
 use Rattle.app_table.specs.Applications.{Application, loaded as app_loaded, started}
@@ -35,21 +34,6 @@ all_loaded (m ∷ ms) t = all_loaded ms (loaded m.name m (purged m.name t))
 
 abbrev pub modules_of : List AppFiles → List Forms
 modules_of files = flat_map (λ f. f.modules) files
-
--- The specification of an application: its file's; one that has no files has the defaults.
-
-abbrev pub is_of : RelApp → AppFiles → Bool
-is_of app f = bytes_eq f.spec.name app.name
-
-abbrev pub default_spec : RelApp → AppSpec
-default_spec app = record { name = app.name; vsn = app.vsn; modules = []; applications = []; start = None }
-
-abbrev pub spec_from : RelApp → Option AppFiles → AppSpec
-spec_from app None = default_spec app
-spec_from app (Some f) = f.spec
-
-abbrev pub spec_of : List AppFiles → RelApp → AppSpec
-spec_of files app = spec_from app (find (is_of app) files)
 
 -- Applications of these types are started, the others only loaded.
 
@@ -136,7 +120,7 @@ abbrev pub boot_modules : Release → Loaded Forms → Loaded Forms
 boot_modules r modules = all_loaded (modules_of r.apps) modules
 
 abbrev pub boot_apps : Release → List Application
-boot_apps r = map app_loaded (map (spec_of r.apps) r.rel.apps)
+boot_apps r = map app_loaded (specs_of r)
 
 -- It boots behind the modules and among the processes that are there: the modules, the processes and the applications after it.
 abbrev pub BootsIn : Release → Loaded Forms → Table → Loaded Forms → Table → List Application → Type 0

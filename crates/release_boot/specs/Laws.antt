@@ -6,7 +6,8 @@ use Rattle.erl_forms.specs.Module.{Forms}
 use Rattle.erl_semantics.specs.declared.instance.Instance.{Instance}
 use Rattle.erl_term.specs.declared.term.Term.{Term}
 use Rattle.process_store.specs.Table.{Table}
-use Rattle.release_boot.specs.Boot.{DoesNotStart, EachStarts, Restarts, Starts, spec_of}
+use Rattle.release_specs.specs.Specs.{spec_of}
+use Rattle.release_boot.specs.Boot.{DoesNotStart, EachStarts, Restarts, Starts}
 use Rattle.release_table.specs.declared.table.Release.{Release}
 
 -- An application starts in one way, or doesn't for one reason, and never both.

@@ -5,7 +5,6 @@ ghost use Rattle.erl_term.specs.Ascii.{is_ascii_text};
 ghost use Rattle.release_boot.specs.Boot.{AllStart, BootFails, Boots, Fails, FailsFor, Starts, all_loaded, boot_apps, boot_modules, is_started_as, modules_of, of_word, reason_of, start_failed, to_start};
 
 use crate::error::BootError;
-use crate::specs_of::specs_of;
 use code_loading::current_code;
 use code_server::Modules;
 use erl_forms::Module;
@@ -13,6 +12,7 @@ use erl_semantics::Instance;
 use erl_term::{Atom, Term, Terms};
 use otp_files::{RelApp, StartType};
 use process_table::Processes;
+use release_specs::specs_of;
 use release_table::{AppFiles, Release};
 use std::alloc::{AllocError, Global};
 use std::hash::RandomState;
@@ -81,7 +81,7 @@ pub(crate) fn load_modules(
 pub(crate) fn load_apps(alloc: Global, release: &Release) -> Result<AppTable, AllocError>
     ensures { IfOk result (λ it. it ≡ boot_apps release.now) }
 {
-    let specs = specs_of(alloc, release.apps.as_slice(), release.rel.apps.as_slice())?;
+    let specs = specs_of(alloc, release)?;
     AppTable::new(alloc, specs)
 }
 

@@ -22,7 +22,6 @@ mod booting;
 mod error;
 mod laws;
 mod restarting;
-mod specs_of;
 
 pub use booting::{Booted, boot};
 pub use error::BootError;

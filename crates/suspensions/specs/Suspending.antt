@@ -16,7 +16,7 @@ use Rattle.process.specs.declared.activity.Activity.TheVariants.{Idle, Suspended
 use Rattle.process_store.specs.Table.{Table, living}
 use Rattle.process_store.specs.declared.living.Living.{Living}
 use Rattle.suspensions.specs.Versions.{old_vsn}
-use Rattle.suspensions.specs.declared.versions.NotedVersion.{NotedVersion}
+use Rattle.script_state.specs.declared.noted.NotedVersion.{NotedVersion}
 use Rattle.suspensions.specs.declared.busy.Busy.{Busy}
 use Rattle.upgrade_calls.specs.declared.changing.Change.{Change}
 

@@ -9,7 +9,7 @@ use Rattle.erl_term.specs.declared.term.Term.{Term}
 use Rattle.erl_term.specs.declared.term.Term.TheVariants.{Atom, Tuple}
 use Rattle.low_instructions.specs.declared.modules.Direction.{Direction}
 use Rattle.low_instructions.specs.declared.modules.Direction.TheVariants.{Up, Down}
-use Rattle.suspensions.specs.declared.versions.NotedVersion.{NotedVersion}
+use Rattle.script_state.specs.declared.noted.NotedVersion.{NotedVersion}
 
 -- what is noted of a module; the first, if there are several
 abbrev pub version_of : List ℕ → List NotedVersion → Option NotedVersion

@@ -9,12 +9,13 @@ ghost use Rattle.suspensions.specs.Suspending.{changes_for, changes_of, is_chang
 ghost use Rattle.upgrade_calls.specs.Changing.{AllChange, AreCounted, ChangesBack, IsServer, RefusesChange};
 
 use crate::activities::is_server;
-use crate::versions::{NotedVersion, old_vsn};
+use crate::versions::old_vsn;
 use app_table::AppTable;
 use erl_semantics::Instance;
 use erl_term::{Atom, Term};
 use low_instructions::{Direction, ModuleChange};
 use process_table::Processes;
+use script_state::NotedVersion;
 use std::alloc::{AllocError, Global};
 use upgrade_calls::{Change, ChangeError, Changed, change_code};
 use values::{Duplicate, Failure};

@@ -30,6 +30,6 @@ mod versions;
 
 pub use busy::{Busy, suspend_refusal};
 pub use changing::change_suspended;
+pub use script_state::NotedVersion;
 pub use suspending::{ResumeUndo, resume, suspend, unresume, unsuspend};
 pub use upgrade_calls::{Change, ChangeError, ChangeFailed, ChangeUndo, Changed, revert_change};
-pub use versions::NotedVersion;

@@ -5,19 +5,9 @@ ghost use Rattle.suspensions.specs.Versions.{down, noted_in, old_vsn, or_undefin
 
 use erl_term::{Atom, Term, Terms};
 use low_instructions::Direction;
+use script_state::NotedVersion;
 use std::alloc::{AllocError, Global};
 use values::Duplicate;
-
-/// What is noted of a module when its object code is read.
-#[derive(Drop)]
-pub struct NotedVersion {
-    /// The module.
-    pub name: Atom,
-    /// The `-vsn` of the code that was current then, if it had any.
-    pub current: Option<Term>,
-    /// The `-vsn` of the object code, if it has any.
-    pub object: Option<Term>,
-}
 
 /// What is noted of a module.
 fn version_of<'a>(name: &Atom, versions: &'a [NotedVersion]) -> Option<&'a NotedVersion>

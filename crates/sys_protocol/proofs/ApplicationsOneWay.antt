@@ -1,9 +1,9 @@
 -- An application starts in one way, or fails to for one reason.
-use Rattle.std.proofs.Common.{◌≡◌, ℕ, List, ◌++◌, codes, map, None, Some, sym, ap, subst, ◌∙◌}
+use Rattle.std.proofs.Common.{◌≡◌, List, ◌++◌, codes, map, None, Some, sym, ap, subst, ◌∙◌}
 use Rattle.std.proofs.lemmas.Option.{none-some, same_Some}
 use Rattle.sys_protocol.specs.RunningChildren.{all_running}
 use Rattle.sys_protocol.specs.Laws.{ApplicationsStartOneWay}
-use Rattle.sys_protocol.specs.AppStarts.{AllRun, AppFails, AppStarts, FailsFor, InitGives, children_in, init_fault, initialized}
+use Rattle.sys_protocol.specs.AppStarts.{AllRun, AppFails, AppStarts, FailsFor, InitGives, children_in, initialized}
 use Rattle.sys_protocol.specs.declared.app_error.AppError.{AppError}
 use Rattle.sys_protocol.specs.declared.app_error.AppError.TheVariants.{NotLoaded, AlreadyStarted, BadInit, StartFailed, NotStarted, Running}
 use Rattle.app_table.specs.declared.child.Child.{Child}

@@ -11,8 +11,9 @@ use Rattle.sys_protocol.specs.declared.app_error.AppError.TheVariants.{NotLoaded
 use Rattle.sys_protocol.specs.ChildFaults.{ChildFails}
 use Rattle.otp_files.specs.declared.app.StartModule.{StartModule}
 use Rattle.process_effects.specs.declared.told.Reply.{Reply}
+use Rattle.process_store.specs.Pieces.{Piece, no_pieces}
 use Rattle.process_store.specs.Table.{Table}
-use Rattle.process_table.specs.Undo.{TakesBack}
+use Rattle.process_table.specs.Undo.{TakesBack, held}
 use Rattle.process_table.specs.declared.undo.Undo.{Undo}
 use Rattle.sys_protocol.specs.declared.error.SysError.{SysError}
 use Rattle.sys_protocol.specs.declared.error.SysError.TheVariants.{StartFailed, NoChild, NotDue}
@@ -44,6 +45,11 @@ FailsToRun e code (Some m) t = AppFails code m t e
 abbrev pub StartsBack : Option Undo → Table → Table → Type 0
 StartsBack None before after = after ≡ before
 StartsBack (Some undo) before after = TakesBack undo before after
+
+-- and the pieces of processes that it holds, by the processes after the start
+abbrev pub held_of_start : Option Undo → Table → ℕ → List Piece
+held_of_start None t = no_pieces
+held_of_start (Some undo) t = held undo t
 
 -- Why a start is refused, in order.
 abbrev pub RefusesStart : AppError → List Instance → List ℕ → List Application → Table → Type 0

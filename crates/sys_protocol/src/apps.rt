@@ -1,14 +1,17 @@
 // Applications and children start.
-ghost use Rattle.std.specs.Prelude.{◌≡◌, IfErr, IfOk, List, MatchOption, None, OnErr, OnOk, Some, replicate, true};
-ghost use Rattle.app_table.specs.Applications.{child_of, place_of, revived, started};
+ghost use Rattle.std.specs.Prelude.{◌≡◌, [], IfErr, IfOk, IfSome, List, MatchOption, None, OnErr, OnOk, Some, replicate, true};
+ghost use Rattle.app_table.specs.Applications.{app_of, child_of, place_of, revived, started};
 ghost use Rattle.app_table.specs.Children.{is_due};
+ghost use Rattle.app_table.specs.Pieces.{child_pieces, held as held_apps};
 ghost use Rattle.app_table.specs.Undo.{undone};
 ghost use Rattle.app_table.specs.declared.child.Child.{Child as OneChild};
 ghost use Rattle.values.specs.Failure.{Fails};
 ghost use Rattle.sys_protocol.specs.ChildStarts.{Restarts};
 ghost use Rattle.process_effects.specs.declared.told.Reply.{Reply as Told};
-ghost use Rattle.process_table.specs.Undo.{TakesBack};
+ghost use Rattle.process_store.specs.Pieces.{HoldsLost};
+ghost use Rattle.process_table.specs.Undo.{TakesBack, held};
 ghost use Rattle.sys_protocol.specs.Refusals.{IsDue, IsNotDue, RefusesRevive, RefusesStart, Runs, StartsBack, module_of, start_refusal};
+ghost use Rattle.sys_protocol.specs.Refusals.{held_of_start};
 
 use crate::app_error::AppError;
 use crate::error::SysError;
@@ -79,7 +82,10 @@ pub fn start_app(
     ensures ok { OnOk result (start_refusal name.now apps.old ≡ None) }
     ensures started { IfOk result (λ it. (children : List OneChild) × (told : List Told) × Runs code.now (module_of name.now apps.old) processes.old children processes.new told × (it.told.items ≡ replicate n told) × (apps.new ≡ started name.now children apps.old)) }
     ensures inverse { IfOk result (λ it. undone it.undo apps.new ≡ apps.old) }
+    ensures app_pieces { IfOk result (λ it. IfSome (app_of name.now apps.old)
+        (λ a. held_apps it.undo apps.new ≡ child_pieces a.spec.name a.children)) }
     ensures processes { IfOk result (λ it. StartsBack it.processes processes.old processes.new) }
+    ensures pieces { IfOk result (λ it. HoldsLost (held_of_start it.processes processes.new) processes.old processes.new) }
     ensures refused { IfErr result (Fails (λ e. RefusesStart e code.now name.now apps.old processes.old) (start_refusal name.now apps.old ≡ None)) }
     ensures err { OnErr result ((apps.new ≡ apps.old) × (processes.new ≡ processes.old)) }
 {
@@ -131,7 +137,9 @@ pub fn revive(
 ) -> Result<Revival, Failure<SysError>>
     ensures revived { IfOk result (λ it. (c : OneChild) × (told : List Told) × (child_of name.now id.now apps.old ≡ Some c) × (is_due c ≡ true) × Restarts code.now c.spec processes.old it.pid processes.new told × (it.told.items ≡ replicate n told) × (apps.new ≡ revived name.now id.now it.pid apps.old)) }
     ensures inverse { IfOk result (λ it. undone it.undo apps.new ≡ apps.old) }
+    ensures app_pieces { IfOk result (λ it. held_apps it.undo apps.new ≡ []) }
     ensures processes { IfOk result (λ it. TakesBack it.processes processes.old processes.new) }
+    ensures pieces { IfOk result (λ it. HoldsLost (held it.processes processes.new) processes.old processes.new) }
     ensures refused { IfErr result (Fails (λ e. RefusesRevive e code.now name.now id.now apps.old processes.old) (IsDue name.now id.now apps.old)) }
     ensures err { OnErr result ((apps.new ≡ apps.old) × (processes.new ≡ processes.old)) }
 {

@@ -24,7 +24,8 @@
 //! - A child whose process has ended has none, and is due where its Restart and the reason say so and its application is started
 //!   (`all_ended`, `after_end`).
 //! - The record of each step gives the applications before it, whole, whatever the memory (`undone`); that of a start gives the
-//!   processes before, too.
+//!   processes before, too. It holds of processes only what the step has taken from them (`HoldsLost`), and of specifications
+//!   the children before of an application that starts, all of one that is unloaded, and else none (`held`, `held_unloaded`).
 //!
 //! # What no contract says
 //!

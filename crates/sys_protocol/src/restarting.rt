@@ -4,8 +4,9 @@ ghost use Rattle.values.specs.Failure.{Fails};
 ghost use Rattle.sys_protocol.specs.ChildStarts.{Restarts};
 ghost use Rattle.sys_protocol.specs.ChildFaults.{ChildFails};
 ghost use Rattle.process_effects.specs.declared.told.Reply.{Reply as Told};
+ghost use Rattle.process_store.specs.Pieces.{HoldsLost};
 ghost use Rattle.process_store.specs.Table.{Table};
-ghost use Rattle.process_table.specs.Undo.{TakesBack};
+ghost use Rattle.process_table.specs.Undo.{TakesBack, held};
 
 use crate::child_starting::start_child;
 use crate::start_failed::StartFailed;
@@ -42,6 +43,7 @@ pub fn restart_child(
 ) -> Result<Restarted, Failure<StartFailed>>
     ensures started { IfOk result (λ it. (told : List Told) × Restarts code.now child.now processes.old it.pid processes.new told × (it.told.items ≡ replicate n told)) }
     ensures inverse { IfOk result (λ it. TakesBack it.undo processes.old processes.new) }
+    ensures pieces { IfOk result (λ it. HoldsLost (held it.undo processes.new) processes.old processes.new) }
     ensures failed { IfErr result (Fails (λ failed. ChildFails failed code.now child.now processes.old) (Unit {0})) }
     ensures err { OnErr result (processes.new ≡ processes.old) }
 {

@@ -3,7 +3,8 @@ ghost use Rattle.std.specs.Prelude.{◌≡◌, [], IfErr, IfOk, List, None, OnEr
 ghost use Rattle.std.specs.Option.{option_copied};
 ghost use Rattle.values.specs.Failure.{Fails};
 ghost use Rattle.process_effects.specs.declared.told.Reply.{Reply as Told};
-ghost use Rattle.sys_protocol.specs.Refusals.{FailsToRun, Runs, StartsBack};
+ghost use Rattle.process_store.specs.Pieces.{HoldsLost};
+ghost use Rattle.sys_protocol.specs.Refusals.{FailsToRun, Runs, StartsBack, held_of_start};
 
 use crate::app_error::AppError;
 use crate::supervising::{Supervised, supervise};
@@ -50,6 +51,7 @@ pub(crate) fn run(
 ) -> Result<Running, Failure<AppError>>
     ensures runs { IfOk result (λ it. (told : List Told) × Runs code.now (option_copied module.entry) processes.old it.children processes.new told × (it.told.items ≡ replicate n told)) }
     ensures inverse { IfOk result (λ it. StartsBack it.undo processes.old processes.new) }
+    ensures pieces { IfOk result (λ it. HoldsLost (held_of_start it.undo processes.new) processes.old processes.new) }
     ensures failed { IfErr result (Fails (λ e. FailsToRun e code.now (option_copied module.entry) processes.old) (Unit {0})) }
     ensures err { OnErr result (processes.new ≡ processes.old) }
 {

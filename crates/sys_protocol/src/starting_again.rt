@@ -1,10 +1,12 @@
 // Children that an upgrade has stopped start again.
-ghost use Rattle.std.specs.Prelude.{◌≡◌, All, IfErr, IfOk, List, OnErr, OnOk, length, map, replicate};
+ghost use Rattle.std.specs.Prelude.{◌≡◌, [], All, IfErr, IfOk, List, OnErr, OnOk, length, map, replicate};
 ghost use Rattle.app_table.specs.Changes.{IsIdleAt};
+ghost use Rattle.app_table.specs.Pieces.{held as held_apps};
 ghost use Rattle.app_table.specs.Undo.{undone};
 ghost use Rattle.process_effects.specs.declared.told.Reply.{Reply as Told};
+ghost use Rattle.process_store.specs.Pieces.{HoldsLost};
 ghost use Rattle.process_store.specs.Table.{Table};
-ghost use Rattle.process_table.specs.Undo.{TakesBack};
+ghost use Rattle.process_table.specs.Undo.{TakesBack, held};
 ghost use Rattle.values.specs.Failure.{Fails};
 ghost use Rattle.sys_protocol.specs.ChildFaults.{StartFails};
 ghost use Rattle.sys_protocol.specs.ChildStarts.{AllStart};
@@ -62,6 +64,7 @@ fn start_together(
     ensures started { IfOk result (λ it. (told : List Told) × AllStart code.now specs.now processes.old it.pids.items processes.new told × (it.told.items ≡ replicate n told)) }
     ensures enough { IfOk result (λ it. length it.pids.items ≡ length specs.now) }
     ensures inverse { IfOk result (λ it. TakesBack it.undo processes.old processes.new) }
+    ensures pieces { IfOk result (λ it. HoldsLost (held it.undo processes.new) processes.old processes.new) }
     ensures failed { IfErr result (Fails (λ failed. StartFails failed code.now specs.now processes.old) (Unit {0})) }
     ensures err { OnErr result (processes.new ≡ processes.old) }
 {
@@ -96,7 +99,9 @@ pub fn start(
 ) -> Result<StartedAgain, Failure<StartFailed>>
     ensures started { IfOk result (λ it. (told : List Told) × StartAgain code.now names.now modules.now apps.old processes.old apps.new processes.new told × (it.told.items ≡ replicate n told)) }
     ensures processes { IfOk result (λ it. TakesBack it.processes processes.old processes.new) }
+    ensures pieces { IfOk result (λ it. HoldsLost (held it.processes processes.new) processes.old processes.new) }
     ensures inverse { IfOk result (λ it. undone it.undo apps.new ≡ apps.old) }
+    ensures app_pieces { IfOk result (λ it. held_apps it.undo apps.new ≡ []) }
     ensures failed { IfErr result (Fails (λ failed. FailToStartAgain failed code.now names.now modules.now apps.old processes.old) (Unit {0})) }
     ensures err { OnErr result ((apps.new ≡ apps.old) × (processes.new ≡ processes.old)) }
 {

@@ -1,8 +1,10 @@
 // Children stop, and applications.
 ghost use Rattle.std.specs.Prelude.{◌≡◌, ◌-◌, ◌≤◌, ◌+◌, ◌++◌, IfErr, IfOk, None, OnErr, OnOk, Some, length, map, replicate, take, vec_capacity, vec_len};
+ghost use Rattle.std.specs.Prelude.{[], IsPermutation};
 ghost use Rattle.app_table.specs.Applications.{place_of};
 ghost use Rattle.app_table.specs.Changes.{all_stopped};
 ghost use Rattle.app_table.specs.Modules.{names_at, running_with};
+ghost use Rattle.app_table.specs.Pieces.{held as held_apps, held_unloaded, pieces};
 ghost use Rattle.app_table.specs.Undo.{reloaded, undone};
 ghost use Rattle.process_effects.specs.Ends.{all_vacated};
 ghost use Rattle.process_effects.specs.Kills.{all_downs};
@@ -93,6 +95,7 @@ pub fn stop(
     ensures ended { IfOk result (λ it. TakesBackEnds it.processes processes.old processes.new) }
     ensures pieces { IfOk result (λ it. HoldsLost (held it.processes processes.new) processes.old processes.new) }
     ensures inverse { IfOk result (λ it. undone it.undo apps.new ≡ apps.old) }
+    ensures app_pieces { IfOk result (λ it. held_apps it.undo apps.new ≡ []) }
     ensures err { OnErr result ((apps.new ≡ apps.old) × (processes.new ≡ processes.old) × (noted.new.items ≡ noted.old.items)) }
 {
     let children = apps.running_with(alloc, modules)?;
@@ -155,6 +158,7 @@ pub fn stop_app(
     ensures ended { IfOk result (λ it. TakesBackEnds it.processes processes.old processes.new) }
     ensures pieces { IfOk result (λ it. HoldsLost (held it.processes processes.new) processes.old processes.new) }
     ensures inverse { IfOk result (λ it. undone it.undo apps.new ≡ apps.old) }
+    ensures app_pieces { IfOk result (λ it. held_apps it.undo apps.new ≡ []) }
     ensures refused { IfErr result (λ failure. Tells failure (stop_refusal name.now apps.old)) }
     ensures err { OnErr result ((apps.new ≡ apps.old) × (processes.new ≡ processes.old)) }
 {
@@ -197,6 +201,7 @@ pub fn unload_app(apps: &mut AppTable, name: &Atom) -> Result<Unloaded, AppError
     ensures ok { OnOk result (unload_refusal name.now apps.old ≡ None) }
     ensures unloaded { OnOk result (apps.new ≡ unloaded_app name.now apps.old) }
     ensures inverse { IfOk result (λ it. (reloaded it apps.new ≡ apps.old) × (it.place ≤ length apps.new)) }
+    ensures app_pieces { IfOk result (λ it. IsPermutation (held_unloaded it ++ pieces apps.new) (pieces apps.old)) }
     ensures refused { IfErr result (λ e. unload_refusal name.now apps.old ≡ Some e) }
     ensures err { OnErr result (apps.new ≡ apps.old) }
 {

@@ -8,8 +8,9 @@ ghost use Rattle.erl_term.specs.Tree.{atom, more, none};
 ghost use Rattle.erl_term.specs.declared.term.Term.TheVariants.{Tuple};
 ghost use Rattle.process_effects.specs.Begins.{CanGiveUp, IsUnderWay};
 ghost use Rattle.process_effects.specs.declared.told.Reply.{Reply as Told};
+ghost use Rattle.process_store.specs.Pieces.{HoldsLost};
 ghost use Rattle.process_store.specs.Table.{Table};
-ghost use Rattle.process_table.specs.Undo.{TakesBack};
+ghost use Rattle.process_table.specs.Undo.{TakesBack, held};
 ghost use Rattle.sys_protocol.specs.RunningChildren.{all_running};
 ghost use Rattle.sys_protocol.specs.AppStarts.{AllRun, AppFails, AppStarts, InitGives, bad_init, children_in, exit_value, init_fault};
 
@@ -151,6 +152,7 @@ pub fn supervise(
 ) -> Result<Supervised, Failure<AppError>>
     ensures started { IfOk result (λ it. (told : List Told) × AppStarts code.now module.now processes.old it.children processes.new told × (it.told.items ≡ replicate n told)) }
     ensures inverse { IfOk result (λ it. TakesBack it.undo processes.old processes.new) }
+    ensures pieces { IfOk result (λ it. HoldsLost (held it.undo processes.new) processes.old processes.new) }
     ensures failed { IfErr result (Fails (AppFails code.now module.now processes.old) (Unit {0})) }
     ensures err { OnErr result (processes.new ≡ processes.old) }
 {

@@ -1,7 +1,7 @@
 // Specifications of another release in place of those that are there.
 ghost use Rattle.std.specs.Prelude.{◌≡◌, ◌+◌, ◌≤◌, ◌<◌, ◌++◌, List, [], IfErr, IfOk, IsPermutation, OnErr, OnOk, length, slice_get, vec_capacity, vec_len};
 ghost use Rattle.app_table.specs.Applications.{Application, place_of};
-ghost use Rattle.app_table.specs.Changes.{all_replaced, put_back, spec_set_at, specs_set, with_spec};
+ghost use Rattle.app_table.specs.Changes.{all_replaced, former_specs, put_back, replaced_at, replaced_by, spec_set_at, specs_set, with_spec};
 ghost use Rattle.app_table.specs.Pieces.{held_back, held_former, pieces};
 ghost use Rattle.app_table.specs.Undo.{Fits, GivesBack, all_given_up, all_left, all_put, former_of, put_again, with_spec_of};
 ghost use Rattle.values.specs.Edits.{changed_at};
@@ -20,6 +20,7 @@ fn set_spec(list: &mut Vec<App>, alloc: Global, spec: AppSpec, replaced: &mut Ve
     requires room { vec_len list.old < vec_capacity list.old }
     requires noted { vec_len replaced.old < vec_capacity replaced.old }
     ensures set { list.new.items ≡ spec_set_at (place_of spec.name list.old.items) spec list.old.items }
+    ensures former { replaced.new.items ≡ replaced.old.items ++ replaced_at (place_of spec.name list.old.items) list.old.items }
     ensures back { (before : List Application) → GivesBack before replaced.old.items list.old.items →
         GivesBack before replaced.new.items list.new.items }
     ensures room { (vec_len list.new ≤ vec_len list.old + 1) × (vec_capacity list.new ≡ vec_capacity list.old) }
@@ -40,6 +41,7 @@ fn set_each(list: &mut Vec<App>, alloc: Global, specs: Vec<AppSpec>, replaced: &
     requires room { vec_len list.old + vec_len specs ≤ vec_capacity list.old }
     requires noted { vec_len replaced.old + vec_len specs ≤ vec_capacity replaced.old }
     ensures set { list.new.items ≡ specs_set specs.items list.old.items }
+    ensures former { replaced.new.items ≡ replaced.old.items ++ replaced_by specs.items list.old.items }
     ensures back { (before : List Application) → GivesBack before replaced.old.items list.old.items →
         GivesBack before replaced.new.items list.new.items }
 {
@@ -73,6 +75,7 @@ impl AppTable {
     /// `AllocError` where memory is refused. All is then as it was.
     pub fn set_specs(&mut self, specs: Row<AppSpec>) -> Result<FormerSpecs, AllocError>
         ensures set { OnOk result (self.new ≡ specs_set specs self.old) }
+        ensures former { IfOk result (λ former. former ≡ former_specs specs self.old) }
         ensures inverse { IfOk result (λ former. put_back former self.new ≡ self.old) }
         ensures fits { IfOk result (λ former. Fits former self.new) }
         ensures err { OnErr result (self.new ≡ self.old) }

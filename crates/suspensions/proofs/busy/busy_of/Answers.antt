@@ -4,7 +4,7 @@ use Rattle.std.specs.List.{find}
 use Rattle.app_table.specs.Applications.{Application}
 use Rattle.app_table.specs.declared.child.Child.{Child}
 use Rattle.process_store.specs.Table.{living}
-use Rattle.suspensions.proofs.Finding.{behind, from_there, in_front, none_unless}
+use Rattle.script_state.proofs.Firsts.{behind, from_there, in_front, none_unless}
 use Rattle.suspensions.specs.Suspending.{is_busy, pids_in, pids_of}
 use Rattle.suspensions.proofs.busy.busy_of.Goals as goal
 

@@ -3,7 +3,7 @@ use Rattle.std.proofs.Common.{◌+◌, ◌∙◌, ℕ, Bool, List, drop, sym, ap
 use Rattle.std.specs.List.{flat_map}
 use Rattle.low_instructions.specs.declared.modules.Suspension.{Suspension}
 use Rattle.process_store.specs.Table.{living}
-use Rattle.suspensions.proofs.Finding.{behind, from_here, in_front, none_unless}
+use Rattle.script_state.proofs.Firsts.{behind, from_here, in_front, none_unless}
 use Rattle.suspensions.specs.Suspending.{first_busy, is_busy, names, pids_of}
 use Rattle.suspensions.proofs.busy.first_busy.Goals as goal
 

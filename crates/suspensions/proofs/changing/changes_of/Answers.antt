@@ -6,7 +6,7 @@ use Rattle.std.specs.List.{filter}
 use Rattle.erl_term.specs.declared.term.Term.{Term}
 use Rattle.low_instructions.specs.declared.modules.ModuleChange.{ModuleChange}
 use Rattle.process_store.specs.Table.{living}
-use Rattle.suspensions.proofs.Finding.{from_here}
+use Rattle.script_state.proofs.Firsts.{from_here}
 use Rattle.suspensions.specs.Suspending.{changes_for, changes_of, is_changed}
 use Rattle.upgrade_calls.specs.Changing.{IsServer}
 use Rattle.upgrade_calls.specs.declared.changing.Change.{Change}

@@ -24,3 +24,6 @@ returns-in_ok-told-in-Ok-clause-inverse c =
     let now = c.args.processes.now in
     let (after, others, start, under) = c.in-Ok.ensures.started now now [] (c.new-batch.ensures now) in
     c.in_ok-told-in-Ok.ensures.inverse now under.back
+
+pub returns-in_ok-told-in-Ok-clause-pieces : goal.returns-in_ok-told-in-Ok-clause-pieces
+returns-in_ok-told-in-Ok-clause-pieces c = c.in_ok-told-in-Ok.ensures.pieces c.args.processes.now

@@ -6,7 +6,7 @@ use Rattle.app_table.proofs.Replacing.{get_below, gives_added, gives_replaced}
 use Rattle.app_table.proofs.Spots.{by_name, got}
 use Rattle.app_table.proofs.Writes.{changed_from_write}
 use Rattle.app_table.specs.Applications.{Application, place_of}
-use Rattle.app_table.specs.Changes.{spec_set_at, with_spec}
+use Rattle.app_table.specs.Changes.{replaced_as, replaced_at, spec_set_at, with_spec}
 use Rattle.app_table.specs.Undo.{GivesBack}
 use Rattle.app_table.specs.declared.specs.Replaced.{Replaced}
 use Rattle.otp_files.specs.declared.app.AppSpec.{AppSpec}
@@ -19,6 +19,18 @@ returns-in-Some-clause-set c =
     let e = ap (λ (l : List Application). place_of c.args.spec.name l) (sym c.as_slice.ensures.value) ∙ sym c.place_in.ensures ∙ c.in-Some.is in
     let (a, at, named) = by_name c.args.spec.name apps place e in
     subst (λ o. slice_set c.args.list.now.items c.in-Some.place c.swap_spec.new.self ≡ spec_set_at o c.args.spec c.args.list.now.items) (sym e) (changed_from_write (with_spec c.args.spec) apps place c.index_mut.result.now c.swap_spec.new.self (get_below apps place a at) c.index_mut.ensures.value c.swap_spec.ensures.set)
+
+pub returns-in-Some-clause-former : goal.returns-in-Some-clause-former
+returns-in-Some-clause-former c =
+    let apps = c.args.list.now.items in
+    let place = c.in-Some.place in
+    let rs = c.args.replaced.now.items in
+    let x = c.index_mut.result.now in
+    let e = ap (λ (l : List Application). place_of c.args.spec.name l) (sym c.as_slice.ensures.value) ∙ sym c.place_in.ensures ∙ c.in-Some.is in
+    let (a, at, named) = by_name c.args.spec.name apps place e in
+    let there = got apps place x (get_below apps place a at) ∙ ap Some (sym c.index_mut.ensures.value) in
+    let noted = c.push_reserved.ensures.items ∙ ap (λ (s : AppSpec). rs ++ (let r : Replaced = record { place = place; spec = s } in r) ∷ []) c.swap_spec.ensures.left in
+    noted ∙ ap (λ (l : List Replaced). rs ++ l) (sym (ap (λ o. replaced_at o apps) e ∙ ap (replaced_as place) there))
 
 pub returns-in-Some-clause-back : goal.returns-in-Some-clause-back
 returns-in-Some-clause-back c before g =

@@ -9,9 +9,10 @@ use Rattle.process_table.specs.Steps.{after_arrival, arrive_refusal, kind_of}
 use Rattle.undo_journal.specs.Reversible.{Accepted}
 use Rattle.undo_journal.specs.declared.reversible.Told.{Told}
 use Rattle.node_core.proofs.Accepting.{accepted_of, all_told, unless_none}
-use Rattle.node_core.proofs.Keeping.{all_on}
-use Rattle.node_core.proofs.Lives.{arrival_on}
-use Rattle.node_core.specs.Node.{ChildrenLive, NodeState, with_processes}
+use Rattle.children_live.proofs.Keeping.{all_on}
+use Rattle.children_live.proofs.Lives.{arrival_on}
+use Rattle.children_live.specs.Children.{ChildrenLive}
+use Rattle.node_core.specs.Node.{NodeState, with_processes}
 use Rattle.node_types.specs.declared.event.Answer.{Answer}
 use Rattle.node_types.specs.declared.event.Answer.TheVariants as answer
 use Rattle.node_types.specs.declared.event.Event.TheVariants as event

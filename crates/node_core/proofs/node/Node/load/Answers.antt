@@ -8,7 +8,7 @@ use Rattle.app_table.specs.Applications.{all_ended}
 use Rattle.process_effects.specs.Told.{killed}
 use Rattle.undo_journal.specs.Reversible.{Accepted}
 use Rattle.node_core.proofs.Accepting.{accepted_of, unless_none}
-use Rattle.node_core.proofs.Keeping.{spared_live}
+use Rattle.children_live.proofs.Keeping.{spared_live}
 use Rattle.node_core.specs.Node.{IsKept, NodeState, with_modules}
 use Rattle.node_core.specs.Step.{reporting, without_lingering}
 use Rattle.node_types.specs.declared.event.Answer.{Answer}

@@ -4,7 +4,7 @@ use Rattle.code_loading.proofs.Consistency.{purge_keeps}
 use Rattle.code_loading.specs.Loading.{is_lingered_in, purge_told}
 use Rattle.undo_journal.specs.Reversible.{Accepted}
 use Rattle.node_core.proofs.Accepting.{accepted_of}
-use Rattle.node_core.proofs.Keeping.{spared_live}
+use Rattle.children_live.proofs.Keeping.{spared_live}
 use Rattle.node_core.specs.Node.{IsKept, NodeState}
 use Rattle.node_core.specs.Step.{reporting, without_lingering}
 use Rattle.node_types.specs.declared.event.Answer.{Answer}

@@ -13,8 +13,9 @@ use Rattle.undo_journal.specs.Reversible.{Accepted}
 use Rattle.undo_journal.specs.declared.reversible.Told.{Told}
 use Rattle.node_core.proofs.Accepting.{accepted_of, each_of}
 use Rattle.node_core.proofs.Booting.{child_begins}
-use Rattle.node_core.proofs.Starting.{revived_live}
-use Rattle.node_core.specs.Node.{ChildrenLive, NodeState}
+use Rattle.children_live.proofs.Starting.{revived_live}
+use Rattle.children_live.specs.Children.{ChildrenLive}
+use Rattle.node_core.specs.Node.{NodeState}
 use Rattle.node_core.specs.Step.{revived_as}
 use Rattle.node_types.specs.declared.event.Answer.{Answer}
 use Rattle.node_types.specs.declared.event.Answer.TheVariants as answer

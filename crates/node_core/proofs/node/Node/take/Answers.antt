@@ -9,9 +9,10 @@ use Rattle.process_table.specs.Steps.{taken}
 use Rattle.undo_journal.specs.Reversible.{Accepted}
 use Rattle.undo_journal.specs.declared.reversible.Told.{Told}
 use Rattle.node_core.proofs.Accepting.{accepted_of, each_of}
-use Rattle.node_core.proofs.Keeping.{all_on}
-use Rattle.node_core.proofs.Lives.{taken_on}
-use Rattle.node_core.specs.Node.{ChildrenLive, NodeState, with_processes}
+use Rattle.children_live.proofs.Keeping.{all_on}
+use Rattle.children_live.proofs.Lives.{taken_on}
+use Rattle.children_live.specs.Children.{ChildrenLive}
+use Rattle.node_core.specs.Node.{NodeState, with_processes}
 use Rattle.node_core.specs.Step.{reporting, run_taken}
 use Rattle.node_types.specs.declared.event.Answer.{Answer}
 use Rattle.node_types.specs.declared.event.Answer.TheVariants as answer

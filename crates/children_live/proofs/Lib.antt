@@ -1,0 +1,7 @@
+pub mod Children
+pub mod Keeping
+pub mod Lives
+pub mod Placing
+pub mod Starting
+pub mod Steps
+pub mod Stopping

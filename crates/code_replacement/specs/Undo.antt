@@ -1,0 +1,25 @@
+-- What takes a replacement of code back.
+use Rattle.std.specs.Prelude.{◌≡◌, List, Option, None, Some}
+use Rattle.app_table.specs.Applications.{Application}
+use Rattle.app_table.specs.Undo as apps
+use Rattle.app_table.specs.declared.undo.Undo as apps_undo
+use Rattle.code_loading.specs.Undo as loading
+use Rattle.code_loading.specs.Unpurging as purging
+use Rattle.code_replacement.specs.Replacing.{RunningSystem}
+use Rattle.code_replacement.specs.declared.undo.Purges.{Purges}
+use Rattle.code_replacement.specs.declared.undo.Undo.{Undo}
+
+-- of the children: none has ended, or those run again that have
+abbrev pub ChildrenBack : Option apps_undo.Undo → List Application → List Application → Type 0
+ChildrenBack None before after = after ≡ before
+ChildrenBack (Some undo) before after = apps.undone undo after ≡ before
+
+-- It gives what ran before.
+
+pub record TakesBack (undo : Undo) (before after : RunningSystem) : Type 0 where
+  pub code : loading.TakesBack undo.code before.modules before.processes after.modules after.processes
+  pub children : ChildrenBack undo.ended before.apps after.apps
+
+pub record PurgesBack (undo : Purges) (before after : RunningSystem) : Type 0 where
+  pub code : purging.PurgesBack undo.code before.modules before.processes after.modules after.processes
+  pub children : ChildrenBack undo.ended before.apps after.apps

@@ -1,0 +1,4 @@
+pub mod Applying
+pub mod Children
+pub mod CurrentCode
+pub mod OneOutcome

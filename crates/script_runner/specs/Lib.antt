@@ -1,0 +1,8 @@
+pub mod Carrying
+pub mod Failures
+pub mod Installing
+pub mod Instructions
+pub mod Parts
+pub mod Replacing
+pub mod Suspending
+pub mod Undo

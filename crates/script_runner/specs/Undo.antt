@@ -1,0 +1,35 @@
+-- What takes an instruction back: from the parts after the instruction it gives those before. Parts that it doesn't name
+-- weren't changed.
+use Rattle.std.specs.Prelude.{◌≡◌, ◌≤◌, ◌-◌, Bool, if◌then◌else◌, List, length, take}
+use Rattle.code_replacement.specs.Undo as code
+use Rattle.process_table.specs.States.{all_resumed, all_unresumed}
+use Rattle.script_children.specs.Undo as children
+use Rattle.script_state.specs.ObjectCode.{but_last_noted}
+use Rattle.script_runner.specs.Instructions.{running_of, supervised_of}
+use Rattle.script_runner.specs.Parts.{Parts}
+use Rattle.script_runner.specs.declared.undo.Undo.{Undo}
+use Rattle.script_runner.specs.declared.undo.Undo.TheVariants.{Nothing, Read, Replaced, Purged, Suspended, Resumed, Changed, Children}
+use Rattle.suspensions.specs.Suspending.{but_last, last_of}
+use Rattle.upgrade_calls.specs.Changing.{ChangesBack}
+
+-- without the last item, where one was added
+abbrev pub without_note : {A : Type 0} → Bool → List A → List A
+without_note noted items = if noted then take (length items - 1) items else items
+
+abbrev pub TakesBack : Undo → Parts → Parts → Type 0
+TakesBack Nothing p q = q ≡ p
+TakesBack (Read count) p q = (count ≤ length q.versions) × (but_last_noted count q.versions ≡ p.versions) ×
+    (q ≡ record p { versions = q.versions })
+TakesBack (Replaced u noted) p q = code.TakesBack u (running_of p) (running_of q) × (without_note noted q.unpurged ≡ p.unpurged) ×
+    (q ≡ record p { modules = q.modules; processes = q.processes; apps = q.apps; unpurged = q.unpurged })
+TakesBack (Purged u) p q = code.PurgesBack u (running_of p) (running_of q) ×
+    (q ≡ record p { modules = q.modules; processes = q.processes; apps = q.apps })
+TakesBack (Suspended count) p q = (count ≤ length q.suspended) ×
+    (all_resumed (last_of count q.suspended) q.processes ≡ p.processes) ×
+    (but_last count q.suspended ≡ p.suspended) × (q ≡ record p { processes = q.processes; suspended = q.suspended })
+TakesBack (Resumed u) p q = (all_unresumed u.resumed q.processes ≡ p.processes) × (u.former.items ≡ p.suspended) ×
+    (q ≡ record p { processes = q.processes; suspended = q.suspended })
+TakesBack (Changed u) p q = ChangesBack u p.processes q.processes × (q ≡ record p { processes = q.processes })
+TakesBack (Children u count) p q = children.TakesBack u (supervised_of p) (supervised_of q) × (count ≤ length q.stopped) ×
+    (take (length q.stopped - count) q.stopped ≡ p.stopped) ×
+    (q ≡ record p { processes = q.processes; apps = q.apps; stopped = q.stopped })

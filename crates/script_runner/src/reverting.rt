@@ -1,0 +1,248 @@
+// An instruction is taken back.
+ghost use Rattle.std.specs.Prelude.{◌≡◌, IfErr, OnErr, OnOk};
+ghost use Rattle.code_replacement.specs.Replacing.{HasItsCode};
+ghost use Rattle.script_runner.specs.Instructions.{running_of};
+ghost use Rattle.script_runner.specs.Parts.{Parts, parts_of};
+ghost use Rattle.script_runner.specs.Undo.{TakesBack, without_note};
+ghost use Rattle.script_runner.specs.declared.undo.Undo.TheVariants as undo_of;
+
+use crate::undo::Undo;
+use app_table::{AppTable, ChildName};
+use code_server::Modules;
+use erl_forms::Module;
+use process_table::Processes;
+use script_state::{Progress, Unpurged, forget_versions};
+use std::alloc::Global;
+use suspensions::{ChangeUndo, ResumeUndo, revert_change, unresume, unsuspend};
+use sys_protocol::unnote;
+
+/// The note that was added last goes, where one was. Takes no memory.
+fn forget_note(unpurged: &mut Vec<Unpurged>, noted: bool)
+    ensures { unpurged.new.items ≡ without_note noted unpurged.old.items }
+{
+    if noted {
+        let _ = unpurged.pop();
+    }
+}
+
+/// Modules whose object code was read are noted no more.
+fn revert_read(
+    modules: &mut Modules<Module>,
+    processes: &mut Processes,
+    apps: &mut AppTable,
+    unpurged: &mut Vec<Unpurged>,
+    progress: &mut Progress,
+    count: usize,
+) -> Result<(), Undo>
+    requires { (before : Parts) × HasItsCode (running_of before) × TakesBack (undo_of.Read count) before
+        (parts_of modules.old processes.old apps.old unpurged.old.items progress.old) }
+    ensures ok { OnOk result ((before : Parts) → HasItsCode (running_of before) → TakesBack (undo_of.Read count) before
+        (parts_of modules.old processes.old apps.old unpurged.old.items progress.old) →
+        parts_of modules.new processes.new apps.new unpurged.new.items progress.new ≡ before) }
+    ensures back { IfErr result (λ it. it ≡ undo_of.Read count) }
+    ensures err { OnErr result (parts_of modules.new processes.new apps.new unpurged.new.items progress.new ≡
+        parts_of modules.old processes.old apps.old unpurged.old.items progress.old) }
+    ensures next { progress.new.next ≡ progress.old.next }
+{
+    forget_versions(&mut progress.versions, count);
+    Ok(())
+}
+
+/// A load or a removal is taken back, and with it the note of old code.
+fn revert_replaced(
+    modules: &mut Modules<Module>,
+    processes: &mut Processes,
+    apps: &mut AppTable,
+    unpurged: &mut Vec<Unpurged>,
+    progress: &mut Progress,
+    undo: code_replacement::Undo,
+    noted: bool,
+) -> Result<(), Undo>
+    requires { (before : Parts) × HasItsCode (running_of before) × TakesBack (undo_of.Replaced undo noted) before
+        (parts_of modules.old processes.old apps.old unpurged.old.items progress.old) }
+    ensures ok { OnOk result ((before : Parts) → HasItsCode (running_of before) → TakesBack (undo_of.Replaced undo noted) before
+        (parts_of modules.old processes.old apps.old unpurged.old.items progress.old) →
+        parts_of modules.new processes.new apps.new unpurged.new.items progress.new ≡ before) }
+    ensures back { IfErr result (λ it. it ≡ undo_of.Replaced undo noted) }
+    ensures err { OnErr result (parts_of modules.new processes.new apps.new unpurged.new.items progress.new ≡
+        parts_of modules.old processes.old apps.old unpurged.old.items progress.old) }
+    ensures next { progress.new.next ≡ progress.old.next }
+{
+    match code_replacement::revert(modules, processes, apps, undo) {
+        Ok(()) => {
+            forget_note(unpurged, noted);
+            Ok(())
+        }
+        Err(undo) => Err(Undo::Replaced(undo, noted)),
+    }
+}
+
+/// Purges are taken back.
+fn revert_purged(
+    modules: &mut Modules<Module>,
+    processes: &mut Processes,
+    apps: &mut AppTable,
+    unpurged: &mut Vec<Unpurged>,
+    progress: &mut Progress,
+    alloc: Global,
+    undo: code_replacement::Purges,
+) -> Result<(), Undo>
+    requires { (before : Parts) × HasItsCode (running_of before) × TakesBack (undo_of.Purged undo) before
+        (parts_of modules.old processes.old apps.old unpurged.old.items progress.old) }
+    ensures ok { OnOk result ((before : Parts) → HasItsCode (running_of before) → TakesBack (undo_of.Purged undo) before
+        (parts_of modules.old processes.old apps.old unpurged.old.items progress.old) →
+        parts_of modules.new processes.new apps.new unpurged.new.items progress.new ≡ before) }
+    ensures back { IfErr result (λ it. it ≡ undo_of.Purged undo) }
+    ensures err { OnErr result (parts_of modules.new processes.new apps.new unpurged.new.items progress.new ≡
+        parts_of modules.old processes.old apps.old unpurged.old.items progress.old) }
+    ensures next { progress.new.next ≡ progress.old.next }
+{
+    match code_replacement::revert_purges(modules, processes, apps, alloc, undo) {
+        Ok(()) => Ok(()),
+        Err(undo) => Err(Undo::Purged(undo)),
+    }
+}
+
+/// Processes that were suspended are resumed.
+fn revert_suspended(
+    modules: &mut Modules<Module>,
+    processes: &mut Processes,
+    apps: &mut AppTable,
+    unpurged: &mut Vec<Unpurged>,
+    progress: &mut Progress,
+    count: usize,
+) -> Result<(), Undo>
+    requires { (before : Parts) × HasItsCode (running_of before) × TakesBack (undo_of.Suspended count) before
+        (parts_of modules.old processes.old apps.old unpurged.old.items progress.old) }
+    ensures ok { OnOk result ((before : Parts) → HasItsCode (running_of before) → TakesBack (undo_of.Suspended count) before
+        (parts_of modules.old processes.old apps.old unpurged.old.items progress.old) →
+        parts_of modules.new processes.new apps.new unpurged.new.items progress.new ≡ before) }
+    ensures back { IfErr result (λ it. it ≡ undo_of.Suspended count) }
+    ensures err { OnErr result (parts_of modules.new processes.new apps.new unpurged.new.items progress.new ≡
+        parts_of modules.old processes.old apps.old unpurged.old.items progress.old) }
+    ensures next { progress.new.next ≡ progress.old.next }
+{
+    unsuspend(processes, &mut progress.suspended, count);
+    Ok(())
+}
+
+/// Processes that were resumed are suspended again.
+fn revert_resumed(
+    modules: &mut Modules<Module>,
+    processes: &mut Processes,
+    apps: &mut AppTable,
+    unpurged: &mut Vec<Unpurged>,
+    progress: &mut Progress,
+    undo: ResumeUndo,
+) -> Result<(), Undo>
+    requires { (before : Parts) × HasItsCode (running_of before) × TakesBack (undo_of.Resumed undo) before
+        (parts_of modules.old processes.old apps.old unpurged.old.items progress.old) }
+    ensures ok { OnOk result ((before : Parts) → HasItsCode (running_of before) → TakesBack (undo_of.Resumed undo) before
+        (parts_of modules.old processes.old apps.old unpurged.old.items progress.old) →
+        parts_of modules.new processes.new apps.new unpurged.new.items progress.new ≡ before) }
+    ensures back { IfErr result (λ it. it ≡ undo_of.Resumed undo) }
+    ensures err { OnErr result (parts_of modules.new processes.new apps.new unpurged.new.items progress.new ≡
+        parts_of modules.old processes.old apps.old unpurged.old.items progress.old) }
+    ensures next { progress.new.next ≡ progress.old.next }
+{
+    unresume(processes, &mut progress.suspended, undo);
+    Ok(())
+}
+
+/// Processes have their former states again.
+fn revert_changed(
+    modules: &mut Modules<Module>,
+    processes: &mut Processes,
+    apps: &mut AppTable,
+    unpurged: &mut Vec<Unpurged>,
+    progress: &mut Progress,
+    undo: ChangeUndo,
+) -> Result<(), Undo>
+    requires { (before : Parts) × HasItsCode (running_of before) × TakesBack (undo_of.Changed undo) before
+        (parts_of modules.old processes.old apps.old unpurged.old.items progress.old) }
+    ensures ok { OnOk result ((before : Parts) → HasItsCode (running_of before) → TakesBack (undo_of.Changed undo) before
+        (parts_of modules.old processes.old apps.old unpurged.old.items progress.old) →
+        parts_of modules.new processes.new apps.new unpurged.new.items progress.new ≡ before) }
+    ensures back { IfErr result (λ it. it ≡ undo_of.Changed undo) }
+    ensures err { OnErr result (parts_of modules.new processes.new apps.new unpurged.new.items progress.new ≡
+        parts_of modules.old processes.old apps.old unpurged.old.items progress.old) }
+    ensures next { progress.new.next ≡ progress.old.next }
+{
+    match revert_change(processes, modules, undo) {
+        Ok(()) => Ok(()),
+        Err(undo) => Err(Undo::Changed(undo)),
+    }
+}
+
+/// What was done to children and applications is taken back, and with it the names of children.
+fn revert_children(
+    modules: &mut Modules<Module>,
+    processes: &mut Processes,
+    apps: &mut AppTable,
+    unpurged: &mut Vec<Unpurged>,
+    progress: &mut Progress,
+    undo: script_children::Undo,
+    count: usize,
+) -> Result<(), Undo>
+    requires { (before : Parts) × HasItsCode (running_of before) × TakesBack (undo_of.Children undo count) before
+        (parts_of modules.old processes.old apps.old unpurged.old.items progress.old) }
+    ensures ok { OnOk result ((before : Parts) → HasItsCode (running_of before) → TakesBack (undo_of.Children undo count) before
+        (parts_of modules.old processes.old apps.old unpurged.old.items progress.old) →
+        parts_of modules.new processes.new apps.new unpurged.new.items progress.new ≡ before) }
+    ensures back { IfErr result (λ it. it ≡ undo_of.Children undo count) }
+    ensures err { OnErr result (parts_of modules.new processes.new apps.new unpurged.new.items progress.new ≡
+        parts_of modules.old processes.old apps.old unpurged.old.items progress.old) }
+    ensures next { progress.new.next ≡ progress.old.next }
+{
+    match script_children::revert(apps, processes, modules, undo) {
+        Ok(()) => {
+            unnote(&mut progress.stopped, count);
+            Ok(())
+        }
+        Err(undo) => Err(Undo::Children(undo, count)),
+    }
+}
+
+/// Takes an instruction back, the newest change: all parts are as before it.
+///
+/// # Errors
+///
+/// The undo, where memory is refused. All is then as it was.
+pub fn revert(
+    modules: &mut Modules<Module>,
+    processes: &mut Processes,
+    apps: &mut AppTable,
+    unpurged: &mut Vec<Unpurged>,
+    progress: &mut Progress,
+    alloc: Global,
+    undo: Undo,
+) -> Result<(), Undo>
+    requires { (before : Parts) × HasItsCode (running_of before) × TakesBack undo before
+        (parts_of modules.old processes.old apps.old unpurged.old.items progress.old) }
+    ensures ok { OnOk result ((before : Parts) → HasItsCode (running_of before) → TakesBack undo before
+        (parts_of modules.old processes.old apps.old unpurged.old.items progress.old) →
+        parts_of modules.new processes.new apps.new unpurged.new.items progress.new ≡ before) }
+    ensures back { IfErr result (λ it. it ≡ undo) }
+    ensures err { OnErr result (parts_of modules.new processes.new apps.new unpurged.new.items progress.new ≡
+        parts_of modules.old processes.old apps.old unpurged.old.items progress.old) }
+    ensures next { progress.new.next ≡ progress.old.next }
+{
+    match undo {
+        Undo::Nothing => Ok(()),
+        Undo::Read(count) => revert_read(modules, processes, apps, unpurged, progress, count),
+        Undo::Replaced(undo, noted) => revert_replaced(
+            modules, processes, apps, unpurged, progress, undo, noted,
+        ),
+        Undo::Purged(undo) => revert_purged(
+            modules, processes, apps, unpurged, progress, alloc, undo,
+        ),
+        Undo::Suspended(count) => revert_suspended(
+            modules, processes, apps, unpurged, progress, count,
+        ),
+        Undo::Resumed(undo) => revert_resumed(modules, processes, apps, unpurged, progress, undo),
+        Undo::Changed(undo) => revert_changed(modules, processes, apps, unpurged, progress, undo),
+        Undo::Children(undo, count) => revert_children(
+            modules, processes, apps, unpurged, progress, undo, count,
+        ),
+    }
+}

@@ -1,0 +1,23 @@
+// What takes an instruction back.
+use suspensions::{ChangeUndo, ResumeUndo};
+
+/// What takes an instruction of a script back. At most one part of it can be refused, for want of memory, and it goes first.
+#[derive(Drop)]
+pub enum Undo {
+    /// Nothing was changed.
+    Nothing,
+    /// So many modules are new among those whose object code was read.
+    Read(usize),
+    /// Code was loaded or removed; and whether old code was noted.
+    Replaced(code_replacement::Undo, bool),
+    /// Old code was purged.
+    Purged(code_replacement::Purges),
+    /// So many processes were suspended.
+    Suspended(usize),
+    /// Processes were resumed.
+    Resumed(ResumeUndo),
+    /// Processes have changed their states.
+    Changed(ChangeUndo),
+    /// Children and applications were changed, and so many children were noted.
+    Children(script_children::Undo, usize),
+}

@@ -1,0 +1,8 @@
+-- None of the applications so far has one.
+use Rattle.std.proofs.Common.{◌≡◌, drop}
+use Rattle.std.specs.List.{flat_map}
+use Rattle.script_state.specs.ObjectCode.{source_in}
+use Rattle.script_state.proofs.object_code.code_at_hand.Given as goal
+
+abbrev pub invariant-loop-files : goal.invariant-loop-files
+invariant-loop-files l = source_in l.name (flat_map (λ f. f.modules) l.files-items) ≡ source_in l.name (flat_map (λ f. f.modules) (drop l.files-index l.files-items))

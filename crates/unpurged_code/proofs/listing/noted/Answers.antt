@@ -1,0 +1,17 @@
+-- One module more; and all of them.
+use Rattle.std.proofs.Common.{subst, arith}
+use Rattle.std.proofs.lemmas.List.{take_all}
+use Rattle.unpurged_code.proofs.Gathering.{Gathered, all_gathered, gathered_next}
+use Rattle.unpurged_code.proofs.listing.noted.Goals as goal
+
+pub loop-place-preserved : goal.loop-place-preserved
+loop-place-preserved c =
+    gathered_next c.args.kind c.args.unpurged.now c.args.modules.now.entries c.loop-place.place c.loop-place.names.items
+    c.put_entry.new.names.items c.in_ok-put_entry.ensures c.loop-place.invariant
+
+pub returns : goal.returns
+returns c =
+    let entries = c.args.modules.now.entries in
+    all_gathered c.args.kind c.args.unpurged.now c.args.modules.now c.loop-place.names.items c.len-count.ensures.sound
+    (subst (λ es. Gathered c.args.kind c.args.unpurged.now es c.loop-place.names.items)
+    (take_all c.loop-place.place entries (omega (arith, c.len-count.ensures.len))) c.loop-place.invariant)

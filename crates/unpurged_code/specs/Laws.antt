@@ -1,0 +1,23 @@
+-- What holds of notes, and of the modules that are told.
+use Rattle.std.specs.Prelude.{◌≡◌, ℕ, false, List, None}
+use Rattle.std.specs.Str.{bytes_eq}
+use Rattle.code_server.specs.Modules.{IsSound, Table as Loaded, purged}
+use Rattle.erl_forms.specs.Module.{Forms}
+use Rattle.process_store.specs.Table.{Table}
+use Rattle.release_words.specs.declared.purge.Purge.{Purge}
+use Rattle.script_state.specs.declared.unpurged.Unpurged.{Unpurged}
+use Rattle.unpurged_code.specs.Unpurged.{AreNoted, AreSwept, note_of}
+
+-- Once a module is purged nothing is noted of its old code, for it has none; and what is noted of each other module is as before.
+pub record PurgesDropNotes : Type 0 where
+  pub own : (m : List ℕ) (modules : Loaded Forms) (unpurged : List Unpurged) →
+      IsSound modules → note_of m (purged m modules) unpurged ≡ None
+  pub others : (m other : List ℕ) (modules : Loaded Forms) (unpurged : List Unpurged) →
+      IsSound modules → bytes_eq other m ≡ false → note_of other (purged m modules) unpurged ≡ note_of other modules unpurged
+
+-- Of the modules that are noted so there is one list, and so there is of those that a sweep purges.
+pub record OneList : Type 0 where
+  pub noted : (kind : Purge) (modules : Loaded Forms) (unpurged : List Unpurged) (xs ys : List (List ℕ)) →
+      AreNoted kind modules unpurged xs → AreNoted kind modules unpurged ys → xs ≡ ys
+  pub swept : (modules : Loaded Forms) (t : Table) (unpurged : List Unpurged) (xs ys : List (List ℕ)) →
+      AreSwept modules t unpurged xs → AreSwept modules t unpurged ys → xs ≡ ys
