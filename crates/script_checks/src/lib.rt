@@ -13,4 +13,4 @@
 
 mod checking;
 
-pub use checking::check;
+pub use checking::{check, has_point};

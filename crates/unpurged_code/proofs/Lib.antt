@@ -1,2 +1,3 @@
+pub mod Aging
 pub mod Gathering
 pub mod Rising

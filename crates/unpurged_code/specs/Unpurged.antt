@@ -1,5 +1,6 @@
 -- Old code that scripts have left to be purged later (appup(4), PostPurge; release_handler(3), make_permanent/1).
-use Rattle.std.specs.Prelude.{◌≡◌, ℕ, ◌==◌, Bool, false, true, not, if◌then◌else◌, List, Option, None, Some, option_and_then, option_map}
+use Rattle.std.specs.Prelude.{◌≡◌, ℕ, ◌==◌, Bool, false, true, not, if◌then◌else◌, List, [], ◌∷◌, ◌++◌, Option, None, Some}
+use Rattle.std.specs.Option.{option_and_then, option_map}
 use Rattle.std.specs.List.{find}
 use Rattle.code_loading.specs.Loading.{is_lingered_in}
 use Rattle.code_server.specs.Modules.{Entry, Table as Loaded, old_of}
@@ -15,17 +16,21 @@ use Rattle.unpurged_code.specs.Names.{ByName, is_among, with_name}
 abbrev pub note_in : ℕ → List Unpurged → Option Purge
 note_in serial unpurged = option_map (λ note. note.purge) (find (λ note. note.serial == serial) unpurged)
 
--- How old code is, if there is any.
+-- How old code is purged later, if there is any, and it is noted.
 abbrev pub note_on : Option (Instance Forms) → List Unpurged → Option Purge
 note_on old unpurged = option_and_then (λ i. note_in i.serial unpurged) old
 
--- How the old code of a module is.
+-- How the old code of a module is purged later, if it has any, and that is noted.
 abbrev pub note_of : List ℕ → Loaded Forms → List Unpurged → Option Purge
 note_of m modules unpurged = note_on (old_of m modules) unpurged
 
 -- A module has old code, and that is noted to be purged so.
 abbrev pub IsNoted : Purge → Loaded Forms → List Unpurged → List ℕ → Type 0
 IsNoted kind modules unpurged m = note_of m modules unpurged ≡ Some kind
+
+-- The notes with one more behind them: the code of a serial is to be purged so.
+abbrev pub with_note : ℕ → Purge → List Unpurged → List Unpurged
+with_note serial kind unpurged = unpurged ++ (record { serial = serial; purge = kind }) ∷ []
 
 -- The modules whose old code is noted to be purged so: all of them, and no other, in the order of their names.
 pub record AreNoted (kind : Purge) (modules : Loaded Forms) (unpurged : List Unpurged) (names : List (List ℕ)) : Type 0 where

@@ -1,0 +1,110 @@
+// A script goes on.
+ghost use Rattle.std.specs.Prelude.{◌≡◌, take};
+ghost use Rattle.script_checks.specs.Checks.{has_point};
+ghost use Rattle.script_runner.specs.Parts.{parts_of};
+ghost use Rattle.script_steps.specs.Steps.{StepsOrStops, no_step_of};
+
+use app_table::AppTable;
+use code_server::Modules;
+use erl_forms::Module;
+use erl_term::Term;
+use low_instructions::Low;
+use process_effects::Reply;
+use process_table::Processes;
+use release_table::Release;
+use script_checks::has_point;
+use script_runner::{Carried, Halt, Undo, carry_out};
+use script_state::{Progress, Unpurged, instruction_at};
+use std::alloc::Global;
+use values::{Failure, Row};
+
+/// What a step of a script has come to.
+#[derive(Drop)]
+pub struct Stepped {
+    /// What clients are told, in as many equal values as were asked for.
+    pub told: Vec<Row<Reply>>,
+    /// What takes the instruction back.
+    pub undo: Undo,
+}
+
+/// Why a script doesn't go on.
+#[derive(Drop)]
+pub enum NoStep {
+    /// No instruction is left.
+    AtEnd,
+    /// This process runs, and is to be suspended.
+    Busy(u64),
+    /// The next instruction has failed, for this reason; and whether it stands behind the point of no return.
+    Failed(Term, bool),
+    /// The serial of a load, or the turn of a process, can't be counted further.
+    CounterEnd,
+}
+
+/// Whether the point of no return stands before a place of a script.
+fn is_behind(script: &[Low], place: usize) -> bool
+    ensures { result ≡ has_point (take place script.now) }
+{
+    match script.get(..place) {
+        Some(before) => has_point(before),
+        None => has_point(script),
+    }
+}
+
+/// Why an instruction at a place of a script was not carried out.
+fn no_step(script: &[Low], place: usize, halt: Halt) -> NoStep
+    ensures { result ≡ no_step_of (has_point (take place script.now)) halt }
+{
+    match halt {
+        Halt::Busy(pid) => NoStep::Busy(pid),
+        Halt::Failed(reason) => NoStep::Failed(reason, is_behind(script, place)),
+        Halt::CounterEnd => NoStep::CounterEnd,
+    }
+}
+
+/// Carries out the next instruction of a script over the parts of a node, for the release that is being installed. Where
+/// waiting is given up, a suspension passes over processes that run. What clients are told is handed out in `n` equal values.
+///
+/// # Errors
+///
+/// In this order: `AtEnd`, `Busy`, `Failed`, `CounterEnd`; `Memory`, which may also come in place of a failure of what is
+/// evaluated. All is then as it was.
+pub fn step(
+    script: &[Low],
+    modules: &mut Modules<Module>,
+    processes: &mut Processes,
+    apps: &mut AppTable,
+    unpurged: &mut Vec<Unpurged>,
+    progress: &mut Progress,
+    alloc: Global,
+    release: &Release,
+    give_up: bool,
+    n: usize,
+) -> Result<Stepped, Failure<NoStep>>
+    ensures { StepsOrStops release.now give_up n
+        (record {
+          parts = parts_of modules.old processes.old apps.old unpurged.old.items progress.old;
+          script = script.now;
+          next = progress.old.next;
+        })
+        (record {
+          parts = parts_of modules.new processes.new apps.new unpurged.new.items progress.new;
+          script = script.now;
+          next = progress.new.next;
+        }) result }
+{
+    let place = progress.next;
+    let Some(next) = instruction_at(script, place) else {
+        return Err(Failure::Refused(NoStep::AtEnd));
+    };
+    match carry_out(
+        next, modules, processes, apps, unpurged, progress, alloc, release, give_up, n,
+    ) {
+        Ok(carried) => {
+            let Carried { told, undo } = carried;
+            progress.next = place + 1;
+            Ok(Stepped { told, undo })
+        }
+        Err(Failure::Refused(halt)) => Err(Failure::Refused(no_step(script, place, halt))),
+        Err(Failure::Memory) => Err(Failure::Memory),
+    }
+}
