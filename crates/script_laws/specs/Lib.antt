@@ -1,1 +1,2 @@
+pub mod AtHand
 pub mod Laws

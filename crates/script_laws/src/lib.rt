@@ -12,8 +12,13 @@
 //!   module's current or old code ([`instructions_keep_code`]).
 //! - Where an instruction is carried out, each child that runs then is a process of its own, which lives
 //!   ([`instructions_keep_children`]).
+//! - A load takes the source that was read, of the application and the version whose object code it is, where modules of the release
+//!   differ in name ([`loads_take_what_was_read`]).
 #![tactic(auto)]
 
 mod laws;
 
-pub use laws::{instructions_have_one_outcome, instructions_keep_children, instructions_keep_code};
+pub use laws::{
+    instructions_have_one_outcome, instructions_keep_children, instructions_keep_code,
+    loads_take_what_was_read,
+};
