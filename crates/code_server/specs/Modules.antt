@@ -24,6 +24,10 @@ pub record Table (C : Type 0) : Type 0 where
 abbrev pub empty_table : {C : Type 0} → Table C
 empty_table = record { entries = []; next = 1 }
 
+-- no module, and the serials go on: a node that restarts gives none a second time
+abbrev pub emptied : {C : Type 0} → Table C → Table C
+emptied t = record { entries = []; next = t.next }
+
 -- the instances of a module, where it is in the table
 abbrev pub slots_of : {C : Type 0} → List ℕ → Table C → Option (Slots C)
 slots_of name t = lookup (bytes_eq name) t.entries

@@ -23,6 +23,7 @@
 //!   as it was where it is refused. `purge`, `purge_and_load` and `remove` of a module with old code hand out the undo of a purge.
 //! - [`Modules::revert`] and [`Modules::unpurge`] give the table before the change, or, where a module comes back to the
 //!   table and memory is refused, their undo, with the table as it was.
+//! - [`Modules::emptied`] has no module, and gives the serials that follow.
 //! - [`Modules::redo`] gives exactly the table that the change led to, and the undo that takes it back; it cannot fail.
 #![tactic(auto)]
 

@@ -2,7 +2,7 @@
 mod redoing;
 mod removing;
 
-ghost use Rattle.std.specs.Prelude.{◌≡◌, ◌↔◌, ℕ, List, [], None, Some, length, slice_get, IsSome, IsTrue, IfOk, IfErr, OnOk, OnErr, MatchOption, MatchResult};
+ghost use Rattle.std.specs.Prelude.{◌≡◌, ◌+◌, ◌↔◌, ℕ, List, [], None, Some, length, slice_get, IsSome, IsTrue, IfOk, IfErr, OnOk, OnErr, MatchOption, MatchResult};
 ghost use Rattle.std.specs.Str.{chars};
 ghost use Rattle.std.specs.Map.Iter.{deref_pair};
 ghost use Rattle.std.specs.Option.{option_map, option_copied};
@@ -60,7 +60,7 @@ impl<C> Model for Modules<C> {
 }
 
 impl<C: Drop> Modules<C> {
-    ghost use Rattle.code_server.specs.Modules.{Table, IsSound, empty_table, slots_of, current_of, old_of, place_of, load_refusal, loaded, delete_refusal, deleted, purged, soft_purge_refusal};
+    ghost use Rattle.code_server.specs.Modules.{Table, IsSound, emptied, empty_table, slots_of, current_of, old_of, place_of, load_refusal, loaded, delete_refusal, deleted, purged, soft_purge_refusal};
     ghost use Rattle.values.specs.Failure.{Tells};
     ghost use Rattle.values.specs.declared.failure.Failure.TheVariants.{Memory};
     ghost use Rattle.code_server.specs.Undo.{Fits, HasPurged, IsRemoval, undone};
@@ -74,6 +74,24 @@ impl<C: Drop> Modules<C> {
             table: IndexMap::with_hasher(alloc, hashing),
             last: 0,
         }
+    }
+
+    /// A table without modules, whose next load has the serial that the next load here would have. Takes no memory.
+    pub fn emptied(&self) -> Modules<C>
+        ensures { result ≡ emptied self.now }
+    {
+        Modules {
+            alloc: self.alloc,
+            table: IndexMap::with_hasher(self.alloc, *self.table.hasher()),
+            last: self.last,
+        }
+    }
+
+    /// The serial that was given last, or 0. Takes no memory.
+    pub fn last_serial(&self) -> u64
+        ensures { result + 1 ≡ self.now.next }
+    {
+        self.last
     }
 
     /// How many modules there are. Takes no memory.

@@ -1,6 +1,8 @@
 pub mod Accepting
+pub mod Advances
 pub mod Backs
-pub mod Booting
-pub mod Keeping
+pub mod Refusals
+pub mod Restarts
+pub mod Scripts
 pub mod Spared
-pub mod Starting
+pub mod Stepped

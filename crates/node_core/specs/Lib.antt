@@ -1,4 +1,3 @@
-pub mod Node
-pub mod OneOutcome
+pub mod Carrying
+pub mod Changes
 pub mod Record
-pub mod Step

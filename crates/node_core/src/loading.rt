@@ -1,28 +1,26 @@
 // Events of code.
-ghost use Rattle.std.specs.Prelude.{◌≡◌, [], IfErr, IfOk, None, OnErr, OnOk, replicate};
-ghost use Rattle.code_loading.specs.Loading.{is_lingered_in, lingering, purge_told};
-ghost use Rattle.process_effects.specs.Told.{killed};
-ghost use Rattle.app_table.specs.Applications.{all_ended};
-ghost use Rattle.undo_journal.specs.Reversible.{Accepts, Refuses};
-ghost use Rattle.node_core.specs.Record.{AppsBack, Undoes};
-ghost use Rattle.node_core.specs.Step.{MayRunOut, Step as Steps, reporting};
+ghost use Rattle.std.specs.Prelude.{◌≡◌, [], IfOk, replicate};
+ghost use Rattle.code_loading.specs.Loading.{purge_told};
+ghost use Rattle.node_core.specs.Changes.{IsStep, state_of};
+ghost use Rattle.node_rules.specs.Scripts.{reporting};
+ghost use Rattle.node_rules.specs.Step.{MayRunOut};
 ghost use Rattle.node_types.specs.declared.event.Answer.TheVariants as answer;
 ghost use Rattle.node_types.specs.declared.event.Event.TheVariants as event;
 
-use crate::node::Node;
-use crate::processes::{Step, unend};
+use crate::parts::NodeParts;
+use crate::processes::Step;
 use crate::record::Record;
 use crate::telling::{reporting, tell};
-use code_loading::{is_lingered_in, lingering, load, purge, purge_told, soft_purge};
+use code_loading::{is_lingered_in, purge_told, soft_purge as purge_softly};
+use code_replacement::{load as replace, purge as purge_code};
 use code_server::Modules;
 use erl_forms::Module;
-use erl_term::{Atom, Predefined, Term};
+use erl_term::Atom;
 use node_types::{Answer, Note};
 use process_table::Processes;
 use std::alloc::{AllocError, Global};
-use sys_protocol::AppTable;
 use undo_journal::{Stepped, Told};
-use values::{Boxed, Duplicate, Failure, Reserved};
+use values::{Duplicate, Failure, Reserved};
 
 /// What is told of a load or a purge, in `n` equal values.
 fn killing_told(
@@ -33,167 +31,122 @@ fn killing_told(
     answer: Answer,
     n: usize,
 ) -> Result<Vec<Told<Answer, Note>>, AllocError>
-    ensures { IfOk result (λ it. it.items ≡ replicate n (record { answer = answer; note = reporting (purge_told name.now modules.now processes.now) })) }
+    ensures { IfOk result (λ it. it.items ≡
+        replicate n (record { answer = answer; note = reporting (purge_told name.now modules.now processes.now) })) }
 {
     let note = reporting(purge_told(modules, processes, alloc, name)?);
     tell(alloc, answer, note, n)
 }
 
-/// The children, if any, whose processes linger in a module have none, and are due or not.
-fn end_lingering(
-    apps: &mut AppTable,
-    alloc: Global,
-    modules: &Modules<Module>,
-    processes: &Processes,
-    name: &Atom,
-) -> Result<Option<Boxed<sys_protocol::Undo>>, AllocError>
-    ensures ended { OnOk result (apps.new ≡ all_ended killed (lingering name.now modules.now processes.now) apps.old) }
-    ensures inverse { IfOk result (λ undo. AppsBack undo apps.old apps.new) }
-    ensures err { OnErr result (apps.new ≡ apps.old) }
+/// A module is loaded; where it has old code, that is purged first.
+pub(crate) fn load(parts: &mut NodeParts, alloc: Global, code: &Module, n: usize) -> Step
+    requires { MayRunOut (state_of parts.old) (event.Load code.now) }
+    ensures { IsStep (event.Load code.now) n (state_of parts.old) (state_of parts.new) result }
 {
-    let pids = lingering(modules, processes, alloc, name)?;
-    if pids.is_empty() {
-        return Ok(None);
+    let name = code.name();
+    let Ok(told) = killing_told(
+        alloc,
+        &parts.modules,
+        &parts.processes,
+        name,
+        Answer::Unit,
+        n,
+    ) else {
+        return Err(Failure::Memory);
+    };
+    let Ok(copy) = code.copy(alloc) else {
+        return Err(Failure::Memory);
+    };
+    let Ok(room) = Reserved::new(alloc) else {
+        return Err(Failure::Memory);
+    };
+    match replace(
+        &mut parts.modules,
+        &mut parts.processes,
+        &mut parts.apps,
+        alloc,
+        copy,
+    ) {
+        Ok(undo) => Ok(Stepped {
+            told,
+            trace: Record::OfCode(room.fill(undo)),
+        }),
+        Err(_) => Err(Failure::Memory),
     }
-    let killed = Term::Atom(Atom::predefined(Predefined::Killed));
-    let room = Reserved::new(alloc)?;
-    let undo = apps.ended(pids.as_slice(), &killed)?;
-    Ok(Some(room.fill(undo)))
 }
 
-impl Node {
-    /// A module is loaded; where it has old code, that is purged first.
-    pub(crate) fn load(&mut self, code: &Module, n: usize) -> Step
-        requires { MayRunOut self.old (event.Load code.now) }
-        ensures accepted { IfOk result (λ done. Accepts (Steps self.old (event.Load code.now)) self.new n done.told.items) }
-        ensures reversible { IfOk result (λ done. Undoes done.trace self.old self.new) }
-        ensures refused { IfErr result (Refuses (Steps self.old (event.Load code.now)) (MayRunOut self.old (event.Load code.now))) }
-        ensures err { OnErr result (self.new ≡ self.old) }
-    {
-        let Ok(told) = killing_told(
-            self.alloc,
-            &self.modules,
-            &self.processes,
-            code.name(),
-            Answer::Unit,
-            n,
-        ) else {
-            return Err(Failure::Memory);
-        };
-        let Ok(copy) = code.copy(self.alloc) else {
-            return Err(Failure::Memory);
-        };
-        let Ok(room) = Reserved::new(self.alloc) else {
-            return Err(Failure::Memory);
-        };
-        let Ok(ended) = end_lingering(
-            &mut self.apps,
-            self.alloc,
-            &self.modules,
-            &self.processes,
-            code.name(),
-        ) else {
-            return Err(Failure::Memory);
-        };
-        match load(&mut self.modules, &mut self.processes, self.alloc, copy) {
-            Ok(undo) => Ok(Stepped {
-                told,
-                trace: Record::OfCode(room.fill(undo), ended),
-            }),
-            Err(_) => {
-                unend(&mut self.apps, ended);
-                Err(Failure::Memory)
-            }
-        }
-    }
-
-    /// A module's old code is purged, and those who linger in it are killed.
-    pub(crate) fn purge(&mut self, name: &Atom, n: usize) -> Step
-        ensures accepted { IfOk result (λ done. Accepts (Steps self.old (event.Purge name.now)) self.new n done.told.items) }
-        ensures reversible { IfOk result (λ done. Undoes done.trace self.old self.new) }
-        ensures refused { IfErr result (Refuses (Steps self.old (event.Purge name.now)) (MayRunOut self.old (event.Purge name.now))) }
-        ensures err { OnErr result (self.new ≡ self.old) }
-    {
-        let killed = Answer::Killed(is_lingered_in(&self.modules, &self.processes, name));
-        let Ok(told) = killing_told(self.alloc, &self.modules, &self.processes, name, killed, n)
-        else {
-            return Err(Failure::Memory);
-        };
-        let Ok(room) = Reserved::new(self.alloc) else {
-            return Err(Failure::Memory);
-        };
-        let Ok(ended) = end_lingering(
-            &mut self.apps,
-            self.alloc,
-            &self.modules,
-            &self.processes,
-            name,
-        ) else {
-            return Err(Failure::Memory);
-        };
-        match purge(&mut self.modules, &mut self.processes, name) {
-            Ok(undo) => Ok(Stepped {
-                told,
-                trace: Record::OfCode(room.fill(undo), ended),
-            }),
-            Err(_) => {
-                unend(&mut self.apps, ended);
-                Err(Failure::Memory)
-            }
-        }
-    }
-
-    /// What is told of an event of which nothing is reported, in `n` equal values.
-    pub(crate) fn quiet(&self, n: usize) -> Result<Vec<Told<Answer, Note>>, AllocError>
-        ensures { IfOk result (λ it. it.items ≡ replicate n (record { answer = answer.Unit; note = reporting [] })) }
-    {
-        let note = reporting(Vec::new(self.alloc));
-        tell(self.alloc, Answer::Unit, note, n)
-    }
-
-    /// A module's current code becomes old.
-    pub(crate) fn delete(&mut self, name: &Atom, n: usize) -> Step
-        requires { MayRunOut self.old (event.Delete name.now) }
-        ensures accepted { IfOk result (λ done. Accepts (Steps self.old (event.Delete name.now)) self.new n done.told.items) }
-        ensures reversible { IfOk result (λ done. Undoes done.trace self.old self.new) }
-        ensures refused { IfErr result (Refuses (Steps self.old (event.Delete name.now)) (MayRunOut self.old (event.Delete name.now))) }
-        ensures err { OnErr result (self.new ≡ self.old) }
-    {
-        let Ok(told) = self.quiet(n) else {
-            return Err(Failure::Memory);
-        };
-        let Ok(room) = Reserved::new(self.alloc) else {
-            return Err(Failure::Memory);
-        };
-        let Ok(undo) = self.modules.delete(name) else {
-            unreachable!();
-        };
-        Ok(Stepped {
+/// A module's old code is purged, and those who linger in it are killed.
+pub(crate) fn purge(parts: &mut NodeParts, alloc: Global, name: &Atom, n: usize) -> Step
+    requires { MayRunOut (state_of parts.old) (event.Purge name.now) }
+    ensures { IsStep (event.Purge name.now) n (state_of parts.old) (state_of parts.new) result }
+{
+    let killed = Answer::Killed(is_lingered_in(&parts.modules, &parts.processes, name));
+    let Ok(told) = killing_told(alloc, &parts.modules, &parts.processes, name, killed, n) else {
+        return Err(Failure::Memory);
+    };
+    let Ok(room) = Reserved::new(alloc) else {
+        return Err(Failure::Memory);
+    };
+    match purge_code(
+        &mut parts.modules,
+        &mut parts.processes,
+        &mut parts.apps,
+        alloc,
+        name,
+    ) {
+        Ok(undo) => Ok(Stepped {
             told,
-            trace: Record::OfDeletion(room.fill(undo)),
-        })
+            trace: Record::OfCode(room.fill(undo)),
+        }),
+        Err(_) => Err(Failure::Memory),
     }
+}
 
-    /// A module's old code is purged, where nobody lingers in it.
-    pub(crate) fn soft_purge(&mut self, name: &Atom, n: usize) -> Step
-        requires { MayRunOut self.old (event.SoftPurge name.now) }
-        ensures accepted { IfOk result (λ done. Accepts (Steps self.old (event.SoftPurge name.now)) self.new n done.told.items) }
-        ensures reversible { IfOk result (λ done. Undoes done.trace self.old self.new) }
-        ensures refused { IfErr result (Refuses (Steps self.old (event.SoftPurge name.now)) (MayRunOut self.old (event.SoftPurge name.now))) }
-        ensures err { OnErr result (self.new ≡ self.old) }
-    {
-        let Ok(told) = self.quiet(n) else {
-            return Err(Failure::Memory);
-        };
-        let Ok(room) = Reserved::new(self.alloc) else {
-            return Err(Failure::Memory);
-        };
-        let Ok(undo) = soft_purge(&mut self.modules, &self.processes, name) else {
-            unreachable!();
-        };
-        Ok(Stepped {
-            told,
-            trace: Record::OfCode(room.fill(undo), None),
-        })
-    }
+/// What is told of an event of which nothing is reported, in `n` equal values.
+pub(crate) fn quiet(alloc: Global, n: usize) -> Result<Vec<Told<Answer, Note>>, AllocError>
+    ensures { IfOk result (λ it. it.items ≡ replicate n (record { answer = answer.Unit; note = reporting [] })) }
+{
+    let note = reporting(Vec::new(alloc));
+    tell(alloc, Answer::Unit, note, n)
+}
+
+/// A module's current code becomes old.
+pub(crate) fn delete(parts: &mut NodeParts, alloc: Global, name: &Atom, n: usize) -> Step
+    requires { MayRunOut (state_of parts.old) (event.Delete name.now) }
+    ensures { IsStep (event.Delete name.now) n (state_of parts.old) (state_of parts.new) result }
+{
+    let Ok(told) = quiet(alloc, n) else {
+        return Err(Failure::Memory);
+    };
+    let Ok(room) = Reserved::new(alloc) else {
+        return Err(Failure::Memory);
+    };
+    let Ok(undo) = parts.modules.delete(name) else {
+        unreachable!();
+    };
+    Ok(Stepped {
+        told,
+        trace: Record::OfDeletion(room.fill(undo)),
+    })
+}
+
+/// A module's old code is purged, where nobody lingers in it.
+pub(crate) fn soft_purge(parts: &mut NodeParts, alloc: Global, name: &Atom, n: usize) -> Step
+    requires { MayRunOut (state_of parts.old) (event.SoftPurge name.now) }
+    ensures { IsStep (event.SoftPurge name.now) n (state_of parts.old) (state_of parts.new) result }
+{
+    let Ok(told) = quiet(alloc, n) else {
+        return Err(Failure::Memory);
+    };
+    let Ok(room) = Reserved::new(alloc) else {
+        return Err(Failure::Memory);
+    };
+    let Ok(code) = purge_softly(&mut parts.modules, &parts.processes, name) else {
+        unreachable!();
+    };
+    let undo = code_replacement::Undo { code, ended: None };
+    Ok(Stepped {
+        told,
+        trace: Record::OfCode(room.fill(undo)),
+    })
 }

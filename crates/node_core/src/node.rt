@@ -1,10 +1,11 @@
 // The node.
-ghost use Rattle.std.specs.Prelude.{◌≡◌, IfErr, IfOk};
+ghost use Rattle.std.specs.Prelude.{◌≡◌, [], IfErr, IfOk, None};
 ghost use Rattle.code_server.specs.Modules.{IsSound};
 ghost use Rattle.release_boot.specs.Boot.{BootFails, Boots};
 ghost use Rattle.release_statuses.specs.Statuses.{booted};
-ghost use Rattle.node_core.specs.Node.{IsKept};
+ghost use Rattle.node_rules.specs.Node.{IsKept};
 
+use crate::parts::NodeParts;
 use code_server::Modules;
 use erl_forms::Module;
 use process_table::Processes;
@@ -17,29 +18,28 @@ use std::marker::Model;
 use sys_protocol::AppTable;
 use values::Duplicate;
 
-/// A node: its modules, its processes, its applications and its releases.
+/// A node: its modules, its processes, its applications and its releases; the old code that is to be purged later; and the script that
+/// it runs, if it runs one.
 #[derive(Drop)]
 pub struct Node {
     pub(crate) alloc: Global,
-    pub(crate) modules: Modules<Module>,
-    pub(crate) processes: Processes,
-    pub(crate) apps: AppTable,
-    pub(crate) releases: Releases,
+    pub(crate) parts: NodeParts,
 }
 
 impl Model for Node {
     ghost use Rattle.std.specs.Coded.{codes};
     ghost use Rattle.erl_term.specs.contracts.term.Terms as terms;
     ghost use Rattle.erl_forms.specs.contracts.module.Module as forms;
-    ghost use Rattle.node_core.specs.Node.{IsKept, NodeState};
+    ghost use Rattle.node_core.specs.Changes.{state_of};
+    ghost use Rattle.node_rules.specs.Node.{IsKept, NodeState};
 
     ghost Value = { NodeState };
 
     ghost coded = { Prim.hlevel (codes, terms.the_row.coded, forms.the_row.coded) };
 
-    ghost view = { λ n. record { modules = n.modules; processes = n.processes; apps = n.apps; releases = n.releases } };
+    ghost view = { λ n. state_of n.parts };
 
-    ghost invariant = { λ n. IsKept (record { modules = n.modules; processes = n.processes; apps = n.apps; releases = n.releases }) };
+    ghost invariant = { λ n. IsKept (state_of n.parts) };
 }
 
 /// That modules differ in name, and have one or two instances each, whose serials differ: their table keeps it.
@@ -59,6 +59,7 @@ impl Node {
     pub fn boot(alloc: Global, hashing: RandomState, release: &Release) -> Result<Node, BootError>
         ensures booted { IfOk result (λ n. Boots release.now n.modules n.processes n.apps) }
         ensures releases { IfOk result (λ n. n.releases ≡ booted release.now) }
+        ensures idle { IfOk result (λ n. (n.unpurged ≡ []) × (n.runner ≡ None)) }
         ensures failed { IfErr result (λ e. BootFails e release.now) }
     {
         let Booted {
@@ -70,10 +71,14 @@ impl Node {
         let releases = Releases::booted(alloc, release.copy(alloc)?)?;
         Ok(Node {
             alloc,
-            modules,
-            processes,
-            apps,
-            releases,
+            parts: NodeParts {
+                modules,
+                processes,
+                apps,
+                releases,
+                unpurged: Vec::new(alloc),
+                runner: None,
+            },
         })
     }
 
@@ -82,27 +87,27 @@ impl Node {
         ensures modules { result.now ≡ self.now.modules }
         ensures kept { IsKept self.now }
     {
-        &self.modules
+        &self.parts.modules
     }
 
     /// Its processes. Takes no memory.
     pub fn processes(&self) -> &Processes
         ensures { result.now ≡ self.now.processes }
     {
-        &self.processes
+        &self.parts.processes
     }
 
     /// Its releases, with their statuses. Takes no memory.
     pub fn releases(&self) -> &Releases
         ensures { result.now ≡ self.now.releases }
     {
-        &self.releases
+        &self.parts.releases
     }
 
     /// Its applications. Takes no memory.
     pub fn apps(&self) -> &AppTable
         ensures { result.now ≡ self.now.apps }
     {
-        &self.apps
+        &self.parts.apps
     }
 }

@@ -1,23 +1,23 @@
 // Events of processes.
-ghost use Rattle.std.specs.Prelude.{◌≡◌, ◌∷◌, [], IfErr, IfOk, IfSome, None, OnErr, OnOk};
+ghost use Rattle.std.specs.Prelude.{◌≡◌, ◌∷◌, [], IfOk, IfSome, None, OnErr, OnOk};
 ghost use Rattle.app_table.specs.Applications.{all_ended};
 ghost use Rattle.app_table.specs.Undo.{undone as apps_before};
-ghost use Rattle.undo_journal.specs.Reversible.{Accepts, Refuses};
 ghost use Rattle.process_table.specs.Undo.{TakesBackEnds};
-ghost use Rattle.node_core.specs.Node.{IsKept, NodeState};
-ghost use Rattle.node_core.specs.Record.{AppsBack, Undoes};
-ghost use Rattle.node_core.specs.Step.{MayRunOut, Step as Steps, ended_by};
+ghost use Rattle.node_core.specs.Changes.{IsStep, state_of};
+ghost use Rattle.node_rules.specs.Node.{NodeState};
+ghost use Rattle.node_core.specs.Record.{AppsBack, Restores};
+ghost use Rattle.node_rules.specs.Step.{MayRunOut, ended_by};
 ghost use Rattle.node_types.specs.declared.event.Event.TheVariants as event;
 
-use crate::node::Node;
+use crate::parts::NodeParts;
 use crate::record::Record;
-use crate::telling::{room, tell_arrivals, tell_jobs, tell_replies};
+use crate::telling::{room, tell_arrivals, tell_done, tell_jobs};
+use app_table::AppTable;
 use erl_semantics::{Done, End};
 use erl_term::{Atom, Predefined, Term};
 use node_types::{Answer, Note, Refusal};
 use process_table::Body;
 use std::alloc::{AllocError, Global};
-use sys_protocol::AppTable;
 use undo_journal::Stepped;
 use values::{Boxed, Failure, Reserved};
 
@@ -30,7 +30,7 @@ fn end_one(
     alloc: Global,
     pid: u64,
     reason: &Term,
-) -> Result<Option<Boxed<sys_protocol::Undo>>, AllocError>
+) -> Result<Option<Boxed<app_table::Undo>>, AllocError>
     ensures ended { OnOk result (apps.new ≡ all_ended reason.now (pid ∷ []) apps.old) }
     ensures inverse { IfOk result (λ undo. AppsBack undo apps.old apps.new) }
     ensures err { OnErr result (apps.new ≡ apps.old) }
@@ -45,7 +45,7 @@ fn end_child(
     apps: &mut AppTable,
     alloc: Global,
     done: &Done,
-) -> Result<Option<Boxed<sys_protocol::Undo>>, AllocError>
+) -> Result<Option<Boxed<app_table::Undo>>, AllocError>
     ensures ended { OnOk result (apps.new ≡ ended_by done.now.job.pid done.now.outcome.end apps.old) }
     ensures inverse { IfOk result (λ undo. AppsBack undo apps.old apps.new) }
     ensures err { OnErr result (apps.new ≡ apps.old) }
@@ -62,7 +62,7 @@ fn end_child(
 }
 
 /// Takes an end of children back.
-pub(crate) fn unend(apps: &mut AppTable, undo: Option<Boxed<sys_protocol::Undo>>)
+pub(crate) fn unend(apps: &mut AppTable, undo: Option<Boxed<app_table::Undo>>)
     ensures undone { IfSome undo (λ it. apps.new ≡ apps_before it apps.old) }
     ensures none { undo ≡ None → apps.new ≡ apps.old }
 {
@@ -73,9 +73,10 @@ pub(crate) fn unend(apps: &mut AppTable, undo: Option<Boxed<sys_protocol::Undo>>
 }
 
 /// What takes a change of processes back, and with it that of children, if any.
-fn record_of(undo: process_table::Undo, ended: Option<Boxed<sys_protocol::Undo>>) -> Record
-    ensures { (before after : NodeState) → IsKept before → after.modules ≡ before.modules → after.releases ≡ before.releases
-        → TakesBackEnds undo before.processes after.processes → AppsBack ended before.apps after.apps → Undoes result before after }
+fn record_of(undo: process_table::Undo, ended: Option<Boxed<app_table::Undo>>) -> Record
+    ensures { (before after : NodeState) → TakesBackEnds undo before.processes after.processes →
+        AppsBack ended before.apps after.apps → (after ≡ record before { processes = after.processes; apps = after.apps }) →
+        Restores result before after }
 {
     match ended {
         None => Record::OfProcesses(undo),
@@ -83,71 +84,66 @@ fn record_of(undo: process_table::Undo, ended: Option<Boxed<sys_protocol::Undo>>
     }
 }
 
-impl Node {
-    /// A message of a client comes for the process of a name.
-    pub(crate) fn arrive(&mut self, client: u64, name: &Atom, body: &Body, n: usize) -> Step
-        requires { MayRunOut self.old (event.Arrive client name.now body.now) }
-        ensures accepted { IfOk result (λ done. Accepts (Steps self.old (event.Arrive client name.now body.now)) self.new n done.told.items) }
-        ensures reversible { IfOk result (λ done. Undoes done.trace self.old self.new) }
-        ensures refused { IfErr result (Refuses (Steps self.old (event.Arrive client name.now body.now))
-            (MayRunOut self.old (event.Arrive client name.now body.now))) }
-        ensures err { OnErr result (self.new ≡ self.old) }
-    {
-        let Ok(told) = room(self.alloc, n) else {
-            return Err(Failure::Memory);
-        };
-        let Ok((arrivals, undo)) = self.processes.arrive(client, name, body, n) else {
-            return Err(Failure::Memory);
-        };
-        Ok(Stepped {
-            told: tell_arrivals(told, arrivals),
-            trace: Record::OfProcesses(undo),
-        })
-    }
+/// A message of a client comes for the process of a name.
+pub(crate) fn arrive(
+    parts: &mut NodeParts,
+    alloc: Global,
+    client: u64,
+    name: &Atom,
+    body: &Body,
+    n: usize,
+) -> Step
+    requires { MayRunOut (state_of parts.old) (event.Arrive client name.now body.now) }
+    ensures { IsStep (event.Arrive client name.now body.now) n (state_of parts.old) (state_of parts.new) result }
+{
+    let Ok(told) = room(alloc, n) else {
+        return Err(Failure::Memory);
+    };
+    let Ok((arrivals, undo)) = parts.processes.arrive(client, name, body, n) else {
+        return Err(Failure::Memory);
+    };
+    Ok(Stepped {
+        told: tell_arrivals(told, arrivals),
+        trace: Record::OfProcesses(undo),
+    })
+}
 
-    /// A process takes its next message, and runs it.
-    pub(crate) fn take(&mut self, pid: u64, n: usize) -> Step
-        requires { MayRunOut self.old (event.Take pid) }
-        ensures accepted { IfOk result (λ done. Accepts (Steps self.old (event.Take pid)) self.new n done.told.items) }
-        ensures reversible { IfOk result (λ done. Undoes done.trace self.old self.new) }
-        ensures refused { IfErr result (Refuses (Steps self.old (event.Take pid)) (MayRunOut self.old (event.Take pid))) }
-        ensures err { OnErr result (self.new ≡ self.old) }
-    {
-        let Ok(told) = room(self.alloc, n) else {
-            return Err(Failure::Memory);
-        };
-        let Ok((jobs, undo)) = self.processes.take(&self.modules, pid, n) else {
-            return Err(Failure::Memory);
-        };
-        Ok(Stepped {
-            told: tell_jobs(told, self.alloc, jobs),
-            trace: Record::OfProcesses(undo),
-        })
-    }
+/// A process takes its next message, and runs it.
+pub(crate) fn take(parts: &mut NodeParts, alloc: Global, pid: u64, n: usize) -> Step
+    requires { MayRunOut (state_of parts.old) (event.Take pid) }
+    ensures { IsStep (event.Take pid) n (state_of parts.old) (state_of parts.new) result }
+{
+    let Ok(told) = room(alloc, n) else {
+        return Err(Failure::Memory);
+    };
+    let Ok((jobs, undo)) = parts.processes.take(&parts.modules, pid, n) else {
+        return Err(Failure::Memory);
+    };
+    Ok(Stepped {
+        told: tell_jobs(told, alloc, jobs),
+        trace: Record::OfProcesses(undo),
+    })
+}
 
-    /// What a job has done is done. A child whose process ends with it ends first, and lives again where the commit isn't made.
-    pub(crate) fn commit(&mut self, done: &Done, n: usize) -> Step
-        requires { MayRunOut self.old (event.Commit done.now) }
-        ensures accepted { IfOk result (λ it. Accepts (Steps self.old (event.Commit done.now)) self.new n it.told.items) }
-        ensures reversible { IfOk result (λ it. Undoes it.trace self.old self.new) }
-        ensures refused { IfErr result (Refuses (Steps self.old (event.Commit done.now)) (MayRunOut self.old (event.Commit done.now))) }
-        ensures err { OnErr result (self.new ≡ self.old) }
-    {
-        let Ok(told) = room(self.alloc, n) else {
-            return Err(Failure::Memory);
-        };
-        let Ok(ended) = end_child(&mut self.apps, self.alloc, done) else {
-            return Err(Failure::Memory);
-        };
-        match self.processes.commit(done, n) {
-            Ok((lists, undo)) => Ok(Stepped {
-                told: tell_replies(told, lists),
-                trace: record_of(undo, ended),
-            }),
-            Err(_) => {
-                unend(&mut self.apps, ended);
-                Err(Failure::Memory)
-            }
+/// What a job has done is done. A child whose process ends with it ends first, and lives again where the commit isn't made.
+pub(crate) fn commit(parts: &mut NodeParts, alloc: Global, done: &Done, n: usize) -> Step
+    requires { MayRunOut (state_of parts.old) (event.Commit done.now) }
+    ensures { IsStep (event.Commit done.now) n (state_of parts.old) (state_of parts.new) result }
+{
+    let Ok(told) = room(alloc, n) else {
+        return Err(Failure::Memory);
+    };
+    let Ok(ended) = end_child(&mut parts.apps, alloc, done) else {
+        return Err(Failure::Memory);
+    };
+    match parts.processes.commit(done, n) {
+        Ok((lists, undo)) => Ok(Stepped {
+            told: tell_done(told, lists),
+            trace: record_of(undo, ended),
+        }),
+        Err(_) => {
+            unend(&mut parts.apps, ended);
+            Err(Failure::Memory)
         }
     }
 }

@@ -1,5 +1,5 @@
 // What is asked of a node.
-ghost use Rattle.std.specs.Prelude.{◌≡◌, IfErr, IfOk, Some, option_map};
+ghost use Rattle.std.specs.Prelude.{◌≡◌, IfErr, IfOk, Some, is_some, option_map};
 ghost use Rattle.std.specs.Option.{option_copied};
 ghost use Rattle.std.specs.Str.{chars};
 ghost use Rattle.values.specs.Failure.{Tells};
@@ -7,20 +7,36 @@ ghost use Rattle.process_effects.specs.Commits.{job_at};
 ghost use Rattle.process_store.specs.Table.{living, pid_of};
 ghost use Rattle.process_table.specs.Steps.{IsNextRunnable, is_runnable, retake_refusal};
 ghost use Rattle.release_statuses.specs.Statuses.{status_of};
+ghost use Rattle.script_state.specs.Runner.{runner_of};
 
 use crate::node::Node;
 use erl_semantics::Job;
 use process::Process;
 use process_table::ProcError;
 use release_statuses::Status;
+use script_state::Runner;
 use values::Failure;
 
 impl Node {
+    /// Whether it runs a script. Takes no memory.
+    pub fn is_installing(&self) -> bool
+        ensures { result ≡ is_some self.now.runner }
+    {
+        self.parts.runner.is_some()
+    }
+
+    /// The script that it runs, if it runs one. Takes no memory.
+    pub fn runner(&self) -> Option<&Runner>
+        ensures { option_map runner_of (option_copied result) ≡ self.now.runner }
+    {
+        self.parts.runner.as_ref()
+    }
+
     /// The process of a pid, where it lives. Takes no memory.
     pub fn process(&self, pid: u64) -> Option<&Process>
         ensures { option_copied result ≡ option_map (λ l. l.process) (living pid self.now.processes) }
     {
-        match self.processes.get(pid) {
+        match self.parts.processes.get(pid) {
             Some(living) => Some(&living.process),
             None => None,
         }
@@ -30,7 +46,7 @@ impl Node {
     pub fn pid_of(&self, name: &str) -> Option<u64>
         ensures { result ≡ pid_of (chars name.now) self.now.processes }
     {
-        self.processes.pid_of(name)
+        self.parts.processes.pid_of(name)
     }
 
     /// The job that a process runs, given once more.
@@ -42,7 +58,7 @@ impl Node {
         ensures job { IfOk result (λ job. job_at (living pid self.now.processes) ≡ Some job) }
         ensures refused { IfErr result (λ failure. Tells failure (retake_refusal pid self.now.processes)) }
     {
-        self.processes.retake(pid)
+        self.parts.processes.retake(pid)
     }
 
     /// Whether the process of a pid lives and would take a message now: it neither runs nor is suspended, and a message waits
@@ -50,7 +66,7 @@ impl Node {
     pub fn is_runnable(&self, pid: u64) -> bool
         ensures { result ≡ is_runnable (living pid self.now.processes) }
     {
-        match self.processes.get(pid) {
+        match self.parts.processes.get(pid) {
             Some(living) => living.process.can_take().is_some(),
             None => false,
         }
@@ -61,14 +77,14 @@ impl Node {
     pub fn runnable(&self, after: u64) -> Option<u64>
         ensures { IsNextRunnable after result self.now.processes }
     {
-        self.processes.runnable(after)
+        self.parts.processes.runnable(after)
     }
 
     /// The status of the release of a version, where the node knows it. Takes no memory.
     pub fn status_of(&self, vsn: &str) -> Option<Status>
         ensures { result ≡ status_of (chars vsn.now) self.now.releases }
     {
-        match self.releases.get(vsn) {
+        match self.parts.releases.get(vsn) {
             Some(it) => Some(it.status),
             None => None,
         }

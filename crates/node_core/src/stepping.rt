@@ -1,60 +1,74 @@
 // Steps of the node, and what takes them back.
+ghost use Rattle.node_core.specs.Changes.{IsStep, IsTakenBack, state_of};
+ghost use Rattle.node_rules.specs.Node.{NodeState, RunsScript};
 ghost use Rattle.node_core.specs.Record.{Undoes};
-ghost use Rattle.std.specs.Prelude.{◌≡◌, option_map};
-ghost use Rattle.node_core.specs.Step.{MayRunOut, Step as Steps, soft_purge_refusal};
-ghost use Rattle.node_types.specs.declared.event.Refusal.TheVariants.{OfApps, OfModules, OfProcesses, OfReleases};
-ghost use Rattle.node_core.specs.OneOutcome.{one_outcome_of};
+ghost use Rattle.node_rules.specs.Step.{MayRunOut, Step as Steps};
+ghost use Rattle.node_rules.proofs.OneOutcome.{one_outcome_of};
 
+use crate::advancing::advance;
+use crate::installing::install;
+use crate::loading::{delete, load, purge, soft_purge};
 use crate::node::Node;
-use crate::processes::Step;
+use crate::parts::NodeParts;
+use crate::processes::{Step, arrive, commit, take};
+use crate::purging::{make_permanent, sweep};
 use crate::record::Record;
-use code_loading::is_lingered_in;
-use code_server::CodeError;
-use erl_term::Atom;
+use crate::refusing::refusal_of;
+use crate::releasing::{remove, set_unpacked};
+use crate::restarting::reboot_old;
+use crate::reverting::{
+    revert_all_purges, revert_children, revert_code, revert_deletion, revert_finish,
+    revert_install, revert_instruction, revert_processes, revert_recovery, revert_releases,
+    revert_restart,
+};
+use crate::reviving::revive;
 use node_types::{Answer, Event, Note, Refusal};
-use process_table::ProcError;
-use release_statuses::RelError;
-use sys_protocol::{SysError, revive_refusal};
+use std::alloc::Global;
 use undo_journal::Reversible;
 use values::Failure;
 
-/// A refusal of the processes, if there is one.
-fn of_processes(refusal: Option<ProcError>) -> Option<Refusal>
-    ensures { result ≡ option_map OfProcesses refusal }
+/// A step is made of the parts of a node.
+fn step_of(parts: &mut NodeParts, alloc: Global, event: &Event, n: usize) -> Step
+    requires wants { MayRunOut (state_of parts.old) event.now }
+    requires kept { RunsScript (state_of parts.old).runner (state_of parts.old).releases (state_of parts.old).apps }
+    ensures { IsStep event.now n (state_of parts.old) (state_of parts.new) result }
 {
-    Some(Refusal::OfProcesses(refusal?))
+    match event {
+        Event::Arrive { client, name, body } => arrive(parts, alloc, *client, name, body, n),
+        Event::Take(pid) => take(parts, alloc, *pid, n),
+        Event::Commit(done) => commit(parts, alloc, done, n),
+        Event::Revive { app, id } => revive(parts, alloc, app, id, n),
+        Event::Load(code) => load(parts, alloc, code, n),
+        Event::Delete(name) => delete(parts, alloc, name, n),
+        Event::Purge(name) => purge(parts, alloc, name, n),
+        Event::SoftPurge(name) => soft_purge(parts, alloc, name, n),
+        Event::SetUnpacked(release) => set_unpacked(parts, alloc, release, n),
+        Event::Remove(vsn) => remove(parts, alloc, vsn, n),
+        Event::Install(vsn) => install(parts, alloc, vsn, n),
+        Event::Advance { give_up } => advance(parts, alloc, *give_up, n),
+        Event::MakePermanent(vsn) => make_permanent(parts, alloc, vsn, n),
+        Event::RebootOld(vsn) => reboot_old(parts, alloc, vsn, n),
+        Event::Sweep => sweep(parts, alloc, n),
+    }
 }
 
-/// A refusal of the modules, if there is one.
-fn of_modules(refusal: Option<CodeError>) -> Option<Refusal>
-    ensures { result ≡ option_map OfModules refusal }
+/// A step is taken back in the parts of a node.
+fn revert_of(parts: &mut NodeParts, alloc: Global, trace: Record) -> Result<(), Record>
+    requires { (before : NodeState) × Undoes trace before (state_of parts.old) }
+    ensures { IsTakenBack trace (state_of parts.old) (state_of parts.new) result }
 {
-    Some(Refusal::OfModules(refusal?))
-}
-
-/// A refusal of the applications, if there is one.
-fn of_apps(refusal: Option<SysError>) -> Option<Refusal>
-    ensures { result ≡ option_map OfApps refusal }
-{
-    Some(Refusal::OfApps(refusal?))
-}
-
-/// A refusal of the releases, if there is one.
-fn of_releases(refusal: Option<RelError>) -> Option<Refusal>
-    ensures { result ≡ option_map OfReleases refusal }
-{
-    Some(Refusal::OfReleases(refusal?))
-}
-
-impl Node {
-    /// Why a soft purge is refused, if it is.
-    fn soft_purge_refusal(&self, name: &Atom) -> Option<Refusal>
-        ensures { result ≡ option_map OfModules (soft_purge_refusal name.now self.now) }
-    {
-        if is_lingered_in(&self.modules, &self.processes, name) {
-            return Some(Refusal::OfModules(CodeError::OldInUse));
-        }
-        None
+    match trace {
+        Record::OfProcesses(undo) => revert_processes(parts, undo),
+        Record::OfChildren(undo, ended) => revert_children(parts, undo, ended),
+        Record::OfCode(undo) => revert_code(parts, undo),
+        Record::OfDeletion(undo) => revert_deletion(parts, undo),
+        Record::OfReleases(undo) => revert_releases(parts, undo),
+        Record::OfInstall => revert_install(parts),
+        Record::OfInstruction(undo) => revert_instruction(parts, alloc, undo),
+        Record::OfFinish(undo) => revert_finish(parts, undo),
+        Record::OfRecovery(undo) => revert_recovery(parts, undo),
+        Record::OfPurges(undo, statuses) => revert_all_purges(parts, alloc, undo, statuses),
+        Record::OfRestart(displaced) => revert_restart(parts, displaced),
     }
 }
 
@@ -76,50 +90,18 @@ impl Reversible for Node {
     ghost undoes = { Undoes };
 
     fn step(&mut self, event: &Event, n: usize) -> Step {
-        if let Some(refusal) = self.refusal(event) {
+        if let Some(refusal) = refusal_of(&self.parts, event) {
             return Err(Failure::Refused(refusal));
         }
-        match event {
-            Event::Arrive { client, name, body } => self.arrive(*client, name, body, n),
-            Event::Take(pid) => self.take(*pid, n),
-            Event::Commit(done) => self.commit(done, n),
-            Event::Revive { app, id } => self.revive(app, id, n),
-            Event::Load(code) => self.load(code, n),
-            Event::Delete(name) => self.delete(name, n),
-            Event::Purge(name) => self.purge(name, n),
-            Event::SoftPurge(name) => self.soft_purge(name, n),
-            Event::SetUnpacked(release) => self.set_unpacked(release, n),
-            Event::Remove(vsn) => self.remove(vsn, n),
-        }
+        step_of(&mut self.parts, self.alloc, event, n)
     }
 
     fn revert(&mut self, trace: Record) -> Result<(), Record> {
-        match trace {
-            Record::OfProcesses(undo) => self.revert_processes(undo),
-            Record::OfChildren(undo, ended) => self.revert_children(undo, ended),
-            Record::OfCode(undo, ended) => self.revert_code(undo, ended),
-            Record::OfDeletion(undo) => self.revert_deletion(undo),
-            Record::OfReleases(undo) => self.revert_releases(undo),
-        }
+        revert_of(&mut self.parts, self.alloc, trace)
     }
 
     fn refusal(&self, event: &Event) -> Option<Refusal> {
-        match event {
-            Event::Arrive { name, body, .. } => of_processes(
-                self.processes.arrive_refusal(name.as_str(), body.kind()),
-            ),
-            Event::Take(pid) => of_processes(self.processes.take_refusal(*pid)),
-            Event::Commit(done) => of_processes(self.processes.commit_refusal(done.job())),
-            Event::Revive { app, id } => of_apps(revive_refusal(&self.apps, app, id)),
-            Event::Load(_) => of_modules(self.modules.purge_and_load_refusal()),
-            Event::Delete(name) => of_modules(self.modules.delete_refusal(name)),
-            Event::Purge(_) => None,
-            Event::SoftPurge(name) => self.soft_purge_refusal(name),
-            Event::SetUnpacked(release) => of_releases(
-                self.releases.unpack_refusal(release.rel.vsn.as_str()),
-            ),
-            Event::Remove(vsn) => of_releases(self.releases.remove_refusal(vsn.as_str())),
-        }
+        refusal_of(&self.parts, event)
     }
 
     ghost has_one_outcome = { one_outcome_of };

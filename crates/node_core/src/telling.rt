@@ -1,9 +1,11 @@
 // What is told of an event.
-ghost use Rattle.std.specs.Prelude.{◌≡◌, ◌≤◌, ◌++◌, ◌∷◌, [], IfOk, None, OnOk, Some, map, replicate, vec_capacity, vec_len};
+ghost use Rattle.std.specs.Prelude.{◌≡◌, ◌≤◌, ◌++◌, ◌∷◌, [], IfOk, None, OnOk, Some, length, map, replicate, vec_capacity, vec_len};
+ghost use Rattle.low_instructions.specs.declared.low.Low.{Low as Instruction};
 ghost use Rattle.node_types.specs.declared.event.Answer.TheVariants as answer;
 
 use erl_semantics::Job;
 use erl_term::{Atom, Term};
+use low_instructions::Low;
 use node_types::{Answer, Note};
 use process_effects::Reply;
 use std::alloc::{AllocError, Global};
@@ -121,8 +123,8 @@ pub(crate) fn tell_jobs(
     told
 }
 
-/// Tells, as often as there is such a list, that these replies were sent. There is room for it.
-pub(crate) fn tell_replies(
+/// Tells, as often as there is such a list, that an event was accepted, and these replies were sent. There is room for it.
+pub(crate) fn tell_done(
     told: Vec<Told<Answer, Note>>,
     lists: Vec<Row<Reply>>,
 ) -> Vec<Told<Answer, Note>>
@@ -159,4 +161,61 @@ pub(crate) fn tell_revived(
         });
     }
     told
+}
+
+/// Tells, as often as there is such a list, that an instruction was carried out, and these replies were sent. There is room for it, and
+/// an equal value of the instruction for each.
+pub(crate) fn tell_ran(
+    told: Vec<Told<Answer, Note>>,
+    instructions: Vec<Low>,
+    lists: Vec<Row<Reply>>,
+) -> Vec<Told<Answer, Note>>
+    requires none { told.items ≡ [] }
+    requires room { vec_len lists ≤ vec_capacity told }
+    requires copies { vec_len instructions ≡ vec_len lists }
+    ensures { (i : Instruction) → instructions.items ≡ replicate (length lists.items) i → result.items ≡
+        map (λ replies. record { answer = answer.Ran i; note = record { replies = replies; arrival = None } }) lists.items }
+{
+    let mut told = told;
+    let mut instructions = instructions;
+    for replies in lists {
+        let Some(instruction) = instructions.pop() else {
+            unreachable!()
+        };
+        told.push_reserved(Told {
+            answer: Answer::Ran(instruction),
+            note: Note::of_replies(replies),
+        });
+    }
+    told
+}
+
+/// Tells, as often as there is such a list, that these modules were swept, and these replies were sent.
+pub(crate) fn tell_swept(
+    alloc: Global,
+    names: &[Atom],
+    lists: Vec<Row<Reply>>,
+) -> Result<Vec<Told<Answer, Note>>, AllocError>
+    ensures { IfOk result (λ it. it.items ≡
+        map (λ replies. record { answer = answer.Swept names.now; note = record { replies = replies; arrival = None } }) lists.items) }
+{
+    let mut told = Vec::new(alloc);
+    for replies in lists {
+        told.push(Told {
+            answer: Answer::Swept(names_row(alloc, names)?),
+            note: Note::of_replies(replies),
+        })?;
+    }
+    Ok(told)
+}
+
+/// These names, for who keeps them.
+fn names_row(alloc: Global, names: &[Atom]) -> Result<Row<Atom>, AllocError>
+    ensures { IfOk result (λ it. it ≡ names.now) }
+{
+    let mut copies = Vec::with_capacity(alloc, names.len())?;
+    for name in names {
+        copies.push(name.copy(alloc)?)?;
+    }
+    Ok(Row::new(copies))
 }

@@ -1,5 +1,5 @@
 -- Whatever the shell does of a line, the line's command leads to the journal after it.
-use Rattle.std.proofs.Common.{◌≡◌, ℕ, List, [], Option, None, Some, Ok, option_map, option_to_list, unwrap_or, refl, sym, ap, subst}
+use Rattle.std.proofs.Common.{◌≡◌, ℕ, List, Option, None, Some, Ok, option_map, option_to_list, unwrap_or, refl, sym, ap, subst}
 use Rattle.erl_term.specs.Tree.{Tree}
 use Rattle.erl_term.specs.declared.term.Term.{Term}
 use Rattle.erl_term.specs.declared.term.Term.TheVariants as term
@@ -10,14 +10,14 @@ use Rattle.undo_journal.specs.Reversible.{Accepted}
 use Rattle.undo_journal.specs.Timeline.{appended, cut_stations, cut_to, here, report_of}
 use Rattle.undo_journal.specs.declared.history.Command.TheVariants as command
 use Rattle.undo_journal.proofs.Histories.{cut_to-parts}
-use Rattle.node_core.specs.Node.{NodeState}
-use Rattle.node_core.specs.Step.{Step}
+use Rattle.node_rules.specs.Node.{NodeState}
+use Rattle.node_rules.specs.Step.{Step}
 use Rattle.node_types.specs.declared.event.Answer.{Answer}
 use Rattle.node_types.specs.declared.event.Answer.TheVariants as tells
 use Rattle.node_types.specs.declared.event.Event.{Event}
 use Rattle.node_types.specs.declared.event.Event.TheVariants as event
 use Rattle.node_types.specs.Note.{Note}
-use Rattle.shell_requests.specs.Request.{Request, Spoken, ask, change, load, undo, commit, arrive, serve, revive, release, too_long, silent, unknown, asks}
+use Rattle.shell_requests.specs.Request.{Request, Spoken, ask, change, load, undo, commit, arrive, serve, revive, unpack, release, advance, sweep, too_long, silent, unknown, asks}
 use Rattle.shell_requests.specs.declared.request.Arrival.{Arrival}
 use Rattle.shell_requests.specs.declared.request.Arrival.TheVariants as arrivals
 use Rattle.shell_requests.specs.declared.request.Change.{Change}
@@ -29,12 +29,16 @@ use Rattle.shell_requests.specs.declared.request.ReleaseChange.TheVariants as re
 use Rattle.shell_requests.specs.declared.request.Service.{Service}
 use Rattle.shell_requests.specs.declared.request.Service.TheVariants as services
 use Rattle.shell_deeds.specs.Deeds as deeds
+use Rattle.shell_holdings.specs.Performing as performing
+use Rattle.shell_holdings.specs.Serving as serving
+use Rattle.shell_upgrades.specs.Upgrades as upgrades
 use Rattle.shell_answers.specs.Answers.{fixed, stopped_undo, undone_steps}
+use Rattle.shell_answers.specs.Refusals.{Subject, naming, naming_nothing}
 use Rattle.shell_answers.specs.declared.fixed.Fixed.TheVariants as words
-use Rattle.shell_deeds.specs.State as state
-use Rattle.shell_deeds.specs.State.{Deed, NodeTimeline, ShellState, answered, next_number, node_of, stepped}
-use Rattle.shell_deeds.specs.declared.fate.Fate.{Fate}
-use Rattle.shell_deeds.specs.declared.fate.Fate.TheVariants.{StoppedAt}
+use Rattle.shell_holdings.specs.State as state
+use Rattle.shell_holdings.specs.State.{Deed, NodeTimeline, ShellState, answered, next_number, node_of, stepped}
+use Rattle.shell_holdings.specs.declared.fate.Fate.{Fate}
+use Rattle.shell_holdings.specs.declared.fate.Fate.TheVariants.{StoppedAt}
 use Rattle.node_shell.specs.Replay.{Stops}
 
 -- the command of a deed leads to the journal after it, which begins where the one before does
@@ -42,27 +46,25 @@ abbrev pub IsLed : ShellState → Deed → Type 0
 IsLed s d = AreAfter Step (option_to_list d.command) s.timeline d.after.timeline × (d.after.timeline.first ≡ s.timeline.first)
 
 module _ (s : ShellState) where
-  performs : (tried : ShellState) (e : Event) (vsn : List ℕ) (done : Accepted NodeState Answer Note → Deed) (fate : Option Fate) (d : Deed) → tried.timeline ≡ s.timeline → ((a : Accepted NodeState Answer Note) → Step (node_of s) e (Ok a) → IsLed s (done a)) → deeds.Performs s tried e vsn done fate d → IsLed s d
-  performs tried e vsn done _ _ same each (deeds.full is) = (same, ap (λ t. t.first) same)
-  performs tried e vsn done _ _ same each (deeds.accepted room a rule) = each a rule
-  performs tried e vsn done _ _ same each (deeds.refused room why rule) = (same, ap (λ t. t.first) same)
-  performs tried e vsn done _ _ same each (deeds.no_memory room may) = (refl, refl)
+  performs : (tried : ShellState) (e : Event) (about : Subject) (done : Accepted NodeState Answer Note → Deed) (fate : Option Fate) (d : Deed) → tried.timeline ≡ s.timeline → ((a : Accepted NodeState Answer Note) → Step (node_of s) e (Ok a) → IsLed s (done a)) → performing.Performs s tried e about done fate d → IsLed s d
+  performs tried e about done _ _ same each (performing.full is) = (same, ap (λ t. t.first) same)
+  performs tried e about done _ _ same each (performing.accepted room a rule) = each a rule
+  performs tried e about done _ _ same each (performing.refused room why rule) = (same, ap (λ t. t.first) same)
+  performs tried e about done _ _ same each (performing.no_memory room may) = (refl, refl)
 
-  misses : {X : Type 0} (vsn : List ℕ) (e : X → Event) (fate : Option Fate) (d : Deed) → deeds.Misses s vsn e fate d → IsLed s d
-  misses vsn e _ _ (deeds.unread_full is) = (refl, refl)
-  misses vsn e _ _ (deeds.unread_refused room why rule) = (refl, refl)
-  misses vsn e _ _ (deeds.no_memory_to_read room may) = (refl, refl)
+  misses : {X : Type 0} (about : Subject) (e : X → Event) (fate : Option Fate) (d : Deed) → performing.Misses s about e fate d → IsLed s d
+  misses about e _ _ (performing.unread_full is) = (refl, refl)
+  misses about e _ _ (performing.unread_refused room why rule) = (refl, refl)
+  misses about e _ _ (performing.no_memory_to_read room may) = (refl, refl)
 
   carried : (e : Event) (a : Accepted NodeState Answer Note) → Step (node_of s) e (Ok a) → AreAfter Step (option_to_list (Some (command.Perform e))) s.timeline (appended s.timeline a.node a.note) × ((appended s.timeline a.node a.note).first ≡ s.timeline.first)
   carried e a rule = ((appended s.timeline a.node a.note, (Ok a, rule, refl), refl), refl)
 
-  took : (pid : ℕ) (a : Accepted NodeState Answer Note) (answer : Tree) (told : Answer) → Step (node_of s) (event.Take pid) (Ok a) → IsLed s (state.carried (deeds.job_kept told (stepped a s)) (event.Take pid) answer)
+  took : (pid : ℕ) (a : Accepted NodeState Answer Note) (answer : Tree) (told : Answer) → Step (node_of s) (event.Take pid) (Ok a) → IsLed s (state.carried (performing.job_kept told (stepped a s)) (event.Take pid) answer)
   took pid a answer (tells.Job job) rule = carried (event.Take pid) a rule
-  took pid a answer (tells.Revived n) rule = carried (event.Take pid) a rule
-  took pid a answer (tells.Killed b) rule = carried (event.Take pid) a rule
-  took pid a answer tells.Unit rule = carried (event.Take pid) a rule
+  took pid a answer _ rule = carried (event.Take pid) a rule
 
-  changed : (kind : Change) (name : List ℕ) (a : Accepted NodeState Answer Note) → Step (node_of s) (deeds.change_event kind name) (Ok a) → IsLed s (deeds.done_by s (deeds.change_event kind name) a)
+  changed : (kind : Change) (name : List ℕ) (a : Accepted NodeState Answer Note) → Step (node_of s) (deeds.change_event kind name) (Ok a) → IsLed s (performing.done_by s (deeds.change_event kind name) a)
   changed changes.Delete name a rule = carried (event.Delete name) a rule
   changed changes.Purge name a rule = carried (event.Purge name) a rule
   changed changes.SoftPurge name a rule = carried (event.SoftPurge name) a rule
@@ -72,15 +74,15 @@ module _ (s : ShellState) where
   loads name path _ _ (deeds.no_source bytes why found says none) = (refl, refl)
   loads name path _ _ (deeds.another bytes m found source other) = (refl, refl)
   loads name path _ _ (deeds.read bytes m fate d found source same does) =
-      performs s (event.Load m) [] _ fate d refl (carried (event.Load m)) does
-  loads name path _ _ (deeds.unread bytes fate d found does) = misses [] event.Load fate d does
+      performs s (event.Load m) naming_nothing _ fate d refl (carried (event.Load m)) does
+  loads name path _ _ (deeds.unread bytes fate d found does) = misses naming_nothing event.Load fate d does
 
   tried_same : (kind : Arrival) → (deeds.tried kind s).timeline ≡ s.timeline
   tried_same arrivals.Call = refl
   tried_same arrivals.Cast = refl
   tried_same arrivals.Info = refl
 
-  arrived : (kind : Arrival) (number : ℕ) (name : List ℕ) (t : Term) (a : Accepted NodeState Answer Note) → Step (node_of s) (deeds.event_of_arrival kind number name t) (Ok a) → IsLed s (deeds.done_by (deeds.tried kind s) (deeds.event_of_arrival kind number name t) a)
+  arrived : (kind : Arrival) (number : ℕ) (name : List ℕ) (t : Term) (a : Accepted NodeState Answer Note) → Step (node_of s) (deeds.event_of_arrival kind number name t) (Ok a) → IsLed s (performing.done_by (deeds.tried kind s) (deeds.event_of_arrival kind number name t) a)
   arrived arrivals.Call number name t a rule = carried (deeds.event_of_arrival arrivals.Call number name t) a rule
   arrived arrivals.Cast number name t a rule = carried (deeds.event_of_arrival arrivals.Cast number name t) a rule
   arrived arrivals.Info number name t a rule = carried (deeds.event_of_arrival arrivals.Info number name t) a rule
@@ -90,63 +92,70 @@ module _ (s : ShellState) where
   arrives kind name text _ _ (deeds.several is) = (refl, refl)
   arrives kind name text _ _ (deeds.read t fate d is does) =
       let e = deeds.arrival_event s kind name t in
-      performs (deeds.tried kind s) e [] (deeds.done_by (deeds.tried kind s) e) fate d (tried_same kind) (arrived kind (next_number s) name t) does
-  arrives kind name text _ _ (deeds.unread fate d does) = misses [] _ fate d does
+      performs (deeds.tried kind s) e naming_nothing (performing.done_by (deeds.tried kind s) e) fate d (tried_same kind) (arrived kind (next_number s) name t) does
+  arrives kind name text _ _ (deeds.unread fate d does) = misses naming_nothing _ fate d does
 
-  retakes : (pid : ℕ) (fate : Option Fate) (d : Deed) → deeds.Retakes s pid fate d → IsLed s d
-  retakes pid _ _ (deeds.kept_again job is) = (refl, refl)
-  retakes pid _ _ (deeds.not_running why is) = (refl, refl)
-  retakes pid _ _ (deeds.no_memory_to_keep is) = (refl, refl)
+  retakes : (pid : ℕ) (fate : Option Fate) (d : Deed) → serving.Retakes s pid fate d → IsLed s d
+  retakes pid _ _ (serving.kept_again job is) = (refl, refl)
+  retakes pid _ _ (serving.not_running why is) = (refl, refl)
+  retakes pid _ _ (serving.no_memory_to_keep is) = (refl, refl)
 
   told : (answer : Tree) (fate : Option Fate) (d : Deed) → (fate ≡ None) × (d ≡ answered s answer) → IsLed s d
   told answer fate d is = subst (λ e. IsLed s e) (sym is.1) (refl, refl)
 
-  serves : (service : Service) (pid : Option ℕ) (fate : Option Fate) (d : Deed) → deeds.ServesAs s service pid fate d → IsLed s d
+  serves : (service : Service) (pid : Option ℕ) (fate : Option Fate) (d : Deed) → serving.ServesAs s service pid fate d → IsLed s d
   serves services.Take None fate d does = told (fixed words.NoProc) fate d does
   serves services.Retake None fate d does = told (fixed words.NoProc) fate d does
   serves services.Show None fate d does = told (fixed words.NoProc) fate d does
-  serves services.Take (Some pid) fate d does = performs s (event.Take pid) [] _ fate d refl (λ a rule. took pid a (deeds.answer_to s (event.Take pid) a) a.answer rule) does
+  serves services.Take (Some pid) fate d does = performs s (event.Take pid) naming_nothing _ fate d refl (λ a rule. took pid a (performing.answer_to s (event.Take pid) a) a.answer rule) does
   serves services.Retake (Some pid) fate d does = retakes pid fate d does
-  serves services.Show (Some pid) fate d does = told (deeds.shown (living pid (node_of s).processes)) fate d does
+  serves services.Show (Some pid) fate d does = told (serving.shown (living pid (node_of s).processes)) fate d does
 
-  commits : (job : Option Job) (fate : Option Fate) (d : Deed) → deeds.CommitsKept s job fate d → IsLed s d
+  commits : (job : Option Job) (fate : Option Fate) (d : Deed) → serving.CommitsKept s job fate d → IsLed s d
   commits None fate d does = told (fixed words.NoJob) fate d does
-  commits (Some job) _ _ (deeds.ran done fate d is does) = performs s (event.Commit done) [] _ fate d refl (carried (event.Commit done)) does
-  commits (Some job) _ _ (deeds.not_run_full is) = (refl, refl)
-  commits (Some job) _ _ (deeds.not_run room why refuses) = (refl, refl)
-  commits (Some job) _ _ (deeds.no_memory_to_run room may) = (refl, refl)
+  commits (Some job) _ _ (serving.ran done fate d is does) = performs s (event.Commit done) naming_nothing _ fate d refl (carried (event.Commit done)) does
+  commits (Some job) _ _ (serving.not_run_full is) = (refl, refl)
+  commits (Some job) _ _ (serving.not_run room why refuses) = (refl, refl)
+  commits (Some job) _ _ (serving.no_memory_to_run room may) = (refl, refl)
 
-  undoes : (mark : ℕ) (fate : Option Fate) (d : Deed) → deeds.Undoes s mark fate d → IsLed s d
-  undoes mark _ _ (deeds.forgotten is) = (refl, refl)
-  undoes mark _ _ (deeds.dead is) = (refl, refl)
-  undoes mark _ _ (deeds.cut end is) = ((end, ap (λ o. unwrap_or o s.timeline) (sym is), refl), (cut_to-parts mark s.timeline end is).1)
-  undoes mark _ _ (deeds.stopped reached end alive behind is uncut) = ((end, ap (λ o. unwrap_or o s.timeline) (sym is), refl), (cut_to-parts reached s.timeline end is).1)
+  undoes : (mark : ℕ) (fate : Option Fate) (d : Deed) → serving.Undoes s mark fate d → IsLed s d
+  undoes mark _ _ (serving.forgotten is) = (refl, refl)
+  undoes mark _ _ (serving.dead is) = (refl, refl)
+  undoes mark _ _ (serving.cut end is) = ((end, ap (λ o. unwrap_or o s.timeline) (sym is), refl), (cut_to-parts mark s.timeline end is).1)
+  undoes mark _ _ (serving.stopped reached end alive behind is uncut) = ((end, ap (λ o. unwrap_or o s.timeline) (sym is), refl), (cut_to-parts reached s.timeline end is).1)
 
-  asks-nothing : (question : Question) (fate : Option Fate) (d : Deed) → deeds.Asks s question fate d → IsLed s d
-  asks-nothing question _ _ deeds.is_told = (refl, refl)
-  asks-nothing question _ _ (deeds.no_memory_to_tell may) = (refl, refl)
+  asks-nothing : (question : Question) (fate : Option Fate) (d : Deed) → serving.Asks s question fate d → IsLed s d
+  asks-nothing question _ _ serving.is_told = (refl, refl)
+  asks-nothing question _ _ (serving.no_memory_to_tell may) = (refl, refl)
 
-  unpacks : (vsn : List ℕ) (fate : Option Fate) (d : Deed) → deeds.Unpacks s vsn fate d → IsLed s d
-  unpacks vsn _ _ (deeds.no_release path why is) = (refl, refl)
-  unpacks vsn _ _ (deeds.release_read r fate d is does) =
-      performs s (event.SetUnpacked r) (chars vsn) _ fate d refl (carried (event.SetUnpacked r)) does
-  unpacks vsn _ _ (deeds.release_unread fate d does) = misses (chars vsn) (deeds.unpack_event vsn) fate d does
+  unpacks : (vsn : List ℕ) (fate : Option Fate) (d : Deed) → upgrades.Unpacks s vsn fate d → IsLed s d
+  unpacks vsn _ _ (upgrades.no_release path why is) = (refl, refl)
+  unpacks vsn _ _ (upgrades.release_read r fate d is does) =
+      performs s (event.SetUnpacked r) (naming (chars vsn)) _ fate d refl (carried (event.SetUnpacked r)) does
+  unpacks vsn _ _ (upgrades.release_unread fate d does) = misses (naming (chars vsn)) (upgrades.unpack_event vsn) fate d does
 
-  alters : (kind : ReleaseChange) (vsn : List ℕ) (fate : Option Fate) (d : Deed) → deeds.AltersReleases s kind vsn fate d → IsLed s d
-  alters releases.Unpack vsn fate d does = unpacks vsn fate d does
-  alters releases.Remove vsn fate d does =
-      performs s (event.Remove (chars vsn)) (chars vsn) _ fate d refl (carried (event.Remove (chars vsn))) does
+  altered : (kind : ReleaseChange) (vsn : List ℕ) (a : Accepted NodeState Answer Note) → Step (node_of s) (upgrades.release_event kind vsn) (Ok a) → IsLed s (performing.done_by s (upgrades.release_event kind vsn) a)
+  altered releases.Remove vsn a rule = carried (event.Remove vsn) a rule
+  altered releases.Install vsn a rule = carried (event.Install vsn) a rule
+  altered releases.MakePermanent vsn a rule = carried (event.MakePermanent vsn) a rule
+  altered releases.RebootOld vsn a rule = carried (event.RebootOld vsn) a rule
+
+  alters : (kind : ReleaseChange) (vsn : List ℕ) (fate : Option Fate) (d : Deed) → upgrades.AltersReleases s kind vsn fate d → IsLed s d
+  alters kind vsn fate d does = performs s (upgrades.release_event kind (chars vsn)) _ _ fate d refl (altered kind (chars vsn)) does
 
   obeys : (fate : Option Fate) (request : Request) (d : Deed) → deeds.Obeys fate s request d → IsLed s d
   obeys fate (ask question) d does = asks-nothing question fate d does
-  obeys fate (change kind name) d does = performs s (deeds.change_event kind name) [] _ fate d refl (changed kind name) does
+  obeys fate (change kind name) d does = performs s (deeds.change_event kind name) naming_nothing _ fate d refl (changed kind name) does
   obeys fate (load name path) d does = loads name path fate d does
   obeys fate (undo mark) d does = undoes mark fate d does
-  obeys fate (commit place) d does = commits (deeds.kept_job place s.jobs) fate d does
+  obeys fate (commit place) d does = commits (serving.kept_job place s.jobs) fate d does
   obeys fate (arrive kind name text) d does = arrives kind name text fate d does
   obeys fate (serve service who) d does = serves service (deeds.pid_meant who (node_of s)) fate d does
-  obeys fate (revive app id) d does = performs s (event.Revive app (term.Atom id)) [] _ fate d refl (carried (event.Revive app (term.Atom id))) does
+  obeys fate (revive app id) d does = performs s (event.Revive app (term.Atom id)) naming_nothing _ fate d refl (carried (event.Revive app (term.Atom id))) does
+  obeys fate (unpack vsn) d does = unpacks vsn fate d does
   obeys fate (release kind vsn) d does = alters kind vsn fate d does
+  obeys fate (advance give_up) d does = performs s (event.Advance give_up) naming_nothing _ fate d refl (carried (event.Advance give_up)) does
+  obeys fate sweep d does = performs s event.Sweep naming_nothing _ fate d refl (carried event.Sweep) does
 
 -- what may be done of what is said in a line
 pub Does-led : (fate : Option Fate) (s : ShellState) (line : Spoken) (d : Deed) → deeds.Does fate s line d → IsLed s d
@@ -157,23 +166,23 @@ Does-led fate s (asks request) d does = obeys s fate request d does
 
 -- An undo at which no memory was refused cuts what it should.
 
-undo-cuts : (s : ShellState) (mark : ℕ) (end : NodeTimeline) (fate : Option Fate) (d : Deed) → fate ≡ None → cut_to mark s.timeline ≡ Some end → deeds.Undoes s mark fate d → d ≡ deeds.undone_to s mark end (undone_steps (report_of (cut_stations s.timeline end)))
-undo-cuts s mark end _ _ whole is (deeds.forgotten none) = absurd (let gone = none.1 in let never : ⊥ = cc in never)
-undo-cuts s mark end _ _ whole is (deeds.dead none) = absurd (let gone = none.1 in let never : ⊥ = cc in never)
-undo-cuts s mark end _ _ whole is (deeds.cut at stands) =
-    let same : at ≡ end = cc in ap (λ t. deeds.undone_to s mark t (undone_steps (report_of (cut_stations s.timeline t)))) same
-undo-cuts s mark end _ _ whole is (deeds.stopped reached at alive behind stands uncut) = absurd (let never : ⊥ = cc in never)
+undo-cuts : (s : ShellState) (mark : ℕ) (end : NodeTimeline) (fate : Option Fate) (d : Deed) → fate ≡ None → cut_to mark s.timeline ≡ Some end → serving.Undoes s mark fate d → d ≡ serving.undone_to s mark end (undone_steps (report_of (cut_stations s.timeline end)))
+undo-cuts s mark end _ _ whole is (serving.forgotten none) = absurd (let gone = none.1 in let never : ⊥ = cc in never)
+undo-cuts s mark end _ _ whole is (serving.dead none) = absurd (let gone = none.1 in let never : ⊥ = cc in never)
+undo-cuts s mark end _ _ whole is (serving.cut at stands) =
+    let same : at ≡ end = cc in ap (λ t. serving.undone_to s mark t (undone_steps (report_of (cut_stations s.timeline t)))) same
+undo-cuts s mark end _ _ whole is (serving.stopped reached at alive behind stands uncut) = absurd (let never : ⊥ = cc in never)
 
-pub Does-cuts : (s : ShellState) (mark : ℕ) (end : NodeTimeline) (fate : Option Fate) (line : Spoken) (d : Deed) → fate ≡ None → line ≡ asks (undo mark) → cut_to mark s.timeline ≡ Some end → deeds.Does fate s line d → d ≡ deeds.undone_to s mark end (undone_steps (report_of (cut_stations s.timeline end)))
+pub Does-cuts : (s : ShellState) (mark : ℕ) (end : NodeTimeline) (fate : Option Fate) (line : Spoken) (d : Deed) → fate ≡ None → line ≡ asks (undo mark) → cut_to mark s.timeline ≡ Some end → deeds.Does fate s line d → d ≡ serving.undone_to s mark end (undone_steps (report_of (cut_stations s.timeline end)))
 Does-cuts s mark end fate line d whole says is does = undo-cuts s mark end fate d whole is (subst (λ l. deeds.Does fate s l d) says does)
 
-undo-stops : (s : ShellState) (mark reached : ℕ) (fate : Option Fate) (d : Deed) → fate ≡ Some (StoppedAt reached) → deeds.Undoes s mark fate d → Stops s.timeline d mark reached
-undo-stops s mark reached _ _ is (deeds.forgotten none) = absurd (let never : ⊥ = cc in never)
-undo-stops s mark reached _ _ is (deeds.dead none) = absurd (let never : ⊥ = cc in never)
-undo-stops s mark reached _ _ is (deeds.cut end stands) = absurd (let never : ⊥ = cc in never)
-undo-stops s mark reached _ _ is (deeds.stopped at end alive behind stands uncut) =
+undo-stops : (s : ShellState) (mark reached : ℕ) (fate : Option Fate) (d : Deed) → fate ≡ Some (StoppedAt reached) → serving.Undoes s mark fate d → Stops s.timeline d mark reached
+undo-stops s mark reached _ _ is (serving.forgotten none) = absurd (let never : ⊥ = cc in never)
+undo-stops s mark reached _ _ is (serving.dead none) = absurd (let never : ⊥ = cc in never)
+undo-stops s mark reached _ _ is (serving.cut end stands) = absurd (let never : ⊥ = cc in never)
+undo-stops s mark reached _ _ is (serving.stopped at end alive behind stands uncut) =
     let same : at ≡ reached = cc in
-    subst (λ k. Stops s.timeline (deeds.undone_to s at end (stopped_undo at (report_of (cut_stations s.timeline end)))) mark k) same record {
+    subst (λ k. Stops s.timeline (serving.undone_to s at end (stopped_undo at (report_of (cut_stations s.timeline end)))) mark k) same record {
       behind = behind;
       leads = stands;
       node = ap (λ t. option_map (λ (u : NodeTimeline). (here u).node) t) stands;

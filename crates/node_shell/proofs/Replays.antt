@@ -9,13 +9,13 @@ use Rattle.line_server.specs.declared.ended.Ended.{Ended}
 use Rattle.line_server.specs.Lines.{heard}
 use Rattle.line_server.specs.Serving.{Serves, ServesWhole}
 use Rattle.line_server.specs.Session.{Answered, lines_in, text_of}
-use Rattle.node_core.specs.Node.{NodeState}
-use Rattle.node_core.specs.Step.{Step}
+use Rattle.node_rules.specs.Node.{NodeState}
+use Rattle.node_rules.specs.Step.{Step}
 use Rattle.release_files.specs.Files.{Contents}
 use Rattle.shell_requests.specs.Request.{asks, spoken, undo}
-use Rattle.shell_deeds.specs.State.{Deed, NodeTimeline, ShellState, opened_shell}
-use Rattle.shell_deeds.specs.declared.fate.Fate.{Fate}
-use Rattle.shell_deeds.specs.declared.fate.Fate.TheVariants.{StoppedAt}
+use Rattle.shell_holdings.specs.State.{Deed, NodeTimeline, ShellState, opened_shell}
+use Rattle.shell_holdings.specs.declared.fate.Fate.{Fate}
+use Rattle.shell_holdings.specs.declared.fate.Fate.TheVariants.{StoppedAt}
 use Rattle.node_shell.specs.Replay.{Obeyed, AreObeyed, IsReplayed, IsHeadline, IsNamed, MarksName, Stops, Undoes, commands_in, shell_behind, timeline_behind}
 use Rattle.node_shell.specs.Run.{Runs, RunsWhole, Starts}
 use Rattle.node_shell.specs.Shell.{shell_turn}

@@ -7,15 +7,15 @@ use Rattle.undo_journal.specs.Timeline.{here, opened, cut_to, cut_stations, repo
 use Rattle.undo_journal.specs.History.{Live, Runs, Makes, FoldsTo}
 use Rattle.line_server.specs.Lines.{heard}
 use Rattle.line_server.specs.Session.{Answered}
-use Rattle.node_core.specs.Node.{NodeState}
-use Rattle.node_core.specs.Step.{Step}
+use Rattle.node_rules.specs.Node.{NodeState}
+use Rattle.node_rules.specs.Step.{Step}
 use Rattle.node_types.specs.declared.event.Event.{Event}
 use Rattle.shell_answers.specs.Answers.{line_of, stopped_undo, undone_steps}
 use Rattle.shell_requests.specs.Request.{asks, spoken, undo}
 use Rattle.shell_deeds.specs.Deeds.{Does}
-use Rattle.shell_deeds.specs.State.{Deed, NodeTimeline, ShellState}
-use Rattle.shell_deeds.specs.declared.fate.Fate.{Fate}
-use Rattle.shell_deeds.specs.declared.fate.Fate.TheVariants.{StoppedAt}
+use Rattle.shell_holdings.specs.State.{Deed, NodeTimeline, ShellState}
+use Rattle.shell_holdings.specs.declared.fate.Fate.{Fate}
+use Rattle.shell_holdings.specs.declared.fate.Fate.TheVariants.{StoppedAt}
 use Rattle.node_shell.specs.Shell.{turn_of}
 
 -- A line that was obeyed, what became of it for want of memory, and what it did.

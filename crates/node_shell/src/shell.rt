@@ -1,12 +1,13 @@
 // The shell: a session over what it holds.
 ghost use Rattle.std.specs.Prelude.{◌≡◌, IfOk};
 ghost use Rattle.node_shell.specs.Shell.{shell_turn};
-ghost use Rattle.shell_deeds.specs.State.{opened_shell};
+ghost use Rattle.shell_holdings.specs.State.{opened_shell};
 
 use line_server::Session;
 use node_core::Node;
 use release_files::Files;
-use shell_deeds::{Fate, Holdings};
+use shell_deeds::obey;
+use shell_holdings::{Fate, Holdings};
 use shell_requests::runs_code;
 use std::alloc::{AllocError, Global};
 use std::hash::RandomState;
@@ -27,7 +28,7 @@ impl Model for Shell {
     ghost use Rattle.std.specs.Coded.{codes};
     ghost use Rattle.erl_term.specs.contracts.term.Terms as terms;
     ghost use Rattle.erl_forms.specs.contracts.module.Module as forms;
-    ghost use Rattle.shell_deeds.specs.State.{ShellState};
+    ghost use Rattle.shell_holdings.specs.State.{ShellState};
 
     ghost Value = { ShellState };
 
@@ -67,14 +68,14 @@ impl Session for Shell {
 
     fn line(&mut self, line: &[u8], out: &mut Vec<u8>) -> Result<Option<Fate>, AllocError> {
         self.answer.clear();
-        let fate = self.held.obey(Some(line), &mut self.answer)?;
+        let fate = obey(&mut self.held, Some(line), &mut self.answer)?;
         out.extend_from_slice(self.answer.as_slice())?;
         Ok(fate)
     }
 
     fn too_long(&mut self, out: &mut Vec<u8>) -> Result<Option<Fate>, AllocError> {
         self.answer.clear();
-        let fate = self.held.obey(None, &mut self.answer)?;
+        let fate = obey(&mut self.held, None, &mut self.answer)?;
         out.extend_from_slice(self.answer.as_slice())?;
         Ok(fate)
     }

@@ -3,14 +3,17 @@ use code_server::CodeError;
 use erl_forms::Module;
 use erl_semantics::{Done, Job};
 use erl_term::{Atom, Term};
+use install_checks::InstallError;
+use low_instructions::Low;
 use process_table::{Body, ProcError};
 use release_statuses::{RelError, Vsn};
 use release_table::Release;
+use release_words::Version;
 use std::alloc::{AllocError, Global};
 use std::fmt;
 use sys_protocol::SysError;
 use thiserror::Error;
-use values::{Duplicate, Same};
+use values::{Duplicate, Row, Same};
 
 /// An event: what makes a step of a node.
 #[derive(Drop)]
@@ -47,6 +50,19 @@ pub enum Event {
     SetUnpacked(Release),
     /// The release of a version is removed, unless it is the permanent one.
     Remove(Vsn),
+    /// An install of the release of a version begins: its script is to be run, one instruction after the other.
+    Install(Vsn),
+    /// The next instruction of the script is carried out; behind the last one the script is finished.
+    Advance {
+        /// Whether processes that run, and are to be suspended, are passed over, and not waited for.
+        give_up: bool,
+    },
+    /// The release of a version, which is current, is made permanent.
+    MakePermanent(Vsn),
+    /// The node restarts with the release of a version, which is old.
+    RebootOld(Vsn),
+    /// Old code that scripts have left to be purged softly is purged, where nobody lingers in it.
+    Sweep,
 }
 
 /// The answer to an event that is accepted.
@@ -58,6 +74,28 @@ pub enum Answer {
     Revived(u64),
     /// To a purge: whether processes were killed.
     Killed(bool),
+    /// To an install: it has begun.
+    Installing {
+        /// The version of the release that is being installed.
+        vsn: Version,
+        /// How many instructions its script has.
+        instructions: usize,
+    },
+    /// To an advance: the instruction that was carried out.
+    Ran(Low),
+    /// To an advance: the script is finished.
+    Finished {
+        /// The version that the script's entry in its relup names: that which was upgraded from, or downgraded to.
+        vsn: Version,
+        /// What describes the entry.
+        description: Term,
+    },
+    /// To an advance: the instruction has failed for this reason, before the point of no return, and the script is given up.
+    Recovered(Term),
+    /// To an advance: the instruction has failed for this reason, behind the point of no return, and the node has restarted.
+    Restarted(Term),
+    /// To a sweep: the modules whose old code was purged, in the order of their names.
+    Swept(Row<Atom>),
     /// To all others.
     Unit,
 }
@@ -77,6 +115,21 @@ pub enum Refusal {
     /// The releases refuse it.
     #[error("{0}")]
     OfReleases(RelError),
+    /// The release can't be installed.
+    #[error("the release can't be installed")]
+    OfInstall(InstallError),
+    /// A script runs.
+    #[error("a script runs")]
+    Installing,
+    /// No script runs.
+    #[error("no script runs")]
+    NotInstalling,
+    /// The process of this pid runs, and is to be suspended.
+    #[error("a process runs, and is to be suspended")]
+    Busy(u64),
+    /// The serial of a load, or the turn of a process, can't be counted further.
+    #[error("a number can't be counted further")]
+    CounterEnd,
 }
 
 /// As it is displayed.
@@ -92,6 +145,18 @@ impl Duplicate for Answer {
             Answer::Job(job) => Ok(Answer::Job(job.copy(alloc)?)),
             Answer::Revived(pid) => Ok(Answer::Revived(*pid)),
             Answer::Killed(killed) => Ok(Answer::Killed(*killed)),
+            Answer::Installing { vsn, instructions } => Ok(Answer::Installing {
+                vsn: vsn.copy(alloc)?,
+                instructions: *instructions,
+            }),
+            Answer::Ran(instruction) => Ok(Answer::Ran(instruction.copy(alloc)?)),
+            Answer::Finished { vsn, description } => Ok(Answer::Finished {
+                vsn: vsn.copy(alloc)?,
+                description: description.copy(alloc)?,
+            }),
+            Answer::Recovered(reason) => Ok(Answer::Recovered(reason.copy(alloc)?)),
+            Answer::Restarted(reason) => Ok(Answer::Restarted(reason.copy(alloc)?)),
+            Answer::Swept(modules) => Ok(Answer::Swept(modules.copy(alloc)?)),
             Answer::Unit => Ok(Answer::Unit),
         }
     }
@@ -103,6 +168,24 @@ impl Same for Answer {
             (Answer::Job(job), Answer::Job(with)) => job.same(with),
             (Answer::Revived(pid), Answer::Revived(with)) => *pid == *with,
             (Answer::Killed(killed), Answer::Killed(with)) => *killed == *with,
+            (
+                Answer::Installing { vsn, instructions },
+                Answer::Installing {
+                    vsn: v,
+                    instructions: i,
+                },
+            ) => vsn.same(v) && *instructions == *i,
+            (Answer::Ran(instruction), Answer::Ran(with)) => instruction.same(with),
+            (
+                Answer::Finished { vsn, description },
+                Answer::Finished {
+                    vsn: v,
+                    description: d,
+                },
+            ) => vsn.same(v) && description.same(d),
+            (Answer::Recovered(reason), Answer::Recovered(with)) => reason.same(with),
+            (Answer::Restarted(reason), Answer::Restarted(with)) => reason.same(with),
+            (Answer::Swept(modules), Answer::Swept(with)) => modules.same(with),
             (Answer::Unit, Answer::Unit) => true,
             (_, _) => false,
         }
@@ -130,6 +213,11 @@ impl Same for Event {
             (Event::SoftPurge(name), Event::SoftPurge(with)) => name.same(with),
             (Event::SetUnpacked(release), Event::SetUnpacked(with)) => release.same(with),
             (Event::Remove(vsn), Event::Remove(with)) => vsn.same(with),
+            (Event::Install(vsn), Event::Install(with)) => vsn.same(with),
+            (Event::Advance { give_up }, Event::Advance { give_up: with }) => *give_up == *with,
+            (Event::MakePermanent(vsn), Event::MakePermanent(with)) => vsn.same(with),
+            (Event::RebootOld(vsn), Event::RebootOld(with)) => vsn.same(with),
+            (Event::Sweep, Event::Sweep) => true,
             (_, _) => false,
         }
     }
@@ -155,6 +243,11 @@ impl Duplicate for Event {
             Event::SoftPurge(name) => Ok(Event::SoftPurge(name.copy(alloc)?)),
             Event::SetUnpacked(release) => Ok(Event::SetUnpacked(release.copy(alloc)?)),
             Event::Remove(vsn) => Ok(Event::Remove(vsn.copy(alloc)?)),
+            Event::Install(vsn) => Ok(Event::Install(vsn.copy(alloc)?)),
+            Event::Advance { give_up } => Ok(Event::Advance { give_up: *give_up }),
+            Event::MakePermanent(vsn) => Ok(Event::MakePermanent(vsn.copy(alloc)?)),
+            Event::RebootOld(vsn) => Ok(Event::RebootOld(vsn.copy(alloc)?)),
+            Event::Sweep => Ok(Event::Sweep),
         }
     }
 }
@@ -166,6 +259,11 @@ impl Same for Refusal {
             (Refusal::OfModules(why), Refusal::OfModules(with)) => *why == *with,
             (Refusal::OfApps(why), Refusal::OfApps(with)) => why.same(with),
             (Refusal::OfReleases(why), Refusal::OfReleases(with)) => *why == *with,
+            (Refusal::OfInstall(why), Refusal::OfInstall(with)) => *why == *with,
+            (Refusal::Installing, Refusal::Installing) => true,
+            (Refusal::NotInstalling, Refusal::NotInstalling) => true,
+            (Refusal::Busy(pid), Refusal::Busy(with)) => *pid == *with,
+            (Refusal::CounterEnd, Refusal::CounterEnd) => true,
             (_, _) => false,
         }
     }
@@ -178,6 +276,11 @@ impl Duplicate for Refusal {
             Refusal::OfModules(why) => Ok(Refusal::OfModules(*why)),
             Refusal::OfApps(why) => Ok(Refusal::OfApps(why.copy(alloc)?)),
             Refusal::OfReleases(why) => Ok(Refusal::OfReleases(*why)),
+            Refusal::OfInstall(why) => Ok(Refusal::OfInstall(*why)),
+            Refusal::Installing => Ok(Refusal::Installing),
+            Refusal::NotInstalling => Ok(Refusal::NotInstalling),
+            Refusal::Busy(pid) => Ok(Refusal::Busy(*pid)),
+            Refusal::CounterEnd => Ok(Refusal::CounterEnd),
         }
     }
 }

@@ -16,7 +16,7 @@ use Rattle.std.proofs.lemmas.Map.Entries.{lookup_head}
 use Rattle.std.proofs.lemmas.Map.Made.{is_some-lookup}
 use Rattle.std.proofs.lemmas.Option.{none-some}
 use Rattle.values.specs.Edits.{changed_at}
-use Rattle.process_index.specs.Standing.{alive_from, alive, standing, stands_at}
+use Rattle.process_index.specs.Standing.{alive_from, alive, standing, stands_at, vacant}
 
 -- The order of numbers tells them apart
 
@@ -58,6 +58,11 @@ module _ {T : Type 0} where
   standing_same f g from (suc count) same =
       ap (λ o. o ∷ standing g (suc from) count) (same from (omega arith) (omega arith))
       ∙ ap (λ os. f from ∷ os) (standing_same f g (suc from) count (λ q low high. same q (omega (arith, low)) (omega (arith, high))))
+
+  -- as many places, where nothing stands at any
+  pub standing-vacant : (f g : ℕ → Option T) → ((q : ℕ) → g q ≡ None) → (from count : ℕ) → standing g from count ≡ vacant (standing f from count)
+  standing-vacant f g none from zero = refl
+  standing-vacant f g none from (suc count) = ap (λ o. o ∷ standing g (suc from) count) (none from) ∙ ap (λ os. None ∷ os) (standing-vacant f g none (suc from) count)
 
   -- one place is changed
   pub standing-changed : (f g : ℕ → Option T) (h : Option T → Option T) (from count place there : ℕ) → there ≡ from + place → g there ≡ h (f there) → ((q : ℕ) → (q ≡ there → ⊥) → g q ≡ f q) → standing g from count ≡ changed_at h (standing f from count) place

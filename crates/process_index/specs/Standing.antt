@@ -1,5 +1,5 @@
 -- What is kept by number, as a list: at each place what lives there, or nothing.
-use Rattle.std.specs.Prelude.{ℕ, zero, suc, List, [], ◌∷◌, Option, None, Some, option_and_then, slice_get}
+use Rattle.std.specs.Prelude.{ℕ, zero, suc, List, [], ◌∷◌, Option, None, Some, map, option_and_then, slice_get}
 use Rattle.values.specs.Edits.{changed_at}
 
 module _ {T : Type 0} where
@@ -20,6 +20,10 @@ module _ {T : Type 0} where
 
   abbrev pub alive : List (Option T) → List (ℕ × T)
   alive slots = alive_from 0 slots
+
+  -- as many places, and nothing lives at any
+  abbrev pub vacant : List (Option T) → List (Option T)
+  vacant slots = map (λ o. None) slots
 
   -- with this at a place, and with nothing there
 

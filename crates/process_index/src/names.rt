@@ -41,6 +41,13 @@ impl NameIndex {
         }
     }
 
+    /// No name is registered, in an index that hashes as this one. Takes no memory.
+    pub fn emptied(&self, alloc: Global) -> NameIndex
+        ensures { result ≡ map.empty }
+    {
+        NameIndex::new(alloc, *self.pids.hasher())
+    }
+
     /// The pid of the process that has the name that a text is, where one has it. Takes no memory.
     pub fn get(&self, name: &str) -> Option<u64>
         ensures { result ≡ map.get self.now (chars name.now) }

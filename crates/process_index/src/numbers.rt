@@ -49,6 +49,13 @@ impl CallIndex {
         }
     }
 
+    /// No call is open, in an index that hashes as this one. Takes no memory.
+    pub fn emptied(&self, alloc: Global) -> CallIndex
+        ensures { result ≡ map.empty }
+    {
+        CallIndex::new(alloc, *self.owners.hasher())
+    }
+
     /// Whose the call with a number is, where it is open. Takes no memory.
     pub fn get(&self, number: u64) -> Option<Owner>
         ensures { result ≡ map.get self.now number }

@@ -3,7 +3,7 @@ ghost use Rattle.std.specs.Prelude.{◌≡◌, ◌+◌, ◌-◌, ◌^◌, ◌<�
 ghost use Rattle.std.specs.Borrow.{sem};
 ghost use Rattle.std.specs.Map.Iter.{ShowsInOrder, deref_pair};
 ghost use Rattle.std.specs.Option.{option_copied, option_copied_mut};
-ghost use Rattle.process_index.specs.Standing.{alive, alive_from, put_at, stands_at, taken_at};
+ghost use Rattle.process_index.specs.Standing.{alive, alive_from, put_at, stands_at, taken_at, vacant};
 
 use std::alloc::Global;
 use std::collections::BTreeMap;
@@ -45,6 +45,16 @@ impl<T: Drop> Slots<T> {
         Slots {
             living: BTreeMap::new(alloc),
             last: 0,
+        }
+    }
+
+    /// As many places as were given here, and nothing lives at any. Takes no memory.
+    pub fn vacant(&self, alloc: Global) -> Slots<T>
+        ensures { result ≡ vacant self.now }
+    {
+        Slots {
+            living: BTreeMap::new(alloc),
+            last: self.last,
         }
     }
 
@@ -134,6 +144,7 @@ impl<T: Drop> Slots<T> {
     {
         self.living.iter()
     }
+
     /// What lives at a place or behind it, with its place, in order; the first is found in logarithmic time. Takes no memory.
     pub fn iter_from(&self, place: u64) -> Range<'_, u64, T>
         ensures rest { result ≡ alive_from place (drop place self.now) }

@@ -1,5 +1,5 @@
 -- The table's indexes: what they find is there, and they are kept by its steps.
-use Rattle.std.proofs.Common.{◌≡◌, ℕ, zero, suc, ◌<◌, Bool, true, false, cond, inl, inr, nat_eq, List, [], ◌∷◌, ◌++◌, length, get_or, Option, None, Some, IfSome, is_some, not, option_map, refl, sym, ap, subst, ◌∙◌, arith, ◌||◌, ◌&&◌}
+use Rattle.std.proofs.Common.{◌≡◌, ℕ, zero, suc, ◌<◌, Bool, true, false, cond, inl, inr, nat_eq, List, [], ◌∷◌, ◌++◌, length, get_or, slice_get, Option, None, Some, IfSome, is_some, not, option_map, refl, sym, ap, subst, ◌∙◌, arith, ◌||◌, ◌&&◌}
 use Rattle.std.proofs.lemmas.Grind.{common_steps}
 use Rattle.std.proofs.lemmas.Bool.{cases_lt, eq-eqb, eqb-true}
 use Rattle.std.proofs.lemmas.Bool.Decides.{eqb_tells, nat_tests}
@@ -103,14 +103,18 @@ asked_by_index names open_calls slots t number indexed is =
     ] refl ∙ ap (is_open number) is
 
 -- nobody is there
-pub IsIndexed-empty : IsIndexed empty empty (None ∷ [])
-IsIndexed-empty = record {
-  named = λ name pid. ap (is_pid pid) (get-empty (slice_cmp nat_cmp) name) ∙ elim pid as (λ p. false ≡ is_named name (living_at (None ∷ []) p)) [ zero ↦ refl | suc p ↦ refl ];
-  asked = λ number client pid. ap (is_owner pid client) (get-empty nat_cmp number) ∙ elim pid as (λ p. false ≡ is_asked_by (record { client = client; number = number }) (living_at (None ∷ []) p)) [ zero ↦ refl | suc p ↦ refl ];
-  ordered = λ pid. elim pid as (λ p. IfSome (living_at (None ∷ []) p) (λ l. AreInOrder l.calls)) [ zero ↦ tt | suc p ↦ tt ];
-  owned = λ pid. elim pid as (λ p. IfSome (living_at (None ∷ []) p) (HasPid p)) [ zero ↦ tt | suc p ↦ tt ];
-  nobody = refl;
+-- where nobody lives
+pub IsIndexed-nobody : (slots : List (Option Living)) → ((pid : ℕ) → living_at slots pid ≡ None) → slice_get slots 0 ≡ Some None → IsIndexed empty empty slots
+IsIndexed-nobody slots none first = record {
+  named = λ name pid. ap (is_pid pid) (get-empty (slice_cmp nat_cmp) name) ∙ sym (ap (is_named name) (none pid));
+  asked = λ number client pid. ap (is_owner pid client) (get-empty nat_cmp number) ∙ sym (ap (is_asked_by (record { client = client; number = number })) (none pid));
+  ordered = λ pid. subst (λ o. IfSome o (λ l. AreInOrder l.calls)) (sym (none pid)) tt;
+  owned = λ pid. subst (λ o. IfSome o (HasPid pid)) (sym (none pid)) tt;
+  nobody = first;
 }
+
+pub IsIndexed-empty : IsIndexed empty empty (None ∷ [])
+IsIndexed-empty = IsIndexed-nobody (None ∷ []) (λ pid. elim pid as (λ p. living_at (None ∷ []) p ≡ None) [ zero ↦ refl | suc p ↦ refl ]) refl
 
 -- a change of a process that leaves its name and its calls alone
 pub IsIndexed-kept : (f : Living → Living) → ((l : Living) → (f l).process.name ≡ l.process.name) → ((l : Living) → (f l).process.pid ≡ l.process.pid) → ((l : Living) → (f l).calls ≡ l.calls) → (names : Names) (open_calls : Owners) (slots : List (Option Living)) (pid : ℕ) → IsIndexed names open_calls slots → IsIndexed names open_calls (changed_slots f pid slots)

@@ -1,7 +1,7 @@
 -- The slot of a process: what a write there is, and what is found there.
 use Rattle.std.proofs.Common.{◌≡◌, ℕ, zero, suc, ◌<◌, ◌≤◌, Bool, false, List, [], ◌∷◌, ◌++◌, length, slice_get, get_or, Option, None, Some, option_map, IfSome, refl, sym, ap, ◌∙◌, arith}
 use Rattle.std.proofs.lemmas.Option.{none-some, same_Some}
-use Rattle.process_index.specs.Standing.{put_at}
+use Rattle.process_index.specs.Standing.{put_at, vacant}
 use Rattle.process_store.specs.declared.living.Living.{Living}
 use Rattle.process_store.specs.Table.{changed_slots, living_at}
 
@@ -120,3 +120,14 @@ pub living_given : (slots : List (Option Living)) (k : ℕ) (l : Living) → liv
 living_given [] k l is = absurd (none-some l is)
 living_given (s ∷ ss) zero l is = omega arith
 living_given (s ∷ ss) (suc k) l is = let below = living_given ss k l is in omega (arith, below)
+
+-- nobody lives where all have gone, and still nobody has pid 0
+
+pub living_vacant : (slots : List (Option Living)) (pid : ℕ) → living_at (vacant slots) pid ≡ None
+living_vacant [] pid = refl
+living_vacant (s ∷ ss) zero = refl
+living_vacant (s ∷ ss) (suc pid) = living_vacant ss pid
+
+pub nobody_vacant : (slots : List (Option Living)) → slice_get slots 0 ≡ Some None → slice_get (vacant slots) 0 ≡ Some None
+nobody_vacant [] is = is
+nobody_vacant (s ∷ ss) is = refl

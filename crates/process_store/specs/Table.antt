@@ -6,6 +6,7 @@ use Rattle.erl_semantics.specs.declared.instance.Instance.{Instance}
 use Rattle.process.specs.Process.{started}
 use Rattle.std.specs.Str.{bytes_eq}
 use Rattle.values.specs.Edits.{changed_at}
+use Rattle.process_index.specs.Standing.{vacant}
 use Rattle.process_index.specs.declared.calls.Call.{Call}
 use Rattle.process_store.specs.declared.living.Living.{Living}
 
@@ -16,6 +17,10 @@ pub record Table : Type 0 where
 
 abbrev pub empty_table : Table
 empty_table = record { slots = None ∷ [] }
+
+-- nobody lives, and the pids go on: a node that restarts gives none a second time
+abbrev pub emptied : Table → Table
+emptied t = record { slots = vacant t.slots }
 
 -- the pid that the next process gets
 abbrev pub next_pid : Table → ℕ

@@ -21,6 +21,7 @@
 //!   [`ProcessStore::deliver`], and what takes each back). Of these a commit is to be made.
 //! - A gen_server process gets another state, so many turns on, and the one that it had is handed out, by which it has its former one
 //!   again ([`ProcessStore::restate`], [`ProcessStore::unrestate`]).
+//! - [`ProcessStore::emptied`] has nobody, and gives the pids that follow.
 //! - A name and an open call stand in the process that has them, so each is a living one's. A suspended process runs nothing, by
 //!   the type of what a process does.
 //!

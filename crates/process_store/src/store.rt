@@ -76,7 +76,7 @@ impl ProcessStore {
     ghost use Rattle.process_store.specs.Inverses.{WasCalled, WasStarted, WasTaken};
     ghost use Rattle.process_store.specs.Living.{arrived, run, takes_next, unarrived, untook};
     ghost use Rattle.process_store.specs.Sound.{IsSound};
-    ghost use Rattle.process_store.specs.Table.{added, changed, empty_table, is_open, is_taken, living, next_pid, pid_of, without_last};
+    ghost use Rattle.process_store.specs.Table.{added, changed, emptied, empty_table, is_open, is_taken, living, next_pid, pid_of, without_last};
 
     /// No process. Names and numbers are hashed by keys that nobody outside knows. Takes no memory.
     pub fn new(alloc: Global, names: RandomState, numbers: RandomState) -> ProcessStore
@@ -87,6 +87,18 @@ impl ProcessStore {
             slots: Slots::new(alloc),
             names: NameIndex::new(alloc, names),
             open_calls: CallIndex::new(alloc, numbers),
+        }
+    }
+
+    /// Nobody, and the next process gets the pid that the next here would get. Takes no memory.
+    pub fn emptied(&self) -> ProcessStore
+        ensures { result ≡ emptied self.now }
+    {
+        ProcessStore {
+            alloc: self.alloc,
+            slots: self.slots.vacant(self.alloc),
+            names: self.names.emptied(self.alloc),
+            open_calls: self.open_calls.emptied(self.alloc),
         }
     }
 

@@ -50,7 +50,7 @@ impl Processes {
     ghost use Rattle.process_table.specs.Messages.{arrival_of, message_of};
     ghost use Rattle.process_table.specs.declared.body.BodyKind.TheVariants as kinds;
     ghost use Rattle.process_table.specs.Steps.{IsNextRunnable, Takes, after_arrival, arrive_refusal, kind_of, kind_refusal, retake_refusal, start_refusal, take_refusal, with_process};
-    ghost use Rattle.process_store.specs.Table.{empty_table, is_open, is_taken, living, next_pid, pid_of};
+    ghost use Rattle.process_store.specs.Table.{emptied, empty_table, is_open, is_taken, living, next_pid, pid_of};
     ghost use Rattle.process_effects.specs.Commits.{job_at};
     ghost use Rattle.process_effects.specs.Kills.{told_by_kill, without_users};
     ghost use Rattle.process_effects.specs.Uses.{users};
@@ -65,6 +65,16 @@ impl Processes {
         Processes {
             alloc,
             store: ProcessStore::new(alloc, names, numbers),
+        }
+    }
+
+    /// Nobody, and the next process gets the pid that the next here would get. Takes no memory.
+    pub fn emptied(&self) -> Processes
+        ensures { result ≡ emptied self.now }
+    {
+        Processes {
+            alloc: self.alloc,
+            store: self.store.emptied(),
         }
     }
 

@@ -1,5 +1,5 @@
 -- The release of a version at its place, and what a change of statuses leaves of it.
-use Rattle.std.proofs.Common.{◌≡◌, ℕ, ◌+◌, ◌<◌, Bool, true, false, not, cond, List, [], ◌∷◌, length, map, get_or, slice_get}
+use Rattle.std.proofs.Common.{◌≡◌, ℕ, ◌+◌, ◌<◌, Bool, true, false, not, cond, List, [], ◌∷◌, length, map, slice_get}
 use Rattle.std.proofs.Common.{Option, None, Some, IsSome, is_some, option_and_then, option_map, inl, inr, refl, sym, ap, ◌∙◌}
 use Rattle.std.proofs.Common.{arith}
 use Rattle.std.specs.List.{position, position_or_len}
@@ -7,14 +7,14 @@ use Rattle.std.specs.Prelude.{nat_lt}
 use Rattle.std.specs.Str.{bytes_eq}
 use Rattle.std.proofs.lemmas.List.{length-map}
 use Rattle.std.proofs.lemmas.Bool.{false≢true}
-use Rattle.std.proofs.lemmas.Option.{slice_get_cases, slice_get_read}
+use Rattle.std.proofs.lemmas.Option.{slice_get_cases}
 use Rattle.values.proofs.Edits.{map-changed_at}
 use Rattle.release_table.specs.declared.table.Release.{Release}
 use Rattle.release_statuses.specs.declared.listed.Listed.{Listed}
 use Rattle.release_statuses.specs.declared.status.Status.{Status}
 use Rattle.release_statuses.specs.declared.status.Status.TheVariants.{Current, Permanent, Old}
-use Rattle.release_statuses.specs.Statuses.{first_with, has_status, installed, is_permanent, made_permanent, or_else}
-use Rattle.release_statuses.specs.Statuses.{place_of, place_with, rebooted, restarted, running, set_at, set_status, status_of}
+use Rattle.release_statuses.specs.Statuses.{has_status, installed, is_permanent, made_permanent}
+use Rattle.release_statuses.specs.Statuses.{place_of, rebooted, restarted, set_at, set_status, status_of}
 use Rattle.release_statuses.specs.Statuses.{turned, vsn_of, with_status}
 use Rattle.release_statuses.proofs.Tests.{first-within}
 
@@ -122,12 +122,3 @@ pub place_of-same : (vsn : List ℕ) (xs ys : List Listed) → releases_of ys �
 place_of-same vsn xs ys same =
     let of_vsn = λ (r : Release). bytes_eq vsn r.rel.vsn in
     position-releases of_vsn ys ∙ ap (position of_vsn) same ∙ sym (position-releases of_vsn xs)
-
--- The release that runs, where none is current.
-pub running-permanent : (xs : List Listed) (place : ℕ) (it : Listed) → place_with Current xs ≡ None →
-    place_with Permanent xs ≡ Some place → it ≡ get_or xs place it → running xs ≡ Some it
-running-permanent xs place it none at is =
-    let within = first-within (has_status Permanent) xs place at in
-    let there = slice_get_read xs (length xs) place it refl within is in
-    ap (λ o. or_else (option_and_then (slice_get xs) o) (first_with Permanent xs)) none ∙
-    ap (option_and_then (slice_get xs)) at ∙ there

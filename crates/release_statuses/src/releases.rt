@@ -39,7 +39,8 @@ impl Model for Releases {
 }
 
 impl Releases {
-    ghost use Rattle.release_statuses.specs.Statuses.{HasPermanent, booted, install_refusal, listed, permanent_refusal};
+    ghost use Rattle.release_statuses.specs.Statuses.{HasPermanent, booted, first_with, install_refusal, listed, permanent_refusal};
+    ghost use Rattle.release_statuses.specs.declared.status.Status.TheVariants as status;
     ghost use Rattle.release_statuses.specs.Statuses.{reboot_refusal, remove_refusal, running, status_of, unpack_refusal};
 
     /// The release that a node has booted: it is the only one, and permanent.
@@ -84,9 +85,16 @@ impl Releases {
     pub fn running(&self) -> &Listed
         ensures { running self.now ≡ Some result.now }
     {
-        if let Some(place) = place_with(&self.list, Status::Current) {
-            return &self.list[place];
+        match place_with(&self.list, Status::Current) {
+            Some(place) => &self.list[place],
+            None => self.permanent(),
         }
+    }
+
+    /// The release that a node boots: the first that is permanent. Takes no memory.
+    pub fn permanent(&self) -> &Listed
+        ensures { first_with status.Permanent self.now ≡ Some result.now }
+    {
         match place_with(&self.list, Status::Permanent) {
             Some(place) => &self.list[place],
             None => unreachable!(),

@@ -1,6 +1,5 @@
 pub mod Carrying
 pub mod Failures
-pub mod Installing
 pub mod Instructions
 pub mod Parts
 pub mod Replacing

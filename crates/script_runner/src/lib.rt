@@ -1,14 +1,10 @@
 //! The instructions of an upgrade's script are carried out (release_handler(3), install_release/1; relup(4); appup(4),
 //! Low-Level Instructions).
 //!
-//! [`install_refusal`] says whether a release can be installed, and [`script_to`] by which script. [`carry_out`] carries out
-//! one instruction of it over the parts of a node, and [`revert`] takes it back.
+//! [`carry_out`] carries out one instruction over the parts of a node, and [`revert`] takes it back.
 //!
 //! # What is proved
 //!
-//! - An install is refused by the rules, in their order, without memory: there is no such release, or it runs; no relup leads
-//!   to it; its script can't be installed, at the least place; a process lingers in code that is to be purged softly
-//!   ([`install_refusal`]).
 //! - An instruction does what the rules say of it, to all parts and to nothing else, and clients are told so (`Does`); or the
 //!   parts are as they were, and it is told why: which process has to be waited for, why it has failed, as a term, or that a
 //!   number can't be counted on (`Halts`). That a process has to be waited for is told without memory (`Carries`).
@@ -23,7 +19,6 @@
 mod carrying;
 mod children;
 mod halt;
-mod installing;
 mod reading;
 mod replacing;
 mod reverting;
@@ -32,6 +27,5 @@ mod undo;
 
 pub use carrying::{Carried, carry_out};
 pub use halt::Halt;
-pub use installing::{InstallError, install_refusal, module_at, script_to};
 pub use reverting::revert;
 pub use undo::Undo;

@@ -1,5 +1,5 @@
 -- One step of a script: its next instruction is carried out (release_handler(3), install_release/1; relup(4)).
-use Rattle.std.specs.Prelude.{◌≡◌, ℕ, ◌+◌, Bool, List, Option, None, Some, Result, Ok, Err, replicate, slice_get, take}
+use Rattle.std.specs.Prelude.{◌≡◌, ℕ, ◌+◌, Bool, false, true, List, Option, None, Some, Result, Ok, Err, replicate, slice_get, take}
 use Rattle.low_instructions.specs.declared.low.Low.{Low}
 use Rattle.process_effects.specs.declared.told.Reply.{Reply}
 use Rattle.release_table.specs.declared.table.Release.{Release}
@@ -10,6 +10,8 @@ use Rattle.script_runner.specs.Undo.{TakesBack}
 use Rattle.script_runner.specs.declared.halt.Halt.{Halt}
 use Rattle.script_runner.specs.declared.halt.Halt.TheVariants as halt
 use Rattle.script_steps.specs.declared.stepping.Stepped.{Stepped}
+use Rattle.script_steps.specs.declared.stepping.Side.{Side}
+use Rattle.script_steps.specs.declared.stepping.Side.TheVariants.{Before, Behind}
 use Rattle.script_steps.specs.declared.stepping.NoStep.{NoStep}
 use Rattle.script_steps.specs.declared.stepping.NoStep.TheVariants.{AtEnd, Busy, Failed, CounterEnd}
 use Rattle.values.specs.declared.failure.Failure.{Failure}
@@ -25,9 +27,14 @@ pub record ScriptState : Type 0 where
 abbrev pub next_of : ScriptState → Option Low
 next_of s = slice_get s.script s.next
 
--- A failure stands behind the point of no return where one of the instructions before it is that point.
-abbrev pub is_behind : ScriptState → Bool
-is_behind s = has_point (take s.next s.script)
+-- An instruction stands behind the point of no return where one of the instructions before it is that point.
+
+abbrev pub side_by : Bool → Side
+side_by false = Before
+side_by true = Behind
+
+abbrev pub side_of : ScriptState → Side
+side_of s = side_by (has_point (take s.next s.script))
 
 -- A step: the next instruction is carried out, clients are told what it tells, in `n` equal values, and the script goes on
 -- behind it. What takes it back gives the parts before.
@@ -51,17 +58,17 @@ Stops AtEnd r give_up s None = Unit {0}
 Stops AtEnd r give_up s (Some i) = ⊥
 Stops (Busy pid) r give_up s None = ⊥
 Stops (Busy pid) r give_up s (Some i) = busy_of give_up i s.parts ≡ Some pid
-Stops (Failed reason behind) r give_up s None = ⊥
-Stops (Failed reason behind) r give_up s (Some i) =
-    (busy_of give_up i s.parts ≡ None) × Fails r i s.parts reason × (behind ≡ is_behind s)
+Stops (Failed side reason) r give_up s None = ⊥
+Stops (Failed side reason) r give_up s (Some i) =
+    (busy_of give_up i s.parts ≡ None) × Fails r i s.parts reason × (side ≡ side_of s)
 Stops CounterEnd r give_up s None = ⊥
 Stops CounterEnd r give_up s (Some i) = (busy_of give_up i s.parts ≡ None) × IsAtEnd r i s.parts
 
 -- what a halted instruction comes to
-abbrev pub no_step_of : Bool → Halt → NoStep
-no_step_of behind (halt.Busy pid) = Busy pid
-no_step_of behind (halt.Failed reason) = Failed reason behind
-no_step_of behind halt.CounterEnd = CounterEnd
+abbrev pub no_step_of : Side → Halt → NoStep
+no_step_of side (halt.Busy pid) = Busy pid
+no_step_of side (halt.Failed reason) = Failed side reason
+no_step_of side halt.CounterEnd = CounterEnd
 
 abbrev pub MayWant : Release → Bool → ScriptState → Option Low → Type 0
 MayWant r give_up s None = ⊥

@@ -16,5 +16,5 @@
 mod stepping;
 mod unstepping;
 
-pub use stepping::{NoStep, Stepped, step};
+pub use stepping::{NoStep, Side, Stepped, step};
 pub use unstepping::unstep;

@@ -2,7 +2,7 @@
 ghost use Rattle.std.specs.Prelude.{◌≡◌, take};
 ghost use Rattle.script_checks.specs.Checks.{has_point};
 ghost use Rattle.script_runner.specs.Parts.{parts_of};
-ghost use Rattle.script_steps.specs.Steps.{StepsOrStops, no_step_of};
+ghost use Rattle.script_steps.specs.Steps.{StepsOrStops, no_step_of, side_by};
 
 use app_table::AppTable;
 use code_server::Modules;
@@ -27,6 +27,15 @@ pub struct Stepped {
     pub undo: Undo,
 }
 
+/// On which side of the point of no return an instruction stands.
+#[derive(Clone, Copy, Debug, PartialEq, Eq, Drop)]
+pub enum Side {
+    /// Before it, or it is the point itself.
+    Before,
+    /// Behind it.
+    Behind,
+}
+
 /// Why a script doesn't go on.
 #[derive(Drop)]
 pub enum NoStep {
@@ -34,8 +43,8 @@ pub enum NoStep {
     AtEnd,
     /// This process runs, and is to be suspended.
     Busy(u64),
-    /// The next instruction has failed, for this reason; and whether it stands behind the point of no return.
-    Failed(Term, bool),
+    /// The next instruction, which stands on this side of the point of no return, has failed, for this reason.
+    Failed(Side, Term),
     /// The serial of a load, or the turn of a process, can't be counted further.
     CounterEnd,
 }
@@ -50,13 +59,23 @@ fn is_behind(script: &[Low], place: usize) -> bool
     }
 }
 
+/// On which side of the point of no return a place of a script is.
+fn side_of(script: &[Low], place: usize) -> Side
+    ensures { result ≡ side_by (has_point (take place script.now)) }
+{
+    if is_behind(script, place) {
+        return Side::Behind;
+    }
+    Side::Before
+}
+
 /// Why an instruction at a place of a script was not carried out.
 fn no_step(script: &[Low], place: usize, halt: Halt) -> NoStep
-    ensures { result ≡ no_step_of (has_point (take place script.now)) halt }
+    ensures { result ≡ no_step_of (side_by (has_point (take place script.now))) halt }
 {
     match halt {
         Halt::Busy(pid) => NoStep::Busy(pid),
-        Halt::Failed(reason) => NoStep::Failed(reason, is_behind(script, place)),
+        Halt::Failed(reason) => NoStep::Failed(side_of(script, place), reason),
         Halt::CounterEnd => NoStep::CounterEnd,
     }
 }

@@ -85,6 +85,14 @@ pub not_due-line : line_of (fixed it.NotDue) ≡ codes "{error,not_due}\n"
 unfolding utf8 is_quoted_word encode
 not_due-line = refl
 
+pub installing-line : line_of (fixed it.Installing) ≡ codes "{error,installing}\n"
+unfolding utf8 is_quoted_word encode
+installing-line = refl
+
+pub not_installing-line : line_of (fixed it.NotInstalling) ≡ codes "{error,not_installing}\n"
+unfolding utf8 is_quoted_word encode
+not_installing-line = refl
+
 pub name_taken-line : line_of (fixed it.NameTaken) ≡ codes "{error,name_taken}\n"
 unfolding utf8 is_quoted_word encode
 name_taken-line = refl

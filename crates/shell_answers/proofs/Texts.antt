@@ -22,11 +22,12 @@ use Rattle.release_files.specs.declared.fault.FileFault.{FileFault}
 use Rattle.release_statuses.specs.declared.listed.Listed.{Listed}
 use Rattle.release_statuses.specs.declared.status.Status.{Status}
 use Rattle.erl_term.specs.Conversions.{rows}
-use Rattle.release_words.specs.Words.{string_tree}
-use Rattle.shell_answers.specs.Refusals.{bad_status, of_version}
+use Rattle.release_words.specs.Words.{names_tree, string_tree}
+use Rattle.shell_answers.specs.Refusals.{bad_script, bad_status, busy, no_matching_relup, of_version, old_processes}
 use Rattle.erl_term.specs.Text.{elements_text, is_quoted_word, text, utf8}
 use Rattle.erl_term.specs.declared.term.Term.{Term}
 use Rattle.erl_semantics.specs.declared.acts.Place.TheVariants.{Loop}
+use Rattle.shell_answers.specs.Answers.{carried_out, finished, installing, recovered, restarted, swept}
 use Rattle.shell_answers.specs.Answers.{AreNames, activity_of, characters_of, apps_of, arrival_of, arrivals_of, committed, line_of, listed, loaded, modules_of, process_of, replied_by, replies_in, replies_of, rows_of, stopped_undo, undone_steps, mark_at, called, job_of, pair, named_versions, place_of, release_of, releases_in, revived, set_unpacked, status_of, told_as, triple}
 use Rattle.shell_answers.specs.Faults.{fault_of, kind_word, file_fault, placed, start_failed, term_fault}
 use Rattle.shell_answers.proofs.Pieces.{AreTuples, AreTuples-append, bytes, bracket-front, bracket-bytes, list-alone, list-bytes, part, pid-pieces, tuple-alone, tuple-bytes}
@@ -356,6 +357,75 @@ pub bad_status-line : (vsn : List ℕ) (status : Status) → codes "{error,{bad_
 unfolding utf8 is_quoted_word encode
 bad_status-line vsn status =
     sym (tuple-bytes (atom (codes "error")) (more (triple (atom (codes "bad_status")) (string_tree vsn) (status_of status)) none) (10 ∷ []) ∙ ap (λ l. codes "{error," ++ l) (tuple-bytes (atom (codes "bad_status")) (more (string_tree vsn) (more (status_of status) none)) (125 ∷ 10 ∷ [])))
+
+-- Scripts
+
+pub begun-line : (vsn : List ℕ) (n : ℕ) → codes "{installing," ++ (bytes (string_tree vsn) ++ (codes "," ++ (bytes (int (pos n)) ++ codes "}\n"))) ≡ line_of (installing vsn n)
+unfolding utf8 is_quoted_word encode
+begun-line vsn n = sym (tuple-bytes (atom (codes "installing")) (more (string_tree vsn) (more (int (pos n)) none)) (10 ∷ []))
+
+pub carried_out-line : (instruction : Tree) → codes "{done," ++ (bytes instruction ++ codes "}\n") ≡ line_of (carried_out instruction)
+unfolding utf8 is_quoted_word encode
+carried_out-line instruction = sym (tuple-bytes (atom (codes "done")) (more instruction none) (10 ∷ []))
+
+pub finished-line : (vsn : List ℕ) (description : Term) → codes "{ok," ++ (bytes (string_tree vsn) ++ (codes "," ++ (bytes (tree description) ++ codes "}\n"))) ≡ line_of (finished vsn description)
+unfolding utf8 is_quoted_word encode
+finished-line vsn description =
+    sym (tuple-bytes (atom (codes "ok")) (more (string_tree vsn) (more (tree description) none)) (10 ∷ []))
+
+pub recovered-line : (reason : Term) → codes "{recovered," ++ (bytes (tree reason) ++ codes "}\n") ≡ line_of (recovered reason)
+unfolding utf8 is_quoted_word encode
+recovered-line reason = sym (tuple-bytes (atom (codes "recovered")) (more (tree reason) none) (10 ∷ []))
+
+pub restarted-line : (reason : Term) → codes "{restarted," ++ (bytes (tree reason) ++ codes "}\n") ≡ line_of (restarted reason)
+unfolding utf8 is_quoted_word encode
+restarted-line reason = sym (tuple-bytes (atom (codes "restarted")) (more (tree reason) none) (10 ∷ []))
+
+bracketed-names : (names : List (List ℕ)) → text (names_tree names) ≡ 91 ∷ (elements_text (rows atom names) ++ 93 ∷ [])
+bracketed-names [] = refl
+bracketed-names (name ∷ names) = refl
+
+names-bytes : (names : List (List ℕ)) → bytes (names_tree names) ≡ 91 ∷ (utf8 (elements_text (rows atom names)) ++ 93 ∷ [])
+names-bytes names =
+    let inner = elements_text (rows atom names) in
+    ap utf8 (bracketed-names names) ∙ bracket-front (inner ++ 93 ∷ []) ∙ ap (λ l. 91 ∷ l) (part inner (93 ∷ []) (utf8 inner) (93 ∷ []) refl bracket-bytes)
+
+pub swept-line : (names : List (List ℕ)) → codes "{swept,[" ++ (utf8 (elements_text (rows atom names)) ++ codes "]}\n") ≡ line_of (swept names)
+unfolding utf8 is_quoted_word encode
+swept-line names =
+    let inner = utf8 (elements_text (rows atom names)) in
+    sym (tuple-bytes (atom (codes "swept")) (more (names_tree names) none) (10 ∷ [])
+    ∙ ap (λ l. codes "{swept," ++ (l ++ codes "}\n")) (names-bytes names)
+    ∙ ap (λ l. codes "{swept,[" ++ l) (append_assoc inner (93 ∷ []) (codes "}\n")))
+
+pub no_matching_relup-line : (vsn running : List ℕ) → codes "{error,{no_matching_relup," ++ (bytes (string_tree vsn) ++ (codes "," ++ (bytes (string_tree running) ++ codes "}}\n"))) ≡ line_of (no_matching_relup vsn running)
+unfolding utf8 is_quoted_word encode
+no_matching_relup-line vsn running =
+    let inner = triple (atom (codes "no_matching_relup")) (string_tree vsn) (string_tree running) in
+    sym (tuple-bytes (atom (codes "error")) (more inner none) (10 ∷ []) ∙ ap (λ l. codes "{error," ++ l) (tuple-bytes (atom (codes "no_matching_relup")) (more (string_tree vsn) (more (string_tree running) none)) (125 ∷ 10 ∷ [])))
+
+bad_script-word : bytes (atom (codes "bad_script")) ≡ codes "bad_script"
+unfolding utf8 is_quoted_word encode
+bad_script-word = refl
+
+pub bad_script-line : (place : ℕ) → codes "{error," ++ ((123 ∷ (codes "bad_script" ++ 44 ∷ (bytes (int (pos place)) ++ 125 ∷ []))) ++ codes "}\n") ≡ line_of (bad_script place)
+unfolding utf8 is_quoted_word encode
+bad_script-line place =
+    ap (λ l. codes "{error," ++ (l ++ codes "}\n")) (placed-pieces (codes "bad_script") place bad_script-word) ∙ sym (tuple-bytes (atom (codes "error")) (more (placed (codes "bad_script") place) none) (10 ∷ []))
+
+pub old_processes-line : (name : List ℕ) → codes "{error,{old_processes," ++ (bytes (atom name) ++ codes "}}\n") ≡ line_of (old_processes (Some name))
+unfolding utf8 is_quoted_word encode
+old_processes-line name =
+    sym (tuple-bytes (atom (codes "error")) (more (pair (atom (codes "old_processes")) (atom name)) none) (10 ∷ []) ∙ ap (λ l. codes "{error," ++ l) (tuple-bytes (atom (codes "old_processes")) (more (atom name) none) (125 ∷ 10 ∷ [])))
+
+pub no_old_processes-line : codes "{error,old_processes}\n" ≡ line_of (old_processes None)
+unfolding utf8 is_quoted_word encode
+no_old_processes-line = refl
+
+pub busy-line : (n : ℕ) → codes "{error,{busy," ++ (bytes (pid n) ++ codes "}}\n") ≡ line_of (busy n)
+unfolding utf8 is_quoted_word encode
+busy-line n =
+    sym (tuple-bytes (atom (codes "error")) (more (pair (atom (codes "busy")) (pid n)) none) (10 ∷ []) ∙ ap (λ l. codes "{error," ++ l) (tuple-bytes (atom (codes "busy")) (more (pid n) none) (125 ∷ 10 ∷ [])))
 
 -- a name, a dash and a version
 pub dashed : (name vsn first mid whole : List ℕ) → IsUtf8 name → IsUtf8 mid → first ≡ name → mid ≡ first ++ encode_utf8 45 → whole ≡ mid ++ vsn → chars whole ≡ chars name ++ 45 ∷ chars vsn

@@ -12,7 +12,7 @@ use Rattle.erl_term.specs.declared.term.Term.{Term}
 use Rattle.erl_forms.specs.Module.{Forms}
 use Rattle.erl_semantics.specs.declared.acts.Place.{Place}
 use Rattle.erl_semantics.specs.declared.acts.Place.TheVariants.{Server, Loop}
-use Rattle.release_words.specs.Words.{string_tree}
+use Rattle.release_words.specs.Words.{names_tree, string_tree}
 use Rattle.code_server.specs.declared.modules.Instance.{Instance}
 use Rattle.code_server.specs.Modules.{Entry}
 use Rattle.process.specs.Process.{ProcessState}
@@ -32,7 +32,7 @@ use Rattle.node_types.specs.Note.{Note}
 use Rattle.shell_answers.specs.declared.fixed.Fixed.{Fixed}
 use Rattle.shell_answers.specs.declared.fixed.Fixed.TheVariants.{Done, True, False, BadCommand, LineTooLong, SerialEnd, CounterAtEnd}
 use Rattle.shell_answers.specs.declared.fixed.Fixed.TheVariants.{Forgotten, DeadMark, Memory, NoJob, NoProc, Suspended, Running, Idle as IsIdle, NotRunning}
-use Rattle.shell_answers.specs.declared.fixed.Fixed.TheVariants.{Stale, DuplicateCall, NameTaken, NoChild, NotDue}
+use Rattle.shell_answers.specs.declared.fixed.Fixed.TheVariants.{Stale, DuplicateCall, NameTaken, NoChild, NotDue, Installing, NotInstalling}
 
 -- the line of a term
 abbrev pub line_of : Tree → List ℕ
@@ -72,6 +72,8 @@ fixed DuplicateCall = error (codes "duplicate_call")
 fixed NameTaken = error (codes "name_taken")
 fixed NoChild = error (codes "no_child")
 fixed NotDue = error (codes "not_due")
+fixed Installing = error (codes "installing")
+fixed NotInstalling = error (codes "not_installing")
 
 -- `{module,Mod}`, `{mark,K}`, `{call,N}`, `{job,J,Pid}`, `{revived,Pid}`
 
@@ -205,6 +207,27 @@ characters_of texts = map characters texts.items
 -- these are the texts `App-Vsn` of the applications, a row a release
 abbrev pub AreNames : List (Vec (String Global) Global) → List Listed → Type 0
 AreNames names releases = map characters_of names ≡ map named_versions releases
+
+-- Scripts: `{installing,"Vsn",N}`; `{done,I}`, where the instruction is given as its term, `{ok,"Vsn",Descr}`, `{recovered,Reason}`,
+-- `{restarted,Reason}`; and `{swept,[Mod]}`
+
+abbrev pub installing : List ℕ → ℕ → Tree
+installing vsn instructions = triple (atom (codes "installing")) (string_tree vsn) (int (pos instructions))
+
+abbrev pub carried_out : Tree → Tree
+carried_out instruction = pair (atom (codes "done")) instruction
+
+abbrev pub finished : List ℕ → Term → Tree
+finished vsn description = triple (atom (codes "ok")) (string_tree vsn) (tree description)
+
+abbrev pub recovered : Term → Tree
+recovered reason = pair (atom (codes "recovered")) (tree reason)
+
+abbrev pub restarted : Term → Tree
+restarted reason = pair (atom (codes "restarted")) (tree reason)
+
+abbrev pub swept : List (List ℕ) → Tree
+swept modules = pair (atom (codes "swept")) (names_tree modules)
 
 -- Processes: `{proc,Pid,Place,State,Turn,Mailbox}`. Of one that runs the place is the one where it rested when it took its message.
 

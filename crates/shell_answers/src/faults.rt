@@ -33,7 +33,7 @@ fn kind_word(kind: Fault) -> &'static [u8]
 }
 
 /// Appends `{Word,At}`.
-fn put_placed(word: &[u8], at: u64, out: &mut Vec<u8>) -> Result<(), AllocError>
+pub(crate) fn put_placed(word: &[u8], at: u64, out: &mut Vec<u8>) -> Result<(), AllocError>
     ensures { OnOk result (out.new.items ≡ out.old.items ++ 123 ∷ (word.now ++ 44 ∷ (utf8 (text (int (pos at))) ++ 125 ∷ []))) }
 {
     put(b"{", out)?;

@@ -50,6 +50,10 @@ pub enum Fixed {
     NoChild,
     /// `{error,not_due}`
     NotDue,
+    /// `{error,installing}`
+    Installing,
+    /// `{error,not_installing}`
+    NotInstalling,
 }
 
 impl Fixed {
@@ -79,6 +83,8 @@ impl Fixed {
             Fixed::NameTaken => b"{error,name_taken}\n",
             Fixed::NoChild => b"{error,no_child}\n",
             Fixed::NotDue => b"{error,not_due}\n",
+            Fixed::Installing => b"{error,installing}\n",
+            Fixed::NotInstalling => b"{error,not_installing}\n",
         }
     }
 

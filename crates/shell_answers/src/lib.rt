@@ -18,6 +18,7 @@ mod processes;
 mod refusals;
 mod releases;
 mod replies;
+mod scripts;
 
 pub use apps::write_apps;
 pub use faults::{write_file_fault, write_start_failed, write_term_fault};
@@ -25,6 +26,10 @@ pub use fixed::Fixed;
 pub use lines::{write_called, write_job, write_loaded, write_mark, write_revived};
 pub use modules::write_modules;
 pub use processes::write_process;
-pub use refusals::{code_refusal, proc_refusal, write_refusal};
+pub use refusals::{Subject, code_refusal, proc_refusal, write_refusal};
 pub use releases::{names_in_releases, write_releases, write_unpacked};
 pub use replies::{write_committed, write_replies, write_stopped, write_undone};
+pub use scripts::{
+    write_carried_out, write_finished, write_installing, write_recovered, write_restarted,
+    write_swept,
+};

@@ -1,6 +1,5 @@
-mod Deeds
+mod Arrived
 mod Finding
-mod Performing
+mod Refusing
 mod Sources
-mod Unpacking
 pub mod Answering

@@ -1,95 +1,41 @@
--- How a line ends: what was done, and what an event that was not performed answers.
-use Rattle.std.specs.Prelude.{◌≡◌, ◌≢◌, ◌⊎◌, ◌+◌, ℕ, Bool, string_bytes, length, slice_get, option_and_then, position, List, [], ◌∷◌, ◌++◌, Option, None, Some, Result, Ok, Err, Vec}
-use Rattle.std.specs.Global.{Global}
+-- How a line ends whose term, whose source or whose child was looked for.
+use Rattle.std.specs.Prelude.{◌≡◌, ◌≢◌, ℕ, Bool, slice_get, option_and_then, position, List, Option, None, Some}
 use Rattle.std.specs.Ordering.{eq_by_cmp, on}
 use Rattle.erl_forms.specs.Module.{Forms}
-use Rattle.erl_semantics.specs.declared.jobs.Job.{Job}
 use Rattle.erl_parse.specs.Sources.{IsNoSource, IsSource}
 use Rattle.erl_parse.specs.Telling.{Says}
 use Rattle.erl_parse.specs.declared.error.LangError.{LangError}
 use Rattle.erl_term.specs.Order.{tree_cmp}
 use Rattle.erl_term.specs.Term.{tree}
-use Rattle.erl_term.specs.Tree.{Tree}
 use Rattle.erl_term.specs.declared.term.Term.{Term}
 use Rattle.app_table.specs.Applications.{has_id}
 use Rattle.app_table.specs.declared.child.Child.{Child}
-use Rattle.undo_journal.specs.declared.report.Report.{Report}
-use Rattle.undo_journal.specs.declared.error.JournalError.{JournalError}
-use Rattle.undo_journal.specs.declared.error.JournalError.TheVariants as error
-use Rattle.node_types.specs.Note.{Note}
-use Rattle.node_types.specs.declared.event.Refusal.{Refusal}
-use Rattle.release_files.specs.Faults.{IsFirstFault}
+use Rattle.code_server.specs.Modules.{delete_refusal}
+use Rattle.code_server.specs.declared.error.CodeError.{CodeError}
+use Rattle.node_rules.specs.Node.{NodeState}
+use Rattle.node_rules.specs.Step.{soft_purge_refusal}
 use Rattle.release_files.specs.Files.{file_of}
-use Rattle.release_files.specs.declared.fault.ReleaseFault.{ReleaseFault}
-use Rattle.shell_answers.specs.Answers.{fixed, job_of, line_of, stopped_undo, undone_steps}
 use Rattle.release_files.specs.declared.fault.FileFault.TheVariants as file
-use Rattle.shell_answers.specs.declared.fixed.Fixed.TheVariants as words
 use Rattle.shell_requests.specs.declared.request.Arrival.{Arrival}
+use Rattle.shell_requests.specs.declared.request.Change.{Change}
+use Rattle.shell_requests.specs.declared.request.Change.TheVariants as changes
+use Rattle.shell_holdings.specs.State.{ShellState}
+use Rattle.shell_holdings.specs.declared.stepping.Halt.{Halt}
+use Rattle.shell_holdings.specs.declared.stepping.Halt.TheVariants.{Full, Refused, Memory}
 use Rattle.shell_deeds.specs.Deeds.{tried}
-use Rattle.shell_deeds.specs.State.{Deed, ShellState, with_job}
 use Rattle.shell_deeds.specs.Terms.{IsRead, faulty, not_one}
 use Rattle.shell_deeds.specs.declared.loading.Unloaded.{Unloaded}
 use Rattle.shell_deeds.specs.declared.loading.Unloaded.TheVariants.{Faulted, Unread}
 use Rattle.shell_deeds.specs.declared.reading.Misread.{Misread}
 use Rattle.shell_deeds.specs.declared.reading.Misread.TheVariants.{NotOne, Faulty, NoMemory}
-use Rattle.shell_deeds.specs.declared.fate.Fate.{Fate}
-use Rattle.shell_deeds.specs.declared.fate.Fate.TheVariants as fates
-use Rattle.shell_deeds.specs.declared.stepping.Halt.{Halt}
-use Rattle.shell_deeds.specs.declared.stepping.Halt.TheVariants.{Full, Refused, Memory}
 use Rattle.values.specs.declared.failure.Failure.{Failure}
 use Rattle.values.specs.declared.failure.Failure.TheVariants as failures
 
--- One of these deeds was done: the shell is the one after it, and its text is appended.
-abbrev pub IsDone : (Deed → Type 0) → ShellState → List ℕ → List ℕ → Type 0
-IsDone may new text appended = (d : Deed) × may d × (new ≡ d.after) × (appended ≡ text ++ d.text)
-
--- the first of reports, or, of none, that of an undo that cut nothing
-abbrev pub first_of : List (Report Note) → Report Note
-first_of [] = record { cut = 0; notes = [] }
-first_of (r ∷ rs) = r
-
--- what became of an undo that did not reach its mark
-
-abbrev pub unfinished_fate : JournalError Refusal Note → Option Fate
-unfinished_fate (error.Step why) = None
-unfinished_fate error.Forgotten = None
-unfinished_fate error.DeadMark = None
-unfinished_fate error.SerialEnd = None
-unfinished_fate (error.Memory mark reports) = Some (fates.StoppedAt mark)
-
-abbrev pub unfinished_answer : JournalError Refusal Note → Tree
-unfinished_answer (error.Step why) = fixed words.DeadMark
-unfinished_answer error.Forgotten = fixed words.Forgotten
-unfinished_answer error.DeadMark = fixed words.DeadMark
-unfinished_answer error.SerialEnd = fixed words.DeadMark
-unfinished_answer (error.Memory mark reports) = stopped_undo mark (first_of reports.items)
-
--- and of any undo
-
-abbrev pub undo_fate : Result (Vec (Report Note) Global) (JournalError Refusal Note) → Option Fate
-undo_fate (Ok reports) = None
-undo_fate (Err e) = unfinished_fate e
-
-abbrev pub undo_answer : Result (Vec (Report Note) Global) (JournalError Refusal Note) → Tree
-undo_answer (Ok reports) = undone_steps (first_of reports.items)
-undo_answer (Err e) = unfinished_answer e
-
--- Of an undo that was to report once: it found no memory and cut nothing, for it has no report.
-abbrev pub IsUnbegun : Result (Vec (Report Note) Global) (JournalError Refusal Note) → Type 0
-IsUnbegun (Ok reports) = ⊥
-IsUnbegun (Err (error.Step why)) = ⊥
-IsUnbegun (Err error.Forgotten) = ⊥
-IsUnbegun (Err error.DeadMark) = ⊥
-IsUnbegun (Err error.SerialEnd) = ⊥
-IsUnbegun (Err (error.Memory mark reports)) = reports.items ≡ []
-
--- A job was kept, and its number told; or memory was refused.
-abbrev pub IsKept : ℕ → Job → Option Fate → ShellState → ShellState → List ℕ → List ℕ → Type 0
-IsKept pid job None old new text appended =
-    (new ≡ with_job job old) × (appended ≡ text ++ line_of (job_of (length old.jobs + 1) pid))
-IsKept pid job (Some fates.Refused) old new text appended = (new ≡ old) × (appended ≡ text ++ line_of (fixed words.Memory))
-IsKept pid job (Some fates.Unread) old new text appended = ⊥
-IsKept pid job (Some (fates.StoppedAt mark)) old new text appended = ⊥
+-- why a change of a module is refused where no script runs
+abbrev pub refusal_of_change : Change → List ℕ → NodeState → Option CodeError
+refusal_of_change changes.Delete name n = delete_refusal name n.modules
+refusal_of_change changes.Purge name n = None
+refusal_of_change changes.SoftPurge name n = soft_purge_refusal name n
 
 -- A term was read, or it is told why none was. Where memory was refused nothing is said of the text.
 
@@ -116,10 +62,6 @@ Unsourced s name path (Faulted file.WrongModule) =
 Unsourced s name path (Faulted (file.Lang why)) =
     (bytes : List ℕ) × (file_of path s.files ≡ Some bytes) × Says bytes why × IsNoSource bytes
 Unsourced s name path Unread = (bytes : List ℕ) × (file_of path s.files ≡ Some bytes)
-
--- why the files are no release, memory that was refused aside
-abbrev pub IsUnreadRelease : ShellState → List ℕ → ReleaseFault → Type 0
-IsUnreadRelease s vsn it = (it.fault ≡ file.Memory) ⊎ IsFirstFault s.files vsn (string_bytes it.path) it.fault
 
 -- by what is told of its source
 abbrev pub not_loaded : Failure LangError → Unloaded

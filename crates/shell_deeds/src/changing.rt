@@ -2,46 +2,47 @@
 ghost use Rattle.std.specs.Prelude.{◌≡◌, ◌++◌, IfOk, None};
 ghost use Rattle.std.specs.Str.{chars};
 ghost use Rattle.shell_answers.specs.Answers.{line_of};
-ghost use Rattle.shell_deeds.specs.Deeds.{Changes, change_event, truth_in};
-ghost use Rattle.shell_deeds.specs.Done.{IsDone};
-ghost use Rattle.shell_deeds.specs.Halts.{Halts, refusal_of_change};
+ghost use Rattle.shell_deeds.specs.Deeds.{Changes, change_event};
+ghost use Rattle.shell_holdings.specs.Performing.{truth_in};
+ghost use Rattle.shell_holdings.specs.Done.{IsDone};
+ghost use Rattle.shell_holdings.specs.Halts.{Halts};
+ghost use Rattle.shell_deeds.specs.Done.{refusal_of_change};
 
-use crate::holdings::Holdings;
-use crate::stepping::Halt;
-use crate::telling::{Said, say, tell_halt};
 use code_loading::is_lingered_in;
 use code_server::CodeError;
 use erl_term::Atom;
 use node_core::Node;
 use node_types::{Answer, Event, Refusal};
 use shell_answers::Fixed;
+use shell_holdings::{Halt, Holdings, Said, say, tell_halt};
 use shell_requests::{Change, Name};
 
-impl Holdings {
-    /// Deletes or purges a module's code.
-    pub(crate) fn change(&mut self, kind: Change, name: Name<'_>, out: &mut Vec<u8>) -> Said
-        ensures { IfOk result (λ fate. IsDone (Changes self.old kind (chars name.entry.text.now) fate) self.new out.old.items out.new.items) }
-    {
-        let Ok(atom) = name.atom(self.alloc) else {
-            return tell_halt(self.halt_of_change(kind, name), out);
-        };
-        match self.perform(change_event(kind, atom)) {
-            Ok(answer) => tell_truth(answer, out),
-            Err(halt) => tell_halt(halt, out),
-        }
+/// Deletes or purges a module's code.
+pub(crate) fn change(held: &mut Holdings, kind: Change, name: Name<'_>, out: &mut Vec<u8>) -> Said
+    ensures { IfOk result (λ fate. IsDone (Changes held.old kind (chars name.entry.text.now) fate) held.new out.old.items out.new.items) }
+{
+    let Ok(atom) = name.atom(held.alloc()) else {
+        return tell_halt(halt_of_change(held, kind, name), out);
+    };
+    match held.perform(change_event(kind, atom)) {
+        Ok(answer) => tell_truth(&answer, out),
+        Err(halt) => tell_halt(halt, out),
     }
+}
 
-    /// What stands against a change for whose name there was no memory, or else want of it.
-    fn halt_of_change(&self, kind: Change, name: Name<'_>) -> Halt
-        ensures { Halts result self.now (change_event kind (chars name.entry.text.now)) }
-    {
-        if self.is_full() {
-            return Halt::Full;
-        }
-        match change_refusal(self.node(), kind, name) {
-            Some(why) => Halt::Refused(Refusal::OfModules(why)),
-            None => Halt::Memory,
-        }
+/// What stands against a change for whose name there was no memory, or else want of it.
+fn halt_of_change(held: &Holdings, kind: Change, name: Name<'_>) -> Halt
+    ensures { Halts result held.now (change_event kind (chars name.entry.text.now)) }
+{
+    if held.is_full() {
+        return Halt::Full;
+    }
+    if held.node().is_installing() {
+        return Halt::Refused(Refusal::Installing);
+    }
+    match change_refusal(held.node(), kind, name) {
+        Some(why) => Halt::Refused(Refusal::OfModules(why)),
+        None => Halt::Memory,
     }
 }
 
@@ -56,7 +57,7 @@ fn change_event(kind: Change, name: Atom) -> Event
     }
 }
 
-/// Why a change would be refused. Takes no memory: it walks over the modules.
+/// Why a change would be refused where no script runs. Takes no memory: it walks over the modules.
 fn change_refusal(node: &Node, kind: Change, name: Name<'_>) -> Option<CodeError>
     ensures { result ≡ refusal_of_change kind (chars name.entry.text.now) node.now }
 {
@@ -77,13 +78,16 @@ fn change_refusal(node: &Node, kind: Change, name: Name<'_>) -> Option<CodeError
 }
 
 /// Tells whether processes were killed, and else `true`.
-fn tell_truth(answer: Answer, out: &mut Vec<u8>) -> Said
-    ensures { IfOk result (λ fate. (fate ≡ None) × (out.new.items ≡ out.old.items ++ line_of (truth_in answer))) }
+fn tell_truth(answer: &Answer, out: &mut Vec<u8>) -> Said
+    ensures { IfOk result (λ fate. (fate ≡ None) × (out.new.items ≡ out.old.items ++ line_of (truth_in answer.now))) }
 {
-    match &answer {
+    match answer {
         Answer::Killed(false) => say(Fixed::False, out),
-        Answer::Killed(true) | Answer::Job(_) | Answer::Revived(_) | Answer::Unit => {
+        Answer::Killed(true) | Answer::Job(_) | Answer::Revived(_) => say(Fixed::True, out),
+        Answer::Installing { .. } | Answer::Ran(_) | Answer::Finished { .. } => {
             say(Fixed::True, out)
         }
+        Answer::Recovered(_) | Answer::Restarted(_) | Answer::Swept(_) => say(Fixed::True, out),
+        Answer::Unit => say(Fixed::True, out),
     }
 }

@@ -1,8 +1,8 @@
 //! What the shell does of a line: its answer, and what it holds afterwards.
 //!
-//! [`Holdings`] are what is held from one line to the next: the files, the journal of the node, the jobs that are kept, the count of the
-//! calls that were tried, and all replies that were ever sent. [`Holdings::obey`] does what a line says; its [`Fate`] tells what want of
-//! memory made of it.
+//! [`obey`] does what a line says to what the shell holds ([`shell_holdings::Holdings`]); the [`shell_holdings::Fate`] tells what want of
+//! memory made of it. Here are the deeds on modules, messages and children; what holds of jobs, marks and questions stands in
+//! `shell_holdings`, and what releases and scripts are asked for in `shell_upgrades`.
 //!
 //! # What is proved
 //!
@@ -18,19 +18,10 @@
 
 mod arriving;
 mod changing;
-mod committing;
-mod fate;
-mod holdings;
 mod lines;
 mod loading;
 mod naming;
 mod reading;
-mod releasing;
 mod reviving;
-mod serving;
-mod stepping;
-mod telling;
-mod undoing;
 
-pub use fate::Fate;
-pub use holdings::Holdings;
+pub use lines::obey;

@@ -1,23 +1,24 @@
 // Loads of modules.
-ghost use Rattle.std.specs.Prelude.{[], ◌≡◌, ◌++◌, IfOk, MatchResult, None};
+ghost use Rattle.std.specs.Prelude.{◌≡◌, ◌++◌, IfOk, MatchResult, None};
 ghost use Rattle.std.specs.Str.{chars};
 ghost use Rattle.node_types.specs.declared.event.Event.TheVariants.{Load};
 ghost use Rattle.shell_answers.specs.Answers.{line_of, loaded};
-ghost use Rattle.shell_deeds.specs.Deeds.{Loads, Performs};
-ghost use Rattle.shell_deeds.specs.Done.{IsDone, IsSourced, Unsourced, not_loaded};
-ghost use Rattle.shell_deeds.specs.Halts.{HaltsBy, MayAllRunOut, RefusesAll};
-ghost use Rattle.shell_deeds.specs.State.{carried, stepped};
+ghost use Rattle.shell_answers.specs.Refusals.{naming_nothing};
+ghost use Rattle.shell_deeds.specs.Deeds.{Loads};
+ghost use Rattle.shell_holdings.specs.Performing.{Performs};
+ghost use Rattle.shell_holdings.specs.Done.{IsDone};
+ghost use Rattle.shell_deeds.specs.Done.{IsSourced, Unsourced, not_loaded};
+ghost use Rattle.shell_holdings.specs.Halts.{HaltsBy, MayAllRunOut, RefusesAll};
+ghost use Rattle.shell_holdings.specs.State.{carried, stepped};
 
-use crate::holdings::Holdings;
 use crate::naming::spells;
-use crate::stepping::Halt;
-use crate::telling::{Said, say_file_fault, tell_halt, tell_missed};
 use erl_forms::Module;
 use erl_parse::{LangError, read_module};
 use erl_term::Atom;
 use node_types::{Event, Refusal};
 use release_files::FileFault;
 use shell_answers::write_loaded;
+use shell_holdings::{Halt, Holdings, Said, say_file_fault, tell_halt, tell_missed};
 use shell_requests::Name;
 use values::{Duplicate, Failure};
 
@@ -30,57 +31,58 @@ pub(crate) enum Unloaded {
     Unread,
 }
 
-impl Holdings {
-    /// Loads the module of the file at a path.
-    pub(crate) fn load(&mut self, name: Name<'_>, path: &str, out: &mut Vec<u8>) -> Said
-        ensures { IfOk result (λ fate. IsDone (Loads self.old (chars name.entry.text.now) path.now fate) self.new out.old.items out.new.items) }
-    {
-        match self.source_of(name, path) {
-            Ok(code) => self.load_module(code, out),
-            Err(Unloaded::Faulted(fault)) => say_file_fault(path, fault, out),
-            Err(Unloaded::Unread) => tell_missed(self.halt_of_load(), out),
-        }
+/// Loads the module of the file at a path.
+pub(crate) fn load(held: &mut Holdings, name: Name<'_>, path: &str, out: &mut Vec<u8>) -> Said
+    ensures { IfOk result (λ fate. IsDone (Loads held.old (chars name.entry.text.now) path.now fate) held.new out.old.items out.new.items) }
+{
+    match source_of(held, name, path) {
+        Ok(code) => load_module(held, code, out),
+        Err(Unloaded::Faulted(fault)) => say_file_fault(path, fault, out),
+        Err(Unloaded::Unread) => tell_missed(halt_of_load(held), out),
     }
+}
 
-    /// The module of a name in the file at a path.
-    fn source_of(&self, name: Name<'_>, path: &str) -> Result<Module, Unloaded>
-        ensures { MatchResult result (IsSourced self.now (chars name.entry.text.now) path.now) (Unsourced self.now (chars name.entry.text.now) path.now) }
-    {
-        let Some(bytes) = self.files.get(path) else {
-            return Err(Unloaded::Faulted(FileFault::Missing));
-        };
-        match read_module(self.alloc, self.hashing, bytes) {
-            Ok(code) if spells(code.name(), name.as_str()) => Ok(code),
-            Ok(_) => Err(Unloaded::Faulted(FileFault::WrongModule)),
-            Err(failure) => Err(not_loaded(failure)),
-        }
+/// The module of a name in the file at a path.
+fn source_of(held: &Holdings, name: Name<'_>, path: &str) -> Result<Module, Unloaded>
+    ensures { MatchResult result (IsSourced held.now (chars name.entry.text.now) path.now) (Unsourced held.now (chars name.entry.text.now) path.now) }
+{
+    let Some(bytes) = held.files().get(path) else {
+        return Err(Unloaded::Faulted(FileFault::Missing));
+    };
+    match read_module(held.alloc(), held.hashing(), bytes) {
+        Ok(code) if spells(code.name(), name.as_str()) => Ok(code),
+        Ok(_) => Err(Unloaded::Faulted(FileFault::WrongModule)),
+        Err(failure) => Err(not_loaded(failure)),
     }
+}
 
-    /// What stands against every load that is told without memory, or else want of it.
-    fn halt_of_load(&self) -> Halt
-        ensures { HaltsBy (RefusesAll self.now Load) (MayAllRunOut self.now Load) result self.now }
-    {
-        if self.is_full() {
-            return Halt::Full;
-        }
-        match self.node().modules().purge_and_load_refusal() {
-            Some(why) => Halt::Refused(Refusal::OfModules(why)),
-            None => Halt::Memory,
-        }
+/// What stands against every load that is told without memory, or else want of it.
+fn halt_of_load(held: &Holdings) -> Halt
+    ensures { HaltsBy (RefusesAll held.now Load) (MayAllRunOut held.now Load) result held.now }
+{
+    if held.is_full() {
+        return Halt::Full;
     }
+    if held.node().is_installing() {
+        return Halt::Refused(Refusal::Installing);
+    }
+    match held.node().modules().purge_and_load_refusal() {
+        Some(why) => Halt::Refused(Refusal::OfModules(why)),
+        None => Halt::Memory,
+    }
+}
 
-    /// Loads a module.
-    fn load_module(&mut self, code: Module, out: &mut Vec<u8>) -> Said
-        ensures { IfOk result (λ fate. IsDone (Performs self.old self.old (Load code) []
-            (λ a. carried (stepped a self.old) (Load code) (loaded code.name)) fate) self.new out.old.items out.new.items) }
-    {
-        let Ok(name) = code.name().copy(self.alloc) else {
-            return tell_halt(self.halt_of_load(), out);
-        };
-        match self.perform(Event::Load(code)) {
-            Ok(_) => tell_loaded(&name, out),
-            Err(halt) => tell_halt(halt, out),
-        }
+/// Loads a module.
+fn load_module(held: &mut Holdings, code: Module, out: &mut Vec<u8>) -> Said
+    ensures { IfOk result (λ fate. IsDone (Performs held.old held.old (Load code) naming_nothing
+        (λ a. carried (stepped a held.old) (Load code) (loaded code.name)) fate) held.new out.old.items out.new.items) }
+{
+    let Ok(name) = code.name().copy(held.alloc()) else {
+        return tell_halt(halt_of_load(held), out);
+    };
+    match held.perform(Event::Load(code)) {
+        Ok(_) => tell_loaded(&name, out),
+        Err(halt) => tell_halt(halt, out),
     }
 }
 

@@ -3,29 +3,27 @@ ghost use Rattle.std.specs.Prelude.{◌≡◌};
 ghost use Rattle.std.specs.Str.{bytes_eq, chars};
 ghost use Rattle.process_store.specs.Table.{pid_of};
 ghost use Rattle.shell_deeds.specs.Deeds.{pid_meant};
-ghost use Rattle.shell_deeds.specs.State.{node_of};
+ghost use Rattle.shell_holdings.specs.State.{node_of};
 ghost use Rattle.shell_requests.specs.Reading.{who_is};
 
-use crate::holdings::Holdings;
 use erl_term::Atom;
+use shell_holdings::Holdings;
 use shell_requests::{Name, Proc};
 
-impl Holdings {
-    /// The process that is registered under a name, found by key. Takes no memory.
-    pub(crate) fn pid_of(&self, name: Name<'_>) -> Option<u64>
-        ensures { result ≡ pid_of (chars name.entry.text.now) (node_of self.now).processes }
-    {
-        self.processes().pid_of(name.as_str())
-    }
+/// The process that is registered under a name, found by key. Takes no memory.
+fn pid_of(held: &Holdings, name: Name<'_>) -> Option<u64>
+    ensures { result ≡ pid_of (chars name.entry.text.now) (node_of held.now).processes }
+{
+    held.processes().pid_of(name.as_str())
+}
 
-    /// The pid that is meant, if it is one's.
-    pub(crate) fn pid_meant(&self, process: Proc<'_>) -> Option<u64>
-        ensures { result ≡ pid_meant (who_is process.entry) (node_of self.now) }
-    {
-        match process {
-            Proc::Pid(pid) => Some(pid),
-            Proc::Name(name) => self.pid_of(name),
-        }
+/// The pid that is meant, if it is one's.
+pub(crate) fn pid_meant(held: &Holdings, process: Proc<'_>) -> Option<u64>
+    ensures { result ≡ pid_meant (who_is process.entry) (node_of held.now) }
+{
+    match process {
+        Proc::Pid(pid) => Some(pid),
+        Proc::Name(name) => pid_of(held, name),
     }
 }
 

@@ -6,47 +6,45 @@ ghost use Rattle.app_table.specs.Applications.{app_of, has_id};
 ghost use Rattle.erl_term.specs.declared.term.Term.TheVariants as term;
 ghost use Rattle.node_types.specs.declared.event.Event.TheVariants.{Revive};
 ghost use Rattle.shell_answers.specs.Answers.{line_of};
-ghost use Rattle.shell_deeds.specs.Deeds.{RevivesChild, revived_in};
-ghost use Rattle.shell_deeds.specs.Done.{IsDone, child_called, is_id};
-ghost use Rattle.shell_deeds.specs.Halts.{Halts};
+ghost use Rattle.shell_deeds.specs.Deeds.{RevivesChild};
+ghost use Rattle.shell_holdings.specs.Performing.{revived_in};
+ghost use Rattle.shell_holdings.specs.Done.{IsDone};
+ghost use Rattle.shell_deeds.specs.Done.{child_called, is_id};
+ghost use Rattle.shell_holdings.specs.Halts.{Halts};
 ghost use Rattle.sys_protocol.specs.Refusals.{IsDue, IsNotDue};
 
-use crate::holdings::Holdings;
 use crate::naming::spells;
-use crate::stepping::Halt;
-use crate::telling::{Said, say, tell_halt};
 use erl_term::Term;
 use node_types::{Answer, Event, Refusal};
 use shell_answers::{Fixed, write_revived};
+use shell_holdings::{Halt, Holdings, Said, say, tell_halt};
 use shell_requests::Name;
 use std::alloc::{AllocError, Global};
 use sys_protocol::{App, AppTable, Child, SysError};
 
-impl Holdings {
-    /// Revives a child of an application, by its Id.
-    pub(crate) fn revive(&mut self, app: Name<'_>, id: Name<'_>, out: &mut Vec<u8>) -> Said
-        ensures { IfOk result (λ fate. IsDone (RevivesChild self.old (chars app.entry.text.now) (chars id.entry.text.now) fate) self.new out.old.items out.new.items) }
-    {
-        let Ok(event) = revive_event(self.alloc, app, id) else {
-            return tell_halt(self.halt_of_revival(app, id), out);
-        };
-        match self.perform(event) {
-            Ok(answer) => tell_revived(answer, out),
-            Err(halt) => tell_halt(halt, out),
-        }
+/// Revives a child of an application, by its Id.
+pub(crate) fn revive(held: &mut Holdings, app: Name<'_>, id: Name<'_>, out: &mut Vec<u8>) -> Said
+    ensures { IfOk result (λ fate. IsDone (RevivesChild held.old (chars app.entry.text.now) (chars id.entry.text.now) fate) held.new out.old.items out.new.items) }
+{
+    let Ok(event) = revive_event(held.alloc(), app, id) else {
+        return tell_halt(halt_of_revival(held, app, id), out);
+    };
+    match held.perform(event) {
+        Ok(answer) => tell_revived(&answer, out),
+        Err(halt) => tell_halt(halt, out),
     }
+}
 
-    /// What stands against a revival for whose names there was no memory, or else want of it.
-    fn halt_of_revival(&self, app: Name<'_>, id: Name<'_>) -> Halt
-        ensures { Halts result self.now (Revive (chars app.entry.text.now) (term.Atom (chars id.entry.text.now))) }
-    {
-        if self.is_full() {
-            return Halt::Full;
-        }
-        match revive_refusal(self.node().apps(), app, id) {
-            Some(why) => Halt::Refused(Refusal::OfApps(why)),
-            None => Halt::Memory,
-        }
+/// What stands against a revival for whose names there was no memory, or else want of it.
+fn halt_of_revival(held: &Holdings, app: Name<'_>, id: Name<'_>) -> Halt
+    ensures { Halts result held.now (Revive (chars app.entry.text.now) (term.Atom (chars id.entry.text.now))) }
+{
+    if held.is_full() {
+        return Halt::Full;
+    }
+    match revive_refusal(held.node().apps(), app, id) {
+        Some(why) => Halt::Refused(Refusal::OfApps(why)),
+        None => Halt::Memory,
     }
 }
 
@@ -60,16 +58,18 @@ fn revive_event(alloc: Global, app: Name<'_>, id: Name<'_>) -> Result<Event, All
 }
 
 /// Tells which process a child runs as.
-fn tell_revived(answer: Answer, out: &mut Vec<u8>) -> Said
-    ensures { IfOk result (λ fate. (fate ≡ None) × (out.new.items ≡ out.old.items ++ line_of (revived_in answer))) }
+fn tell_revived(answer: &Answer, out: &mut Vec<u8>) -> Said
+    ensures { IfOk result (λ fate. (fate ≡ None) × (out.new.items ≡ out.old.items ++ line_of (revived_in answer.now))) }
 {
-    match &answer {
+    match answer {
         Answer::Revived(pid) => {
             let pid = *pid;
             write_revived(pid, out)?;
             Ok(None)
         }
-        Answer::Job(_) | Answer::Killed(_) | Answer::Unit => say(Fixed::Done, out),
+        Answer::Job(_) | Answer::Killed(_) | Answer::Installing { .. } => say(Fixed::Done, out),
+        Answer::Ran(_) | Answer::Finished { .. } | Answer::Recovered(_) => say(Fixed::Done, out),
+        Answer::Restarted(_) | Answer::Swept(_) | Answer::Unit => say(Fixed::Done, out),
     }
 }
 

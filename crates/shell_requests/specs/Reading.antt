@@ -5,8 +5,8 @@ use Rattle.shell_requests.specs.declared.request.Line.TheVariants.{Silent, Unkno
 use Rattle.shell_requests.specs.declared.request.Proc.{Proc}
 use Rattle.shell_requests.specs.declared.request.Proc.TheVariants.{Pid, Name}
 use Rattle.shell_requests.specs.declared.request.Request.{Request as Read}
-use Rattle.shell_requests.specs.declared.request.Request.TheVariants.{Ask, Alter, Load, Undo, Commit, Arrive, Serve, Revive, Release}
-use Rattle.shell_requests.specs.Request.{Request, ask, change, load, undo, commit, arrive, serve, revive, release, Spoken, silent, unknown, asks, Who, numbered, named}
+use Rattle.shell_requests.specs.declared.request.Request.TheVariants.{Ask, Alter, Load, Undo, Commit, Arrive, Serve, Revive, Unpack, Release, Advance, Sweep}
+use Rattle.shell_requests.specs.Request.{Request, ask, change, load, undo, commit, arrive, serve, revive, unpack, release, advance, sweep, Spoken, silent, unknown, asks, Who, numbered, named}
 
 -- the process that was read
 abbrev pub who_is : Proc → Who
@@ -23,7 +23,10 @@ meant (Commit place) = commit place
 meant (Arrive kind name term) = arrive kind (chars name.text.now) term.now
 meant (Serve service process) = serve service (who_is process)
 meant (Revive app id) = revive (chars app.text.now) (chars id.text.now)
+meant (Unpack vsn) = unpack vsn.now
 meant (Release kind vsn) = release kind vsn.now
+meant (Advance give_up) = advance give_up
+meant Sweep = sweep
 
 -- what the line said
 abbrev pub said : Line → Spoken

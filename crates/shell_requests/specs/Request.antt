@@ -1,5 +1,5 @@
 -- What lines ask for: the commands, each with its word and the shape of what follows, and how a line is read as one.
-use Rattle.std.specs.Prelude.{ℕ, nat_lt, if◌then◌else◌, List, [], ◌∷◌, length, codes, Option, None, Some, option_and_then}
+use Rattle.std.specs.Prelude.{ℕ, nat_lt, Bool, true, false, if◌then◌else◌, List, [], ◌∷◌, length, codes, Option, None, Some, option_and_then}
 use Rattle.std.specs.Map.{lookup}
 use Rattle.std.specs.Option.{option_map}
 use Rattle.std.specs.Str.{all_ascii_digits, bytes_eq, chars, is_utf8}
@@ -10,11 +10,11 @@ use Rattle.shell_requests.specs.declared.request.Change.TheVariants.{Delete, Pur
 use Rattle.shell_requests.specs.declared.request.Question.{Question}
 use Rattle.shell_requests.specs.declared.request.Question.TheVariants.{Modules, Apps, Replies, Mark as MarkNow, Which}
 use Rattle.shell_requests.specs.declared.request.ReleaseChange.{ReleaseChange}
-use Rattle.shell_requests.specs.declared.request.ReleaseChange.TheVariants.{Unpack, Remove}
+use Rattle.shell_requests.specs.declared.request.ReleaseChange.TheVariants.{Remove, Install, MakePermanent, RebootOld}
 use Rattle.shell_requests.specs.declared.request.Service.{Service}
 use Rattle.shell_requests.specs.declared.request.Service.TheVariants.{Take, Retake, Show}
 use Rattle.shell_requests.specs.declared.request.Shape.{Shape}
-use Rattle.shell_requests.specs.declared.request.Shape.TheVariants.{Nothing, Module, ModuleAndPath, Mark, Result, NameAndTerm, Process, AppAndChild, Version}
+use Rattle.shell_requests.specs.declared.request.Shape.TheVariants.{Nothing, Module, ModuleAndPath, Mark, Result, NameAndTerm, Process, AppAndChild, Unpack, Version, Step, Sweep}
 use Rattle.shell_requests.specs.Words.{behind_word, is_silent, number_of, only_word, two_words, with_rest, words_of}
 
 -- A process, by its pid or by the characters of its name.
@@ -33,7 +33,11 @@ pub data Request : Type 0 where
   arrive : Arrival → List ℕ → List ℕ → Request
   serve : Service → Who → Request
   revive : List ℕ → List ℕ → Request
+  unpack : List ℕ → Request
   release : ReleaseChange → List ℕ → Request
+  -- whether processes that run are passed over
+  advance : Bool → Request
+  sweep : Request
 
 -- the commands
 abbrev pub commands : List (List ℕ × Shape)
@@ -44,7 +48,9 @@ commands =
     ∷ (codes "commit", Result) ∷ (codes "call", NameAndTerm Call) ∷ (codes "cast", NameAndTerm Cast)
     ∷ (codes "send", NameAndTerm Info) ∷ (codes "take", Process Take) ∷ (codes "retake", Process Retake)
     ∷ (codes "proc", Process Show) ∷ (codes "revive", AppAndChild) ∷ (codes "which", Nothing Which)
-    ∷ (codes "unpack", Version Unpack) ∷ (codes "remove", Version Remove) ∷ []
+    ∷ (codes "unpack", Unpack) ∷ (codes "remove", Version Remove) ∷ (codes "install", Version Install)
+    ∷ (codes "step", Step) ∷ (codes "permanent", Version MakePermanent) ∷ (codes "reboot", Version RebootOld)
+    ∷ (codes "sweep", Sweep) ∷ []
 
 abbrev pub shape_of : List ℕ → Option Shape
 shape_of verb = lookup (bytes_eq verb) commands
@@ -84,6 +90,16 @@ of_process service word = option_map (serve service) (process_of word)
 abbrev pub of_child : List ℕ × List ℕ → Option Request
 of_child words = option_and_then (λ app. option_map (revive app) (name_of words.1)) (name_of words.0)
 
+-- the script goes on: no word, or `give_up`
+abbrev pub to_advance : List (List ℕ) → Option Request
+to_advance [] = Some (advance false)
+to_advance (word ∷ []) = if bytes_eq word (codes "give_up") then Some (advance true) else None
+to_advance (word ∷ other ∷ words) = None
+
+abbrev pub to_sweep : List (List ℕ) → Option Request
+to_sweep [] = Some sweep
+to_sweep (word ∷ words) = None
+
 abbrev pub request_by : Shape → List ℕ → Option Request
 request_by (Nothing question) rest = alone question (words_of rest)
 request_by (Module kind) rest = option_and_then (of_module kind) (only_word (words_of rest))
@@ -93,7 +109,10 @@ request_by Result rest = option_and_then of_result (only_word (words_of rest))
 request_by (NameAndTerm kind) rest = option_and_then (of_arrival kind) (with_rest (words_of rest) (behind_word rest))
 request_by (Process service) rest = option_and_then (of_process service) (only_word (words_of rest))
 request_by AppAndChild rest = option_and_then of_child (two_words (words_of rest))
+request_by Unpack rest = option_map unpack (only_word (words_of rest))
 request_by (Version kind) rest = option_map (release kind) (only_word (words_of rest))
+request_by Step rest = to_advance (words_of rest)
+request_by Sweep rest = to_sweep (words_of rest)
 
 -- what a text asks for, if it does: its first word is a command's, and what stands behind that has its shape
 abbrev pub request_behind : List (List ℕ) → List ℕ → Option Request

@@ -46,8 +46,13 @@ fn shape_of(verb: &str) -> Option<Shape>
         "proc" => Shape::Process(Service::Show),
         "revive" => Shape::AppAndChild,
         "which" => Shape::Nothing(Question::Which),
-        "unpack" => Shape::Version(ReleaseChange::Unpack),
+        "unpack" => Shape::Unpack,
         "remove" => Shape::Version(ReleaseChange::Remove),
+        "install" => Shape::Version(ReleaseChange::Install),
+        "step" => Shape::Step,
+        "permanent" => Shape::Version(ReleaseChange::MakePermanent),
+        "reboot" => Shape::Version(ReleaseChange::RebootOld),
+        "sweep" => Shape::Sweep,
     )
 }
 
@@ -67,11 +72,14 @@ pub fn read_line(line: &[u8]) -> Line<'_>
     }
 }
 
-/// Whether the line that bytes begin with asks for code of modules to be run, which may take long: a `commit` runs a job, and a `revive`
-/// a start function.
+/// Whether the line that bytes begin with asks for code of modules to be run, which may take long: a `commit` runs a job, a `revive`
+/// a start function, a `step` what its instruction asks for, and a `reboot` the start functions of a release.
 pub fn runs_code(start: &[u8]) -> bool {
     let words = start.trim_ascii_start();
-    words.starts_with(b"commit ") || words.starts_with(b"revive ")
+    words.starts_with(b"commit ")
+        || words.starts_with(b"revive ")
+        || words.starts_with(b"step")
+        || words.starts_with(b"reboot ")
 }
 
 /// What a text asks for, if it does.
@@ -96,7 +104,10 @@ fn read_words(shape: Shape, rest: &str) -> Option<Request<'_>>
         Shape::NameAndTerm(arrival) => of_arrival(arrival, rest),
         Shape::Process(service) => of_process(service, rest),
         Shape::AppAndChild => of_child(rest),
+        Shape::Unpack => of_unpacking(rest),
         Shape::Version(change) => of_release(change, rest),
+        Shape::Step => of_step(rest),
+        Shape::Sweep => of_sweep(rest),
     }
 }
 
@@ -187,9 +198,40 @@ fn of_child(rest: &str) -> Option<Request<'_>>
 }
 
 /// `VSN`
+fn of_unpacking(rest: &str) -> Option<Request<'_>>
+    ensures { option_map meant result ≡ request_by Shape.Unpack rest.now }
+{
+    let vsn = one_word(rest)?;
+    Some(Request::Unpack(vsn))
+}
+
+/// `VSN`
 fn of_release(change: ReleaseChange, rest: &str) -> Option<Request<'_>>
     ensures { option_map meant result ≡ request_by (Shape.Version change) rest.now }
 {
     let vsn = one_word(rest)?;
     Some(Request::Release(change, vsn))
+}
+
+/// No word, or `give_up`.
+fn of_step(rest: &str) -> Option<Request<'_>>
+    ensures { option_map meant result ≡ request_by Shape.Step rest.now }
+{
+    if has_no_word(rest) {
+        return Some(Request::Advance { give_up: false });
+    }
+    if one_word(rest)? == "give_up" {
+        return Some(Request::Advance { give_up: true });
+    }
+    None
+}
+
+/// No word.
+fn of_sweep(rest: &str) -> Option<Request<'_>>
+    ensures { option_map meant result ≡ request_by Shape.Sweep rest.now }
+{
+    if has_no_word(rest) {
+        return Some(Request::Sweep);
+    }
+    None
 }

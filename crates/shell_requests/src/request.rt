@@ -17,13 +17,17 @@ pub enum Question {
     Which,
 }
 
-/// A change of the releases that a node knows.
+/// A change of the releases that a node knows, or of the one that runs, that needs nothing but a version.
 #[derive(Clone, Copy)]
 pub enum ReleaseChange {
-    /// `unpack`
-    Unpack,
     /// `remove`
     Remove,
+    /// `install`
+    Install,
+    /// `permanent`
+    MakePermanent,
+    /// `reboot`
+    RebootOld,
 }
 
 /// A change of a module that needs nothing but its name.
@@ -78,8 +82,14 @@ pub enum Shape {
     Process(Service),
     /// `APP ID`: the command revives a child.
     AppAndChild,
+    /// `VSN`: the command unpacks a release.
+    Unpack,
     /// `VSN`: the command makes this change of the releases.
     Version(ReleaseChange),
+    /// No word, or `give_up`: the command has the script go on.
+    Step,
+    /// No word: the command sweeps.
+    Sweep,
 }
 
 /// A process, as it is named.
@@ -110,8 +120,17 @@ pub enum Request<'a> {
     Serve(Service, Proc<'a>),
     /// To revive a child of an application, by its Id.
     Revive(Name<'a>, Name<'a>),
-    /// To unpack the release of a version, or to remove it.
+    /// To unpack the release of a version.
+    Unpack(&'a str),
+    /// To change the releases, by a version.
     Release(ReleaseChange, &'a str),
+    /// To have the script that runs go on by one instruction.
+    Advance {
+        /// Whether processes that run, and are to be suspended, are passed over, and not waited for.
+        give_up: bool,
+    },
+    /// To purge old code that scripts have left to be purged softly.
+    Sweep,
 }
 
 /// What a line of at most 65,536 bytes says.

@@ -84,6 +84,7 @@ impl Releases {
         requires { IsSome (place_of (chars vsn.now) self.old) }
         ensures ok { OnOk result (self.new ≡ installed (chars vsn.now) self.old) }
         ensures takes_back { IfOk result (λ undo. TakesBack undo self.old self.new) }
+        ensures statuses { IfOk result (λ undo. IsRemoval undo → ⊥) }
         ensures err { OnErr result (self.new ≡ self.old) }
     {
         let former = statuses(self.alloc, &self.list)?;
@@ -101,6 +102,7 @@ impl Releases {
         ensures ok { OnOk result (self.new ≡ made_permanent (chars vsn.now) self.old) }
         ensures unrefused { OnOk result (permanent_refusal (chars vsn.now) self.old ≡ None) }
         ensures takes_back { IfOk result (λ undo. TakesBack undo self.old self.new) }
+        ensures statuses { IfOk result (λ undo. IsRemoval undo → ⊥) }
         ensures refused { IfErr result (λ e. Tells e (permanent_refusal (chars vsn.now) self.old)) }
         ensures err { OnErr result (self.new ≡ self.old) }
     {
@@ -122,6 +124,7 @@ impl Releases {
         ensures ok { OnOk result (self.new ≡ rebooted (chars vsn.now) self.old) }
         ensures unrefused { OnOk result (reboot_refusal (chars vsn.now) self.old ≡ None) }
         ensures takes_back { IfOk result (λ undo. TakesBack undo self.old self.new) }
+        ensures statuses { IfOk result (λ undo. IsRemoval undo → ⊥) }
         ensures refused { IfErr result (λ e. Tells e (reboot_refusal (chars vsn.now) self.old)) }
         ensures err { OnErr result (self.new ≡ self.old) }
     {
@@ -141,6 +144,7 @@ impl Releases {
     pub fn restarted(&mut self) -> Result<Undo, AllocError>
         ensures ok { OnOk result (self.new ≡ restarted self.old) }
         ensures takes_back { IfOk result (λ undo. TakesBack undo self.old self.new) }
+        ensures statuses { IfOk result (λ undo. IsRemoval undo → ⊥) }
         ensures err { OnErr result (self.new ≡ self.old) }
     {
         let former = statuses(self.alloc, &self.list)?;

@@ -1,9 +1,7 @@
--- The row is what is noted of those that were resumed; and no release has left, so that what takes it back is no removal.
+-- The row is what is noted of those that were resumed.
 use Rattle.std.proofs.Common.{length, drop, refl, ap, ◌∙◌}
 use Rattle.std.proofs.lemmas.List.{take_at}
-use Rattle.std.specs.Str.{chars}
 use Rattle.process_table.specs.States.{all_unresumed}
-use Rattle.script_ends.proofs.Kept.{installed-keeps}
 use Rattle.script_ends.proofs.finishing.finish.Goals as goal
 
 pub returns-clause-back : goal.returns-clause-back
@@ -15,7 +13,6 @@ returns-clause-back c =
     record {
       processes = ap (λ row. all_unresumed row c.resume_noting.new.self) row_is ∙ c.resume_noting.ensures.back;
       releases = installed.ensures.takes_back;
-      kept = installed-keeps installed.statuses (chars c.as_str.result.now) c.args.releases.now c.installed.new.self
-          installed.ensures.takes_back installed.ensures.ok;
+      kept = installed.ensures.statuses;
       runner = refl;
     }

@@ -1,5 +1,5 @@
 -- Each refusal by its word.
-use Rattle.std.proofs.Common.{◌++◌, ◌∷◌, [], codes, sym, ap, ◌∙◌}
+use Rattle.std.proofs.Common.{◌++◌, ◌∷◌, codes, sym, ap, ◌∙◌}
 use Rattle.std.specs.Str.{chars}
 use Rattle.release_words.specs.Words.{string_tree}
 use Rattle.shell_answers.specs.Answers.{line_of}

@@ -1,5 +1,5 @@
 -- The pieces are the tuple's.
-use Rattle.std.proofs.Common.{◌++◌, codes, ap, map, ◌∙◌}
+use Rattle.std.proofs.Common.{◌++◌, codes, ap, ◌∙◌}
 use Rattle.erl_term.specs.Conversions.{rows}
 use Rattle.erl_term.specs.Text.{elements_text, utf8}
 use Rattle.release_words.specs.Words.{string_tree}

@@ -1,6 +1,6 @@
 -- There are as many as are counted.
 use Rattle.std.proofs.Common.{ap, arith, length}
-use Rattle.shell_deeds.proofs.Performing.{not_one_of}
+use Rattle.shell_deeds.proofs.Sources.{not_one_of}
 use Rattle.shell_deeds.proofs.reading.only.Goals as goal
 
 pub returns : goal.returns

@@ -1,7 +1,7 @@
 -- Each line is its term's.
 use Rattle.std.proofs.Common.{sym, ap, ◌∙◌}
 use Rattle.shell_answers.specs.Answers.{line_of, fixed}
-use Rattle.shell_answers.proofs.FixedLines.{done-line, true-line, false-line, bad_command-line, line_too_long-line, serial_end-line, counter_at_end-line, forgotten-line, dead_mark-line, memory-line, no_job-line, no_proc-line, suspended-line, running-line, idle-line, not_running-line, stale-line, duplicate_call-line, name_taken-line, no_child-line, not_due-line}
+use Rattle.shell_answers.proofs.FixedLines.{done-line, true-line, false-line, bad_command-line, line_too_long-line, serial_end-line, counter_at_end-line, forgotten-line, dead_mark-line, memory-line, no_job-line, no_proc-line, suspended-line, running-line, idle-line, not_running-line, stale-line, duplicate_call-line, name_taken-line, no_child-line, not_due-line, installing-line, not_installing-line}
 use Rattle.shell_answers.proofs.fixed.Fixed.line.Goals as goal
 
 pub returns-in-Done : goal.returns-in-Done
@@ -66,3 +66,9 @@ returns-in-NotDue c = sym not_due-line ∙ ap (λ f. line_of (fixed f)) (sym c.i
 
 pub returns-in-NameTaken : goal.returns-in-NameTaken
 returns-in-NameTaken c = sym name_taken-line ∙ ap (λ f. line_of (fixed f)) (sym c.in-NameTaken.is)
+
+pub returns-in-Installing : goal.returns-in-Installing
+returns-in-Installing c = sym installing-line ∙ ap (λ f. line_of (fixed f)) (sym c.in-Installing.is)
+
+pub returns-in-NotInstalling : goal.returns-in-NotInstalling
+returns-in-NotInstalling c = sym not_installing-line ∙ ap (λ f. line_of (fixed f)) (sym c.in-NotInstalling.is)

@@ -1,0 +1,119 @@
+// Whether a release can be installed.
+ghost use Rattle.std.specs.Prelude.{◌≡◌, position};
+ghost use Rattle.std.specs.Option.{option_copied};
+ghost use Rattle.std.specs.Str.{chars};
+ghost use Rattle.install_checks.specs.Installing.{has_old_processes, install_refusal, module_at, old_processes, script_refusal, script_to};
+
+use code_loading::is_lingered_in;
+use code_server::Modules;
+use erl_forms::Module;
+use erl_term::Atom;
+use low_instructions::Low;
+use otp_files::RelupEntry;
+use process_table::Processes;
+use release_statuses::{RelError, Releases};
+use release_words::Purge;
+use script_checks::check;
+use script_state::script_for;
+
+/// Why a release is not installed (release_handler(3), install_release/1). Places are those of instructions in the script,
+/// counted from 0.
+#[derive(Clone, Copy, Debug, PartialEq, Eq)]
+pub enum InstallError {
+    /// There is no such release, or it runs.
+    OfReleases(RelError),
+    /// No relup leads from the release that runs to this one.
+    NoMatchingRelup,
+    /// The script can't be installed: the least place of a faulty instruction, or its length where the point of no return is
+    /// missing.
+    BadScript(usize),
+    /// The first place of a load or a removal that is to purge softly, and in the old code of whose module a process lingers.
+    OldProcesses(usize),
+}
+
+/// The script that leads from the release that runs to that of a version, if one does. Takes no memory.
+pub fn script_to<'a>(releases: &'a Releases, vsn: &str) -> Option<&'a RelupEntry>
+    ensures { option_copied result ≡ script_to (chars vsn.now) releases.now }
+{
+    let running = releases.running();
+    match releases.get(vsn) {
+        Some(new) => script_for(&running.release, &new.release),
+        None => None,
+    }
+}
+
+/// Whether an instruction is to purge old code softly, and a process lingers in it.
+fn has_old_processes(modules: &Modules<Module>, processes: &Processes, instruction: &Low) -> bool
+    ensures { result ≡ has_old_processes modules.now processes.now instruction.now }
+{
+    match instruction {
+        Low::Load {
+            name,
+            pre_purge: Purge::Soft,
+            ..
+        }
+        | Low::Remove {
+            name,
+            pre_purge: Purge::Soft,
+            ..
+        } => is_lingered_in(modules, processes, name),
+        Low::Load { .. } | Low::Remove { .. } | Low::LoadObjectCode { .. } => false,
+        Low::PointOfNoReturn | Low::Purge { .. } | Low::Suspend { .. } => false,
+        Low::Resume { .. } | Low::CodeChange { .. } | Low::Stop { .. } => false,
+        Low::Start { .. } | Low::Apply { .. } => false,
+    }
+}
+
+/// The first place of an instruction of a script that is to purge old code softly in which a process lingers.
+fn old_processes(modules: &Modules<Module>, processes: &Processes, script: &[Low]) -> Option<usize>
+    ensures { result ≡ old_processes modules.now processes.now script.now }
+{
+    script.iter().position(|instruction| has_old_processes(modules, processes, instruction))
+}
+
+/// The module that the instruction at a place of a script loads or removes, if it does. Takes no memory.
+pub fn module_at(script: &[Low], place: usize) -> Option<&Atom>
+    ensures { option_copied result ≡ module_at script.now place }
+{
+    match script.get(place)? {
+        Low::Load { name, .. } | Low::Remove { name, .. } => Some(name),
+        Low::LoadObjectCode { .. } | Low::PointOfNoReturn | Low::Purge { .. } => None,
+        Low::Suspend { .. } | Low::Resume { .. } | Low::CodeChange { .. } => None,
+        Low::Stop { .. } | Low::Start { .. } | Low::Apply { .. } => None,
+    }
+}
+
+/// Why a script is not installed, if it isn't.
+fn script_refusal(
+    modules: &Modules<Module>,
+    processes: &Processes,
+    script: &[Low],
+) -> Option<InstallError>
+    ensures { result ≡ script_refusal modules.now processes.now script.now }
+{
+    if let Some(place) = check(script) {
+        return Some(InstallError::BadScript(place));
+    }
+    match old_processes(modules, processes, script) {
+        Some(place) => Some(InstallError::OldProcesses(place)),
+        None => None,
+    }
+}
+
+/// Why the release of a version is not installed, but for want of memory, in the order of [`InstallError`]. Takes no memory.
+pub fn install_refusal(
+    releases: &Releases,
+    modules: &Modules<Module>,
+    processes: &Processes,
+    vsn: &str,
+) -> Option<InstallError>
+    ensures { result ≡ install_refusal (chars vsn.now) releases.now modules.now processes.now }
+{
+    if let Some(refusal) = releases.install_refusal(vsn) {
+        return Some(InstallError::OfReleases(refusal));
+    }
+    match script_to(releases, vsn) {
+        Some(entry) => script_refusal(modules, processes, entry.instructions.as_slice()),
+        None => Some(InstallError::NoMatchingRelup),
+    }
+}

@@ -1,0 +1,30 @@
+-- The process runs its next message.
+use Rattle.std.proofs.Common.{◌∙◌, [], map, None, refl, sym, ap}
+use Rattle.undo_journal.specs.Reversible.{Accepted}
+use Rattle.node_core.specs.Changes.{state_of}
+use Rattle.node_rules.specs.Node.{NodeState, with_processes}
+use Rattle.node_rules.specs.Scripts.{reporting}
+use Rattle.node_types.specs.declared.event.Answer.{Answer}
+use Rattle.node_types.specs.declared.event.Answer.TheVariants as answer
+use Rattle.node_types.specs.Note.{Note}
+use Rattle.erl_semantics.specs.declared.jobs.Job.{Job}
+use Rattle.process_effects.specs.Commits.{job_at}
+use Rattle.process_store.specs.Table.{Table, living}
+use Rattle.undo_journal.specs.declared.reversible.Told.{Told}
+use Rattle.node_core.proofs.Accepting.{each_of, ends_back}
+use Rattle.node_rules.specs.Step.{run_taken}
+use Rattle.node_core.proofs.processes.take.Goals as goal
+
+pub returns : goal.returns
+returns c =
+    let n = state_of c.args.parts.now in
+    let pid = c.args.pid in
+    let takes = c.in-Ok-take.ensures.taken in
+    let job = takes.job in
+    let a : Accepted NodeState Answer Note = record { node = run_taken pid job n; answer = answer.Job job; note = reporting [] } in
+    let said : Job → Told Answer Note = λ j. record { answer = answer.Job j; note = record { replies = []; arrival = None } } in
+    let runs = ap (λ (u : Table). job_at (living pid u)) (sym takes.table) ∙ takes.runs in
+    let told = c.tell_jobs.ensures ∙ ap (map said) takes.told ∙ each_of said job c.args.n in (
+      (a, (job, c.in-Ok-take.ensures.ok, takes.code, runs, refl), ap (λ t. with_processes t n) (sym takes.table), told),
+      (ends_back c.in-Ok-take.undo n.processes c.take.new.self c.in-Ok-take.ensures.inverse, refl),
+    )

@@ -1,0 +1,3 @@
+pub mod AllCalls
+pub mod Serials
+pub mod Telling

@@ -1,0 +1,4 @@
+pub mod Laws
+pub mod Node
+pub mod Scripts
+pub mod Step

@@ -1,0 +1,10 @@
+-- The front is the line's.
+use Rattle.std.proofs.Common.{◌++◌, codes}
+use Rattle.erl_term.specs.Term.{tree}
+use Rattle.shell_answers.proofs.Pieces.{bytes, on_ok, same}
+use Rattle.shell_answers.proofs.Texts.{restarted-line}
+use Rattle.shell_answers.proofs.scripts.write_restarted.Goals as goal
+
+pub returns : goal.returns
+returns c =
+    on_ok c.write_of_term.result _ _ c.write_of_term.ensures (λ wrote. same c.args.out.now.items c.write_of_term.new.out.items (codes "{restarted," ++ (bytes (tree c.args.reason.now) ++ codes "}\n")) _ wrote (restarted-line c.args.reason.now))

@@ -1,0 +1,6 @@
+pub mod Done
+pub mod Halts
+pub mod Performing
+pub mod Serving
+pub mod State
+pub mod Stepping

@@ -1,0 +1,3 @@
+mod Advanced
+mod Altered
+mod Unpacked

@@ -1,0 +1,2 @@
+pub mod Advancing
+pub mod Upgrades
