@@ -1,4 +1,5 @@
 pub mod Alone
+pub mod CodePieces
 pub mod Consistency
 pub mod Emptied
 pub mod Keeping

@@ -2,6 +2,7 @@ pub mod Consistent
 pub mod Current
 pub mod Laws
 pub mod Loading
+pub mod Pieces
 pub mod Purging
 pub mod Several
 pub mod Undo

@@ -1,14 +1,16 @@
--- What takes a purge back, and with it the kill of those who lingered.
-use Rattle.std.specs.Prelude.{◌≡◌, Option, None, Some}
+-- What takes a load, a purge or a removal back, and with it the kill of those who lingered.
+use Rattle.std.specs.Prelude.{◌≡◌, Option, None, Some, option_to_list}
 use Rattle.erl_forms.specs.Module.{Forms}
 use Rattle.code_server.specs.Modules.{Table as Loaded}
 use Rattle.code_server.specs.Undo as code
-use Rattle.code_server.specs.Undo.{HasPurged}
+use Rattle.code_server.specs.Undo.{HasPurged, held}
 use Rattle.code_server.specs.declared.undo.Undo as code_undo
 use Rattle.code_server.specs.declared.modules.Instance as loaded
+use Rattle.process_store.specs.Pieces.{HoldsLost}
 use Rattle.process_store.specs.Table.{Table}
 use Rattle.process_table.specs.Undo.{TakesBackEnds}
 use Rattle.process_table.specs.declared.undo.Undo as processes
+use Rattle.code_loading.specs.Pieces.{CodeLost, held_killed}
 use Rattle.code_loading.specs.declared.undo.Undo.{Undo}
 
 -- of the processes: nobody was killed, or those live again that were
@@ -23,8 +25,10 @@ KillsBack None (Some kill) before after = ⊥
 KillsBack (Some i) None before after = ⊥
 KillsBack (Some i) (Some kill) before after = TakesBackEnds kill before after
 
--- It gives the modules before, and the processes.
+-- It gives the modules before, and the processes; and it holds nothing of them that the step has not taken.
 pub record TakesBack (undo : Undo) (modules : Loaded Forms) (t : Table) (modules_after : Loaded Forms) (after : Table) : Type 0 where
   pub fits : code.Fits undo.modules modules_after
   pub code : code.undone undo.modules modules_after ≡ modules
   pub processes : LivesAgain undo.modules undo.killed t after
+  pub instances : CodeLost (option_to_list (held undo.modules)) modules modules_after
+  pub pieces : HoldsLost (held_killed undo.killed after) t after

@@ -5,8 +5,10 @@ use Rattle.code_server.specs.Modules.{Table as Loaded}
 use Rattle.code_server.specs.Undo.{Fits, HasPurged, Redoes, undone}
 use Rattle.code_server.specs.declared.undo.Undo.{Undo}
 use Rattle.code_server.specs.declared.undo.Redo.{Redo}
+use Rattle.process_store.specs.Pieces.{HoldsLost}
 use Rattle.process_store.specs.Table.{Table}
-use Rattle.process_table.specs.Undo.{TakesBackEnds}
+use Rattle.process_table.specs.Undo.{TakesBackEnds, held}
+use Rattle.code_loading.specs.Pieces.{CodeLost, all_held}
 use Rattle.code_loading.specs.declared.undo.Purges.{Purges}
 
 -- the modules that the undos of purges give back, the last of them first
@@ -26,8 +28,10 @@ Repurges [] left m all after = (left ≡ all) × (m ≡ after)
 Repurges (r ∷ rs) left m all after = (u : Undo Forms) × (us : List (Undo Forms)) × (before : Loaded Forms) ×
     Repurges rs left m us before × (all ≡ us ++ u ∷ []) × Redoes r u after before
 
--- It gives the modules before, and the processes.
+-- It gives the modules before, and the processes; and it holds nothing of them that the purges have not taken.
 pub record PurgesBack (undo : Purges) (modules : Loaded Forms) (t : Table) (purged : Loaded Forms) (spared : Table) : Type 0 where
   pub fits : AllUnpurge undo.modules purged
   pub code : all_unpurged undo.modules purged ≡ modules
   pub processes : TakesBackEnds undo.killed t spared
+  pub instances : CodeLost (all_held undo.modules) modules purged
+  pub pieces : HoldsLost (held undo.killed spared) t spared

@@ -4,7 +4,9 @@ ghost use Rattle.values.specs.Failure.{Tells};
 ghost use Rattle.code_server.specs.Modules.{load_refusal, loaded, old_of, purged};
 ghost use Rattle.process_effects.specs.Uses.{users};
 ghost use Rattle.code_loading.specs.Loading.{is_any, is_lingered_in, lingering, purge_told, spared};
+ghost use Rattle.code_loading.specs.Pieces.{held_killed};
 ghost use Rattle.code_loading.specs.Undo.{KillsBack, TakesBack};
+ghost use Rattle.process_store.specs.Pieces.{HoldsLost};
 
 use crate::undo::Undo;
 use code_server::{CodeError, Modules};
@@ -93,6 +95,7 @@ pub(crate) fn kill_lingering(
 ) -> Result<Option<process_table::Undo>, AllocError>
     ensures spared { OnOk result (processes.new ≡ spared name.now modules.now processes.old) }
     ensures inverse { IfOk result (λ it. KillsBack (old_of name.now modules.now) it processes.old processes.new) }
+    ensures pieces { IfOk result (λ it. HoldsLost (held_killed it processes.new) processes.old processes.new) }
     ensures err { OnErr result (processes.new ≡ processes.old) }
 {
     match old_serial(modules, name) {

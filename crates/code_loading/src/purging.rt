@@ -1,11 +1,10 @@
 // Several modules are purged at once.
 ghost use Rattle.std.specs.Prelude.{◌≡◌, ◌+◌, ◌++◌, ◌≤◌, [], IfOk, MatchOption, OnErr, OnOk, length, replicate, vec_capacity, vec_len};
-ghost use Rattle.code_server.specs.Modules.{purged};
-ghost use Rattle.code_server.specs.Undo.{Fits, HasPurged, undone};
+ghost use Rattle.code_server.specs.Modules.{old_of, purged};
+ghost use Rattle.code_server.specs.Undo.{Fits, HasPurged, held, undone};
 ghost use Rattle.process_effects.specs.Told.{killed};
 ghost use Rattle.process_effects.specs.Uses.{users};
-ghost use Rattle.process_store.specs.Pieces.{HoldsLost};
-ghost use Rattle.process_table.specs.Undo.{held};
+ghost use Rattle.code_loading.specs.Pieces.{IsTaken};
 ghost use Rattle.code_loading.specs.Purging.{all_lingering, all_purge_told, all_purged, all_spared};
 ghost use Rattle.code_loading.specs.Several.{uses_any_by, without_all_users};
 ghost use Rattle.code_loading.specs.Unpurging.{AllUnpurge, PurgesBack, all_unpurged};
@@ -96,7 +95,8 @@ pub fn purges_told(
 fn purge_old(modules: &mut Modules<Module>, name: &Atom) -> Option<Undo<Module>>
     ensures purged { modules.new ≡ purged name.now modules.old }
     ensures inverse { MatchOption result (modules.new ≡ modules.old)
-        (λ undo. Fits undo modules.new × HasPurged undo × (undone undo modules.new ≡ modules.old)) }
+        (λ undo. Fits undo modules.new × HasPurged undo × (undone undo modules.new ≡ modules.old) ×
+        (held undo ≡ old_of name.now modules.old)) }
 {
     // What holds of the modules.
     let _count = modules.len();
@@ -118,6 +118,7 @@ fn purge_each(
     ensures purged { modules.new ≡ all_purged names.now modules.old }
     ensures fits { AllUnpurge result.items modules.new }
     ensures back { all_unpurged result.items modules.new ≡ modules.old }
+    ensures taken { IsTaken result.items modules.old modules.new }
 {
     for name in names {
         if let Some(undo) = purge_old(modules, name) {
@@ -142,7 +143,6 @@ pub fn purge_all(
     ensures modules { OnOk result (modules.new ≡ all_purged names.now modules.old) }
     ensures processes { OnOk result (processes.new ≡ all_spared names.now modules.old processes.old) }
     ensures inverse { IfOk result (λ undo. PurgesBack undo modules.old processes.old modules.new processes.new) }
-    ensures pieces { IfOk result (λ undo. HoldsLost (held undo.killed processes.new) processes.old processes.new) }
     ensures err { OnErr result ((modules.new ≡ modules.old) × (processes.new ≡ processes.old)) }
 {
     let pids = all_lingering(modules, processes, alloc, names)?;

@@ -1,6 +1,7 @@
 -- What takes a replacement of code back.
-use Rattle.std.specs.Prelude.{◌≡◌, List, Option, None, Some}
+use Rattle.std.specs.Prelude.{◌≡◌, List, [], Option, None, Some}
 use Rattle.app_table.specs.Applications.{Application}
+use Rattle.app_table.specs.Pieces.{Piece, held}
 use Rattle.app_table.specs.Undo as apps
 use Rattle.app_table.specs.declared.undo.Undo as apps_undo
 use Rattle.code_loading.specs.Undo as loading
@@ -14,12 +15,19 @@ abbrev pub ChildrenBack : Option apps_undo.Undo → List Application → List Ap
 ChildrenBack None before after = after ≡ before
 ChildrenBack (Some undo) before after = apps.undone undo after ≡ before
 
--- It gives what ran before.
+-- what it holds of the specifications of applications and children, by the applications after
+abbrev pub held_of : Option apps_undo.Undo → List Application → List Piece
+held_of None apps = []
+held_of (Some undo) apps = held undo apps
+
+-- It gives what ran before, and it holds nothing of that but what was taken: of the specifications none was.
 
 pub record TakesBack (undo : Undo) (before after : RunningSystem) : Type 0 where
   pub code : loading.TakesBack undo.code before.modules before.processes after.modules after.processes
   pub children : ChildrenBack undo.ended before.apps after.apps
+  pub specs : held_of undo.ended after.apps ≡ []
 
 pub record PurgesBack (undo : Purges) (before after : RunningSystem) : Type 0 where
   pub code : purging.PurgesBack undo.code before.modules before.processes after.modules after.processes
   pub children : ChildrenBack undo.ended before.apps after.apps
+  pub specs : held_of undo.ended after.apps ≡ []

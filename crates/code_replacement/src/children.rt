@@ -1,9 +1,9 @@
 // The children whose processes are killed.
-ghost use Rattle.std.specs.Prelude.{◌≡◌, IfOk, IfSome, None, OnErr, OnOk};
+ghost use Rattle.std.specs.Prelude.{◌≡◌, [], IfOk, IfSome, None, OnErr, OnOk};
 ghost use Rattle.app_table.specs.Applications.{all_ended};
 ghost use Rattle.app_table.specs.Undo.{undone};
 ghost use Rattle.process_effects.specs.Told.{killed};
-ghost use Rattle.code_replacement.specs.Undo.{ChildrenBack};
+ghost use Rattle.code_replacement.specs.Undo.{ChildrenBack, held_of};
 
 use app_table::{AppTable, Undo};
 use erl_term::{Atom, Predefined, Term};
@@ -17,6 +17,7 @@ use std::alloc::AllocError;
 pub(crate) fn end_children(apps: &mut AppTable, pids: &[u64]) -> Result<Option<Undo>, AllocError>
     ensures ended { OnOk result (apps.new ≡ all_ended killed pids.now apps.old) }
     ensures inverse { IfOk result (λ undo. ChildrenBack undo apps.old apps.new) }
+    ensures pieces { IfOk result (λ undo. held_of undo apps.new ≡ []) }
     ensures err { OnErr result (apps.new ≡ apps.old) }
 {
     if pids.is_empty() {

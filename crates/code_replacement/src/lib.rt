@@ -14,7 +14,8 @@
 //!   three are as they were.
 //! - What takes a change back gives what ran before it, whole; or hands itself back, and leaves all as it was (`TakesBack`,
 //!   `PurgesBack`). It needs that each instance that a process used then is its module's current or old code (`HasItsCode`).
-//! - Of several purges no more of the processes is kept than they have lost (`HoldsLost`).
+//! - It holds nothing but what the change has taken: each instance and each piece of a process once, and no specification (fields
+//!   `instances`, `pieces` and `specs`).
 //!
 //! # What no contract says
 //!

@@ -2,8 +2,6 @@
 ghost use Rattle.std.specs.Prelude.{◌≡◌, IfErr, IfOk, None, OnErr, OnOk};
 ghost use Rattle.values.specs.Failure.{Tells};
 ghost use Rattle.code_server.specs.Modules.{load_refusal, purged};
-ghost use Rattle.process_store.specs.Pieces.{HoldsLost};
-ghost use Rattle.process_table.specs.Undo.{held};
 ghost use Rattle.code_replacement.specs.Replacing.{all_without, code_loaded, code_removed, running, without_lingering};
 ghost use Rattle.code_replacement.specs.Undo.{PurgesBack, TakesBack};
 
@@ -135,7 +133,6 @@ pub fn purge_all(
         ≡ all_without names.now (running modules.old processes.old apps.old)) }
     ensures inverse { IfOk result (λ undo. PurgesBack undo (running modules.old processes.old apps.old)
         (running modules.new processes.new apps.new)) }
-    ensures pieces { IfOk result (λ undo. HoldsLost (held undo.code.killed processes.new) processes.old processes.new) }
     ensures err { OnErr result (running modules.new processes.new apps.new ≡ running modules.old processes.old apps.old) }
 {
     let pids = all_lingering(modules, processes, alloc, names)?;

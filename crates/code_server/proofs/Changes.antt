@@ -171,6 +171,14 @@ module _ {C : Type 0} where
   pub former-taken : (name : List ℕ) (es : List (Entry C)) (place : ℕ) (at : Stands name es place) (r o : Option (Instance C)) → r ≡ former_at es place → r ≡ o → at.slots.former ≡ o
   former-taken name es place at r o is got = sym (former_at-slots name es place at) ∙ sym is ∙ got
 
+  -- what was taken is what the module had as old code
+  pub held-taken : (name : List ℕ) (t now : Table C) (place : ℕ) (at : Stands name t.entries place) (o : Option (Instance C)) → at.slots.former ≡ o → t ≡ now → o ≡ old_of name now
+  held-taken name t now place at o taken view = sym taken ∙ sym (old_of-slots name t place at) ∙ ap (old_of name) view
+
+  -- and a module that is not there has none
+  pub held-absent : (name : List ℕ) (t now : Table C) → lookup (bytes_eq name) t.entries ≡ None → t ≡ now → None ≡ old_of name now
+  held-absent name t now absent view = sym (ap (option_and_then (λ slots. slots.former)) absent) ∙ ap (old_of name) view
+
   -- a module that is left without current code
   pub no_current : (name : List ℕ) (es : List (Entry C)) (place : ℕ) (at : Stands name es place) → is_some (current_at es place) ≡ false → at.slots.current ≡ None
   no_current name es place at none =

@@ -63,6 +63,18 @@ pub record Fits {C : Type 0} (undo : Undo C) (t : Table C) : Type 0 where
   pub placed : IsPlaced undo t
   pub sound : IsSound (undone undo t)
 
+-- The instance that an undo holds: the old code that its change has purged. All else that it holds are places and a name.
+abbrev pub held : {C : Type 0} → Undo C → Option (Instance C)
+held Nothing = None
+held Added = None
+held (Stacked place) = None
+held (Replaced place instance) = Some instance
+held (Moved place instance) = Some instance
+held (Retired place) = None
+held (Demoted place instance) = Some instance
+held (Purged place instance) = Some instance
+held (Removed place name instance) = Some instance
+
 -- the undo of a removal, the one that puts a module back into the table
 abbrev pub IsRemoval : {C : Type 0} → Undo C → Type 0
 IsRemoval Nothing = ⊥

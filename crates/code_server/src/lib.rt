@@ -21,6 +21,7 @@
 //!
 //! - Each change makes of the table what its definition says, is refused in the order that it says, and leaves the table
 //!   as it was where it is refused. `purge`, `purge_and_load` and `remove` of a module with old code hand out the undo of a purge.
+//! - An undo holds the old code that its change has purged, and no other instance (`held`).
 //! - [`Modules::revert`] and [`Modules::unpurge`] give the table before the change, or, where a module comes back to the
 //!   table and memory is refused, their undo, with the table as it was.
 //! - [`Modules::emptied`] has no module, and gives the serials that follow.

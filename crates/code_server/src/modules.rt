@@ -63,7 +63,7 @@ impl<C: Drop> Modules<C> {
     ghost use Rattle.code_server.specs.Modules.{Table, IsSound, emptied, empty_table, slots_of, current_of, old_of, place_of, load_refusal, loaded, delete_refusal, deleted, purged, soft_purge_refusal};
     ghost use Rattle.values.specs.Failure.{Tells};
     ghost use Rattle.values.specs.declared.failure.Failure.TheVariants.{Memory};
-    ghost use Rattle.code_server.specs.Undo.{Fits, HasPurged, IsRemoval, undone};
+    ghost use Rattle.code_server.specs.Undo.{Fits, HasPurged, IsRemoval, held, undone};
 
     /// A table without modules, whose first load has serial 1. Names are hashed by `hashing`. Takes no memory.
     pub fn new(alloc: Global, hashing: RandomState) -> Modules<C>
@@ -203,6 +203,7 @@ impl<C: Drop> Modules<C> {
         ensures ok { OnOk result (load_refusal name.now self.old ≡ None) }
         ensures loaded { OnOk result (self.new ≡ loaded name.now code self.old) }
         ensures inverse { IfOk result (λ undo. Fits undo self.new × (undone undo self.new ≡ self.old)) }
+        ensures pieces { IfOk result (λ undo. held undo ≡ None) }
         ensures refused { IfErr result (λ failure. Tells failure (load_refusal name.now self.old)) }
         ensures old_code { IfOk result (λ undo. IsSome (old_of name.now self.old) → HasPurged undo) }
         ensures memory { IfErr result (λ failure. failure ≡ Memory → slots_of name.now self.old ≡ None) }
@@ -239,6 +240,7 @@ impl<C: Drop> Modules<C> {
         ensures ok { OnOk result (load_refusal name.now (purged name.now self.old) ≡ None) }
         ensures loaded { OnOk result (self.new ≡ loaded name.now code (purged name.now self.old)) }
         ensures inverse { IfOk result (λ undo. Fits undo self.new × (undone undo self.new ≡ self.old)) }
+        ensures pieces { IfOk result (λ undo. held undo ≡ old_of name.now self.old) }
         ensures refused { IfErr result (λ failure. Tells failure (load_refusal name.now (purged name.now self.old))) }
         ensures old_code { IfOk result (λ undo. IsSome (old_of name.now self.old) → HasPurged undo) }
         ensures memory { IfErr result (λ failure. failure ≡ Memory → slots_of name.now self.old ≡ None) }
@@ -277,6 +279,7 @@ impl<C: Drop> Modules<C> {
     pub fn delete(&mut self, name: &Atom) -> Result<Undo<C>, CodeError>
         ensures deleted { OnOk result (self.new ≡ deleted name.now self.old) }
         ensures inverse { IfOk result (λ undo. Fits undo self.new × (undone undo self.new ≡ self.old)) }
+        ensures pieces { IfOk result (λ undo. held undo ≡ None) }
         ensures refused { MatchResult result (λ _. delete_refusal name.now self.old ≡ None)
             (λ e. delete_refusal name.now self.old ≡ Some e) }
         ensures err { OnErr result (self.new ≡ self.old) }
@@ -298,6 +301,7 @@ impl<C: Drop> Modules<C> {
     pub fn purge(&mut self, name: &Atom) -> Undo<C>
         ensures purged { self.new ≡ purged name.now self.old }
         ensures inverse { Fits result self.new × (undone result self.new ≡ self.old) }
+        ensures pieces { held result ≡ old_of name.now self.old }
         ensures old_code { IsSome (old_of name.now self.old) → HasPurged result }
     {
         let Some(place) = self.table.get_index_of(name) else {
@@ -324,6 +328,7 @@ impl<C: Drop> Modules<C> {
     pub fn soft_purge(&mut self, name: &Atom, in_use: bool) -> Result<Undo<C>, CodeError>
         ensures purged { OnOk result (self.new ≡ purged name.now self.old) }
         ensures inverse { IfOk result (λ undo. Fits undo self.new × (undone undo self.new ≡ self.old)) }
+        ensures pieces { IfOk result (λ undo. held undo ≡ old_of name.now self.old) }
         ensures refused { MatchResult result (λ _. soft_purge_refusal name.now in_use self.old ≡ None)
             (λ e. soft_purge_refusal name.now in_use self.old ≡ Some e) }
         ensures err { OnErr result (self.new ≡ self.old) }

@@ -1,8 +1,3 @@
-pub mod Accepting
-pub mod Advances
-pub mod Backs
+pub mod Kept
 pub mod Refusals
-pub mod Restarts
-pub mod Scripts
-pub mod Spared
 pub mod Stepped

@@ -1,28 +1,16 @@
 -- Why an event is refused, as it is told without memory.
-use Rattle.std.proofs.Common.{◌≡◌, ◌∙◌, ℕ, Bool, List, Option, None, Some, Err, IsSome, MatchOption, option_map, option_and_then, slice_get, refl, sym, ap, subst}
+use Rattle.std.proofs.Common.{◌≡◌, ℕ, Bool, List, Option, None, Some, Err, MatchOption, option_map, refl, sym, ap, subst}
 use Rattle.std.proofs.lemmas.Option.{none-some}
 use Rattle.install_checks.specs.declared.installing.InstallError.{InstallError}
 use Rattle.low_instructions.specs.declared.low.Low.{Low}
-use Rattle.release_statuses.proofs.Standing.{Stands-place}
-use Rattle.release_statuses.specs.Statuses.{place_of}
 use Rattle.release_statuses.specs.declared.error.RelError.{RelError}
 use Rattle.release_table.specs.declared.table.Release.{Release}
+use Rattle.script_events.proofs.Targets.{known_target}
 use Rattle.script_state.specs.Runner.{RunnerState}
 use Rattle.node_rules.specs.Node.{NodeState, RunsScript}
-use Rattle.node_rules.specs.Scripts.{Advances, GoesOn, GoesOnBy, Outcome, UnlessInstalling, advance_refused, busy_by, next_in, target_in, unless_installing}
+use Rattle.node_rules.specs.Scripts.{Advances, GoesOn, GoesOnBy, Outcome, UnlessInstalling, advance_refused, busy_by, next_in, unless_installing}
 use Rattle.node_types.specs.declared.event.Refusal.{Refusal}
 use Rattle.node_types.specs.declared.event.Refusal.TheVariants as refusal
-
--- The release that is being installed is known.
-
-known_at : (s : RunnerState) (n : NodeState) (o : Option ℕ) → place_of s.target n.releases ≡ o → IsSome o → (r : Release) × (target_in s n ≡ Some r)
-known_at s n None at some = let never : ⊥ = cc in absurd never
-known_at s n (Some place) at some =
-    let stands = Stands-place s.target n.releases place at in
-    (stands.it.release, ap (λ o. option_map (λ it. it.release) (option_and_then (slice_get n.releases) o)) at ∙ ap (option_map (λ it. it.release)) stands.there)
-
-pub known_target : (s : RunnerState) (n : NodeState) → IsSome (place_of s.target n.releases) → (r : Release) × (target_in s n ≡ Some r)
-known_target s n known = known_at s n (place_of s.target n.releases) refl known
 
 -- An advance is refused where somebody has to be waited for.
 

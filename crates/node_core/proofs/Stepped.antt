@@ -3,9 +3,9 @@ use Rattle.std.proofs.Common.{◌≡◌, ◌∙◌, ℕ, Option, Some, Result, O
 use Rattle.undo_journal.specs.Reversible.{Accepts, Refuses}
 use Rattle.undo_journal.specs.declared.reversible.Stepped.{Stepped}
 use Rattle.values.specs.declared.failure.Failure.{Failure}
-use Rattle.node_core.specs.Changes.{IsStep, IsTakenBack}
-use Rattle.node_core.specs.Record.{Undoes}
-use Rattle.node_core.specs.declared.record.Record.{Record}
+use Rattle.node_parts.specs.Changes.{IsStep, IsTakenBack}
+use Rattle.node_parts.specs.Record.{Undoes}
+use Rattle.node_parts.specs.declared.record.Record.{Record}
 use Rattle.node_rules.proofs.Steps.{step_keeps}
 use Rattle.node_rules.specs.Node.{IsKept, NodeState}
 use Rattle.node_rules.specs.Step.{MayRunOut, Step}

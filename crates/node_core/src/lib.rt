@@ -3,7 +3,7 @@
 //! A [`Node`] is its modules, its processes, its applications and its releases; the old code that scripts have left to be purged; and
 //! the script that it runs, if it runs one. It boots from a release ([`Node::boot`]), and makes a step for each [`Event`] of
 //! [`node_types`], by the rule of [`node_rules`]. It is [`undo_journal::Reversible`], so a journal over it keeps marks and takes its
-//! steps back.
+//! steps back. What it is made of, and the way back of a step, stand in [`node_parts`]; events of scripts in [`script_events`].
 //!
 //! [`Event`]: node_types::Event
 //!
@@ -18,6 +18,9 @@
 //! - What takes a step back gives the node before, whole, or hands itself back, and the node is as it was (`Undoes`). So what
 //!   [`undo_journal`] promises holds of the node: after any commands and undos it is the fold of the rule over the steps not undone, and
 //!   an undo reports exactly the replies sent and the messages accepted since.
+//! - What a journal keeps of a step is bounded: of every station its record holds only messages and places of processes, instances of
+//!   code, releases and a script that its step has taken from the node, each once ([`record_at`], `HoldsLost`). Of a restart that is
+//!   all but the releases.
 //! - Every node keeps what stands in `IsKept`: of its code, its children, and a script that it runs; [`Node::modules`] tells it.
 //! - Of its processes it tells who lives under a pid ([`Node::process`]) and under a name ([`Node::pid_of`]), which job one runs
 //!   ([`Node::retake`]), and which could take a message now ([`Node::is_runnable`], [`Node::runnable`]: `IsNextRunnable`); of its
@@ -30,23 +33,16 @@
 //! once a module; a restart what boots, and a look at each process; what takes a restart back moves what stood there.
 #![tactic(auto)]
 
-mod advancing;
-mod carrying;
-mod installing;
 mod loading;
 mod node;
-mod parts;
 mod processes;
-mod purging;
 mod reading;
-mod record;
 mod refusing;
 mod releasing;
-mod restarting;
-mod reverting;
 mod reviving;
+mod stations;
 mod stepping;
-mod telling;
 
 pub use node::Node;
-pub use record::{Displaced, Record};
+pub use node_parts::{Displaced, Record};
+pub use stations::record_at;

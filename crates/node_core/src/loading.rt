@@ -1,21 +1,18 @@
 // Events of code.
 ghost use Rattle.std.specs.Prelude.{◌≡◌, [], IfOk, replicate};
 ghost use Rattle.code_loading.specs.Loading.{purge_told};
-ghost use Rattle.node_core.specs.Changes.{IsStep, state_of};
+ghost use Rattle.node_parts.specs.Changes.{IsStep, state_of};
 ghost use Rattle.node_rules.specs.Scripts.{reporting};
 ghost use Rattle.node_rules.specs.Step.{MayRunOut};
 ghost use Rattle.node_types.specs.declared.event.Answer.TheVariants as answer;
 ghost use Rattle.node_types.specs.declared.event.Event.TheVariants as event;
 
-use crate::parts::NodeParts;
-use crate::processes::Step;
-use crate::record::Record;
-use crate::telling::{reporting, tell};
 use code_loading::{is_lingered_in, purge_told, soft_purge as purge_softly};
 use code_replacement::{load as replace, purge as purge_code};
 use code_server::Modules;
 use erl_forms::Module;
 use erl_term::Atom;
+use node_parts::{NodeParts, Record, Step, reporting, tell};
 use node_types::{Answer, Note};
 use process_table::Processes;
 use std::alloc::{AllocError, Global};

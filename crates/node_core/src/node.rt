@@ -5,9 +5,9 @@ ghost use Rattle.release_boot.specs.Boot.{BootFails, Boots};
 ghost use Rattle.release_statuses.specs.Statuses.{booted};
 ghost use Rattle.node_rules.specs.Node.{IsKept};
 
-use crate::parts::NodeParts;
 use code_server::Modules;
 use erl_forms::Module;
+use node_parts::NodeParts;
 use process_table::Processes;
 use release_boot::{BootError, Booted, boot};
 use release_statuses::Releases;
@@ -30,7 +30,7 @@ impl Model for Node {
     ghost use Rattle.std.specs.Coded.{codes};
     ghost use Rattle.erl_term.specs.contracts.term.Terms as terms;
     ghost use Rattle.erl_forms.specs.contracts.module.Module as forms;
-    ghost use Rattle.node_core.specs.Changes.{state_of};
+    ghost use Rattle.node_parts.specs.Changes.{state_of};
     ghost use Rattle.node_rules.specs.Node.{IsKept, NodeState};
 
     ghost Value = { NodeState };

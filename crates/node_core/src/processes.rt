@@ -1,28 +1,23 @@
 // Events of processes.
-ghost use Rattle.std.specs.Prelude.{◌≡◌, ◌∷◌, [], IfOk, IfSome, None, OnErr, OnOk};
+ghost use Rattle.std.specs.Prelude.{◌≡◌, ◌∷◌, [], IfOk, IfSome, OnErr, OnOk};
 ghost use Rattle.app_table.specs.Applications.{all_ended};
-ghost use Rattle.app_table.specs.Undo.{undone as apps_before};
-ghost use Rattle.process_table.specs.Undo.{TakesBackEnds};
-ghost use Rattle.node_core.specs.Changes.{IsStep, state_of};
+ghost use Rattle.app_table.specs.Pieces.{held as held_specs};
+ghost use Rattle.process_store.specs.Pieces.{HoldsLost};
+ghost use Rattle.process_table.specs.Undo.{TakesBackEnds, held};
+ghost use Rattle.node_parts.specs.Changes.{IsStep, state_of};
 ghost use Rattle.node_rules.specs.Node.{NodeState};
-ghost use Rattle.node_core.specs.Record.{AppsBack, Restores};
+ghost use Rattle.node_parts.specs.Record.{AppsBack, Restores};
 ghost use Rattle.node_rules.specs.Step.{MayRunOut, ended_by};
 ghost use Rattle.node_types.specs.declared.event.Event.TheVariants as event;
 
-use crate::parts::NodeParts;
-use crate::record::Record;
-use crate::telling::{room, tell_arrivals, tell_done, tell_jobs};
 use app_table::AppTable;
 use erl_semantics::{Done, End};
 use erl_term::{Atom, Predefined, Term};
-use node_types::{Answer, Note, Refusal};
+use node_parts::{NodeParts, Record, Step, room, tell_arrivals, tell_done, tell_jobs, unend};
 use process_table::Body;
 use std::alloc::{AllocError, Global};
 use undo_journal::Stepped;
 use values::{Boxed, Failure, Reserved};
-
-/// What one step of a node gives.
-pub(crate) type Step = Result<Stepped<Answer, Note, Record>, Failure<Refusal>>;
 
 /// The child, if any, whose process ends for a reason has none, and is due or not.
 fn end_one(
@@ -33,6 +28,7 @@ fn end_one(
 ) -> Result<Option<Boxed<app_table::Undo>>, AllocError>
     ensures ended { OnOk result (apps.new ≡ all_ended reason.now (pid ∷ []) apps.old) }
     ensures inverse { IfOk result (λ undo. AppsBack undo apps.old apps.new) }
+    ensures pieces { IfOk result (λ undo. IfSome undo (λ it. held_specs it apps.new ≡ [])) }
     ensures err { OnErr result (apps.new ≡ apps.old) }
 {
     let room = Reserved::new(alloc)?;
@@ -48,6 +44,7 @@ fn end_child(
 ) -> Result<Option<Boxed<app_table::Undo>>, AllocError>
     ensures ended { OnOk result (apps.new ≡ ended_by done.now.job.pid done.now.outcome.end apps.old) }
     ensures inverse { IfOk result (λ undo. AppsBack undo apps.old apps.new) }
+    ensures pieces { IfOk result (λ undo. IfSome undo (λ it. held_specs it apps.new ≡ [])) }
     ensures err { OnErr result (apps.new ≡ apps.old) }
 {
     let pid = done.job().pid;
@@ -61,22 +58,12 @@ fn end_child(
     }
 }
 
-/// Takes an end of children back.
-pub(crate) fn unend(apps: &mut AppTable, undo: Option<Boxed<app_table::Undo>>)
-    ensures undone { IfSome undo (λ it. apps.new ≡ apps_before it apps.old) }
-    ensures none { undo ≡ None → apps.new ≡ apps.old }
-{
-    if let Some(undo) = undo {
-        let (undo, _) = undo.open();
-        apps.revert(undo);
-    }
-}
-
 /// What takes a change of processes back, and with it that of children, if any.
 fn record_of(undo: process_table::Undo, ended: Option<Boxed<app_table::Undo>>) -> Record
     ensures { (before after : NodeState) → TakesBackEnds undo before.processes after.processes →
         AppsBack ended before.apps after.apps → (after ≡ record before { processes = after.processes; apps = after.apps }) →
-        Restores result before after }
+        HoldsLost (held undo after.processes) before.processes after.processes →
+        IfSome ended (λ it. held_specs it after.apps ≡ []) → Restores result before after }
 {
     match ended {
         None => Record::OfProcesses(undo),

@@ -1,18 +1,18 @@
 // Why an event is refused, as it is told without memory.
 ghost use Rattle.std.specs.Prelude.{◌≡◌, Err, MatchOption, option_map};
-ghost use Rattle.node_core.specs.Changes.{state_of};
+ghost use Rattle.node_parts.specs.Changes.{state_of};
 ghost use Rattle.node_rules.specs.Node.{RunsScript};
 ghost use Rattle.node_rules.specs.Scripts.{advance_refused, busy_next, reboot_refused, unless_installing};
 ghost use Rattle.node_rules.specs.Step.{MayRunOut, Step, soft_purge_refusal};
 ghost use Rattle.script_state.specs.Runner.{runner_of};
 ghost use Rattle.node_types.specs.declared.event.Refusal.TheVariants.{OfApps, OfInstall, OfModules, OfProcesses, OfReleases};
 
-use crate::parts::NodeParts;
 use code_loading::is_lingered_in;
 use code_server::CodeError;
 use erl_term::Atom;
 use install_checks::{InstallError, install_refusal};
 use low_instructions::Low;
+use node_parts::NodeParts;
 use node_restart::restart_refusal;
 use node_types::{Event, Refusal};
 use process_table::ProcError;

@@ -1,12 +1,10 @@
 // Events of releases.
-ghost use Rattle.node_core.specs.Changes.{IsStep, state_of};
+ghost use Rattle.node_parts.specs.Changes.{IsStep, state_of};
 ghost use Rattle.node_rules.specs.Step.{MayRunOut};
 ghost use Rattle.node_types.specs.declared.event.Event.TheVariants as event;
 
 use crate::loading::quiet;
-use crate::parts::NodeParts;
-use crate::processes::Step;
-use crate::record::Record;
+use node_parts::{NodeParts, Record, Step};
 use release_statuses::Vsn;
 use release_table::Release;
 use std::alloc::Global;

@@ -1,14 +1,11 @@
 // Children that are due start again.
-ghost use Rattle.node_core.specs.Changes.{IsStep, state_of};
+ghost use Rattle.node_parts.specs.Changes.{IsStep, state_of};
 ghost use Rattle.node_rules.specs.Step.{MayRunOut};
 ghost use Rattle.node_types.specs.declared.event.Event.TheVariants as event;
 
-use crate::parts::NodeParts;
-use crate::processes::Step;
-use crate::record::Record;
-use crate::telling::{room, tell_revived};
 use code_loading::current_code;
 use erl_term::{Atom, Term};
+use node_parts::{NodeParts, Record, Step, room, tell_revived};
 use node_types::Refusal;
 use std::alloc::Global;
 use sys_protocol::revive as start_again;

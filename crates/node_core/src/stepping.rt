@@ -1,28 +1,19 @@
 // Steps of the node, and what takes them back.
-ghost use Rattle.node_core.specs.Changes.{IsStep, IsTakenBack, state_of};
-ghost use Rattle.node_rules.specs.Node.{NodeState, RunsScript};
-ghost use Rattle.node_core.specs.Record.{Undoes};
+ghost use Rattle.node_parts.specs.Changes.{IsStep, state_of};
+ghost use Rattle.node_rules.specs.Node.{RunsScript};
+ghost use Rattle.node_parts.specs.Record.{Undoes};
 ghost use Rattle.node_rules.specs.Step.{MayRunOut, Step as Steps};
 ghost use Rattle.node_rules.proofs.OneOutcome.{one_outcome_of};
 
-use crate::advancing::advance;
-use crate::installing::install;
 use crate::loading::{delete, load, purge, soft_purge};
 use crate::node::Node;
-use crate::parts::NodeParts;
-use crate::processes::{Step, arrive, commit, take};
-use crate::purging::{make_permanent, sweep};
-use crate::record::Record;
+use crate::processes::{arrive, commit, take};
 use crate::refusing::refusal_of;
 use crate::releasing::{remove, set_unpacked};
-use crate::restarting::reboot_old;
-use crate::reverting::{
-    revert_all_purges, revert_children, revert_code, revert_deletion, revert_finish,
-    revert_install, revert_instruction, revert_processes, revert_recovery, revert_releases,
-    revert_restart,
-};
 use crate::reviving::revive;
+use node_parts::{NodeParts, Record, Step, revert};
 use node_types::{Answer, Event, Note, Refusal};
+use script_events::{advance, install, make_permanent, reboot_old, sweep};
 use std::alloc::Global;
 use undo_journal::Reversible;
 use values::Failure;
@@ -52,26 +43,6 @@ fn step_of(parts: &mut NodeParts, alloc: Global, event: &Event, n: usize) -> Ste
     }
 }
 
-/// A step is taken back in the parts of a node.
-fn revert_of(parts: &mut NodeParts, alloc: Global, trace: Record) -> Result<(), Record>
-    requires { (before : NodeState) × Undoes trace before (state_of parts.old) }
-    ensures { IsTakenBack trace (state_of parts.old) (state_of parts.new) result }
-{
-    match trace {
-        Record::OfProcesses(undo) => revert_processes(parts, undo),
-        Record::OfChildren(undo, ended) => revert_children(parts, undo, ended),
-        Record::OfCode(undo) => revert_code(parts, undo),
-        Record::OfDeletion(undo) => revert_deletion(parts, undo),
-        Record::OfReleases(undo) => revert_releases(parts, undo),
-        Record::OfInstall => revert_install(parts),
-        Record::OfInstruction(undo) => revert_instruction(parts, alloc, undo),
-        Record::OfFinish(undo) => revert_finish(parts, undo),
-        Record::OfRecovery(undo) => revert_recovery(parts, undo),
-        Record::OfPurges(undo, statuses) => revert_all_purges(parts, alloc, undo, statuses),
-        Record::OfRestart(displaced) => revert_restart(parts, displaced),
-    }
-}
-
 impl Reversible for Node {
     type Event = Event;
 
@@ -97,7 +68,7 @@ impl Reversible for Node {
     }
 
     fn revert(&mut self, trace: Record) -> Result<(), Record> {
-        revert_of(&mut self.parts, self.alloc, trace)
+        revert(&mut self.parts, self.alloc, trace)
     }
 
     fn refusal(&self, event: &Event) -> Option<Refusal> {

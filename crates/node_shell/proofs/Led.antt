@@ -1,5 +1,5 @@
 -- Whatever the shell does of a line, the line's command leads to the journal after it.
-use Rattle.std.proofs.Common.{◌≡◌, ℕ, List, Option, None, Some, Ok, option_map, option_to_list, unwrap_or, refl, sym, ap, subst}
+use Rattle.std.proofs.Common.{◌≡◌, ◌<◌, ℕ, inl, inr, List, Option, None, Some, IsSome, Ok, option_map, option_to_list, unwrap_or, refl, sym, ap, subst, ◌∙◌, arith}
 use Rattle.erl_term.specs.Tree.{Tree}
 use Rattle.erl_term.specs.declared.term.Term.{Term}
 use Rattle.erl_term.specs.declared.term.Term.TheVariants as term
@@ -7,9 +7,9 @@ use Rattle.erl_semantics.specs.declared.jobs.Job.{Job}
 use Rattle.process_store.specs.Table.{living}
 use Rattle.undo_journal.specs.History.{AreAfter}
 use Rattle.undo_journal.specs.Reversible.{Accepted}
-use Rattle.undo_journal.specs.Timeline.{appended, cut_stations, cut_to, here, report_of}
+use Rattle.undo_journal.specs.Timeline.{IsDead, IsOrdered, appended, cut_stations, cut_to, forgotten_to, here, report_of}
 use Rattle.undo_journal.specs.declared.history.Command.TheVariants as command
-use Rattle.undo_journal.proofs.Histories.{cut_to-parts}
+use Rattle.undo_journal.proofs.Forgets.{cut_to-below, forgotten_to-uncut}
 use Rattle.node_rules.specs.Node.{NodeState}
 use Rattle.node_rules.specs.Step.{Step}
 use Rattle.node_types.specs.declared.event.Answer.{Answer}
@@ -17,7 +17,7 @@ use Rattle.node_types.specs.declared.event.Answer.TheVariants as tells
 use Rattle.node_types.specs.declared.event.Event.{Event}
 use Rattle.node_types.specs.declared.event.Event.TheVariants as event
 use Rattle.node_types.specs.Note.{Note}
-use Rattle.shell_requests.specs.Request.{Request, Spoken, ask, change, load, undo, commit, arrive, serve, revive, unpack, release, advance, sweep, too_long, silent, unknown, asks}
+use Rattle.shell_requests.specs.Request.{Request, Spoken, ask, change, load, undo, forget, commit, arrive, serve, revive, unpack, release, relup, advance, sweep, too_long, silent, unknown, asks}
 use Rattle.shell_requests.specs.declared.request.Arrival.{Arrival}
 use Rattle.shell_requests.specs.declared.request.Arrival.TheVariants as arrivals
 use Rattle.shell_requests.specs.declared.request.Change.{Change}
@@ -31,34 +31,35 @@ use Rattle.shell_requests.specs.declared.request.Service.TheVariants as services
 use Rattle.shell_deeds.specs.Deeds as deeds
 use Rattle.shell_holdings.specs.Performing as performing
 use Rattle.shell_holdings.specs.Serving as serving
+use Rattle.shell_relups.specs.Relups as relups
 use Rattle.shell_upgrades.specs.Upgrades as upgrades
 use Rattle.shell_answers.specs.Answers.{fixed, stopped_undo, undone_steps}
 use Rattle.shell_answers.specs.Refusals.{Subject, naming, naming_nothing}
 use Rattle.shell_answers.specs.declared.fixed.Fixed.TheVariants as words
-use Rattle.shell_holdings.specs.State as state
-use Rattle.shell_holdings.specs.State.{Deed, NodeTimeline, ShellState, answered, next_number, node_of, stepped}
-use Rattle.shell_holdings.specs.declared.fate.Fate.{Fate}
-use Rattle.shell_holdings.specs.declared.fate.Fate.TheVariants.{StoppedAt}
-use Rattle.node_shell.specs.Replay.{Stops}
+use Rattle.shell_steps.specs.State as state
+use Rattle.shell_steps.specs.State.{Deed, NodeTimeline, ShellState, answered, next_number, node_of, stepped}
+use Rattle.shell_steps.specs.declared.fate.Fate.{Fate}
+use Rattle.shell_steps.specs.declared.fate.Fate.TheVariants.{StoppedAt}
+use Rattle.node_shell.specs.Replay.{NamesMark, Stops}
 
--- the command of a deed leads to the journal after it, which begins where the one before does
+-- the command of a deed leads to the journal after it
 abbrev pub IsLed : ShellState → Deed → Type 0
-IsLed s d = AreAfter Step (option_to_list d.command) s.timeline d.after.timeline × (d.after.timeline.first ≡ s.timeline.first)
+IsLed s d = AreAfter Step (option_to_list d.command) s.timeline d.after.timeline
 
 module _ (s : ShellState) where
   performs : (tried : ShellState) (e : Event) (about : Subject) (done : Accepted NodeState Answer Note → Deed) (fate : Option Fate) (d : Deed) → tried.timeline ≡ s.timeline → ((a : Accepted NodeState Answer Note) → Step (node_of s) e (Ok a) → IsLed s (done a)) → performing.Performs s tried e about done fate d → IsLed s d
-  performs tried e about done _ _ same each (performing.full is) = (same, ap (λ t. t.first) same)
+  performs tried e about done _ _ same each (performing.full is) = same
   performs tried e about done _ _ same each (performing.accepted room a rule) = each a rule
-  performs tried e about done _ _ same each (performing.refused room why rule) = (same, ap (λ t. t.first) same)
-  performs tried e about done _ _ same each (performing.no_memory room may) = (refl, refl)
+  performs tried e about done _ _ same each (performing.refused room why rule) = same
+  performs tried e about done _ _ same each (performing.no_memory room may) = refl
 
   misses : {X : Type 0} (about : Subject) (e : X → Event) (fate : Option Fate) (d : Deed) → performing.Misses s about e fate d → IsLed s d
-  misses about e _ _ (performing.unread_full is) = (refl, refl)
-  misses about e _ _ (performing.unread_refused room why rule) = (refl, refl)
-  misses about e _ _ (performing.no_memory_to_read room may) = (refl, refl)
+  misses about e _ _ (performing.unread_full is) = refl
+  misses about e _ _ (performing.unread_refused room why rule) = refl
+  misses about e _ _ (performing.no_memory_to_read room may) = refl
 
-  carried : (e : Event) (a : Accepted NodeState Answer Note) → Step (node_of s) e (Ok a) → AreAfter Step (option_to_list (Some (command.Perform e))) s.timeline (appended s.timeline a.node a.note) × ((appended s.timeline a.node a.note).first ≡ s.timeline.first)
-  carried e a rule = ((appended s.timeline a.node a.note, (Ok a, rule, refl), refl), refl)
+  carried : (e : Event) (a : Accepted NodeState Answer Note) → Step (node_of s) e (Ok a) → AreAfter Step (option_to_list (Some (command.Perform e))) s.timeline (appended s.timeline a.node a.note)
+  carried e a rule = (appended s.timeline a.node a.note, (Ok a, rule, refl), refl)
 
   took : (pid : ℕ) (a : Accepted NodeState Answer Note) (answer : Tree) (told : Answer) → Step (node_of s) (event.Take pid) (Ok a) → IsLed s (state.carried (performing.job_kept told (stepped a s)) (event.Take pid) answer)
   took pid a answer (tells.Job job) rule = carried (event.Take pid) a rule
@@ -70,9 +71,9 @@ module _ (s : ShellState) where
   changed changes.SoftPurge name a rule = carried (event.SoftPurge name) a rule
 
   loads : (name path : List ℕ) (fate : Option Fate) (d : Deed) → deeds.Loads s name path fate d → IsLed s d
-  loads name path _ _ (deeds.missing is) = (refl, refl)
-  loads name path _ _ (deeds.no_source bytes why found says none) = (refl, refl)
-  loads name path _ _ (deeds.another bytes m found source other) = (refl, refl)
+  loads name path _ _ (deeds.missing is) = refl
+  loads name path _ _ (deeds.no_source bytes why found says none) = refl
+  loads name path _ _ (deeds.another bytes m found source other) = refl
   loads name path _ _ (deeds.read bytes m fate d found source same does) =
       performs s (event.Load m) naming_nothing _ fate d refl (carried (event.Load m)) does
   loads name path _ _ (deeds.unread bytes fate d found does) = misses naming_nothing event.Load fate d does
@@ -88,20 +89,20 @@ module _ (s : ShellState) where
   arrived arrivals.Info number name t a rule = carried (deeds.event_of_arrival arrivals.Info number name t) a rule
 
   arrives : (kind : Arrival) (name text : List ℕ) (fate : Option Fate) (d : Deed) → deeds.Arrives s kind name text fate d → IsLed s d
-  arrives kind name text _ _ (deeds.no_text fault at is) = (refl, refl)
-  arrives kind name text _ _ (deeds.several is) = (refl, refl)
+  arrives kind name text _ _ (deeds.no_text fault at is) = refl
+  arrives kind name text _ _ (deeds.several is) = refl
   arrives kind name text _ _ (deeds.read t fate d is does) =
       let e = deeds.arrival_event s kind name t in
       performs (deeds.tried kind s) e naming_nothing (performing.done_by (deeds.tried kind s) e) fate d (tried_same kind) (arrived kind (next_number s) name t) does
   arrives kind name text _ _ (deeds.unread fate d does) = misses naming_nothing _ fate d does
 
   retakes : (pid : ℕ) (fate : Option Fate) (d : Deed) → serving.Retakes s pid fate d → IsLed s d
-  retakes pid _ _ (serving.kept_again job is) = (refl, refl)
-  retakes pid _ _ (serving.not_running why is) = (refl, refl)
-  retakes pid _ _ (serving.no_memory_to_keep is) = (refl, refl)
+  retakes pid _ _ (serving.kept_again job is) = refl
+  retakes pid _ _ (serving.not_running why is) = refl
+  retakes pid _ _ (serving.no_memory_to_keep is) = refl
 
   told : (answer : Tree) (fate : Option Fate) (d : Deed) → (fate ≡ None) × (d ≡ answered s answer) → IsLed s d
-  told answer fate d is = subst (λ e. IsLed s e) (sym is.1) (refl, refl)
+  told answer fate d is = subst (λ e. IsLed s e) (sym is.1) refl
 
   serves : (service : Service) (pid : Option ℕ) (fate : Option Fate) (d : Deed) → serving.ServesAs s service pid fate d → IsLed s d
   serves services.Take None fate d does = told (fixed words.NoProc) fate d does
@@ -114,22 +115,27 @@ module _ (s : ShellState) where
   commits : (job : Option Job) (fate : Option Fate) (d : Deed) → serving.CommitsKept s job fate d → IsLed s d
   commits None fate d does = told (fixed words.NoJob) fate d does
   commits (Some job) _ _ (serving.ran done fate d is does) = performs s (event.Commit done) naming_nothing _ fate d refl (carried (event.Commit done)) does
-  commits (Some job) _ _ (serving.not_run_full is) = (refl, refl)
-  commits (Some job) _ _ (serving.not_run room why refuses) = (refl, refl)
-  commits (Some job) _ _ (serving.no_memory_to_run room may) = (refl, refl)
+  commits (Some job) _ _ (serving.not_run_full is) = refl
+  commits (Some job) _ _ (serving.not_run room why refuses) = refl
+  commits (Some job) _ _ (serving.no_memory_to_run room may) = refl
 
   undoes : (mark : ℕ) (fate : Option Fate) (d : Deed) → serving.Undoes s mark fate d → IsLed s d
-  undoes mark _ _ (serving.forgotten is) = (refl, refl)
-  undoes mark _ _ (serving.dead is) = (refl, refl)
-  undoes mark _ _ (serving.cut end is) = ((end, ap (λ o. unwrap_or o s.timeline) (sym is), refl), (cut_to-parts mark s.timeline end is).1)
-  undoes mark _ _ (serving.stopped reached end alive behind is uncut) = ((end, ap (λ o. unwrap_or o s.timeline) (sym is), refl), (cut_to-parts reached s.timeline end is).1)
+  undoes mark _ _ (serving.forgotten is) = refl
+  undoes mark _ _ (serving.dead is) = refl
+  undoes mark _ _ (serving.cut end is) = (end, ap (λ o. unwrap_or o s.timeline) (sym is), refl)
+  undoes mark _ _ (serving.stopped reached end alive behind is uncut) = (end, ap (λ o. unwrap_or o s.timeline) (sym is), refl)
+
+  forgets : (mark : ℕ) (fate : Option Fate) (d : Deed) → serving.Forgets s mark fate d → IsLed s d
+  forgets mark _ _ (serving.below is) = refl
+  forgets mark _ _ (serving.nowhere is) = refl
+  forgets mark _ _ (serving.floored end is) = (end, ap (λ o. unwrap_or o s.timeline) (sym is), refl)
 
   asks-nothing : (question : Question) (fate : Option Fate) (d : Deed) → serving.Asks s question fate d → IsLed s d
-  asks-nothing question _ _ serving.is_told = (refl, refl)
-  asks-nothing question _ _ (serving.no_memory_to_tell may) = (refl, refl)
+  asks-nothing question _ _ serving.is_told = refl
+  asks-nothing question _ _ (serving.no_memory_to_tell may) = refl
 
   unpacks : (vsn : List ℕ) (fate : Option Fate) (d : Deed) → upgrades.Unpacks s vsn fate d → IsLed s d
-  unpacks vsn _ _ (upgrades.no_release path why is) = (refl, refl)
+  unpacks vsn _ _ (upgrades.no_release path why is) = refl
   unpacks vsn _ _ (upgrades.release_read r fate d is does) =
       performs s (event.SetUnpacked r) (naming (chars vsn)) _ fate d refl (carried (event.SetUnpacked r)) does
   unpacks vsn _ _ (upgrades.release_unread fate d does) = misses (naming (chars vsn)) (upgrades.unpack_event vsn) fate d does
@@ -143,24 +149,33 @@ module _ (s : ShellState) where
   alters : (kind : ReleaseChange) (vsn : List ℕ) (fate : Option Fate) (d : Deed) → upgrades.AltersReleases s kind vsn fate d → IsLed s d
   alters kind vsn fate d does = performs s (upgrades.release_event kind (chars vsn)) _ _ fate d refl (altered kind (chars vsn)) does
 
+  tells-relup : (from to : List ℕ) (fate : Option Fate) (d : Deed) → relups.TellsRelup s from to fate d → IsLed s d
+  tells-relup from to _ _ (relups.no_source path why is) = refl
+  tells-relup from to _ _ (relups.no_target old path why is faulty) = refl
+  tells-relup from to _ _ (relups.no_relup old new why is also refuses) = refl
+  tells-relup from to _ _ (relups.made old new it is also does) = refl
+  tells-relup from to _ _ relups.no_memory_for_relup = refl
+
   obeys : (fate : Option Fate) (request : Request) (d : Deed) → deeds.Obeys fate s request d → IsLed s d
   obeys fate (ask question) d does = asks-nothing question fate d does
   obeys fate (change kind name) d does = performs s (deeds.change_event kind name) naming_nothing _ fate d refl (changed kind name) does
   obeys fate (load name path) d does = loads name path fate d does
   obeys fate (undo mark) d does = undoes mark fate d does
+  obeys fate (forget mark) d does = forgets mark fate d does
   obeys fate (commit place) d does = commits (serving.kept_job place s.jobs) fate d does
   obeys fate (arrive kind name text) d does = arrives kind name text fate d does
   obeys fate (serve service who) d does = serves service (deeds.pid_meant who (node_of s)) fate d does
   obeys fate (revive app id) d does = performs s (event.Revive app (term.Atom id)) naming_nothing _ fate d refl (carried (event.Revive app (term.Atom id))) does
   obeys fate (unpack vsn) d does = unpacks vsn fate d does
   obeys fate (release kind vsn) d does = alters kind vsn fate d does
+  obeys fate (relup from to) d does = tells-relup from to fate d does
   obeys fate (advance give_up) d does = performs s (event.Advance give_up) naming_nothing _ fate d refl (carried (event.Advance give_up)) does
   obeys fate sweep d does = performs s event.Sweep naming_nothing _ fate d refl (carried event.Sweep) does
 
 -- what may be done of what is said in a line
 pub Does-led : (fate : Option Fate) (s : ShellState) (line : Spoken) (d : Deed) → deeds.Does fate s line d → IsLed s d
 Does-led fate s too_long d does = told s (fixed words.LineTooLong) fate d does
-Does-led fate s silent d does = subst (λ e. IsLed s e) (sym does.1) (refl, refl)
+Does-led fate s silent d does = subst (λ e. IsLed s e) (sym does.1) refl
 Does-led fate s unknown d does = told s (fixed words.BadCommand) fate d does
 Does-led fate s (asks request) d does = obeys s fate request d does
 
@@ -191,3 +206,55 @@ undo-stops s mark reached _ _ is (serving.stopped at end alive behind stands unc
 
 pub Does-stops : (s : ShellState) (mark reached : ℕ) (fate : Option Fate) (line : Spoken) (d : Deed) → fate ≡ Some (StoppedAt reached) → line ≡ asks (undo mark) → deeds.Does fate s line d → Stops s.timeline d mark reached
 Does-stops s mark reached fate line d is says does = undo-stops s mark reached fate d is (subst (λ l. deeds.Does fate s l d) says does)
+
+-- A forget up to a mark with a station has that as the floor.
+
+forget-floors : (s : ShellState) (mark : ℕ) (end : NodeTimeline) (fate : Option Fate) (d : Deed) → forgotten_to mark s.timeline ≡ Some end → serving.Forgets s mark fate d → d ≡ serving.floored_at s mark end
+forget-floors s mark end _ _ is (serving.below dropped) = absurd (let gone = forgotten_to-uncut mark s.timeline dropped.1 in let never : ⊥ = cc in never)
+forget-floors s mark end _ _ is (serving.nowhere dropped) = absurd (let gone = forgotten_to-uncut mark s.timeline dropped.1 in let never : ⊥ = cc in never)
+forget-floors s mark end _ _ is (serving.floored at stands) =
+    let same : at ≡ end = cc in ap (λ t. serving.floored_at s mark t) same
+
+pub Does-floors : (s : ShellState) (mark : ℕ) (end : NodeTimeline) (fate : Option Fate) (line : Spoken) (d : Deed) → line ≡ asks (forget mark) → forgotten_to mark s.timeline ≡ Some end → deeds.Does fate s line d → d ≡ serving.floored_at s mark end
+Does-floors s mark end fate line d says is does = forget-floors s mark end fate d is (subst (λ l. deeds.Does fate s l d) says does)
+
+-- What has no station is answered so: below the floor it is forgotten, and else dead.
+
+module _ (s : ShellState) (mark : ℕ) (gone : cut_to mark s.timeline ≡ None) where
+  cut-nowhere : (end : NodeTimeline) → cut_to mark s.timeline ≡ Some end → ⊥
+  cut-nowhere end is = let never : ⊥ = cc in never
+
+  kept-nowhere : (end : NodeTimeline) → forgotten_to mark s.timeline ≡ Some end → ⊥
+  kept-nowhere end is = let kept = forgotten_to-uncut mark s.timeline gone in let never : ⊥ = cc in never
+
+  undo-forgotten : (fate : Option Fate) (d : Deed) → mark < s.timeline.first.serial → serving.Undoes s mark fate d → d ≡ answered s (fixed words.Forgotten)
+  undo-forgotten _ _ below (serving.forgotten is) = refl
+  undo-forgotten _ _ below (serving.dead is) = absurd (omega (arith, below, is.0))
+  undo-forgotten _ _ below (serving.cut end is) = absurd (cut-nowhere end is)
+  undo-forgotten _ _ below (serving.stopped reached end alive behind is uncut) = absurd (let no = subst IsSome gone alive in let never : ⊥ = cc in never)
+
+  undo-dead : (fate : Option Fate) (d : Deed) → IsDead mark s.timeline → serving.Undoes s mark fate d → d ≡ answered s (fixed words.DeadMark)
+  undo-dead _ _ dead (serving.forgotten is) = absurd (let below = is.0 in let from = dead.0 in omega (arith, below, from))
+  undo-dead _ _ dead (serving.dead is) = refl
+  undo-dead _ _ dead (serving.cut end is) = absurd (cut-nowhere end is)
+  undo-dead _ _ dead (serving.stopped reached end alive behind is uncut) = absurd (let no = subst IsSome gone alive in let never : ⊥ = cc in never)
+
+  forget-forgotten : (fate : Option Fate) (d : Deed) → mark < s.timeline.first.serial → serving.Forgets s mark fate d → d ≡ answered s (fixed words.Forgotten)
+  forget-forgotten _ _ below (serving.below is) = refl
+  forget-forgotten _ _ below (serving.nowhere is) = absurd (omega (arith, below, is.0))
+  forget-forgotten _ _ below (serving.floored end is) = absurd (kept-nowhere end is)
+
+  forget-dead : (fate : Option Fate) (d : Deed) → IsDead mark s.timeline → serving.Forgets s mark fate d → d ≡ answered s (fixed words.DeadMark)
+  forget-dead _ _ dead (serving.below is) = absurd (let below = is.0 in let from = dead.0 in omega (arith, below, from))
+  forget-dead _ _ dead (serving.nowhere is) = refl
+  forget-dead _ _ dead (serving.floored end is) = absurd (kept-nowhere end is)
+
+pub Does-forgotten : (s : ShellState) (mark : ℕ) (fate : Option Fate) (line : Spoken) (d : Deed) → IsOrdered s.timeline → NamesMark mark line → mark < s.timeline.first.serial → deeds.Does fate s line d → d ≡ answered s (fixed words.Forgotten)
+Does-forgotten s mark fate line d ordered (inl says) below does =
+    undo-forgotten s mark (cut_to-below mark s.timeline ordered below) fate d below (subst (λ l. deeds.Does fate s l d) says does)
+Does-forgotten s mark fate line d ordered (inr says) below does =
+    forget-forgotten s mark (cut_to-below mark s.timeline ordered below) fate d below (subst (λ l. deeds.Does fate s l d) says does)
+
+pub Does-dead : (s : ShellState) (mark : ℕ) (fate : Option Fate) (line : Spoken) (d : Deed) → NamesMark mark line → IsDead mark s.timeline → deeds.Does fate s line d → d ≡ answered s (fixed words.DeadMark)
+Does-dead s mark fate line d (inl says) dead does = undo-dead s mark dead.1 fate d dead (subst (λ l. deeds.Does fate s l d) says does)
+Does-dead s mark fate line d (inr says) dead does = forget-dead s mark dead.1 fate d dead (subst (λ l. deeds.Does fate s l d) says does)

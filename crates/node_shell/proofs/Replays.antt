@@ -1,37 +1,50 @@
 -- Whatever lines the shell obeys, the commands that they carried out lead to its journal's timeline.
-use Rattle.std.proofs.Common.{◌≡◌, ℕ, List, [], ◌∷◌, ◌++◌, All, Option, None, Some, IfSome, option_map, option_to_list, refl, sym, ap, subst, ◌∙◌}
-use Rattle.undo_journal.specs.Timeline.{here, opened, cut_to, node_at}
-use Rattle.undo_journal.specs.History.{AreAfter}
-use Rattle.undo_journal.proofs.Floors.{MakesKept-unforgotten}
-use Rattle.undo_journal.proofs.Histories.{Makes-live, FoldsTo-live, Runs-of, AreAfter-append, IsOrdered-opened, IsOrdered-after, node_at-after}
+use Rattle.std.proofs.Common.{◌≡◌, ◌<◌, ◌≤◌, ℕ, List, [], ◌∷◌, ◌++◌, All, Option, None, Some, IfSome, option_map, option_to_list, unwrap_or, arith, refl, sym, ap, subst, ◌∙◌}
+use Rattle.undo_journal.specs.Timeline.{here, opened, cut_to, forgotten_to, node_at, IsDead, IsOrdered}
+use Rattle.undo_journal.specs.History as history
+use Rattle.undo_journal.specs.History.{AreAfter, CarriedOut, Live}
+use Rattle.undo_journal.specs.declared.history.Command.{Command}
+use Rattle.undo_journal.specs.declared.history.Command.TheVariants.{Forget}
+use Rattle.undo_journal.proofs.Floors.{Makes-unforgotten, floor-after}
+use Rattle.undo_journal.proofs.Forgets.{cut_to-below, forgotten_to-mark, here-forgotten, IsOrdered-forgotten}
+use Rattle.undo_journal.proofs.Histories.{Makes-live, FoldsTo-live, Runs-of, AreAfter-append, IsOrdered-opened, IsOrdered-after, node_at-after, node_at-forgotten}
 use Rattle.undo_journal.proofs.Timelines.{cut_to-here}
 use Rattle.line_server.specs.declared.ended.Ended.{Ended}
 use Rattle.line_server.specs.Lines.{heard}
 use Rattle.line_server.specs.Serving.{Serves, ServesWhole}
 use Rattle.line_server.specs.Session.{Answered, lines_in, text_of}
 use Rattle.node_rules.specs.Node.{NodeState}
-use Rattle.node_rules.specs.Step.{Step}
+use Rattle.node_rules.specs.Step.{MayRunOut, Step}
+use Rattle.node_types.specs.declared.event.Event.{Event}
 use Rattle.release_files.specs.Files.{Contents}
-use Rattle.shell_requests.specs.Request.{asks, spoken, undo}
-use Rattle.shell_holdings.specs.State.{Deed, NodeTimeline, ShellState, opened_shell}
-use Rattle.shell_holdings.specs.declared.fate.Fate.{Fate}
-use Rattle.shell_holdings.specs.declared.fate.Fate.TheVariants.{StoppedAt}
-use Rattle.node_shell.specs.Replay.{Obeyed, AreObeyed, IsReplayed, IsHeadline, IsNamed, MarksName, Stops, Undoes, commands_in, shell_behind, timeline_behind}
+use Rattle.shell_requests.specs.Request.{asks, forget, spoken, undo}
+use Rattle.shell_answers.specs.Answers.{fixed}
+use Rattle.shell_answers.specs.declared.fixed.Fixed.TheVariants as words
+use Rattle.shell_steps.specs.State.{Deed, NodeTimeline, ShellState, answered, opened_shell}
+use Rattle.shell_steps.specs.declared.fate.Fate.{Fate}
+use Rattle.shell_steps.specs.declared.fate.Fate.TheVariants.{StoppedAt}
+use Rattle.node_shell.specs.Replay.{Obeyed, AreObeyed, Forgets, IsReplayed, IsHeadline, IsNamed, MarksName, NamesMark, Stops, Undoes, commands_in, shell_behind, timeline_behind}
 use Rattle.node_shell.specs.Run.{Runs, RunsWhole, Starts}
 use Rattle.node_shell.specs.Shell.{shell_turn}
-use Rattle.node_shell.proofs.Led.{Does-cuts, Does-led, Does-stops}
+use Rattle.node_shell.proofs.Led.{Does-cuts, Does-dead, Does-floors, Does-forgotten, Does-led, Does-stops}
 use Rattle.node_shell.proofs.Turns.{obeyed-from_answered, unrefused-obeyed}
 
 after-obeyed : (s : ShellState) (obeyed : List Obeyed) → AreObeyed s obeyed → AreAfter Step (commands_in obeyed) s.timeline (timeline_behind s obeyed)
 after-obeyed s [] in_turn = refl
 after-obeyed s (o ∷ others) in_turn =
-    AreAfter-append Step (option_to_list o.deed.command) (commands_in others) s.timeline o.deed.after.timeline (timeline_behind o.deed.after others) (Does-led o.fate s (spoken (heard o.line)) o.deed in_turn.0).0 (after-obeyed o.deed.after others in_turn.1)
+    AreAfter-append Step (option_to_list o.deed.command) (commands_in others) s.timeline o.deed.after.timeline (timeline_behind o.deed.after others) (Does-led o.fate s (spoken (heard o.line)) o.deed in_turn.0) (after-obeyed o.deed.after others in_turn.1)
 
--- no line forgets a station
-first-kept : (s : ShellState) (obeyed : List Obeyed) → AreObeyed s obeyed → (timeline_behind s obeyed).first ≡ s.timeline.first
-first-kept s [] in_turn = refl
-first-kept s (o ∷ others) in_turn =
-    first-kept o.deed.after others in_turn.1 ∙ (Does-led o.fate s (spoken (heard o.line)) o.deed in_turn.0).1
+-- a journal that carries commands out, none of them missed
+carried-all : (cs : List (Command Event)) (t u : NodeTimeline) → AreAfter Step cs t u → CarriedOut Step MayRunOut 0 cs cs t u
+carried-all [] t u are = subst (λ v. CarriedOut Step MayRunOut 0 [] [] t v) (sym are) history.none
+carried-all (c ∷ cs) t u are = history.done c are.1 (carried-all cs are.0 u are.2)
+
+-- some commands and more, with their live steps
+Runs-then : (cs ds : List (Command Event)) (t u v : NodeTimeline) (begun between end : List (Live Event)) → history.Runs Step cs t begun u between → history.Runs Step ds u between v end → history.Runs Step (cs ++ ds) t begun v end
+Runs-then [] ds t u v begun between end first rest =
+    subst (λ w. history.Runs Step ds w begun v end) first.0 (subst (λ l. history.Runs Step ds u l v end) first.1 rest)
+Runs-then (c ∷ cs) ds t u v begun between end first rest =
+    (first.0, first.1, first.2, Runs-then cs ds first.0 u v first.1 between end first.3 rest)
 
 -- some lines and more
 AreObeyed-parts : (s : ShellState) (front more : List Obeyed) → AreObeyed s (front ++ more) → AreObeyed s front × AreObeyed (shell_behind s front) more
@@ -60,8 +73,16 @@ module _ (node : NodeState) (start : ShellState) (begun : start.timeline ≡ ope
       record {
         live = runs.0;
         runs = runs.1;
-        stations = MakesKept-unforgotten Step node runs.0 end (Makes-live Step node commands end runs.0 runs.1) (ap (λ f. f.serial) (first-kept start obeyed in_turn ∙ ap (λ t. t.first) begun));
+        stations = Makes-live Step node commands end runs.0 runs.1;
         fold = FoldsTo-live Step node commands end runs.0 runs.1;
+        unforgotten = λ unforgotten. (Makes-unforgotten Step MayRunOut node commands 0 end (record {
+          carried = commands;
+          carried_out = carried-all commands (opened node) end (led obeyed in_turn);
+          live = runs.0;
+          runs = runs.1;
+          stations = Makes-live Step node commands end runs.0 runs.1;
+          fold = FoldsTo-live Step node commands end runs.0 runs.1;
+        }) unforgotten).1;
       }
 
   marks-named : (front more : List Obeyed) → AreObeyed start (front ++ more) → MarksName (timeline_behind start front) (timeline_behind start (front ++ more))
@@ -96,6 +117,45 @@ module _ (node : NodeState) (start : ShellState) (begun : start.timeline ≡ ope
         answer = ap (λ (d : Deed). d.text) done;
       }
 
+  ordered-behind : (front : List Obeyed) → AreObeyed start front → IsOrdered (timeline_behind start front)
+  ordered-behind front in_turn =
+      IsOrdered-after Step (commands_in front) (opened node) (timeline_behind start front) (led front in_turn) (IsOrdered-opened node)
+
+  forget-floors : (front others : List Obeyed) (o : Obeyed) (mark : ℕ) (end : NodeTimeline) → AreObeyed start (front ++ o ∷ others) → spoken (heard o.line) ≡ asks (forget mark) → forgotten_to mark (timeline_behind start front) ≡ Some end → Forgets node (commands_in front) (timeline_behind start front) o.deed mark end
+  forget-floors front others o mark end in_turn says is =
+      let s = shell_behind start front in
+      let t = timeline_behind start front in
+      let parts = AreObeyed-parts start front (o ∷ others) in_turn in
+      let ordered = ordered-behind front parts.0 in
+      let done = Does-floors s mark end o.fate (spoken (heard o.line)) o.deed says is parts.1.0 in
+      let at = forgotten_to-mark mark t end is in
+      record {
+        leads = ap (λ (d : Deed). d.after.timeline) done;
+        carried_out = ap (λ (d : Deed). d.command) done;
+        floor = at;
+        node_stays = ap (λ u. u.node) (here-forgotten mark t end is);
+        live_stay = λ live runs. Runs-then (commands_in front) (Forget mark ∷ []) (opened node) t end [] live live runs (end, live, (ap (λ u. unwrap_or u t) (sym is), refl), (refl, refl));
+        kept = λ other from. (node_at-forgotten mark other t end ordered is).0 from;
+        below = λ other low. (let under : other < end.first.serial = omega (arith, at, low) in (under, cut_to-below other end (IsOrdered-forgotten mark t end is ordered) under));
+        answer = ap (λ (d : Deed). d.text) done;
+      }
+
+  rises : (front more : List Obeyed) → AreObeyed start (front ++ more) → (timeline_behind start front).first.serial ≤ (timeline_behind start (front ++ more)).first.serial
+  rises front more in_turn =
+      let parts = AreObeyed-parts start front more in_turn in
+      let s = shell_behind start front in
+      let behind : timeline_behind start (front ++ more) ≡ timeline_behind s more = ap (λ (u : ShellState). u.timeline) (shell_behind-more start front more) in
+      subst (λ (u : NodeTimeline). (timeline_behind start front).first.serial ≤ u.first.serial) (sym behind) (floor-after Step (commands_in more) s.timeline (timeline_behind s more) (after-obeyed s more parts.1) (ordered-behind front parts.0))
+
+  told-forgotten : (front others : List Obeyed) (o : Obeyed) (mark : ℕ) → AreObeyed start (front ++ o ∷ others) → NamesMark mark (spoken (heard o.line)) → mark < (timeline_behind start front).first.serial → o.deed ≡ answered (shell_behind start front) (fixed words.Forgotten)
+  told-forgotten front others o mark in_turn names below =
+      let parts = AreObeyed-parts start front (o ∷ others) in_turn in
+      Does-forgotten (shell_behind start front) mark o.fate (spoken (heard o.line)) o.deed (ordered-behind front parts.0) names below parts.1.0
+
+  told-dead : (front others : List Obeyed) (o : Obeyed) (mark : ℕ) → AreObeyed start (front ++ o ∷ others) → NamesMark mark (spoken (heard o.line)) → IsDead mark (timeline_behind start front) → o.deed ≡ answered (shell_behind start front) (fixed words.DeadMark)
+  told-dead front others o mark in_turn names dead =
+      Does-dead (shell_behind start front) mark o.fate (spoken (heard o.line)) o.deed names dead (AreObeyed-parts start front (o ∷ others) in_turn).1.0
+
   -- the headline of any lines that a shell over the node obeyed
   pub obeyed-headline : (obeyed : List Obeyed) → AreObeyed start obeyed → IsHeadline node start obeyed
   obeyed-headline obeyed in_turn = record {
@@ -104,6 +164,10 @@ module _ (node : NodeState) (start : ShellState) (begun : start.timeline ≡ ope
     marks = λ front more others is. marks-named front more (AreObeyed-parts start (front ++ more) others (subst (λ all. AreObeyed start all) is in_turn)).0;
     undos = λ front others o mark end is. undo-undoes front others o mark end (subst (λ all. AreObeyed start all) is in_turn);
     stops = λ front others o mark reached is. undo-stops front others o mark reached (subst (λ all. AreObeyed start all) is in_turn);
+    forgets = λ front others o mark end is. forget-floors front others o mark end (subst (λ all. AreObeyed start all) is in_turn);
+    floor_rises = λ front more others is. rises front more (AreObeyed-parts start (front ++ more) others (subst (λ all. AreObeyed start all) is in_turn)).0;
+    forgotten = λ front others o mark is. told-forgotten front others o mark (subst (λ all. AreObeyed start all) is in_turn);
+    dead = λ front others o mark is. told-dead front others o mark (subst (λ all. AreObeyed start all) is in_turn);
   }
 
 -- A run over files, of what the shell answered.

@@ -1,21 +1,23 @@
 -- What lines leave of the journal: where the commands that they carry out lead, the fold of the rule over the steps
 -- that are not undone, and what marks name.
-use Rattle.std.specs.Prelude.{◌≡◌, ℕ, ◌≤◌, List, [], ◌∷◌, ◌++◌, Option, option_to_list, None, Some, IfSome}
+use Rattle.std.specs.Prelude.{◌≡◌, ◌⊎◌, ℕ, ◌<◌, ◌≤◌, List, [], ◌∷◌, ◌++◌, Option, option_to_list, None, Some, IfSome}
 use Rattle.std.specs.List.{flat_map}
 use Rattle.undo_journal.specs.declared.history.Command.{Command}
-use Rattle.undo_journal.specs.Timeline.{here, opened, cut_to, cut_stations, report_of, node_at}
-use Rattle.undo_journal.specs.History.{Live, Runs, Makes, FoldsTo}
+use Rattle.undo_journal.specs.declared.history.Command.TheVariants.{Forget}
+use Rattle.undo_journal.specs.Timeline.{here, opened, cut_to, cut_stations, forgotten_to, report_of, node_at, IsDead, IsForgotten}
+use Rattle.undo_journal.specs.History.{Live, Runs, Makes, MakesKept, FoldsTo, HasNoForget}
 use Rattle.line_server.specs.Lines.{heard}
 use Rattle.line_server.specs.Session.{Answered}
 use Rattle.node_rules.specs.Node.{NodeState}
 use Rattle.node_rules.specs.Step.{Step}
 use Rattle.node_types.specs.declared.event.Event.{Event}
-use Rattle.shell_answers.specs.Answers.{line_of, stopped_undo, undone_steps}
-use Rattle.shell_requests.specs.Request.{asks, spoken, undo}
+use Rattle.shell_answers.specs.Answers.{fixed, floor_at, line_of, stopped_undo, undone_steps}
+use Rattle.shell_answers.specs.declared.fixed.Fixed.TheVariants as words
+use Rattle.shell_requests.specs.Request.{Spoken, asks, forget, spoken, undo}
 use Rattle.shell_deeds.specs.Deeds.{Does}
-use Rattle.shell_holdings.specs.State.{Deed, NodeTimeline, ShellState}
-use Rattle.shell_holdings.specs.declared.fate.Fate.{Fate}
-use Rattle.shell_holdings.specs.declared.fate.Fate.TheVariants.{StoppedAt}
+use Rattle.shell_steps.specs.State.{Deed, NodeTimeline, ShellState, answered}
+use Rattle.shell_steps.specs.declared.fate.Fate.{Fate}
+use Rattle.shell_steps.specs.declared.fate.Fate.TheVariants.{StoppedAt}
 use Rattle.node_shell.specs.Shell.{turn_of}
 
 -- A line that was obeyed, what became of it for want of memory, and what it did.
@@ -33,7 +35,7 @@ AreObeyed s (o ∷ others) = Does o.fate s (spoken (heard o.line)) o.deed × Are
 abbrev pub answered_as : Obeyed → Answered ShellState Fate
 answered_as o = record { line = o.line; fate = o.fate; turn = turn_of o.deed }
 
--- the commands that were carried out, in order: accepted events, and undos to the marks that they reached
+-- the commands that were carried out, in order: accepted events, undos to the marks that they reached, and forgets
 abbrev pub commands_in : List Obeyed → List (Command Event)
 commands_in obeyed = flat_map (λ o. option_to_list o.deed.command) obeyed
 
@@ -45,14 +47,16 @@ shell_behind s (o ∷ others) = shell_behind o.deed.after others
 abbrev pub timeline_behind : ShellState → List Obeyed → NodeTimeline
 timeline_behind s obeyed = (shell_behind s obeyed).timeline
 
--- A journal that began at a node, and came to a timeline by commands: they lead there, the stations behind the first
--- are those that the live steps make, and its node is the fold of the rule over them. Commands lead to one timeline at
--- most, with one list of live steps.
+-- A journal that began at a node, and came to a timeline by commands: they lead there, its stations are those that the
+-- live steps make, from the floor on, and its node is the fold of the rule over the live steps. Where no command was a
+-- forget, the live steps make all stations behind the first. Commands lead to one timeline at most, with one list of
+-- live steps.
 pub record IsReplayed (node : NodeState) (commands : List (Command Event)) (end : NodeTimeline) : Type 0 where
   pub live : List (Live Event)
   pub runs : Runs Step commands (opened node) [] end live
-  pub stations : Makes Step node live end.later
+  pub stations : MakesKept Step node live end
   pub fold : FoldsTo Step node live (here end).node
+  pub unforgotten : HasNoForget commands → Makes Step node live end.later
 
 -- A mark that was given before the one timeline, and is alive in the other, which is behind it, names there the node
 -- that it named; so a dead mark stays dead.
@@ -75,6 +79,24 @@ pub record Stops (before : NodeTimeline) (done : Deed) (mark reached : ℕ) : Ty
   pub node : node_at reached before ≡ Some (here done.after.timeline).node
   pub answer : done.text ≡ line_of (stopped_undo reached (report_of (cut_stations before done.after.timeline)))
 
+-- A forget up to a mark with a station, from which on the timeline is `end`: it leads there, and that mark is the floor. The node and the
+-- live steps stay. Marks from the floor on name the nodes that they named; those below it are forgotten.
+pub record Forgets (node : NodeState) (commands : List (Command Event)) (before : NodeTimeline) (done : Deed) (mark : ℕ)
+    (end : NodeTimeline) : Type 0 where
+  pub leads : done.after.timeline ≡ end
+  pub carried_out : done.command ≡ Some (Forget mark)
+  pub floor : end.first.serial ≡ mark
+  pub node_stays : (here end).node ≡ (here before).node
+  pub live_stay : (live : List (Live Event)) → Runs Step commands (opened node) [] before live
+      → Runs Step (commands ++ Forget mark ∷ []) (opened node) [] end live
+  pub kept : (other : ℕ) → mark ≤ other → node_at other end ≡ node_at other before
+  pub below : (other : ℕ) → other < mark → IsForgotten other end
+  pub answer : done.text ≡ line_of (floor_at mark)
+
+-- an undo to a mark, or a forget up to it
+abbrev pub NamesMark : ℕ → Spoken → Type 0
+NamesMark mark said = (said ≡ asks (undo mark)) ⊎ (said ≡ asks (forget mark))
+
 -- The mark that is given at a timeline names the node there.
 abbrev pub IsNamed : NodeTimeline → Type 0
 IsNamed t = node_at (here t).serial t ≡ Some (here t).node
@@ -82,7 +104,9 @@ IsNamed t = node_at (here t).serial t ≡ Some (here t).node
 -- The headline, of lines that a shell over a node obeyed: behind each front of them the journal is where the commands lead that the front
 -- carried out, with its node the fold of the steps that are not undone; a mark names the node at which it is given, and whatever it named
 -- while it is alive; an undo at which no memory was refused gives its mark's node, and reports what was cut; and one that was stopped
--- gives the node of the mark that it tells, and reports what it cut.
+-- gives the node of the mark that it tells, and reports what it cut. A forget leaves the node, the live steps and the marks from its own on;
+-- the floor never falls; an undo to a mark below it, and a forget up to one, is answered that it is forgotten, and one of any other mark
+-- without a station that it is dead; and nothing is done.
 pub record IsHeadline (node : NodeState) (start : ShellState) (obeyed : List Obeyed) : Type 0 where
   pub replayed : (front others : List Obeyed) → obeyed ≡ front ++ others
       → IsReplayed node (commands_in front) (timeline_behind start front)
@@ -95,3 +119,14 @@ pub record IsHeadline (node : NodeState) (start : ShellState) (obeyed : List Obe
   pub stops : (front others : List Obeyed) (o : Obeyed) (mark reached : ℕ) → obeyed ≡ front ++ o ∷ others
       → o.fate ≡ Some (StoppedAt reached) → spoken (heard o.line) ≡ asks (undo mark)
       → Stops (timeline_behind start front) o.deed mark reached
+  pub forgets : (front others : List Obeyed) (o : Obeyed) (mark : ℕ) (end : NodeTimeline) → obeyed ≡ front ++ o ∷ others
+      → spoken (heard o.line) ≡ asks (forget mark) → forgotten_to mark (timeline_behind start front) ≡ Some end
+      → Forgets node (commands_in front) (timeline_behind start front) o.deed mark end
+  pub floor_rises : (front more others : List Obeyed) → obeyed ≡ (front ++ more) ++ others
+      → (timeline_behind start front).first.serial ≤ (timeline_behind start (front ++ more)).first.serial
+  pub forgotten : (front others : List Obeyed) (o : Obeyed) (mark : ℕ) → obeyed ≡ front ++ o ∷ others
+      → NamesMark mark (spoken (heard o.line)) → mark < (timeline_behind start front).first.serial
+      → o.deed ≡ answered (shell_behind start front) (fixed words.Forgotten)
+  pub dead : (front others : List Obeyed) (o : Obeyed) (mark : ℕ) → obeyed ≡ front ++ o ∷ others
+      → NamesMark mark (spoken (heard o.line)) → IsDead mark (timeline_behind start front)
+      → o.deed ≡ answered (shell_behind start front) (fixed words.DeadMark)

@@ -1,7 +1,7 @@
 // From the bytes of commands to the bytes of answers.
 ghost use Rattle.std.specs.Prelude.{◌≡◌, ℕ, List, IfErr, IfOk, None, Some, false};
 ghost use Rattle.node_shell.specs.Run.{Runs, RunsWhole, StartFails};
-ghost use Rattle.shell_holdings.specs.State.{opened_shell};
+ghost use Rattle.shell_steps.specs.State.{opened_shell};
 
 use crate::fault::StartFault;
 use crate::shell::Shell;

@@ -1,8 +1,10 @@
--- What takes an instruction back: from the parts after the instruction it gives those before. Parts that it doesn't name
--- weren't changed.
+-- What takes an instruction back: from the parts after the instruction it gives those before, and it holds no piece of a process and
+-- no instance of code but what the instruction has taken. Parts that it doesn't name weren't changed.
 use Rattle.std.specs.Prelude.{◌≡◌, ◌≤◌, ◌-◌, Bool, if◌then◌else◌, List, length, take}
 use Rattle.code_replacement.specs.Undo as code
-use Rattle.process_table.specs.States.{all_resumed, all_unresumed}
+use Rattle.process_store.specs.Pieces.{HoldsLost}
+use Rattle.process_table.specs.States.{all_resumed, all_unresumed, held_places}
+use Rattle.script_children.specs.Pieces.{held_processes}
 use Rattle.script_children.specs.Undo as children
 use Rattle.script_state.specs.ObjectCode.{but_last_noted}
 use Rattle.script_runner.specs.Instructions.{running_of, supervised_of}
@@ -29,7 +31,9 @@ TakesBack (Suspended count) p q = (count ≤ length q.suspended) ×
     (but_last count q.suspended ≡ p.suspended) × (q ≡ record p { processes = q.processes; suspended = q.suspended })
 TakesBack (Resumed u) p q = (all_unresumed u.resumed q.processes ≡ p.processes) × (u.former.items ≡ p.suspended) ×
     (q ≡ record p { processes = q.processes; suspended = q.suspended })
-TakesBack (Changed u) p q = ChangesBack u p.processes q.processes × (q ≡ record p { processes = q.processes })
+TakesBack (Changed u) p q = ChangesBack u p.processes q.processes × (q ≡ record p { processes = q.processes }) ×
+    HoldsLost (held_places u.states q.processes) p.processes q.processes
 TakesBack (Children u count) p q = children.TakesBack u (supervised_of p) (supervised_of q) × (count ≤ length q.stopped) ×
     (take (length q.stopped - count) q.stopped ≡ p.stopped) ×
-    (q ≡ record p { processes = q.processes; apps = q.apps; stopped = q.stopped })
+    (q ≡ record p { processes = q.processes; apps = q.apps; stopped = q.stopped }) ×
+    HoldsLost (held_processes u q.processes) p.processes q.processes

@@ -6,8 +6,10 @@ ghost use Rattle.code_loading.specs.Current.{current_code};
 ghost use Rattle.process_effects.specs.Ends.{all_vacated};
 ghost use Rattle.process_effects.specs.Kills.{all_downs};
 ghost use Rattle.process_effects.specs.declared.told.Reply.{Reply as Told};
+ghost use Rattle.process_store.specs.Pieces.{HoldsLost};
 ghost use Rattle.script_children.specs.Calls.{start_failed};
 ghost use Rattle.script_children.specs.Children.{Supervised};
+ghost use Rattle.script_children.specs.Pieces.{held_processes};
 ghost use Rattle.script_children.specs.Undo.{TakesBack};
 ghost use Rattle.sys_protocol.specs.Stopping.{FailToStartAgain, StartAgain, shutdown, to_stop};
 ghost use Rattle.sys_protocol.specs.declared.start_failed.StartFailed.{StartFailed as FailedStart};
@@ -51,6 +53,7 @@ pub(crate) fn stop_children(
         (take (length noted.new.items - it.count) noted.new.items ≡ noted.old.items)) }
     ensures back { IfOk result (λ it. TakesBack it.undo
         (record { apps = apps.old; processes = processes.old }) (record { apps = apps.new; processes = processes.new })) }
+    ensures pieces { IfOk result (λ it. HoldsLost (held_processes it.undo processes.new) processes.old processes.new) }
     ensures err { OnErr result ((apps.new ≡ apps.old) × (processes.new ≡ processes.old) × (noted.new.items ≡ noted.old.items)) }
 {
     let stopped = stop(apps, processes, alloc, modules, noted, n)?;
@@ -84,6 +87,7 @@ pub(crate) fn start_children(
     ensures count { IfOk result (λ it. it.count ≡ 0) }
     ensures back { IfOk result (λ it. TakesBack it.undo
         (record { apps = apps.old; processes = processes.old }) (record { apps = apps.new; processes = processes.new })) }
+    ensures pieces { IfOk result (λ it. HoldsLost (held_processes it.undo processes.new) processes.old processes.new) }
     ensures failed { IfErr result (Fails (λ reason. (failed : FailedStart) ×
         FailToStartAgain failed (current_code modules.now) noted.now names.now apps.old processes.old ×
         (reason ≡ start_failed failed.child failed.reason)) (Unit {0})) }

@@ -2,7 +2,8 @@
 ghost use Rattle.std.specs.Prelude.{◌≡◌, ◌≤◌, ◌++◌, [], List, IfErr, IfOk, None, OnErr, OnOk, Some, length, option_map, replicate};
 ghost use Rattle.code_loading.specs.Current.{current_code};
 ghost use Rattle.process_effects.specs.declared.told.Reply.{Reply as Told};
-ghost use Rattle.process_table.specs.States.{all_resumed, all_suspended, all_unresumed};
+ghost use Rattle.process_store.specs.Pieces.{HoldsLost};
+ghost use Rattle.process_table.specs.States.{all_resumed, all_suspended, all_unresumed, held_places};
 ghost use Rattle.script_runner.specs.Failures.{code_change_failed};
 ghost use Rattle.script_runner.specs.Suspending.{HaltsChange};
 ghost use Rattle.suspensions.specs.Suspending.{but_last, changes_of, last_of, names, still_suspended, suspend_refusal, to_resume, to_suspend};
@@ -124,6 +125,7 @@ pub(crate) fn change_children(
     ensures counted { OnOk result (AreCounted
         (changes_of direction changes.now versions.now suspended.now apps.now processes.old) processes.new) }
     ensures back { IfOk result (λ it. ChangesBack it.undo processes.old processes.new) }
+    ensures pieces { IfOk result (λ it. HoldsLost (held_places it.undo.states processes.new) processes.old processes.new) }
     ensures halted { IfErr result (Fails (λ halt. HaltsChange halt (current_code modules.now)
         (changes_of direction changes.now versions.now suspended.now apps.now processes.old) processes.old) (Unit {0})) }
     ensures err { OnErr result (processes.new ≡ processes.old) }

@@ -93,6 +93,10 @@ pub not_installing-line : line_of (fixed it.NotInstalling) ≡ codes "{error,not
 unfolding utf8 is_quoted_word encode
 not_installing-line = refl
 
+pub erts_changed-line : line_of (fixed it.ErtsChanged) ≡ codes "{error,erts_changed}\n"
+unfolding utf8 is_quoted_word encode
+erts_changed-line = refl
+
 pub name_taken-line : line_of (fixed it.NameTaken) ≡ codes "{error,name_taken}\n"
 unfolding utf8 is_quoted_word encode
 name_taken-line = refl

@@ -24,11 +24,12 @@ use Rattle.release_statuses.specs.declared.status.Status.{Status}
 use Rattle.erl_term.specs.Conversions.{rows}
 use Rattle.release_words.specs.Words.{names_tree, string_tree}
 use Rattle.shell_answers.specs.Refusals.{bad_script, bad_status, busy, no_matching_relup, of_version, old_processes}
+use Rattle.shell_answers.specs.Relups.{no_entry, of_name}
 use Rattle.erl_term.specs.Text.{elements_text, is_quoted_word, text, utf8}
 use Rattle.erl_term.specs.declared.term.Term.{Term}
 use Rattle.erl_semantics.specs.declared.acts.Place.TheVariants.{Loop}
 use Rattle.shell_answers.specs.Answers.{carried_out, finished, installing, recovered, restarted, swept}
-use Rattle.shell_answers.specs.Answers.{AreNames, activity_of, characters_of, apps_of, arrival_of, arrivals_of, committed, line_of, listed, loaded, modules_of, process_of, replied_by, replies_in, replies_of, rows_of, stopped_undo, undone_steps, mark_at, called, job_of, pair, named_versions, place_of, release_of, releases_in, revived, set_unpacked, status_of, told_as, triple}
+use Rattle.shell_answers.specs.Answers.{AreNames, activity_of, characters_of, apps_of, arrival_of, arrivals_of, committed, line_of, listed, loaded, modules_of, process_of, replied_by, replies_in, replies_of, rows_of, stopped_undo, undone_steps, floor_at, mark_at, called, job_of, pair, named_versions, place_of, release_of, releases_in, revived, set_unpacked, status_of, told_as, triple}
 use Rattle.shell_answers.specs.Faults.{fault_of, kind_word, file_fault, placed, start_failed, term_fault}
 use Rattle.shell_answers.proofs.Pieces.{AreTuples, AreTuples-append, bytes, bracket-front, bracket-bytes, list-alone, list-bytes, part, pid-pieces, tuple-alone, tuple-bytes}
 
@@ -50,6 +51,11 @@ pub mark-line : (n : ℕ) → codes "{mark," ++ (bytes (int (pos n)) ++ codes "}
 unfolding utf8 is_quoted_word encode
 mark-line n =
     sym (tuple-bytes (atom (codes "mark")) (more (int (pos n)) none) (10 ∷ []))
+
+pub floor-line : (n : ℕ) → codes "{floor," ++ (bytes (int (pos n)) ++ codes "}\n") ≡ line_of (floor_at n)
+unfolding utf8 is_quoted_word encode
+floor-line n =
+    sym (tuple-bytes (atom (codes "floor")) (more (int (pos n)) none) (10 ∷ []))
 
 pub called-line : (n : ℕ) → codes "{call," ++ (bytes (int (pos n)) ++ codes "}\n") ≡ line_of (called n)
 unfolding utf8 is_quoted_word encode
@@ -426,6 +432,31 @@ pub busy-line : (n : ℕ) → codes "{error,{busy," ++ (bytes (pid n) ++ codes "
 unfolding utf8 is_quoted_word encode
 busy-line n =
     sym (tuple-bytes (atom (codes "error")) (more (pair (atom (codes "busy")) (pid n)) none) (10 ∷ []) ∙ ap (λ l. codes "{error," ++ l) (tuple-bytes (atom (codes "busy")) (more (pid n) none) (125 ∷ 10 ∷ [])))
+
+-- Relups
+
+-- the front of `{error,{Word,Name}}`
+pub of_name-line : (word name : List ℕ) → bytes (atom word) ≡ word → codes "{error,{" ++ (word ++ (44 ∷ [] ++ (bytes (atom name) ++ codes "}}\n"))) ≡ line_of (of_name word name)
+unfolding utf8 is_quoted_word encode
+of_name-line word name is =
+    ap (λ w. codes "{error,{" ++ (w ++ (44 ∷ (bytes (atom name) ++ codes "}}\n")))) (sym is) ∙ sym (tuple-bytes (atom (codes "error")) (more (pair (atom word) (atom name)) none) (10 ∷ []) ∙ ap (λ l. codes "{error," ++ l) (tuple-bytes (atom word) (more (atom name) none) (125 ∷ 10 ∷ [])))
+
+pub base_changed-line : (name : List ℕ) → codes "{error,{base_changed," ++ (bytes (atom name) ++ codes "}}\n") ≡ line_of (of_name (codes "base_changed") name)
+unfolding utf8 is_quoted_word encode
+base_changed-line name = of_name-line (codes "base_changed") name refl
+
+pub no_appup-line : (name : List ℕ) → codes "{error,{no_appup," ++ (bytes (atom name) ++ codes "}}\n") ≡ line_of (of_name (codes "no_appup") name)
+unfolding utf8 is_quoted_word encode
+no_appup-line name = of_name-line (codes "no_appup") name refl
+
+pub unknown_module-line : (name : List ℕ) → codes "{error,{unknown_module," ++ (bytes (atom name) ++ codes "}}\n") ≡ line_of (of_name (codes "unknown_module") name)
+unfolding utf8 is_quoted_word encode
+unknown_module-line name = of_name-line (codes "unknown_module") name refl
+
+pub no_entry-line : (app vsn : List ℕ) → codes "{error,{no_entry," ++ (bytes (atom app) ++ (codes "," ++ (bytes (string_tree vsn) ++ codes "}}\n"))) ≡ line_of (no_entry app vsn)
+unfolding utf8 is_quoted_word encode
+no_entry-line app vsn =
+    sym (tuple-bytes (atom (codes "error")) (more (triple (atom (codes "no_entry")) (atom app) (string_tree vsn)) none) (10 ∷ []) ∙ ap (λ l. codes "{error," ++ l) (tuple-bytes (atom (codes "no_entry")) (more (atom app) (more (string_tree vsn) none)) (125 ∷ 10 ∷ [])))
 
 -- a name, a dash and a version
 pub dashed : (name vsn first mid whole : List ℕ) → IsUtf8 name → IsUtf8 mid → first ≡ name → mid ≡ first ++ encode_utf8 45 → whole ≡ mid ++ vsn → chars whole ≡ chars name ++ 45 ∷ chars vsn

@@ -32,7 +32,7 @@ use Rattle.node_types.specs.Note.{Note}
 use Rattle.shell_answers.specs.declared.fixed.Fixed.{Fixed}
 use Rattle.shell_answers.specs.declared.fixed.Fixed.TheVariants.{Done, True, False, BadCommand, LineTooLong, SerialEnd, CounterAtEnd}
 use Rattle.shell_answers.specs.declared.fixed.Fixed.TheVariants.{Forgotten, DeadMark, Memory, NoJob, NoProc, Suspended, Running, Idle as IsIdle, NotRunning}
-use Rattle.shell_answers.specs.declared.fixed.Fixed.TheVariants.{Stale, DuplicateCall, NameTaken, NoChild, NotDue, Installing, NotInstalling}
+use Rattle.shell_answers.specs.declared.fixed.Fixed.TheVariants.{Stale, DuplicateCall, NameTaken, NoChild, NotDue, Installing, NotInstalling, ErtsChanged}
 
 -- the line of a term
 abbrev pub line_of : Tree → List ℕ
@@ -74,14 +74,18 @@ fixed NoChild = error (codes "no_child")
 fixed NotDue = error (codes "not_due")
 fixed Installing = error (codes "installing")
 fixed NotInstalling = error (codes "not_installing")
+fixed ErtsChanged = error (codes "erts_changed")
 
--- `{module,Mod}`, `{mark,K}`, `{call,N}`, `{job,J,Pid}`, `{revived,Pid}`
+-- `{module,Mod}`, `{mark,K}`, `{floor,K}`, `{call,N}`, `{job,J,Pid}`, `{revived,Pid}`
 
 abbrev pub loaded : List ℕ → Tree
 loaded name = pair (atom (codes "module")) (atom name)
 
 abbrev pub mark_at : ℕ → Tree
 mark_at mark = pair (atom (codes "mark")) (int (pos mark))
+
+abbrev pub floor_at : ℕ → Tree
+floor_at mark = pair (atom (codes "floor")) (int (pos mark))
 
 abbrev pub called : ℕ → Tree
 called number = pair (atom (codes "call")) (int (pos number))

@@ -54,6 +54,8 @@ pub enum Fixed {
     Installing,
     /// `{error,not_installing}`
     NotInstalling,
+    /// `{error,erts_changed}`
+    ErtsChanged,
 }
 
 impl Fixed {
@@ -85,6 +87,7 @@ impl Fixed {
             Fixed::NotDue => b"{error,not_due}\n",
             Fixed::Installing => b"{error,installing}\n",
             Fixed::NotInstalling => b"{error,not_installing}\n",
+            Fixed::ErtsChanged => b"{error,erts_changed}\n",
         }
     }
 

@@ -1,6 +1,6 @@
 // Answers of one tuple.
 ghost use Rattle.std.specs.Prelude.{◌≡◌, ◌++◌, OnOk};
-ghost use Rattle.shell_answers.specs.Answers.{called, job_of, line_of, loaded, mark_at, revived};
+ghost use Rattle.shell_answers.specs.Answers.{called, floor_at, job_of, line_of, loaded, mark_at, revived};
 
 use crate::bytes::{put, put_number, put_pid};
 use erl_term::{Atom, print_atom};
@@ -20,6 +20,15 @@ pub fn write_mark(mark: u64, out: &mut Vec<u8>) -> Result<(), AllocError>
     ensures { OnOk result (out.new.items ≡ out.old.items ++ line_of (mark_at mark)) }
 {
     put(b"{mark,", out)?;
+    put_number(mark, out)?;
+    put(b"}\n", out)
+}
+
+/// Appends `{floor,K}`.
+pub fn write_floor(mark: u64, out: &mut Vec<u8>) -> Result<(), AllocError>
+    ensures { OnOk result (out.new.items ≡ out.old.items ++ line_of (floor_at mark)) }
+{
+    put(b"{floor,", out)?;
     put_number(mark, out)?;
     put(b"}\n", out)
 }

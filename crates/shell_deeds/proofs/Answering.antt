@@ -6,7 +6,7 @@ use Rattle.node_types.specs.Note.{Note}
 use Rattle.node_types.specs.declared.event.Answer.{Answer}
 use Rattle.shell_deeds.specs.Deeds.{arrival_answer, change_event, event_of_arrival}
 use Rattle.shell_holdings.specs.Performing.{done_by, truth_in}
-use Rattle.shell_holdings.specs.State.{Deed, ShellState, carried, stepped}
+use Rattle.shell_steps.specs.State.{Deed, ShellState, carried, stepped}
 use Rattle.shell_requests.specs.declared.request.Arrival.{Arrival}
 use Rattle.shell_requests.specs.declared.request.Arrival.TheVariants as arrivals
 use Rattle.shell_requests.specs.declared.request.Change.{Change}

@@ -10,13 +10,13 @@ use Rattle.shell_answers.specs.Refusals.{naming_nothing}
 use Rattle.shell_requests.specs.declared.request.Arrival.{Arrival}
 use Rattle.shell_requests.specs.declared.request.Arrival.TheVariants as arrivals
 use Rattle.shell_holdings.specs.Done.{IsDone}
-use Rattle.shell_holdings.specs.Halts.{Halts, halt_answer, halt_fate}
+use Rattle.shell_steps.specs.Halts.{Halts, halt_answer, halt_fate}
 use Rattle.shell_holdings.specs.Performing.{Performs, accepted, full, no_memory, refused}
-use Rattle.shell_holdings.specs.State.{Deed, ShellState, carried, next_number, stepped}
-use Rattle.shell_holdings.specs.Stepping.{IsStepped}
-use Rattle.shell_holdings.specs.declared.fate.Fate.{Fate}
-use Rattle.shell_holdings.specs.declared.stepping.Halt.{Halt}
-use Rattle.shell_holdings.specs.declared.stepping.Halt.TheVariants as halts
+use Rattle.shell_steps.specs.State.{Deed, ShellState, carried, next_number, stepped}
+use Rattle.shell_steps.specs.Stepping.{IsStepped}
+use Rattle.shell_steps.specs.declared.fate.Fate.{Fate}
+use Rattle.shell_steps.specs.declared.stepping.Halt.{Halt}
+use Rattle.shell_steps.specs.declared.stepping.Halt.TheVariants as halts
 use Rattle.shell_deeds.specs.Deeds.{arrival_answer, tried}
 use Rattle.shell_deeds.specs.Done.{after_missed}
 

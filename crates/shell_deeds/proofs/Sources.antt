@@ -15,8 +15,8 @@ use Rattle.shell_answers.specs.Faults.{file_fault}
 use Rattle.shell_answers.specs.Refusals.{naming_nothing}
 use Rattle.shell_holdings.specs.Done.{IsDone}
 use Rattle.shell_holdings.specs.Performing.{Misses, Performs, done_by}
-use Rattle.shell_holdings.specs.State.{ShellState}
-use Rattle.shell_holdings.specs.declared.fate.Fate.{Fate}
+use Rattle.shell_steps.specs.State.{ShellState}
+use Rattle.shell_steps.specs.declared.fate.Fate.{Fate}
 use Rattle.shell_holdings.proofs.Performing.{done-as}
 use Rattle.shell_deeds.specs.Deeds.{Loads, another, missing, no_source, read, unread}
 use Rattle.shell_deeds.specs.Done.{IsSourced, Unsourced, not_loaded}

@@ -1,5 +1,5 @@
 -- What the shell may do where a line asks for something: by what want of memory makes of it, one clause a way. What releases and scripts
--- are asked for is `shell_upgrades`'.
+-- are asked for is `shell_upgrades`', and relups are `shell_relups`'.
 use Rattle.std.specs.Prelude.{◌≡◌, ◌≢◌, ℕ, [], List, Option, None, Some}
 use Rattle.erl_parse.specs.Sources.{IsNoSource, IsSource}
 use Rattle.erl_parse.specs.Telling.{Says}
@@ -22,15 +22,16 @@ use Rattle.shell_answers.specs.Answers.{called, fixed}
 use Rattle.shell_answers.specs.Faults.{file_fault, term_fault}
 use Rattle.shell_answers.specs.Refusals.{naming_nothing}
 use Rattle.shell_answers.specs.declared.fixed.Fixed.TheVariants as words
-use Rattle.shell_requests.specs.Request.{Request, Spoken, Who, ask, change, load, undo, commit, arrive, serve, revive, unpack, release, advance, sweep, numbered, named, too_long, silent, unknown, asks}
+use Rattle.shell_requests.specs.Request.{Request, Spoken, Who, ask, change, load, undo, forget, commit, arrive, serve, revive, unpack, release, relup, advance, sweep, numbered, named, too_long, silent, unknown, asks}
 use Rattle.shell_requests.specs.declared.request.Arrival.{Arrival}
 use Rattle.shell_requests.specs.declared.request.Arrival.TheVariants as arrivals
 use Rattle.shell_requests.specs.declared.request.Change.{Change}
 use Rattle.shell_requests.specs.declared.request.Change.TheVariants as changes
 use Rattle.shell_holdings.specs.Performing.{Misses, Performs, done_by}
-use Rattle.shell_holdings.specs.Serving.{Asks, CommitsKept, ServesAs, Undoes, kept_job}
-use Rattle.shell_holdings.specs.State.{Deed, ShellState, answered, next_number, node_of, with_call}
-use Rattle.shell_holdings.specs.declared.fate.Fate.{Fate}
+use Rattle.shell_holdings.specs.Serving.{Asks, CommitsKept, Forgets, ServesAs, Undoes, kept_job}
+use Rattle.shell_steps.specs.State.{Deed, ShellState, answered, next_number, node_of, with_call}
+use Rattle.shell_steps.specs.declared.fate.Fate.{Fate}
+use Rattle.shell_relups.specs.Relups.{TellsRelup}
 use Rattle.shell_upgrades.specs.Upgrades.{AdvancesScript, AltersReleases, Sweeps, Unpacks}
 use Rattle.shell_deeds.specs.Terms.{IsRead, one, not_one, faulty}
 
@@ -107,12 +108,14 @@ Obeys fate s (ask question) d = Asks s question fate d
 Obeys fate s (change kind name) d = Changes s kind name fate d
 Obeys fate s (load name path) d = Loads s name path fate d
 Obeys fate s (undo mark) d = Undoes s mark fate d
+Obeys fate s (forget mark) d = Forgets s mark fate d
 Obeys fate s (commit place) d = CommitsKept s (kept_job place s.jobs) fate d
 Obeys fate s (arrive kind name text) d = Arrives s kind name text fate d
 Obeys fate s (serve service who) d = ServesAs s service (pid_meant who (node_of s)) fate d
 Obeys fate s (revive app id) d = RevivesChild s app id fate d
 Obeys fate s (unpack vsn) d = Unpacks s vsn fate d
 Obeys fate s (release kind vsn) d = AltersReleases s kind vsn fate d
+Obeys fate s (relup from to) d = TellsRelup s from to fate d
 Obeys fate s (advance give_up) d = AdvancesScript s give_up fate d
 Obeys fate s sweep d = Sweeps s fate d
 

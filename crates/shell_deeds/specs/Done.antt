@@ -19,9 +19,9 @@ use Rattle.release_files.specs.declared.fault.FileFault.TheVariants as file
 use Rattle.shell_requests.specs.declared.request.Arrival.{Arrival}
 use Rattle.shell_requests.specs.declared.request.Change.{Change}
 use Rattle.shell_requests.specs.declared.request.Change.TheVariants as changes
-use Rattle.shell_holdings.specs.State.{ShellState}
-use Rattle.shell_holdings.specs.declared.stepping.Halt.{Halt}
-use Rattle.shell_holdings.specs.declared.stepping.Halt.TheVariants.{Full, Refused, Memory}
+use Rattle.shell_steps.specs.State.{ShellState}
+use Rattle.shell_steps.specs.declared.stepping.Halt.{Halt}
+use Rattle.shell_steps.specs.declared.stepping.Halt.TheVariants.{Full, Refused, Memory}
 use Rattle.shell_deeds.specs.Deeds.{tried}
 use Rattle.shell_deeds.specs.Terms.{IsRead, faulty, not_one}
 use Rattle.shell_deeds.specs.declared.loading.Unloaded.{Unloaded}

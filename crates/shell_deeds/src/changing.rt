@@ -5,7 +5,7 @@ ghost use Rattle.shell_answers.specs.Answers.{line_of};
 ghost use Rattle.shell_deeds.specs.Deeds.{Changes, change_event};
 ghost use Rattle.shell_holdings.specs.Performing.{truth_in};
 ghost use Rattle.shell_holdings.specs.Done.{IsDone};
-ghost use Rattle.shell_holdings.specs.Halts.{Halts};
+ghost use Rattle.shell_steps.specs.Halts.{Halts};
 ghost use Rattle.shell_deeds.specs.Done.{refusal_of_change};
 
 use code_loading::is_lingered_in;
@@ -14,8 +14,9 @@ use erl_term::Atom;
 use node_core::Node;
 use node_types::{Answer, Event, Refusal};
 use shell_answers::Fixed;
-use shell_holdings::{Halt, Holdings, Said, say, tell_halt};
+use shell_holdings::Holdings;
 use shell_requests::{Change, Name};
+use shell_steps::{Halt, Said, say, tell_halt};
 
 /// Deletes or purges a module's code.
 pub(crate) fn change(held: &mut Holdings, kind: Change, name: Name<'_>, out: &mut Vec<u8>) -> Said

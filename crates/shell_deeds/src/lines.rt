@@ -4,7 +4,7 @@ ghost use Rattle.std.specs.Option.{option_copied};
 ghost use Rattle.shell_deeds.specs.Deeds.{Does, Obeys, pid_meant};
 ghost use Rattle.shell_holdings.specs.Serving.{ServesAs};
 ghost use Rattle.shell_holdings.specs.Done.{IsDone};
-ghost use Rattle.shell_holdings.specs.State.{node_of};
+ghost use Rattle.shell_steps.specs.State.{node_of};
 ghost use Rattle.shell_requests.specs.Reading.{meant, who_is};
 ghost use Rattle.shell_requests.specs.Request.{spoken};
 
@@ -14,8 +14,10 @@ use crate::loading::load;
 use crate::naming::pid_meant;
 use crate::reviving::revive;
 use shell_answers::Fixed;
-use shell_holdings::{Fate, Holdings, Said, say};
+use shell_holdings::Holdings;
+use shell_relups::tell_relup;
 use shell_requests::{Line, Proc, Request, Service, read_line};
+use shell_steps::{Fate, Said, say};
 use shell_upgrades::{advance, alter_releases, sweep, unpack};
 use std::alloc::AllocError;
 
@@ -51,12 +53,14 @@ fn obey_request(held: &mut Holdings, request: Request<'_>, out: &mut Vec<u8>) ->
         Request::Alter(kind, name) => change(held, kind, name, out),
         Request::Load(name, path) => load(held, name, path, out),
         Request::Undo(mark) => held.undo(mark, out),
+        Request::Forget(mark) => held.forget(mark, out),
         Request::Commit(place) => held.commit(place, out),
         Request::Arrive(kind, name, text) => arrive(held, kind, name, text, out),
         Request::Serve(service, process) => serve(held, service, process, out),
         Request::Revive(app, id) => revive(held, app, id, out),
         Request::Unpack(vsn) => unpack(held, vsn, out),
         Request::Release(kind, vsn) => alter_releases(held, kind, vsn, out),
+        Request::Relup(from, to) => tell_relup(held, from, to, out),
         Request::Advance { give_up } => advance(held, give_up, out),
         Request::Sweep => sweep(held, out),
     }

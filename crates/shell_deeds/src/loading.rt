@@ -8,8 +8,8 @@ ghost use Rattle.shell_deeds.specs.Deeds.{Loads};
 ghost use Rattle.shell_holdings.specs.Performing.{Performs};
 ghost use Rattle.shell_holdings.specs.Done.{IsDone};
 ghost use Rattle.shell_deeds.specs.Done.{IsSourced, Unsourced, not_loaded};
-ghost use Rattle.shell_holdings.specs.Halts.{HaltsBy, MayAllRunOut, RefusesAll};
-ghost use Rattle.shell_holdings.specs.State.{carried, stepped};
+ghost use Rattle.shell_steps.specs.Halts.{HaltsBy, MayAllRunOut, RefusesAll};
+ghost use Rattle.shell_steps.specs.State.{carried, stepped};
 
 use crate::naming::spells;
 use erl_forms::Module;
@@ -18,8 +18,9 @@ use erl_term::Atom;
 use node_types::{Event, Refusal};
 use release_files::FileFault;
 use shell_answers::write_loaded;
-use shell_holdings::{Halt, Holdings, Said, say_file_fault, tell_halt, tell_missed};
+use shell_holdings::Holdings;
 use shell_requests::Name;
+use shell_steps::{Halt, Said, say_file_fault, tell_halt, tell_missed};
 use values::{Duplicate, Failure};
 
 /// Why no module was read.

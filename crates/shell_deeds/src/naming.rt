@@ -3,7 +3,7 @@ ghost use Rattle.std.specs.Prelude.{◌≡◌};
 ghost use Rattle.std.specs.Str.{bytes_eq, chars};
 ghost use Rattle.process_store.specs.Table.{pid_of};
 ghost use Rattle.shell_deeds.specs.Deeds.{pid_meant};
-ghost use Rattle.shell_holdings.specs.State.{node_of};
+ghost use Rattle.shell_steps.specs.State.{node_of};
 ghost use Rattle.shell_requests.specs.Reading.{who_is};
 
 use erl_term::Atom;

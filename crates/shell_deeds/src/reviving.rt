@@ -10,15 +10,16 @@ ghost use Rattle.shell_deeds.specs.Deeds.{RevivesChild};
 ghost use Rattle.shell_holdings.specs.Performing.{revived_in};
 ghost use Rattle.shell_holdings.specs.Done.{IsDone};
 ghost use Rattle.shell_deeds.specs.Done.{child_called, is_id};
-ghost use Rattle.shell_holdings.specs.Halts.{Halts};
+ghost use Rattle.shell_steps.specs.Halts.{Halts};
 ghost use Rattle.sys_protocol.specs.Refusals.{IsDue, IsNotDue};
 
 use crate::naming::spells;
 use erl_term::Term;
 use node_types::{Answer, Event, Refusal};
 use shell_answers::{Fixed, write_revived};
-use shell_holdings::{Halt, Holdings, Said, say, tell_halt};
+use shell_holdings::Holdings;
 use shell_requests::Name;
+use shell_steps::{Halt, Said, say, tell_halt};
 use std::alloc::{AllocError, Global};
 use sys_protocol::{App, AppTable, Child, SysError};
 

@@ -1,11 +1,10 @@
 -- Lemmas on deeds that were done.
-use Rattle.std.proofs.Common.{◌≡◌, ℕ, List, [], ◌∷◌, ◌++◌, replicate, Option, None, Some, Result, Ok, Err, IfErr, IfOk, OnOk, Vec, Global, refl, sym, ap, subst, ◌∙◌}
+use Rattle.std.proofs.Common.{◌≡◌, ℕ, List, [], ◌∷◌, ◌++◌, replicate, Option, None, Some, Result, Ok, Err, IfErr, IfOk, OnErr, OnOk, Vec, Global, refl, sym, ap, subst, ◌∙◌}
 use Rattle.undo_journal.specs.declared.error.JournalError.{JournalError}
 use Rattle.undo_journal.specs.declared.error.JournalError.TheVariants as error
 use Rattle.undo_journal.specs.declared.report.Report.{Report}
-use Rattle.undo_journal.specs.Journal.{UndoFails, stopped_reports}
-use Rattle.undo_journal.specs.Timeline.{IsFront, Station, cut_stations, cut_to, report_of}
-use Rattle.std.proofs.lemmas.List.{append-nil}
+use Rattle.undo_journal.specs.Journal.{HasNoStation, UndoFails, stopped_reports}
+use Rattle.undo_journal.specs.Timeline.{Station, cut_stations, cut_to, forgotten_to, report_of}
 use Rattle.erl_term.specs.Rows.{append_trees}
 use Rattle.erl_term.specs.Tree.{more}
 use Rattle.process_effects.specs.declared.told.Reply.{Reply}
@@ -14,10 +13,11 @@ use Rattle.node_rules.specs.Node.{NodeState}
 use Rattle.node_types.specs.Note.{Note}
 use Rattle.node_types.specs.declared.event.Refusal.{Refusal}
 use Rattle.shell_requests.specs.declared.request.Question.{Question}
-use Rattle.shell_holdings.specs.Serving.{Asks, Undoes, cut, dead, forgotten, is_told, stopped, told}
-use Rattle.shell_holdings.specs.Done.{IsDone, IsUnbegun, first_of, undo_answer, undo_fate, unfinished_answer, unfinished_fate}
-use Rattle.shell_holdings.specs.State.{NodeTimeline, ShellState, joined, with_timeline}
-use Rattle.shell_holdings.specs.declared.fate.Fate.{Fate}
+use Rattle.shell_holdings.specs.Serving.{Asks, Forgets, Undoes, below, cut, dead, floored, forgotten, is_told, nowhere, stopped, told}
+use Rattle.shell_holdings.specs.Done.{IsDone}
+use Rattle.shell_steps.specs.Undone.{first_of, forget_answer, forget_fate, undo_answer, undo_fate, unfinished_answer, unfinished_fate}
+use Rattle.shell_steps.specs.State.{NodeTimeline, ShellState, joined, with_timeline}
+use Rattle.shell_steps.specs.declared.fate.Fate.{Fate}
 
 pub IfOk-then : {T E : Type 0} (r : Result T E) (P Q : T → Type 0) → IfOk r P → ((x : T) → P x → Q x) → IfOk r Q
 IfOk-then (Ok x) P Q p step = step x p
@@ -47,22 +47,22 @@ pub undo-done : (s : ShellState) (mark : ℕ) (new : NodeTimeline) (r : Result (
 undo-done s mark new (Ok reports) fate text appended is reported fails told = undone s mark new reports.items fate text appended is reported told
 undo-done s mark new (Err e) fate text appended is reported fails told = unfinished s mark new e fate text appended fails told
 
--- an undo that cut nothing leaves the timeline as it was
+-- what stands before a mark was forgotten, or the mark has no station
 
-none_cut : (cut : List (Station NodeState Note)) → [] ≡ stopped_reports 1 cut → cut ≡ []
-none_cut [] e = refl
-none_cut (s ∷ ss) e = absurd (let no : ⊥ = cc in no)
+unfloored : (s : ShellState) (mark : ℕ) (e : JournalError Refusal Note) (fate : Option Fate) (text appended : List ℕ) → HasNoStation mark s.timeline e → (fate ≡ unfinished_fate e) × (appended ≡ text ++ line_of (unfinished_answer e)) → IsDone (Forgets s mark fate) s text appended
+unfloored s mark (error.Step why) fate text appended none told = absurd none
+unfloored s mark error.SerialEnd fate text appended none told = absurd none
+unfloored s mark error.Forgotten fate text appended none told =
+    subst (λ f. IsDone (Forgets s mark f) s text appended) (sym told.0) (_, below none, refl, told.1)
+unfloored s mark error.DeadMark fate text appended none told =
+    subst (λ f. IsDone (Forgets s mark f) s text appended) (sym told.0) (_, nowhere none, refl, told.1)
+unfloored s mark (error.Memory reached reports) fate text appended none told = absurd none
 
-pub as_it_was : (mark : ℕ) (old new : NodeTimeline) (r : Result (Vec (Report Note) Global) (JournalError Refusal Note)) → IsUnbegun r → IfErr r (UndoFails mark 1 old new) → IsFront old new → new ≡ old
-as_it_was mark old new (Ok reports) unbegun fails front = absurd unbegun
-as_it_was mark old new (Err (error.Step why)) unbegun fails front = absurd unbegun
-as_it_was mark old new (Err error.Forgotten) unbegun fails front = absurd unbegun
-as_it_was mark old new (Err error.DeadMark) unbegun fails front = absurd unbegun
-as_it_was mark old new (Err error.SerialEnd) unbegun fails front = absurd unbegun
-as_it_was mark old new (Err (error.Memory reached reports)) unbegun fails front =
-    let none = none_cut (cut_stations old new) (sym unbegun ∙ fails.reported) in
-    let later : new.later ≡ old.later = sym (front.front ∙ ap (λ cut. new.later ++ cut) none ∙ append-nil new.later) in
-    λ i. record { first = front.same_first i; later = later i; last = front.same_last i }
+pub forget-done : {T : Type 0} (s : ShellState) (mark : ℕ) (new : NodeTimeline) (r : Result T (JournalError Refusal Note)) (fate : Option Fate) (text appended : List ℕ) → OnOk r (forgotten_to mark s.timeline ≡ Some new) → IfErr r (HasNoStation mark s.timeline) → OnErr r (new ≡ s.timeline) → (fate ≡ forget_fate r) × (appended ≡ text ++ line_of (forget_answer mark r)) → IsDone (Forgets s mark fate) (with_timeline new s) text appended
+forget-done s mark new (Ok done) fate text appended is none same told =
+    subst (λ f. IsDone (Forgets s mark f) (with_timeline new s) text appended) (sym told.0) (_, floored new is, refl, told.1)
+forget-done s mark new (Err e) fate text appended is none same told =
+    subst (λ (t : NodeTimeline). IsDone (Forgets s mark fate) (with_timeline t s) text appended) (sym same) (unfloored s mark e fate text appended none told)
 
 -- the replies of rows are told as those of one row
 

@@ -28,14 +28,14 @@ use Rattle.script_state.specs.Runner.{RunnerState}
 use Rattle.shell_holdings.specs.Serving.{Commits, Retakes, no_memory_to_run, not_run, not_run_full, kept_again, no_memory_to_keep, not_running}
 use Rattle.shell_holdings.specs.Performing.{Misses, Performs, no_memory_to_read, unread_full, unread_refused, accepted, full, no_memory, refused, done_by, job_kept}
 use Rattle.shell_holdings.specs.Done.{IsDone, IsKept}
-use Rattle.shell_holdings.specs.Halts.{Halts, HaltsBy, MayAllRunOut, MayCommit, RefusesAll, RefusesResult, halt_answer, halt_by, halt_fate, missed_fate}
+use Rattle.shell_steps.specs.Halts.{Halts, HaltsBy, MayAllRunOut, MayCommit, RefusesAll, RefusesResult, halt_answer, halt_by, halt_fate, missed_fate}
 use Rattle.undo_journal.specs.declared.history.Command.TheVariants.{Perform}
-use Rattle.shell_holdings.specs.State.{Deed, IsFull, ShellState, node_of, stepped, with_job}
-use Rattle.shell_holdings.specs.Stepping.{IsStepped}
-use Rattle.shell_holdings.specs.declared.fate.Fate.{Fate}
-use Rattle.shell_holdings.specs.declared.fate.Fate.TheVariants as fates
-use Rattle.shell_holdings.specs.declared.stepping.Halt.{Halt}
-use Rattle.shell_holdings.specs.declared.stepping.Halt.TheVariants as halts
+use Rattle.shell_steps.specs.State.{Deed, IsFull, ShellState, node_of, stepped, with_job}
+use Rattle.shell_steps.specs.Stepping.{IsStepped}
+use Rattle.shell_steps.specs.declared.fate.Fate.{Fate}
+use Rattle.shell_steps.specs.declared.fate.Fate.TheVariants as fates
+use Rattle.shell_steps.specs.declared.stepping.Halt.{Halt}
+use Rattle.shell_steps.specs.declared.stepping.Halt.TheVariants as halts
 
 -- an event that was not performed is told, and leaves the shell as it is
 pub halted : (s : ShellState) (e : Event) (about : Subject) (done : Accepted NodeState Answer Note → Deed) (h : Halt) (fate : Option Fate) (text appended : List ℕ) → Halts h s e → (fate ≡ halt_fate h) × (appended ≡ text ++ line_of (halt_answer about h)) → IsDone (Performs s s e about done fate) s text appended
@@ -83,16 +83,6 @@ retold s pid why fate text appended refuses told =
 pub not_kept : (s : ShellState) (pid : ℕ) (fate : Option Fate) (text appended : List ℕ) → retake_refusal pid (node_of s).processes ≡ None → (fate ≡ Some fates.Refused) × (appended ≡ text ++ line_of (fixed words.Memory)) → IsDone (Retakes s pid fate) s text appended
 not_kept s pid fate text appended none told =
     subst (λ f. IsDone (Retakes s pid f) s text appended) (sym told.0) (_, no_memory_to_keep none, refl, told.1)
-
--- an event that the journal refuses is not performed
-pub failed : {X : Type 0} (s : ShellState) (e : Event) (r : Result X (JournalError Refusal Note)) (why : JournalError Refusal Note) → r ≡ Err why → (IsFull s → r ≡ Err error.SerialEnd) → PerformFails (Step (node_of s) e) (MayRunOut (node_of s) e) s.timeline why → Halts (halt_by why) s e
-failed s e r (error.Step refusal) is at_end fails =
-    ((λ full. let ends : r ≡ Err error.SerialEnd = at_end full in let never : ⊥ = cc in never), fails)
-failed s e r error.SerialEnd is at_end fails = fails
-failed s e r error.Forgotten is at_end fails = absurd fails
-failed s e r error.DeadMark is at_end fails = absurd fails
-failed s e r (error.Memory mark reports) is at_end fails =
-    ((λ full. let ends : r ≡ Err error.SerialEnd = at_end full in let never : ⊥ = cc in never), fails.0)
 
 -- Where a part was not read, and where a job was not run.
 

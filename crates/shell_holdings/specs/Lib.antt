@@ -1,6 +1,3 @@
 pub mod Done
-pub mod Halts
 pub mod Performing
 pub mod Serving
-pub mod State
-pub mod Stepping

@@ -16,10 +16,10 @@ use Rattle.node_types.specs.declared.event.Refusal.{Refusal}
 use Rattle.shell_answers.specs.Answers.{called, carried_out, committed, finished, fixed, installing, job_of, loaded, recovered, restarted, revived, set_unpacked, swept}
 use Rattle.shell_answers.specs.Refusals.{Subject, refusal_of}
 use Rattle.shell_answers.specs.declared.fixed.Fixed.TheVariants as words
-use Rattle.shell_holdings.specs.Halts.{MayAllRunOut, RefusesAll}
-use Rattle.shell_holdings.specs.State.{Deed, IsFull, ShellState, answered, carried, node_of, stepped, with_job}
-use Rattle.shell_holdings.specs.declared.fate.Fate.{Fate}
-use Rattle.shell_holdings.specs.declared.fate.Fate.TheVariants.{Refused, Unread}
+use Rattle.shell_steps.specs.Halts.{MayAllRunOut, RefusesAll}
+use Rattle.shell_steps.specs.State.{Deed, IsFull, ShellState, answered, carried, node_of, stepped, with_job}
+use Rattle.shell_steps.specs.declared.fate.Fate.{Fate}
+use Rattle.shell_steps.specs.declared.fate.Fate.TheVariants.{Refused, Unread}
 
 -- What an event comes to: where no serial is left, that, and else what the rule says. A refusal leaves the shell `tried`, and is told
 -- of what it is about; and an event that is accepted does what `done` says.

@@ -8,22 +8,22 @@ use Rattle.process_effects.specs.Commits.{job_at}
 use Rattle.process_store.specs.Table.{living}
 use Rattle.process_store.specs.declared.living.Living.{Living}
 use Rattle.process_table.specs.Steps.{retake_refusal}
-use Rattle.undo_journal.specs.declared.history.Command.TheVariants.{Undo}
-use Rattle.undo_journal.specs.Timeline.{IsDead, IsForgotten, cut_stations, cut_to, here, report_of}
+use Rattle.undo_journal.specs.declared.history.Command.TheVariants.{Forget, Undo}
+use Rattle.undo_journal.specs.Timeline.{IsDead, IsForgotten, cut_stations, cut_to, forgotten_to, here, report_of}
 use Rattle.node_types.specs.declared.event.Event.TheVariants as event
 use Rattle.node_types.specs.declared.event.Refusal.{Refusal}
-use Rattle.shell_answers.specs.Answers.{apps_of, fixed, job_of, line_of, mark_at, modules_of, process_of, releases_of, replies_in, stopped_undo, undone_steps}
+use Rattle.shell_answers.specs.Answers.{apps_of, fixed, floor_at, job_of, line_of, mark_at, modules_of, process_of, releases_of, replies_in, stopped_undo, undone_steps}
 use Rattle.shell_answers.specs.Refusals.{naming_nothing, proc_refusal, refusal_of}
 use Rattle.shell_answers.specs.declared.fixed.Fixed.TheVariants as words
 use Rattle.shell_requests.specs.declared.request.Question.{Question}
 use Rattle.shell_requests.specs.declared.request.Question.TheVariants as questions
 use Rattle.shell_requests.specs.declared.request.Service.{Service}
 use Rattle.shell_requests.specs.declared.request.Service.TheVariants as services
-use Rattle.shell_holdings.specs.Halts.{MayCommit, RefusesResult}
+use Rattle.shell_steps.specs.Halts.{MayCommit, RefusesResult}
 use Rattle.shell_holdings.specs.Performing.{Performs, done_by}
-use Rattle.shell_holdings.specs.State.{Deed, IsFull, NodeTimeline, ShellState, answered, node_of, with_job, with_timeline}
-use Rattle.shell_holdings.specs.declared.fate.Fate.{Fate}
-use Rattle.shell_holdings.specs.declared.fate.Fate.TheVariants.{Refused, StoppedAt}
+use Rattle.shell_steps.specs.State.{Deed, IsFull, NodeTimeline, ShellState, answered, node_of, with_job, with_timeline}
+use Rattle.shell_steps.specs.declared.fate.Fate.{Fate}
+use Rattle.shell_steps.specs.declared.fate.Fate.TheVariants.{Refused, StoppedAt}
 
 -- `take`, `retake`, `proc PROC`, by the pid that is meant, if it is one's
 
@@ -75,6 +75,17 @@ pub data Undoes (s : ShellState) (mark : ℕ) : Option Fate → Deed → Type 0 
   stopped : (reached : ℕ) (end : NodeTimeline) → IsSome (cut_to mark s.timeline) → mark ≤ reached → cut_to reached s.timeline ≡ Some end →
       (reached ≡ mark → end ≡ s.timeline) →
       Undoes s mark (Some (StoppedAt reached)) (undone_to s reached end (stopped_undo reached (report_of (cut_stations s.timeline end))))
+
+-- `forget K`: what has no station is refused as by an undo. Else the stations before the mark's are forgotten, which is the floor then.
+-- It takes no memory.
+
+abbrev pub floored_at : ShellState → ℕ → NodeTimeline → Deed
+floored_at s mark end = record { text = line_of (floor_at mark); after = with_timeline end s; command = Some (Forget mark) }
+
+pub data Forgets (s : ShellState) (mark : ℕ) : Option Fate → Deed → Type 0 where
+  below : IsForgotten mark s.timeline → Forgets s mark None (answered s (fixed words.Forgotten))
+  nowhere : IsDead mark s.timeline → Forgets s mark None (answered s (fixed words.DeadMark))
+  floored : (end : NodeTimeline) → forgotten_to mark s.timeline ≡ Some end → Forgets s mark None (floored_at s mark end)
 
 -- Questions. What is told of releases is made before it is written, for which memory may be wanting.
 abbrev pub told : ShellState → Question → Tree

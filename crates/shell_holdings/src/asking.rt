@@ -7,11 +7,11 @@ ghost use Rattle.shell_holdings.specs.Serving.{Asks};
 ghost use Rattle.shell_requests.specs.declared.request.Question.TheVariants as questions;
 
 use crate::holdings::Holdings;
-use crate::telling::{Said, refuse};
 use shell_answers::{
     names_in_releases, write_apps, write_mark, write_modules, write_releases, write_replies,
 };
 use shell_requests::Question;
+use shell_steps::{Said, refuse};
 use std::alloc::AllocError;
 
 impl Holdings {

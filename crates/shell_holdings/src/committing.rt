@@ -1,23 +1,16 @@
 // Results of jobs that are kept.
-ghost use Rattle.std.specs.Prelude.{◌≡◌, ◌<◌, ◌++◌, IfOk, None, vec_capacity, vec_len};
+ghost use Rattle.std.specs.Prelude.{◌≡◌, IfOk};
 ghost use Rattle.std.specs.Option.{option_copied};
-ghost use Rattle.shell_answers.specs.Answers.{committed, line_of};
 ghost use Rattle.shell_holdings.specs.Serving.{Commits, CommitsKept, kept_job};
 ghost use Rattle.shell_holdings.specs.Done.{IsDone};
-ghost use Rattle.shell_holdings.specs.Halts.{HaltsBy, MayCommit, RefusesResult};
-ghost use Rattle.shell_holdings.specs.State.{joined};
+ghost use Rattle.shell_steps.specs.Halts.{HaltsBy, MayCommit, RefusesResult};
 
 use crate::holdings::Holdings;
-use crate::stepping::{Halt, send_told, step};
-use crate::telling::{Said, say, tell_halt};
 use callback_lang::run;
 use erl_semantics::{Done, Job};
-use node_types::{Answer, Event, Note, Refusal};
-use process_effects::Reply;
-use shell_answers::{Fixed, write_committed};
-use std::alloc::Global;
-use undo_journal::Told;
-use values::Row;
+use node_types::{Event, Refusal};
+use shell_answers::Fixed;
+use shell_steps::{Halt, Said, say, step, tell_committed, tell_halt};
 
 impl Holdings {
     /// Commits the result of so many a job that is kept, and tells the replies.
@@ -64,20 +57,4 @@ impl Holdings {
             None => Halt::Memory,
         }
     }
-}
-
-/// Tells and sends the replies of a commit, for whose row there is room.
-fn tell_committed(
-    alloc: Global,
-    sent: &mut Vec<Row<Reply>>,
-    told: Told<Answer, Note>,
-    out: &mut Vec<u8>,
-) -> Said
-    requires { vec_len sent.old < vec_capacity sent.old }
-    ensures { IfOk result (λ fate. (fate ≡ None) × (joined sent.new.items ≡ joined sent.old.items ++ told.note.replies)
-        × (out.new.items ≡ out.old.items ++ line_of (committed told.note.replies))) }
-{
-    write_committed(told.note.replies(), out)?;
-    send_told(alloc, sent, told);
-    Ok(None)
 }

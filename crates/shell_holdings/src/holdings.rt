@@ -35,7 +35,7 @@ impl Model for Holdings {
     ghost use Rattle.std.specs.Coded.{codes};
     ghost use Rattle.erl_term.specs.contracts.term.Terms as terms;
     ghost use Rattle.erl_forms.specs.contracts.module.Module as forms;
-    ghost use Rattle.shell_holdings.specs.State.{ShellState, joined};
+    ghost use Rattle.shell_steps.specs.State.{ShellState, joined};
 
     ghost Value = { ShellState };
 
@@ -51,7 +51,7 @@ impl Model for Holdings {
 }
 
 impl Holdings {
-    ghost use Rattle.shell_holdings.specs.State.{IsFull, next_number, node_of, opened_shell, with_call, with_job};
+    ghost use Rattle.shell_steps.specs.State.{IsFull, next_number, node_of, opened_shell, with_call, with_job};
 
     /// The files, and a journal that begins with a node that has booted. The names of modules that are loaded are hashed by `hashing`.
     ///

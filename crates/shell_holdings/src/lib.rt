@@ -1,17 +1,16 @@
-//! What the shell holds from one line to the next: how it performs events on its node, and what it tells of them; and what it does with
-//! its jobs, its marks and its questions.
+//! What the shell holds from one line to the next, and what it does with its jobs, its marks and its questions.
 //!
 //! [`Holdings`] are the files, the journal of the node, the jobs that are kept, the count of the calls that were tried, and all replies
-//! that were ever sent. [`Holdings::perform`] performs an event, or hands out the [`Halt`] that stands against it; [`tell_halt`] and its
-//! neighbours append what is told. A [`Fate`] tells what want of memory made of a line.
+//! that were ever sent. [`Holdings::perform`] performs an event, or hands out the [`shell_steps::Halt`] that stands against it. How a
+//! journal steps and undoes, and how that is told, is `shell_steps`'.
 //!
 //! # What is proved
 //!
 //! - An event that is performed is one that the node's rule accepts, one station more stands in the journal, and its replies are sent
 //!   (`IsStepped`). Why it was not is what the rule says, or that no serial is left, or want of memory where nothing stands against it
 //!   that is told without memory (`Halts`); and then all is as it was.
-//! - Taking and retaking, commits of kept jobs, undos and questions do one of the deeds that their commands allow (`ServesAs`,
-//!   `CommitsKept`, `Undoes`, `Asks`): the answer is appended, and what is held is as the deed leaves it.
+//! - Taking and retaking, commits of kept jobs, undos, forgets and questions do one of the deeds that their commands allow (`ServesAs`,
+//!   `CommitsKept`, `Undoes`, `Forgets`, `Asks`): the answer is appended, and what is held is as the deed leaves it.
 //!
 //! # What no contract says
 //!
@@ -21,17 +20,9 @@
 
 mod asking;
 mod committing;
-mod fate;
+mod events;
 mod holdings;
 mod serving;
-mod stepping;
-mod telling;
 mod undoing;
 
-pub use fate::Fate;
 pub use holdings::Holdings;
-pub use stepping::Halt;
-pub use telling::{
-    Said, refuse, say, say_file_fault, say_term_fault, tell_halt, tell_halt_of, tell_missed,
-    tell_missed_of,
-};

@@ -7,6 +7,8 @@ use Rattle.shell_requests.specs.declared.request.Arrival.{Arrival}
 use Rattle.shell_requests.specs.declared.request.Arrival.TheVariants.{Call, Cast, Info}
 use Rattle.shell_requests.specs.declared.request.Change.{Change}
 use Rattle.shell_requests.specs.declared.request.Change.TheVariants.{Delete, Purge, SoftPurge}
+use Rattle.shell_requests.specs.declared.request.MarkUse.{MarkUse}
+use Rattle.shell_requests.specs.declared.request.MarkUse.TheVariants.{Undo, Forget}
 use Rattle.shell_requests.specs.declared.request.Question.{Question}
 use Rattle.shell_requests.specs.declared.request.Question.TheVariants.{Modules, Apps, Replies, Mark as MarkNow, Which}
 use Rattle.shell_requests.specs.declared.request.ReleaseChange.{ReleaseChange}
@@ -14,7 +16,7 @@ use Rattle.shell_requests.specs.declared.request.ReleaseChange.TheVariants.{Remo
 use Rattle.shell_requests.specs.declared.request.Service.{Service}
 use Rattle.shell_requests.specs.declared.request.Service.TheVariants.{Take, Retake, Show}
 use Rattle.shell_requests.specs.declared.request.Shape.{Shape}
-use Rattle.shell_requests.specs.declared.request.Shape.TheVariants.{Nothing, Module, ModuleAndPath, Mark, Result, NameAndTerm, Process, AppAndChild, Unpack, Version, Step, Sweep}
+use Rattle.shell_requests.specs.declared.request.Shape.TheVariants.{Nothing, Module, ModuleAndPath, Mark, Result, NameAndTerm, Process, AppAndChild, Unpack, Version, TwoVersions, Step, Sweep}
 use Rattle.shell_requests.specs.Words.{behind_word, is_silent, number_of, only_word, two_words, with_rest, words_of}
 
 -- A process, by its pid or by the characters of its name.
@@ -29,12 +31,15 @@ pub data Request : Type 0 where
   change : Change → List ℕ → Request
   load : List ℕ → List ℕ → Request
   undo : ℕ → Request
+  forget : ℕ → Request
   commit : ℕ → Request
   arrive : Arrival → List ℕ → List ℕ → Request
   serve : Service → Who → Request
   revive : List ℕ → List ℕ → Request
   unpack : List ℕ → Request
   release : ReleaseChange → List ℕ → Request
+  -- of one version and another
+  relup : List ℕ → List ℕ → Request
   -- whether processes that run are passed over
   advance : Bool → Request
   sweep : Request
@@ -44,13 +49,13 @@ abbrev pub commands : List (List ℕ × Shape)
 commands =
     (codes "modules", Nothing Modules) ∷ (codes "apps", Nothing Apps) ∷ (codes "replies", Nothing Replies)
     ∷ (codes "mark", Nothing MarkNow) ∷ (codes "delete", Module Delete) ∷ (codes "purge", Module Purge)
-    ∷ (codes "soft_purge", Module SoftPurge) ∷ (codes "load", ModuleAndPath) ∷ (codes "undo", Mark)
-    ∷ (codes "commit", Result) ∷ (codes "call", NameAndTerm Call) ∷ (codes "cast", NameAndTerm Cast)
+    ∷ (codes "soft_purge", Module SoftPurge) ∷ (codes "load", ModuleAndPath) ∷ (codes "undo", Mark Undo)
+    ∷ (codes "forget", Mark Forget) ∷ (codes "commit", Result) ∷ (codes "call", NameAndTerm Call) ∷ (codes "cast", NameAndTerm Cast)
     ∷ (codes "send", NameAndTerm Info) ∷ (codes "take", Process Take) ∷ (codes "retake", Process Retake)
     ∷ (codes "proc", Process Show) ∷ (codes "revive", AppAndChild) ∷ (codes "which", Nothing Which)
     ∷ (codes "unpack", Unpack) ∷ (codes "remove", Version Remove) ∷ (codes "install", Version Install)
     ∷ (codes "step", Step) ∷ (codes "permanent", Version MakePermanent) ∷ (codes "reboot", Version RebootOld)
-    ∷ (codes "sweep", Sweep) ∷ []
+    ∷ (codes "sweep", Sweep) ∷ (codes "relup", TwoVersions) ∷ []
 
 abbrev pub shape_of : List ℕ → Option Shape
 shape_of verb = lookup (bytes_eq verb) commands
@@ -75,8 +80,12 @@ of_module kind word = option_map (change kind) (name_of word)
 abbrev pub of_file : List ℕ × List ℕ → Option Request
 of_file words = option_map (λ name. load name words.1) (name_of words.0)
 
-abbrev pub to_mark : List ℕ → Option Request
-to_mark word = option_map undo (number_of word)
+abbrev pub mark_for : MarkUse → ℕ → Request
+mark_for Undo mark = undo mark
+mark_for Forget mark = forget mark
+
+abbrev pub to_mark : MarkUse → List ℕ → Option Request
+to_mark kind word = option_map (mark_for kind) (number_of word)
 
 abbrev pub of_result : List ℕ → Option Request
 of_result word = option_map commit (number_of word)
@@ -89,6 +98,9 @@ of_process service word = option_map (serve service) (process_of word)
 
 abbrev pub of_child : List ℕ × List ℕ → Option Request
 of_child words = option_and_then (λ app. option_map (revive app) (name_of words.1)) (name_of words.0)
+
+abbrev pub of_two_releases : List ℕ × List ℕ → Request
+of_two_releases versions = relup versions.0 versions.1
 
 -- the script goes on: no word, or `give_up`
 abbrev pub to_advance : List (List ℕ) → Option Request
@@ -104,13 +116,14 @@ abbrev pub request_by : Shape → List ℕ → Option Request
 request_by (Nothing question) rest = alone question (words_of rest)
 request_by (Module kind) rest = option_and_then (of_module kind) (only_word (words_of rest))
 request_by ModuleAndPath rest = option_and_then of_file (two_words (words_of rest))
-request_by Mark rest = option_and_then to_mark (only_word (words_of rest))
+request_by (Mark kind) rest = option_and_then (to_mark kind) (only_word (words_of rest))
 request_by Result rest = option_and_then of_result (only_word (words_of rest))
 request_by (NameAndTerm kind) rest = option_and_then (of_arrival kind) (with_rest (words_of rest) (behind_word rest))
 request_by (Process service) rest = option_and_then (of_process service) (only_word (words_of rest))
 request_by AppAndChild rest = option_and_then of_child (two_words (words_of rest))
 request_by Unpack rest = option_map unpack (only_word (words_of rest))
 request_by (Version kind) rest = option_map (release kind) (only_word (words_of rest))
+request_by TwoVersions rest = option_map of_two_releases (two_words (words_of rest))
 request_by Step rest = to_advance (words_of rest)
 request_by Sweep rest = to_sweep (words_of rest)
 

@@ -15,4 +15,6 @@ mod words;
 
 pub use name::Name;
 pub use reading::{read_line, runs_code};
-pub use request::{Arrival, Change, Line, Proc, Question, ReleaseChange, Request, Service, Shape};
+pub use request::{
+    Arrival, Change, Line, MarkUse, Proc, Question, ReleaseChange, Request, Service, Shape,
+};

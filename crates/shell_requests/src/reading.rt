@@ -6,7 +6,7 @@ ghost use Rattle.shell_requests.specs.Request.{process_of, request_by, request_o
 
 use crate::name::Name;
 use crate::request::{
-    Arrival, Change, Line, Proc, Question, ReleaseChange, Request, Service, Shape,
+    Arrival, Change, Line, MarkUse, Proc, Question, ReleaseChange, Request, Service, Shape,
 };
 use crate::words::{
     has_digits_alone, has_no_word, is_silent, next_word, number, one_word, pair_of_words,
@@ -36,7 +36,8 @@ fn shape_of(verb: &str) -> Option<Shape>
         "purge" => Shape::Module(Change::Purge),
         "soft_purge" => Shape::Module(Change::SoftPurge),
         "load" => Shape::ModuleAndPath,
-        "undo" => Shape::Mark,
+        "undo" => Shape::Mark(MarkUse::Undo),
+        "forget" => Shape::Mark(MarkUse::Forget),
         "commit" => Shape::Result,
         "call" => Shape::NameAndTerm(Arrival::Call),
         "cast" => Shape::NameAndTerm(Arrival::Cast),
@@ -53,6 +54,7 @@ fn shape_of(verb: &str) -> Option<Shape>
         "permanent" => Shape::Version(ReleaseChange::MakePermanent),
         "reboot" => Shape::Version(ReleaseChange::RebootOld),
         "sweep" => Shape::Sweep,
+        "relup" => Shape::TwoVersions,
     )
 }
 
@@ -99,13 +101,14 @@ fn read_words(shape: Shape, rest: &str) -> Option<Request<'_>>
         Shape::Nothing(question) => alone(question, rest),
         Shape::Module(change) => of_module(change, rest),
         Shape::ModuleAndPath => of_file(rest),
-        Shape::Mark => to_mark(rest),
+        Shape::Mark(kind) => to_mark(kind, rest),
         Shape::Result => of_result(rest),
         Shape::NameAndTerm(arrival) => of_arrival(arrival, rest),
         Shape::Process(service) => of_process(service, rest),
         Shape::AppAndChild => of_child(rest),
         Shape::Unpack => of_unpacking(rest),
         Shape::Version(change) => of_release(change, rest),
+        Shape::TwoVersions => of_two_releases(rest),
         Shape::Step => of_step(rest),
         Shape::Sweep => of_sweep(rest),
     }
@@ -140,12 +143,15 @@ fn of_file(rest: &str) -> Option<Request<'_>>
 }
 
 /// `K`
-fn to_mark(rest: &str) -> Option<Request<'_>>
-    ensures { option_map meant result ≡ request_by Shape.Mark rest.now }
+fn to_mark(kind: MarkUse, rest: &str) -> Option<Request<'_>>
+    ensures { option_map meant result ≡ request_by (Shape.Mark kind) rest.now }
 {
     let word = one_word(rest)?;
     let mark = number(word)?;
-    Some(Request::Undo(mark))
+    match kind {
+        MarkUse::Undo => Some(Request::Undo(mark)),
+        MarkUse::Forget => Some(Request::Forget(mark)),
+    }
 }
 
 /// `J`
@@ -211,6 +217,14 @@ fn of_release(change: ReleaseChange, rest: &str) -> Option<Request<'_>>
 {
     let vsn = one_word(rest)?;
     Some(Request::Release(change, vsn))
+}
+
+/// `FROM TO`
+fn of_two_releases(rest: &str) -> Option<Request<'_>>
+    ensures { option_map meant result ≡ request_by Shape.TwoVersions rest.now }
+{
+    let (from, to) = pair_of_words(rest)?;
+    Some(Request::Relup(from, to))
 }
 
 /// No word, or `give_up`.

@@ -41,6 +41,15 @@ pub enum Change {
     SoftPurge,
 }
 
+/// What a mark is named for.
+#[derive(Clone, Copy)]
+pub enum MarkUse {
+    /// `undo`: to go back to it.
+    Undo,
+    /// `forget`: to have it as the floor.
+    Forget,
+}
+
 /// What arrives.
 #[derive(Clone, Copy)]
 pub enum Arrival {
@@ -72,8 +81,8 @@ pub enum Shape {
     Module(Change),
     /// `MOD PATH`: the command loads a module.
     ModuleAndPath,
-    /// `K`: the command undoes to a mark.
-    Mark,
+    /// `K`: the command names a mark for this.
+    Mark(MarkUse),
     /// `J`: the command commits a result.
     Result,
     /// `NAME TERM`: the command has this arrive.
@@ -86,6 +95,8 @@ pub enum Shape {
     Unpack,
     /// `VSN`: the command makes this change of the releases.
     Version(ReleaseChange),
+    /// `FROM TO`: the command tells the relup of two releases.
+    TwoVersions,
     /// No word, or `give_up`: the command has the script go on.
     Step,
     /// No word: the command sweeps.
@@ -112,6 +123,8 @@ pub enum Request<'a> {
     Load(Name<'a>, &'a str),
     /// To undo every step after a mark.
     Undo(Mark),
+    /// To forget every station before a mark's.
+    Forget(Mark),
     /// To commit the result of so many a job, counted from 1.
     Commit(u64),
     /// To have something arrive for a name. The text is that of its term, without the dot.
@@ -124,6 +137,8 @@ pub enum Request<'a> {
     Unpack(&'a str),
     /// To change the releases, by a version.
     Release(ReleaseChange, &'a str),
+    /// To tell the relup that leads from the release of a version to that of another.
+    Relup(&'a str, &'a str),
     /// To have the script that runs go on by one instruction.
     Advance {
         /// Whether processes that run, and are to be suspended, are passed over, and not waited for.

@@ -17,7 +17,7 @@ use Rattle.shell_requests.specs.declared.request.ReleaseChange.{ReleaseChange}
 use Rattle.shell_requests.specs.declared.request.ReleaseChange.TheVariants as releases
 use Rattle.shell_holdings.proofs.Performing.{judged_otherwise, no_script, refused_meanwhile}
 use Rattle.shell_holdings.specs.Performing.{done_by}
-use Rattle.shell_holdings.specs.State.{Deed, ShellState, carried, stepped}
+use Rattle.shell_steps.specs.State.{Deed, ShellState, carried, stepped}
 use Rattle.shell_upgrades.specs.Upgrades.{refusal_of_alteration, release_answer, release_event}
 
 -- what is made of a refusal, if there is one

@@ -16,8 +16,8 @@ use Rattle.shell_answers.specs.Faults.{file_fault}
 use Rattle.shell_upgrades.specs.Upgrades.{Unpacks, no_release}
 use Rattle.shell_holdings.specs.Done.{IsDone}
 use Rattle.shell_upgrades.specs.Upgrades.{IsUnreadRelease}
-use Rattle.shell_holdings.specs.State.{ShellState}
-use Rattle.shell_holdings.specs.declared.fate.Fate.{Fate}
+use Rattle.shell_steps.specs.State.{ShellState}
+use Rattle.shell_steps.specs.declared.fate.Fate.{Fate}
 
 -- a refusal of the releases is one of the event
 pub refuses-release : (o : Option RelError) (why : RelError) (a : Accepted NodeState Answer Note) → Some why ≡ o → Err (OfReleases why) ≡ unless o OfReleases a

@@ -29,8 +29,8 @@ use Rattle.shell_answers.specs.declared.fixed.Fixed.TheVariants as words
 use Rattle.shell_requests.specs.declared.request.ReleaseChange.{ReleaseChange}
 use Rattle.shell_requests.specs.declared.request.ReleaseChange.TheVariants as releases
 use Rattle.shell_holdings.specs.Performing.{Misses, Performs, begun_in, done_by}
-use Rattle.shell_holdings.specs.State.{Deed, ShellState, answered, node_of}
-use Rattle.shell_holdings.specs.declared.fate.Fate.{Fate}
+use Rattle.shell_steps.specs.State.{Deed, ShellState, answered, node_of}
+use Rattle.shell_steps.specs.declared.fate.Fate.{Fate}
 
 -- `unpack VSN`: what stands against the files of the release is told first.
 

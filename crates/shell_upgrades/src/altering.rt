@@ -8,9 +8,9 @@ ghost use Rattle.release_statuses.specs.Statuses.{listed};
 ghost use Rattle.shell_answers.specs.Answers.{line_of};
 ghost use Rattle.shell_answers.specs.Refusals.{subject_of};
 ghost use Rattle.shell_holdings.specs.Done.{IsDone};
-ghost use Rattle.shell_holdings.specs.Halts.{Halts, halt_answer, halt_fate};
+ghost use Rattle.shell_steps.specs.Halts.{Halts, halt_answer, halt_fate};
 ghost use Rattle.shell_holdings.specs.Performing.{begun_in};
-ghost use Rattle.shell_holdings.specs.State.{node_of};
+ghost use Rattle.shell_steps.specs.State.{node_of};
 ghost use Rattle.shell_upgrades.specs.Upgrades.{AltersReleases, refusal_of_alteration, release_answer, release_event, script_in, subject_in};
 
 use code_server::CodeError;
@@ -21,8 +21,9 @@ use node_restart::restart_refusal;
 use node_types::{Answer, Event, Refusal};
 use release_statuses::{RelError, Releases, Vsn};
 use shell_answers::{Fixed, Subject, write_installing};
-use shell_holdings::{Halt, Holdings, Said, say, tell_halt_of};
+use shell_holdings::Holdings;
 use shell_requests::ReleaseChange;
+use shell_steps::{Halt, Said, say, tell_halt_of};
 
 /// Removes, installs or makes permanent the release of a version, or restarts the node with it.
 pub fn alter_releases(

@@ -1,7 +1,8 @@
 -- Lemmas on chains of records: a step more, a step less, and the state at the end.
-use Rattle.std.proofs.Common.{◌≡◌, ℕ, Option, List, [], ◌∷◌, ◌++◌, sym, subst, refl}
+use Rattle.std.proofs.Common.{◌≡◌, ℕ, zero, suc, Option, Some, IfSome, List, [], ◌∷◌, ◌++◌, slice_get, sym, subst, refl}
+use Rattle.std.proofs.lemmas.Option.{same_Some}
 use Rattle.undo_journal.specs.declared.past.Entry.{Entry}
-use Rattle.undo_journal.specs.Past.{Chained, station_of, stations, timeline_of}
+use Rattle.undo_journal.specs.Past.{Chained, IsRecordAt, station_of, stations, timeline_of}
 use Rattle.undo_journal.specs.Timeline.{Station, newest, here}
 
 module _ {S R N : Type 0} (undoes : R → S → S → Type 0) where
@@ -30,3 +31,16 @@ module _ {S R N : Type 0} (undoes : R → S → S → Type 0) where
   pub state_of-timeline : (floor : ℕ) (node : S) (note : Option N) (past : List (Entry S R N)) (last : ℕ) (state : S) → Chained undoes node past state → state ≡ (here (timeline_of floor node note past last)).node
   state_of-timeline floor node note past last state h =
       state_of-Chained record { serial = floor; node = node; note = note } past state h
+
+  -- the record of a place takes back the step to its station
+  record_behind : (s : Station S N) (ps : List (Entry S R N)) (state : S) (place : ℕ) (e : Entry S R N) → Chained undoes s.node ps state → slice_get ps place ≡ Some e →
+      IfSome (slice_get (s ∷ stations ps) place) (λ before. IfSome (slice_get (stations ps) place) (λ after. undoes e.trace before.node after.node))
+  record_behind s [] state place e h at = let never : ⊥ = cc in absurd never
+  record_behind s (p ∷ ps) state zero e h at =
+      subst (λ (x : Entry S R N). undoes x.trace s.node p.node.value) (same_Some p e at) h.0
+  record_behind s (p ∷ ps) state (suc place) e h at = record_behind (station_of p) ps state place e h.1 at
+
+  pub record_at : (floor : ℕ) (node : S) (note : Option N) (past : List (Entry S R N)) (last : ℕ) (state : S) (place : ℕ) (e : Entry S R N) → Chained undoes node past state → slice_get past place ≡ Some e →
+      IsRecordAt undoes place (timeline_of floor node note past last) e.trace
+  record_at floor node note past last state place e h at =
+      record_behind record { serial = floor; node = node; note = note } past state place e h at

@@ -1,5 +1,5 @@
 -- How a journal keeps its timeline: one node, and for each later station what takes its step back.
-use Rattle.std.specs.Prelude.{◌≡◌, ℕ, ◌-◌, List, [], ◌∷◌, length, drop, map, Option, Some}
+use Rattle.std.specs.Prelude.{◌≡◌, ℕ, ◌-◌, List, [], ◌∷◌, length, drop, map, slice_get, IfSome, Option, Some}
 use Rattle.undo_journal.specs.declared.past.Entry.{Entry}
 use Rattle.undo_journal.specs.declared.report.Report.{Report}
 use Rattle.undo_journal.specs.Timeline.{Station, Timeline}
@@ -23,6 +23,12 @@ timeline_of floor node note past last = record {
 abbrev pub Chained : {S R N : Type 0} → (R → S → S → Type 0) → S → List (Entry S R N) → S → Type 0
 Chained undoes before [] state = state ≡ before
 Chained undoes before (p ∷ ps) state = undoes p.trace before p.node.value × Chained undoes p.node.value ps state
+
+-- A record takes back the step to the station at a place behind the first, counted from 0, from the station before it.
+abbrev pub IsRecordAt : {S R N : Type 0} → (R → S → S → Type 0) → ℕ → Timeline S N → R → Type 0
+IsRecordAt undoes place t it =
+    IfSome (slice_get (t.first ∷ t.later) place) (λ before.
+    IfSome (slice_get t.later place) (λ after. undoes it before.node after.node))
 
 -- a report of the newest `cut` stations, made from one of as many or more
 abbrev pub shortened : {N : Type 0} → ℕ → Report N → Report N

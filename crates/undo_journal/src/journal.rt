@@ -1,8 +1,9 @@
 // The journal.
-ghost use Rattle.std.specs.Prelude.{◌≡◌, ◌≤◌, ◌↔◌, ◌-◌, ◌^◌, [], length, take, replicate};
-ghost use Rattle.std.specs.Prelude.{Some, Err, IfOk, IfErr, IsTrue, OnOk, OnErr};
+ghost use Rattle.std.specs.Prelude.{◌≡◌, ◌≤◌, ◌<◌, ◌↔◌, ◌-◌, ◌^◌, [], is_some, length, take, replicate};
+ghost use Rattle.std.specs.Prelude.{Some, Err, IfOk, IfErr, IfSome, IsTrue, OnOk, OnErr};
 ghost use Rattle.std.specs.Option.{option_copied};
 ghost use Rattle.undo_journal.specs.Journal.{FailsBy, Performs, PerformFails, UndoFails, HasNoStation, IsOutOfMemoryAt};
+ghost use Rattle.undo_journal.specs.Past.{IsRecordAt};
 ghost use Rattle.undo_journal.specs.Timeline.{here, opened, kept_to, cut_to, forgotten_to, cut_stations, node_at};
 ghost use Rattle.undo_journal.specs.Timeline.{notes_of, report_of, IsFront, IsOrdered};
 
@@ -85,6 +86,16 @@ impl<S: Reversible> Journal<S> {
         ensures { result.now ≡ (here self.now).node }
     {
         &self.state
+    }
+
+    /// The record that takes back the step to the station at a place behind the first, counted from 0; none past the last station.
+    /// Takes no memory.
+    pub fn record(&self, place: usize) -> Option<&S::Record>
+        ensures kept { IsTrue (is_some result) ↔ (place < length self.now.later) }
+        ensures takes_back { IfSome result (λ it. IsRecordAt S.undoes place self.now it.now) }
+    {
+        let entry = self.past.get(place)?;
+        Some(&entry.trace)
     }
 
     /// Whether no serial is left for another step. Takes no memory.

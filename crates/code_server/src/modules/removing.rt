@@ -8,13 +8,14 @@ use erl_term::Atom;
 
 impl<C: Drop> Modules<C> {
     ghost use Rattle.code_server.specs.Modules.{old_of, removed};
-    ghost use Rattle.code_server.specs.Undo.{Fits, HasPurged, undone};
+    ghost use Rattle.code_server.specs.Undo.{Fits, HasPurged, held, undone};
 
     /// Removes a module: its old code is gone, if it has any, and its current code becomes old (appup(4), remove). A module that has
     /// old code alone leaves the table. Who uses the old code is the caller's to see to. Takes no memory.
     pub fn remove(&mut self, name: &Atom) -> Undo<C>
         ensures removed { self.new ≡ removed name.now self.old }
         ensures inverse { Fits result self.new × (undone result self.new ≡ self.old) }
+        ensures pieces { held result ≡ old_of name.now self.old }
         ensures old_code { IsSome (old_of name.now self.old) → HasPurged result }
     {
         let Some(place) = self.table.get_index_of(name) else {

@@ -1,7 +1,9 @@
 -- One module more is purged, which has old code or none.
 use Rattle.std.proofs.Common.{◌+◌, sym, ap, subst, ◌∙◌, arith, drop, vec_capacity, vec_len}
+use Rattle.code_loading.proofs.CodePieces.{one_taken}
 use Rattle.code_loading.proofs.LastFirst.{none_more, one_more}
 use Rattle.code_loading.proofs.Turns.{turn_at}
+use Rattle.code_loading.specs.Pieces.{IsTaken}
 use Rattle.code_loading.specs.Unpurging.{AllUnpurge, all_unpurged}
 use Rattle.code_loading.proofs.purging.purge_each.Goals.{in-Some, in_default}
 use Rattle.code_loading.proofs.purging.purge_each.Goals as goal
@@ -23,6 +25,7 @@ loop-name-preserved c =
             purged = purged;
             fits = back.0;
             back = back.1;
+            taken = subst (λ us. IsTaken us c.args.modules.now after) (sym more) (one_taken n c.loop-name.undos.items w.in-Some.undo c.args.modules.now now after c.purge_old.ensures.purged it.3 i.taken);
             within = omega (arith, i.within, ap vec_len w.undos-is, w.push_reserved.ensures.len);
             room = omega (arith, i.room, ap vec_capacity w.undos-is, w.push_reserved.ensures.capacity);
           }
@@ -33,6 +36,7 @@ loop-name-preserved c =
             purged = purged;
             fits = subst (λ x. AllUnpurge x after) (sym undos) (subst (AllUnpurge c.loop-name.undos.items) (sym same) i.fits);
             back = (λ j. all_unpurged (undos j) (same j)) ∙ i.back;
+            taken = subst (λ us. IsTaken us c.args.modules.now after) (sym undos) (subst (λ m. IsTaken c.loop-name.undos.items c.args.modules.now m) (sym same) i.taken);
             within = omega (arith, i.within, ap vec_len w.undos-is);
             room = omega (arith, i.room, ap vec_capacity w.undos-is);
           }

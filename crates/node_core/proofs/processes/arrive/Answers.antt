@@ -1,7 +1,7 @@
 -- The message arrives.
 use Rattle.std.proofs.Common.{◌∙◌, ℕ, List, [], Option, refl, sym, ap}
 use Rattle.undo_journal.specs.Reversible.{Accepted}
-use Rattle.node_core.specs.Changes.{state_of}
+use Rattle.node_parts.specs.Changes.{state_of}
 use Rattle.node_rules.specs.Node.{NodeState, with_processes}
 use Rattle.node_types.specs.declared.event.Answer.{Answer}
 use Rattle.node_types.specs.declared.event.Answer.TheVariants as answer
@@ -10,7 +10,7 @@ use Rattle.erl_term.specs.declared.term.Term.{Term}
 use Rattle.process_table.specs.Messages.{arrival_of, message_of}
 use Rattle.process_table.specs.Steps.{after_arrival, arrive_refusal, kind_of}
 use Rattle.undo_journal.specs.declared.reversible.Told.{Told}
-use Rattle.node_core.proofs.Accepting.{all_told, ends_back, unless_none}
+use Rattle.node_parts.proofs.Accepting.{all_told, ends_back, unless_none}
 use Rattle.node_types.specs.declared.event.Refusal.TheVariants.{OfProcesses}
 use Rattle.node_core.proofs.processes.arrive.Goals as goal
 
@@ -33,5 +33,5 @@ returns c =
         ap (λ t. with_processes t n) (sym c.in-Ok-arrive.ensures.arrived),
         told,
       ),
-      (ends_back c.in-Ok-arrive.undo n.processes c.arrive.new.self c.in-Ok-arrive.ensures.inverse, refl),
+      (ends_back c.in-Ok-arrive.undo n.processes c.arrive.new.self c.in-Ok-arrive.ensures.inverse, refl, c.in-Ok-arrive.ensures.pieces),
     )

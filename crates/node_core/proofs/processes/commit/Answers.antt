@@ -1,7 +1,7 @@
 -- What the job has done is done.
 use Rattle.std.proofs.Common.{◌≡◌, ◌∙◌, List, map, None, refl, sym, ap}
 use Rattle.undo_journal.specs.Reversible.{Accepted}
-use Rattle.node_core.specs.Changes.{state_of}
+use Rattle.node_parts.specs.Changes.{state_of}
 use Rattle.node_rules.specs.Node.{NodeState}
 use Rattle.node_rules.specs.Scripts.{reporting}
 use Rattle.node_types.specs.declared.event.Answer.{Answer}
@@ -10,7 +10,7 @@ use Rattle.node_types.specs.Note.{Note}
 use Rattle.process_effects.specs.declared.told.Reply.{Reply}
 use Rattle.process_table.specs.Commit.{commit_told, committed}
 use Rattle.undo_journal.specs.declared.reversible.Told.{Told}
-use Rattle.node_core.proofs.Accepting.{each_of}
+use Rattle.node_parts.proofs.Accepting.{each_of}
 use Rattle.node_rules.specs.Step.{ended_by}
 use Rattle.node_core.proofs.processes.commit.Goals as goal
 
@@ -27,4 +27,4 @@ returns-in-Ok-commit c =
     let said : List Reply → Told Answer Note = λ rs. record { answer = answer.Unit; note = record { replies = rs; arrival = None } } in
     let is : a.node ≡ after = (λ i. record n { processes = sym c.in-Ok-commit.ensures.committed i; apps = sym c.in-Ok-end_child.ensures.ended i }) in
     let told = c.tell_done.ensures ∙ ap (map said) c.in-Ok-commit.ensures.told ∙ each_of said (commit_told done n.processes) c.args.n in
-    ((a, (c.in-Ok-commit.ensures.ok, refl), is, told), c.record_of.ensures n after c.in-Ok-commit.ensures.inverse c.in-Ok-end_child.ensures.inverse refl)
+    ((a, (c.in-Ok-commit.ensures.ok, refl), is, told), c.record_of.ensures n after c.in-Ok-commit.ensures.inverse c.in-Ok-end_child.ensures.inverse refl c.in-Ok-commit.ensures.pieces c.in-Ok-end_child.ensures.pieces)

@@ -1,7 +1,7 @@
 -- The process runs its next message.
 use Rattle.std.proofs.Common.{◌∙◌, [], map, None, refl, sym, ap}
 use Rattle.undo_journal.specs.Reversible.{Accepted}
-use Rattle.node_core.specs.Changes.{state_of}
+use Rattle.node_parts.specs.Changes.{state_of}
 use Rattle.node_rules.specs.Node.{NodeState, with_processes}
 use Rattle.node_rules.specs.Scripts.{reporting}
 use Rattle.node_types.specs.declared.event.Answer.{Answer}
@@ -11,7 +11,7 @@ use Rattle.erl_semantics.specs.declared.jobs.Job.{Job}
 use Rattle.process_effects.specs.Commits.{job_at}
 use Rattle.process_store.specs.Table.{Table, living}
 use Rattle.undo_journal.specs.declared.reversible.Told.{Told}
-use Rattle.node_core.proofs.Accepting.{each_of, ends_back}
+use Rattle.node_parts.proofs.Accepting.{each_of, ends_back}
 use Rattle.node_rules.specs.Step.{run_taken}
 use Rattle.node_core.proofs.processes.take.Goals as goal
 
@@ -26,5 +26,5 @@ returns c =
     let runs = ap (λ (u : Table). job_at (living pid u)) (sym takes.table) ∙ takes.runs in
     let told = c.tell_jobs.ensures ∙ ap (map said) takes.told ∙ each_of said job c.args.n in (
       (a, (job, c.in-Ok-take.ensures.ok, takes.code, runs, refl), ap (λ t. with_processes t n) (sym takes.table), told),
-      (ends_back c.in-Ok-take.undo n.processes c.take.new.self c.in-Ok-take.ensures.inverse, refl),
+      (ends_back c.in-Ok-take.undo n.processes c.take.new.self c.in-Ok-take.ensures.inverse, refl, c.in-Ok-take.ensures.pieces),
     )

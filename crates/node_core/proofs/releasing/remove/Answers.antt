@@ -1,7 +1,7 @@
 -- The release leaves.
 use Rattle.std.proofs.Common.{◌≡◌, ◌∙◌, ℕ, List, [], Ok, refl, sym, ap, subst}
 use Rattle.undo_journal.specs.Reversible.{Accepted}
-use Rattle.node_core.specs.Changes.{state_of}
+use Rattle.node_parts.specs.Changes.{state_of}
 use Rattle.node_rules.specs.Node.{NodeState, with_releases}
 use Rattle.node_rules.specs.Scripts.{Outcome, reporting}
 use Rattle.node_types.specs.declared.event.Answer.{Answer}
@@ -10,7 +10,7 @@ use Rattle.node_types.specs.Note.{Note}
 use Rattle.release_statuses.specs.Statuses.{remove_refusal, removed}
 use Rattle.release_statuses.specs.Undo.{TakesBack}
 use Rattle.release_statuses.specs.declared.undo.Undo.{Undo}
-use Rattle.node_core.proofs.Accepting.{unless_none, while_idle}
+use Rattle.node_parts.proofs.Accepting.{unless_none, while_idle}
 use Rattle.node_rules.specs.Step.{release_removed}
 use Rattle.node_types.specs.declared.event.Refusal.TheVariants.{OfReleases}
 use Rattle.node_core.proofs.releasing.remove.Goals as goal

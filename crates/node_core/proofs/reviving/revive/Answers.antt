@@ -1,19 +1,20 @@
 -- The child runs again.
-use Rattle.std.proofs.Common.{◌≡◌, ◌∙◌, List, map, None, refl, sym, ap, subst}
+use Rattle.std.proofs.Common.{◌≡◌, ◌∙◌, [], List, map, None, refl, sym, ap, subst}
 use Rattle.undo_journal.specs.Reversible.{Accepted}
-use Rattle.node_core.specs.Changes.{state_of}
+use Rattle.node_parts.specs.Changes.{state_of}
 use Rattle.node_rules.specs.Node.{NodeState}
 use Rattle.node_types.specs.declared.event.Answer.{Answer}
 use Rattle.node_types.specs.declared.event.Answer.TheVariants as answer
 use Rattle.node_types.specs.Note.{Note}
 use Rattle.app_table.specs.Applications.{Application}
+use Rattle.app_table.specs.Pieces.{held}
 use Rattle.app_table.specs.Undo.{undone}
 use Rattle.app_table.specs.declared.undo.Undo.{Undo}
 use Rattle.erl_semantics.specs.declared.instance.Instance.{Instance}
 use Rattle.process_effects.specs.declared.told.Reply.{Reply}
 use Rattle.sys_protocol.specs.ChildStarts.{Restarts}
 use Rattle.undo_journal.specs.declared.reversible.Told.{Told}
-use Rattle.node_core.proofs.Accepting.{each_of, ends_back}
+use Rattle.node_parts.proofs.Accepting.{each_of, ends_back}
 use Rattle.node_rules.specs.Step.{IsRevived, revived_as}
 use Rattle.node_core.proofs.reviving.revive.Goals as goal
 
@@ -32,4 +33,5 @@ returns-in-Ok-start_again c =
     let is = ap (λ (xs : List Application). record n { processes = after; apps = xs }) (sym changed) in
     let ruled : IsRevived app id n a = record { child = child; found = found; due = due; pid = it.pid; after = after; told = told; restarts = again; is = refl } in
     let back = subst (λ (u : Undo). undone u c.revive.new.apps ≡ n.apps) (sym c.fill.ensures) c.in-Ok-start_again.ensures.inverse in
-    ((a, ruled, is, c.tell_revived.ensures ∙ ap (map said) tells ∙ each_of said told c.args.n), (ends_back it.processes n.processes after c.in-Ok-start_again.ensures.processes, back, refl))
+    let none = subst (λ (u : Undo). held u c.revive.new.apps ≡ []) (sym c.fill.ensures) c.in-Ok-start_again.ensures.app_pieces in
+    ((a, ruled, is, c.tell_revived.ensures ∙ ap (map said) tells ∙ each_of said told c.args.n), (ends_back it.processes n.processes after c.in-Ok-start_again.ensures.processes, back, refl, c.in-Ok-start_again.ensures.pieces, none))

@@ -13,7 +13,7 @@ use Rattle.shell_holdings.specs.Performing.{Performs}
 use Rattle.shell_deeds.specs.Deeds.{arrival_answer, event_of_arrival, tried}
 use Rattle.shell_holdings.specs.Done.{IsDone}
 use Rattle.shell_deeds.specs.Done.{after_missed}
-use Rattle.shell_holdings.specs.State.{Deed, ShellState, carried, next_number, stepped}
+use Rattle.shell_steps.specs.State.{Deed, ShellState, carried, next_number, stepped}
 use Rattle.undo_journal.specs.Reversible.{Accepted}
 use Rattle.shell_deeds.proofs.arriving.arrive_named.Goals as goal
 

@@ -10,7 +10,7 @@ use Rattle.shell_holdings.proofs.Performing.{halts-at}
 use Rattle.shell_holdings.specs.Performing.{Performs, done_by}
 use Rattle.shell_deeds.specs.Deeds.{arrival_event, event_of_arrival, read, tried}
 use Rattle.shell_holdings.specs.Done.{IsDone}
-use Rattle.shell_holdings.specs.State.{next_number}
+use Rattle.shell_steps.specs.State.{next_number}
 use Rattle.shell_deeds.proofs.arriving.arrive_term.Goals as goal
 
 pub returns-in_default : goal.returns-in_default

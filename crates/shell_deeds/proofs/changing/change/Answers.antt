@@ -13,7 +13,7 @@ use Rattle.shell_holdings.proofs.Performing.{halted, performed}
 use Rattle.shell_holdings.specs.Performing.{Performs, truth_in}
 use Rattle.shell_deeds.specs.Deeds.{change_event}
 use Rattle.shell_holdings.specs.Done.{IsDone}
-use Rattle.shell_holdings.specs.State.{Deed, ShellState, carried, stepped}
+use Rattle.shell_steps.specs.State.{Deed, ShellState, carried, stepped}
 use Rattle.undo_journal.specs.Reversible.{Accepted}
 use Rattle.shell_deeds.proofs.changing.change.Goals as goal
 

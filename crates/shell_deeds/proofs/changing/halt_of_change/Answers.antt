@@ -3,7 +3,7 @@ use Rattle.std.proofs.Common.{◌≡◌, ◌∙◌, false, true, is_some, None, 
 use Rattle.std.specs.Str.{chars}
 use Rattle.node_rules.specs.Node.{NodeState}
 use Rattle.shell_holdings.proofs.Performing.{runner_told, unfull}
-use Rattle.shell_holdings.specs.State.{node_of}
+use Rattle.shell_steps.specs.State.{node_of}
 use Rattle.shell_deeds.proofs.Refusing.{change_may, change_meanwhile, change_refused}
 use Rattle.shell_deeds.specs.Done.{refusal_of_change}
 use Rattle.shell_deeds.proofs.changing.halt_of_change.Goals as goal

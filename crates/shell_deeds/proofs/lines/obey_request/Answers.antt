@@ -22,6 +22,10 @@ pub returns-in-Undo : goal.returns-in-Undo
 returns-in-Undo c =
     subst (λ (r : Request). IfOk c.undo.result (λ fate. IsDone (Obeys fate c.args.held.now (meant r)) c.undo.new.self c.args.out.now.items c.undo.new.out.items)) (sym c.in-Undo.is) c.undo.ensures
 
+pub returns-in-Forget : goal.returns-in-Forget
+returns-in-Forget c =
+    subst (λ (r : Request). IfOk c.forget.result (λ fate. IsDone (Obeys fate c.args.held.now (meant r)) c.forget.new.self c.args.out.now.items c.forget.new.out.items)) (sym c.in-Forget.is) c.forget.ensures
+
 pub returns-in-Commit : goal.returns-in-Commit
 returns-in-Commit c =
     subst (λ (r : Request). IfOk c.commit.result (λ fate. IsDone (Obeys fate c.args.held.now (meant r)) c.commit.new.self c.args.out.now.items c.commit.new.out.items)) (sym c.in-Commit.is) c.commit.ensures
@@ -45,6 +49,10 @@ returns-in-Unpack c =
 pub returns-in-Release : goal.returns-in-Release
 returns-in-Release c =
     subst (λ (r : Request). IfOk c.alter_releases.result (λ fate. IsDone (Obeys fate c.args.held.now (meant r)) c.alter_releases.new.held c.args.out.now.items c.alter_releases.new.out.items)) (sym c.in-Release.is) c.alter_releases.ensures
+
+pub returns-in-Relup : goal.returns-in-Relup
+returns-in-Relup c =
+    subst (λ (r : Request). IfOk c.tell_relup.result (λ fate. IsDone (Obeys fate c.args.held.now (meant r)) c.args.held.now c.args.out.now.items c.tell_relup.new.out.items)) (sym c.in-Relup.is) c.tell_relup.ensures
 
 pub returns-in-Advance : goal.returns-in-Advance
 returns-in-Advance c =

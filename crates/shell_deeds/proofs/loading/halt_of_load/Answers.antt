@@ -5,7 +5,7 @@ use Rattle.erl_forms.specs.Module.{Forms}
 use Rattle.node_rules.specs.Node.{NodeState}
 use Rattle.node_rules.specs.Step.{loads}
 use Rattle.shell_holdings.proofs.Performing.{judged_otherwise, no_script, refused_meanwhile, runner_told, unfull}
-use Rattle.shell_holdings.specs.State.{node_of}
+use Rattle.shell_steps.specs.State.{node_of}
 use Rattle.shell_deeds.proofs.Refusing.{of_modules}
 use Rattle.shell_deeds.proofs.loading.halt_of_load.Goals as goal
 

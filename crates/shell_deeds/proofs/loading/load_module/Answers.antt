@@ -8,7 +8,7 @@ use Rattle.shell_holdings.proofs.Performing.{halted, performed}
 use Rattle.shell_holdings.proofs.Performing.{halts-at}
 use Rattle.shell_holdings.specs.Performing.{Performs}
 use Rattle.shell_holdings.specs.Done.{IsDone}
-use Rattle.shell_holdings.specs.State.{ShellState, carried, stepped}
+use Rattle.shell_steps.specs.State.{ShellState, carried, stepped}
 use Rattle.shell_deeds.proofs.loading.load_module.Goals as goal
 
 pub returns-in_default : goal.returns-in_default

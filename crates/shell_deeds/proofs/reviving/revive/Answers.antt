@@ -10,7 +10,7 @@ use Rattle.shell_holdings.proofs.Done.{IfOk-then}
 use Rattle.shell_holdings.proofs.Performing.{halted, performed}
 use Rattle.shell_holdings.specs.Performing.{Performs, revived_in}
 use Rattle.shell_holdings.specs.Done.{IsDone}
-use Rattle.shell_holdings.specs.State.{ShellState, carried, stepped}
+use Rattle.shell_steps.specs.State.{ShellState, carried, stepped}
 use Rattle.shell_deeds.proofs.reviving.revive.Goals as goal
 
 pub returns-in_default : goal.returns-in_default

@@ -11,7 +11,7 @@ use Rattle.shell_holdings.proofs.Done.{IfOk-then}
 use Rattle.shell_holdings.proofs.Performing.{halted, performed}
 use Rattle.shell_holdings.specs.Done.{IsDone}
 use Rattle.shell_holdings.specs.Performing.{Performs, done_by}
-use Rattle.shell_holdings.specs.State.{ShellState, node_of, stepped}
+use Rattle.shell_steps.specs.State.{ShellState, node_of, stepped}
 use Rattle.undo_journal.specs.declared.history.Command.TheVariants.{Perform}
 use Rattle.shell_upgrades.proofs.Advanced.{advance_told}
 use Rattle.shell_upgrades.specs.Advancing.{advanced_by, next_of}

@@ -1,9 +1,9 @@
 -- A module with current code stays, and one with old code alone goes, by its place.
 use Rattle.std.proofs.Common.{◌+◌, None, Some, true, false, sym, ap, ◌∙◌}
 use Rattle.code_server.specs.Modules.{Table, purged}
-use Rattle.code_server.proofs.Changes.{Nothing-back, Purged-back, Removed-back, codeless, current_of-at, former-taken, no_current, none_taken, none_unless, purged-gone, purged-kept, some_taken}
+use Rattle.code_server.proofs.Changes.{Nothing-back, Purged-back, Removed-back, codeless, current_of-at, former-taken, held-absent, held-taken, no_current, none_taken, none_unless, purged-gone, purged-kept, some_taken}
 use Rattle.code_server.proofs.Sound.{IsSound-purged_slots, IsSound-removed}
-use Rattle.code_server.proofs.Standing.{Stands-place}
+use Rattle.code_server.proofs.Standing.{Stands-place, absent_from_place}
 use Rattle.code_server.proofs.modules.Modules.purge.Goals as goal
 
 pub invariant_of-self : goal.invariant_of-self
@@ -80,3 +80,33 @@ returns-clause-inverse g c =
     let current = no_current c.args.name.now t.entries place at (sym c.has_current.ensures ∙ c.if-has_current.false) in
     let taken = some_taken c.args.name.now t.entries place at c.take_out.result c.in-Some-take_out.name c.in-Some-take_out.former c.take_out.ensures.taken c.in-Some-take_out.is in
     Removed-back c.args.name.now c.in-Some-take_out.name t c.args.self.now place c.take_out.new.table.entries c.in-Some-take_out.former at taken.1 current taken.0 c.take_out.ensures.removed c.self.invariant c.self.view_is
+
+pub returns-in_default-clause-pieces : goal.returns-in_default-clause-pieces
+returns-in_default-clause-pieces g c =
+    let t : Table g.row.C.Denot = record { entries = c.self.inside.table.entries; next = c.self.inside.last + 1 } in
+    let absent = absent_from_place c.args.name.now t.entries (sym c.get_index_of.ensures.index ∙ none_unless c.get_index_of.result c.in_default.not-Some) in
+    held-absent c.args.name.now t c.args.self.now absent c.self.view_is
+
+pub returns-in_default-change_at-clause-pieces : goal.returns-in_default-change_at-clause-pieces
+returns-in_default-change_at-clause-pieces g c =
+    let t : Table g.row.C.Denot = record { entries = c.self.inside.table.entries; next = c.self.inside.last + 1 } in
+    let place = c.in-Some.place in
+    let at = Stands-place c.args.name.now t.entries place (sym c.get_index_of.ensures.index ∙ c.in-Some.is) in
+    let none = former-taken c.args.name.now t.entries place at c.change_at.result None c.change_at.ensures.gone (none_unless c.change_at.result c.in_default-change_at.not-Some) in
+    held-taken c.args.name.now t c.args.self.now place at None none c.self.view_is
+
+pub returns-then-has_current-clause-pieces : goal.returns-then-has_current-clause-pieces
+returns-then-has_current-clause-pieces g c =
+    let t : Table g.row.C.Denot = record { entries = c.self.inside.table.entries; next = c.self.inside.last + 1 } in
+    let place = c.in-Some.place in
+    let at = Stands-place c.args.name.now t.entries place (sym c.get_index_of.ensures.index ∙ c.in-Some.is) in
+    let some = former-taken c.args.name.now t.entries place at c.change_at.result (Some c.in-Some-change_at.former) c.change_at.ensures.gone c.in-Some-change_at.is in
+    held-taken c.args.name.now t c.args.self.now place at (Some c.in-Some-change_at.former) some c.self.view_is
+
+pub returns-clause-pieces : goal.returns-clause-pieces
+returns-clause-pieces g c =
+    let t : Table g.row.C.Denot = record { entries = c.self.inside.table.entries; next = c.self.inside.last + 1 } in
+    let place = c.in-Some.place in
+    let at = Stands-place c.args.name.now t.entries place (sym c.get_index_of.ensures.index ∙ c.in-Some.is) in
+    let taken = some_taken c.args.name.now t.entries place at c.take_out.result c.in-Some-take_out.name c.in-Some-take_out.former c.take_out.ensures.taken c.in-Some-take_out.is in
+    held-taken c.args.name.now t c.args.self.now place at (Some c.in-Some-take_out.former) taken.0 c.self.view_is

@@ -1,7 +1,7 @@
 -- What was old is gone, and the new code is on top, or its module last.
 use Rattle.std.proofs.Common.{◌+◌, ◌^◌, ◌<◌, None, Some, true, false, refl, sym, ap, ◌∙◌, arith}
 use Rattle.code_server.specs.Modules.{Table, loaded, purged}
-use Rattle.code_server.proofs.Changes.{Added-back, Replaced-back, Stacked-back, codeless, current_of-at, former-taken, no_current, none_unless}
+use Rattle.code_server.proofs.Changes.{Added-back, Replaced-back, Stacked-back, codeless, current_of-at, former-taken, held-absent, held-taken, no_current, none_unless}
 use Rattle.code_server.proofs.Reloads.{IsSound-reloaded, Moved-back, former-last, loaded-gone, loaded-kept, refused-end, refused-never, stacked-last}
 use Rattle.code_server.proofs.Sound.{IsSound-added, IsSound-stacked}
 use Rattle.code_server.proofs.Standing.{Stands-place, absent_from_place}
@@ -130,3 +130,33 @@ returns-clause-inverse g c =
     let former = sym (former-last c.args.name.now t.entries place at) ∙ sym c.stack_last.ensures.former ∙ c.in-Some-stack_last.is in
     let entries = c.stack_last.ensures.stacked ∙ stacked-last c.args.name.now t.entries place _ at none in
     Moved-back c.args.name.now t c.args.self.now place c.stack_last.new.table.entries _ c.in-Some-stack_last.former at none former entries c.self.invariant c.self.view_is
+
+pub returns-in_default-clause-pieces : goal.returns-in_default-clause-pieces
+returns-in_default-clause-pieces g c =
+    let t : Table g.row.C.Denot = record { entries = c.self.inside.table.entries; next = c.self.inside.last + 1 } in
+    let absent = absent_from_place c.args.name.now t.entries (sym c.get_index_of.ensures.index ∙ none_unless c.get_index_of.result c.in_default.not-Some) in
+    held-absent c.args.name.now t c.args.self.now absent c.self.view_is
+
+pub returns-in_default-change_at-clause-pieces : goal.returns-in_default-change_at-clause-pieces
+returns-in_default-change_at-clause-pieces g c =
+    let t : Table g.row.C.Denot = record { entries = c.self.inside.table.entries; next = c.self.inside.last + 1 } in
+    let place = c.in-Some.place in
+    let at = Stands-place c.args.name.now t.entries place (sym c.get_index_of.ensures.index ∙ c.in-Some.is) in
+    let none = former-taken c.args.name.now t.entries place at c.change_at.result None c.change_at.ensures.gone (none_unless c.change_at.result c.in_default-change_at.not-Some) in
+    held-taken c.args.name.now t c.args.self.now place at None none c.self.view_is
+
+pub returns-then-has_current-clause-pieces : goal.returns-then-has_current-clause-pieces
+returns-then-has_current-clause-pieces g c =
+    let t : Table g.row.C.Denot = record { entries = c.self.inside.table.entries; next = c.self.inside.last + 1 } in
+    let place = c.in-Some.place in
+    let at = Stands-place c.args.name.now t.entries place (sym c.get_index_of.ensures.index ∙ c.in-Some.is) in
+    let some = former-taken c.args.name.now t.entries place at c.change_at.result (Some c.in-Some-change_at.former) c.change_at.ensures.gone c.in-Some-change_at.is in
+    held-taken c.args.name.now t c.args.self.now place at (Some c.in-Some-change_at.former) some c.self.view_is
+
+pub returns-clause-pieces : goal.returns-clause-pieces
+returns-clause-pieces g c =
+    let t : Table g.row.C.Denot = record { entries = c.self.inside.table.entries; next = c.self.inside.last + 1 } in
+    let place = c.in-Some.place in
+    let at = Stands-place c.args.name.now t.entries place (sym c.get_index_of.ensures.index ∙ c.in-Some.is) in
+    let former = sym (former-last c.args.name.now t.entries place at) ∙ sym c.stack_last.ensures.former ∙ c.in-Some-stack_last.is in
+    held-taken c.args.name.now t c.args.self.now place at (Some c.in-Some-stack_last.former) former c.self.view_is

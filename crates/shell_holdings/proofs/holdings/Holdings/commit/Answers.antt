@@ -6,7 +6,7 @@ use Rattle.shell_answers.specs.Answers.{fixed}
 use Rattle.shell_answers.specs.declared.fixed.Fixed.TheVariants as words
 use Rattle.shell_holdings.specs.Serving.{Commits, CommitsKept, kept_job}
 use Rattle.shell_holdings.specs.Done.{IsDone}
-use Rattle.shell_holdings.specs.State.{answered}
+use Rattle.shell_steps.specs.State.{answered}
 use Rattle.shell_holdings.proofs.Done.{IfOk-then}
 use Rattle.shell_holdings.proofs.Performing.{unrun}
 use Rattle.shell_holdings.proofs.holdings.Holdings.commit.Goals as goal

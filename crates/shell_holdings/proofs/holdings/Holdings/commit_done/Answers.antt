@@ -10,7 +10,7 @@ use Rattle.shell_answers.specs.Refusals.{naming_nothing}
 use Rattle.shell_holdings.specs.Serving.{Commits, ran}
 use Rattle.shell_holdings.specs.Performing.{accepted}
 use Rattle.shell_holdings.specs.Done.{IsDone}
-use Rattle.shell_holdings.specs.State.{ShellState, carried, joined, stepped}
+use Rattle.shell_steps.specs.State.{ShellState, carried, joined, stepped}
 use Rattle.shell_holdings.proofs.Done.{IfOk-then}
 use Rattle.shell_holdings.proofs.Performing.{done-as, halted}
 use Rattle.shell_holdings.proofs.holdings.Holdings.commit_done.Goals as goal

@@ -4,9 +4,9 @@ use Rattle.process_effects.specs.declared.told.Reply.{Reply}
 use Rattle.undo_journal.specs.declared.reversible.Told.{Told}
 use Rattle.node_types.specs.Note.{Note}
 use Rattle.node_types.specs.declared.event.Answer.{Answer}
-use Rattle.shell_holdings.specs.Halts.{Halts}
-use Rattle.shell_holdings.specs.State.{ShellState, joined}
-use Rattle.shell_holdings.specs.Stepping.{IsStepped}
+use Rattle.shell_steps.specs.Halts.{Halts}
+use Rattle.shell_steps.specs.State.{ShellState, joined}
+use Rattle.shell_steps.specs.Stepping.{IsStepped}
 use Rattle.shell_holdings.proofs.holdings.Holdings.perform.Goals as goal
 
 pub returns-in-Ok-clause-stepped : goal.returns-in-Ok-clause-stepped

@@ -9,7 +9,7 @@ use Rattle.process_table.specs.declared.error.ProcError.{ProcError}
 use Rattle.shell_answers.specs.Answers.{fixed, line_of}
 use Rattle.shell_holdings.proofs.Done.{IfOk-then}
 use Rattle.shell_holdings.proofs.Performing.{again_kept, not_kept, retold}
-use Rattle.shell_holdings.specs.State.{node_of}
+use Rattle.shell_steps.specs.State.{node_of}
 use Rattle.shell_holdings.proofs.holdings.Holdings.retake.Goals as goal
 
 pub returns-in-Ok : goal.returns-in-Ok

@@ -10,7 +10,7 @@ use Rattle.shell_answers.specs.Answers.{job_of, line_of}
 use Rattle.shell_answers.specs.Refusals.{naming_nothing}
 use Rattle.shell_holdings.specs.Performing.{Performs, done_by}
 use Rattle.shell_holdings.specs.Done.{IsDone}
-use Rattle.shell_holdings.specs.State.{ShellState, joined, stepped}
+use Rattle.shell_steps.specs.State.{ShellState, joined, stepped}
 use Rattle.shell_holdings.proofs.Done.{IfOk-then}
 use Rattle.shell_holdings.proofs.Performing.{halted, taken-done}
 use Rattle.shell_holdings.proofs.holdings.Holdings.take.Goals as goal

@@ -8,7 +8,7 @@ use Rattle.node_rules.specs.Node.{NodeState}
 use Rattle.shell_answers.specs.Answers.{apps_of, line_of, mark_at, modules_of}
 use Rattle.undo_journal.specs.Timeline.{here}
 use Rattle.shell_holdings.proofs.Done.{told-done}
-use Rattle.shell_holdings.specs.State.{ShellState, node_of}
+use Rattle.shell_steps.specs.State.{ShellState, node_of}
 use Rattle.shell_requests.specs.declared.request.Question.TheVariants as questions
 use Rattle.shell_holdings.proofs.holdings.Holdings.tell.Goals as goal
 

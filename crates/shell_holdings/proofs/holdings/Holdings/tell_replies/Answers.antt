@@ -2,7 +2,7 @@
 use Rattle.std.proofs.Common.{◌≡◌, ◌++◌, OnOk, ap, subst, ◌∙◌}
 use Rattle.erl_term.specs.Tree.{Trees, list}
 use Rattle.shell_answers.specs.Answers.{line_of, replies_in, rows_of}
-use Rattle.shell_holdings.specs.State.{ShellState}
+use Rattle.shell_steps.specs.State.{ShellState}
 use Rattle.shell_holdings.proofs.Done.{rows-joined}
 use Rattle.shell_holdings.proofs.holdings.Holdings.tell_replies.Goals as goal
 

@@ -2,7 +2,7 @@
 use Rattle.std.proofs.Common.{IfOk, subst}
 use Rattle.shell_holdings.specs.Serving.{Undoes}
 use Rattle.shell_holdings.specs.Done.{IsDone}
-use Rattle.shell_holdings.specs.State.{ShellState, joined, with_timeline}
+use Rattle.shell_steps.specs.State.{ShellState, joined, with_timeline}
 use Rattle.shell_holdings.proofs.Done.{IfOk-then, undo-done}
 use Rattle.shell_holdings.proofs.holdings.Holdings.undo.Goals as goal
 

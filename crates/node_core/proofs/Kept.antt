@@ -1,0 +1,19 @@
+-- A record of a journal holds only what its step has lost.
+use Rattle.std.proofs.Common.{ℕ, Bor, IfSome, Option, None, Some, ◌∷◌, slice_get}
+use Rattle.node_parts.proofs.Lost.{held_lost}
+use Rattle.node_parts.specs.Pieces.{HoldsLost}
+use Rattle.node_parts.specs.Record.{Undoes}
+use Rattle.node_parts.specs.declared.record.Record.{Record}
+use Rattle.node_rules.specs.Node.{NodeState}
+use Rattle.node_types.specs.Note.{Note}
+use Rattle.undo_journal.specs.Past.{IsRecordAt}
+use Rattle.undo_journal.specs.Timeline.{Station, Timeline}
+
+of_stations : (r : Record) (o p : Option (Station NodeState Note)) → IfSome o (λ before. IfSome p (λ after. Undoes r before.node after.node)) → IfSome o (λ before. IfSome p (λ after. HoldsLost r before.node after.node))
+of_stations r None p undoes = tt
+of_stations r (Some before) None undoes = tt
+of_stations r (Some before) (Some after) undoes = held_lost r before.node after.node undoes.1
+
+pub of_record : (place : ℕ) (t : Timeline NodeState Note) (o : Option (Bor Record)) → IfSome o (λ it. IsRecordAt Undoes place t it.now) → IfSome o (λ it. IsRecordAt HoldsLost place t it.now)
+of_record place t None undoes = tt
+of_record place t (Some it) undoes = of_stations it.now (slice_get (t.first ∷ t.later) place) (slice_get t.later place) undoes

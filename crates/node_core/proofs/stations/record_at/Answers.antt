@@ -1,0 +1,6 @@
+-- What takes a step back holds only what the step has lost.
+use Rattle.node_core.proofs.Kept.{of_record}
+use Rattle.node_core.proofs.stations.record_at.Goals as goal
+
+pub returns : goal.returns
+returns c = of_record c.args.place c.args.journal.now c.record.result c.record.ensures.takes_back

@@ -1,6 +1,0 @@
--- Those so far.
-use Rattle.std.proofs.Common.{◌≡◌, take}
-use Rattle.node_core.proofs.telling.names_row.Given as goal
-
-abbrev pub invariant-loop-name : goal.invariant-loop-name
-invariant-loop-name l = l.copies.items ≡ take l.name-index l.names

@@ -1,0 +1,16 @@
+// What a journal over nodes keeps of its stations.
+ghost use Rattle.std.specs.Prelude.{IfSome};
+ghost use Rattle.node_parts.specs.Pieces.{HoldsLost};
+ghost use Rattle.undo_journal.specs.Past.{IsRecordAt};
+
+use crate::node::Node;
+use node_parts::Record;
+use undo_journal::Journal;
+
+/// The record that takes back the step to the station at a place behind a journal's first, counted from 0; none past its last station.
+/// It holds only what its step has lost, and each piece once (`HoldsLost`). Takes no memory.
+pub fn record_at(journal: &Journal<Node>, place: usize) -> Option<&Record>
+    ensures { IfSome result (λ it. IsRecordAt HoldsLost place journal.now it.now) }
+{
+    journal.record(place)
+}

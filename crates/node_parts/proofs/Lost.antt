@@ -1,0 +1,144 @@
+-- A record holds only what its step has taken.
+use Rattle.std.proofs.Common.{◌≡◌, ◌∙◌, ◌+◌, ◌≤◌, ◌⊎◌, ◌++◌, inl, inr, ℕ, zero, suc, List, [], ◌∷◌, IsPermutation, insert, Option, None, Some, option_to_list, refl, sym, ap, subst, arith}
+use Rattle.std.specs.List.{flat_map}
+use Rattle.std.proofs.lemmas.List.Sorted.{IsPermutation-insert}
+use Rattle.std.proofs.lemmas.List.Sums.{sum_by-append, sum_by-cons}
+use Rattle.code_loading.specs.Pieces.{CodeLost, among}
+use Rattle.code_server.specs.Modules.{Entry, Table as Loaded, emptied as without_code, in_entries, in_entry, in_slot}
+use Rattle.code_server.specs.declared.modules.Instance.{Instance}
+use Rattle.erl_forms.specs.Module.{Forms}
+use Rattle.process_store.specs.Pieces as processes
+use Rattle.process_store.specs.Pieces.{AreNotAmong, Piece, pieces_at}
+use Rattle.process_store.specs.Table.{Table, empty_table}
+use Rattle.release_statuses.specs.Undo.{IsRemoval, TakesBack}
+use Rattle.release_statuses.specs.declared.listed.Listed.{Listed}
+use Rattle.release_statuses.specs.declared.undo.Undo as releases_undo
+use Rattle.release_statuses.specs.declared.undo.Undo.TheVariants.{Added, Removed, Statuses}
+use Rattle.script_runner.proofs.Taken.{instances_taken, no_instance, no_process, processes_taken}
+use Rattle.node_rules.specs.Node.{NodeState}
+use Rattle.node_rules.specs.Scripts.{parts_in}
+use Rattle.node_parts.specs.Pieces.{HoldsLost, ReleasesLost, instances_in, removed_by, removed_if_any}
+use Rattle.node_parts.specs.Record.{ReleasesBack, Restores}
+use Rattle.node_parts.specs.declared.record.Record.{Record}
+use Rattle.node_parts.specs.declared.record.Record.TheVariants.{OfProcesses, OfChildren, OfCode, OfDeletion, OfReleases, OfInstall, OfInstruction, OfFinish, OfRecovery, OfPurges, OfRestart}
+
+-- of releases
+
+releases_taken : (u : releases_undo.Undo) (before after : List Listed) → TakesBack u before after → ReleasesLost (removed_by u) before after
+releases_taken Added before after takes = inl refl
+releases_taken (Removed place it) before after takes =
+    inr (subst (λ (l : List Listed). IsPermutation (it ∷ after) l) takes.back (IsPermutation-insert after place it))
+releases_taken (Statuses former) before after takes = inl refl
+
+none_removed : (u : releases_undo.Undo) → (IsRemoval u → ⊥) → removed_by u ≡ []
+none_removed Added kept = refl
+none_removed (Removed place it) kept = absurd (kept tt)
+none_removed (Statuses former) kept = refl
+
+none_if_any : (o : Option releases_undo.Undo) (before after : List Listed) → ReleasesBack o before after → removed_if_any o ≡ []
+none_if_any None before after back = refl
+none_if_any (Some u) before after back = none_removed u back.1
+
+-- of a restart
+
+none_among : (held : List Piece) → AreNotAmong [] held
+none_among [] = tt
+none_among (x ∷ held) = (tt, none_among held)
+
+nobody : (pid : ℕ) → pieces_at pid empty_table ≡ []
+nobody zero = refl
+nobody (suc pid) = refl
+
+all_same : (xs : List Piece) → xs ≡ xs ++ []
+all_same [] = refl
+all_same (x ∷ xs) = ap (λ ys. x ∷ ys) (all_same xs)
+
+all_processes : (t before : Table) → t ≡ before → processes.HoldsLost (λ pid. pieces_at pid t) before empty_table
+all_processes t before same pid =
+    let all : pieces_at pid before ≡ pieces_at pid t ++ [] = ap (pieces_at pid) (sym same) ∙ all_same (pieces_at pid t) in
+    (([], all), subst (λ others. AreNotAmong others (pieces_at pid t)) (sym (nobody pid)) (none_among (pieces_at pid t)))
+
+among_both : (n : ℕ) (xs ys : List (Instance Forms)) → among n (xs ++ ys) ≡ among n xs + among n ys
+among_both n xs ys = sum_by-append (λ (x : Instance Forms). in_slot n (Some x)) xs ys
+
+among_one : (n : ℕ) (o : Option (Instance Forms)) → among n (option_to_list o) ≡ in_slot n o
+among_one n None = refl
+among_one n (Some i) = omega (arith, sum_by-cons (λ (x : Instance Forms). in_slot n (Some x)) i [])
+
+among_all : (n : ℕ) (es : List (Entry Forms)) → among n (flat_map instances_in es) ≡ in_entries n es
+among_all n [] = refl
+among_all n (e ∷ es) =
+    omega (arith, among_both n (instances_in e) (flat_map instances_in es), among_both n (option_to_list e.1.current) (option_to_list e.1.former), among_one n e.1.current, among_one n e.1.former, among_all n es, sum_by-cons (in_entry n) e es)
+
+all_code : (m before after : Loaded Forms) → m ≡ before → after.entries ≡ [] → CodeLost (flat_map instances_in m.entries) before after
+all_code m before after same none n some =
+    omega (arith, among_all n m.entries, ap (λ (x : Loaded Forms). in_entries n x.entries) same, ap (in_entries n) none)
+
+-- of each record
+pub held_lost : (r : Record) (before after : NodeState) → Restores r before after → HoldsLost r before after
+held_lost (OfProcesses undo) before after (takes, is, lost) = record {
+  processes = lost;
+  instances = no_instance before.modules after.modules;
+  releases = inl refl;
+  script = λ holds. absurd holds;
+}
+held_lost (OfChildren undo ended) before after (takes, apps, is, lost, specs) = record {
+  processes = lost;
+  instances = no_instance before.modules after.modules;
+  releases = inl refl;
+  script = λ holds. absurd holds;
+}
+held_lost (OfCode undo) before after (takes, is) = record {
+  processes = takes.code.pieces;
+  instances = takes.code.instances;
+  releases = inl refl;
+  script = λ holds. absurd holds;
+}
+held_lost (OfDeletion undo) before after (fits, back, is, none) = record {
+  processes = no_process before.processes after.processes;
+  instances = subst (λ (o : Option (Instance Forms)). CodeLost (option_to_list o) before.modules after.modules) (sym none) (no_instance before.modules after.modules);
+  releases = inl refl;
+  script = λ holds. absurd holds;
+}
+held_lost (OfReleases undo) before after (takes, is) = record {
+  processes = no_process before.processes after.processes;
+  instances = no_instance before.modules after.modules;
+  releases = releases_taken undo before.releases after.releases takes;
+  script = λ holds. absurd holds;
+}
+held_lost OfInstall before after (s, back) = record {
+  processes = no_process before.processes after.processes;
+  instances = no_instance before.modules after.modules;
+  releases = inl refl;
+  script = λ holds. absurd holds;
+}
+held_lost (OfInstruction undo) before after (s, now, back) = record {
+  processes = processes_taken undo (parts_in s before) (parts_in now after) back.back;
+  instances = instances_taken undo (parts_in s before) (parts_in now after) back.back;
+  releases = inl refl;
+  script = λ holds. absurd holds;
+}
+held_lost (OfFinish undo) before after (s, ran, back, is) = record {
+  processes = no_process before.processes after.processes;
+  instances = no_instance before.modules after.modules;
+  releases = inl (none_removed undo.statuses back.kept);
+  script = λ holds. ap (λ (n : NodeState). n.runner) is;
+}
+held_lost (OfRecovery undo) before after (s, ran, back, is) = record {
+  processes = no_process before.processes after.processes;
+  instances = no_instance before.modules after.modules;
+  releases = inl refl;
+  script = λ holds. ap (λ (n : NodeState). n.runner) is;
+}
+held_lost (OfPurges undo statuses) before after (purges, listed, is) = record {
+  processes = purges.code.pieces;
+  instances = purges.code.instances;
+  releases = inl (none_if_any statuses before.releases after.releases listed);
+  script = λ holds. absurd holds;
+}
+held_lost (OfRestart d) before after back = record {
+  processes = all_processes d.processes before.processes back.processes;
+  instances = all_code d.modules before.modules (without_code after.modules) back.modules refl;
+  releases = inl (none_removed d.statuses back.kept);
+  script = λ holds. back.stopped;
+}

@@ -1,0 +1,6 @@
+-- Those so far.
+use Rattle.std.proofs.Common.{◌≡◌, take}
+use Rattle.node_parts.proofs.telling.names_row.Given as goal
+
+abbrev pub invariant-loop-name : goal.invariant-loop-name
+invariant-loop-name l = l.copies.items ≡ take l.name-index l.names

@@ -1,0 +1,129 @@
+-- What a record holds of a node, by the kinds of its pieces: the messages and places of processes, the instances of code, the releases, and
+-- the script that runs, with its description and what is noted for it. Besides pieces it holds numbers, names, statuses, flags and
+-- positions.
+use Rattle.std.specs.Prelude.{◌≡◌, ℕ, ◌⊎◌, ◌++◌, IsPermutation, List, [], ◌∷◌, Option, None, Some, option_map, option_to_list}
+use Rattle.std.specs.List.{flat_map}
+use Rattle.code_loading.specs.Pieces.{CodeLost, all_held, held_killed}
+use Rattle.code_server.specs.Modules.{Entry, Table as Loaded, emptied as without_code}
+use Rattle.code_server.specs.Undo as code
+use Rattle.code_server.specs.declared.modules.Instance.{Instance}
+use Rattle.erl_forms.specs.Module.{Forms}
+use Rattle.process_store.specs.Pieces as processes
+use Rattle.process_store.specs.Pieces.{Piece, no_pieces, pieces_at}
+use Rattle.process_store.specs.Table.{Table, empty_table}
+use Rattle.process_table.specs.Undo.{held}
+use Rattle.release_statuses.specs.declared.listed.Listed.{Listed}
+use Rattle.release_statuses.specs.declared.undo.Undo as releases_undo
+use Rattle.release_statuses.specs.declared.undo.Undo.TheVariants.{Added, Removed, Statuses}
+use Rattle.script_runner.specs.Pieces as instructions
+use Rattle.script_state.specs.Runner.{RunnerState, runner_of}
+use Rattle.node_rules.specs.Node.{NodeState}
+use Rattle.node_parts.specs.declared.record.Record.{Record}
+use Rattle.node_parts.specs.declared.record.Record.TheVariants.{OfProcesses, OfChildren, OfCode, OfDeletion, OfReleases, OfInstall, OfInstruction, OfFinish, OfRecovery, OfPurges, OfRestart}
+
+-- of the process of a pid, by the processes after the step
+abbrev pub held_processes : Record → Table → ℕ → List Piece
+held_processes (OfProcesses undo) t = held undo t
+held_processes (OfChildren undo ended) t = held undo t
+held_processes (OfCode undo) t = held_killed undo.code.killed t
+held_processes (OfDeletion undo) t = no_pieces
+held_processes (OfReleases undo) t = no_pieces
+held_processes OfInstall t = no_pieces
+held_processes (OfInstruction undo) t = instructions.held_processes undo t
+held_processes (OfFinish undo) t = no_pieces
+held_processes (OfRecovery undo) t = no_pieces
+held_processes (OfPurges undo statuses) t = held undo.code.killed t
+held_processes (OfRestart d) t = λ pid. pieces_at pid d.processes
+
+-- the instances of modules
+abbrev pub instances_in : Entry Forms → List (Instance Forms)
+instances_in entry = option_to_list entry.1.current ++ option_to_list entry.1.former
+
+abbrev pub held_instances : Record → List (Instance Forms)
+held_instances (OfProcesses undo) = []
+held_instances (OfChildren undo ended) = []
+held_instances (OfCode undo) = option_to_list (code.held undo.code.modules)
+held_instances (OfDeletion undo) = option_to_list (code.held undo)
+held_instances (OfReleases undo) = []
+held_instances OfInstall = []
+held_instances (OfInstruction undo) = instructions.held_instances undo
+held_instances (OfFinish undo) = []
+held_instances (OfRecovery undo) = []
+held_instances (OfPurges undo statuses) = all_held undo.code.modules
+held_instances (OfRestart d) = flat_map instances_in d.modules.entries
+
+-- the releases
+abbrev pub removed_by : releases_undo.Undo → List Listed
+removed_by Added = []
+removed_by (Removed place it) = it ∷ []
+removed_by (Statuses former) = []
+
+abbrev pub removed_if_any : Option releases_undo.Undo → List Listed
+removed_if_any None = []
+removed_if_any (Some undo) = removed_by undo
+
+abbrev pub held_releases : Record → List Listed
+held_releases (OfProcesses undo) = []
+held_releases (OfChildren undo ended) = []
+held_releases (OfCode undo) = []
+held_releases (OfDeletion undo) = []
+held_releases (OfReleases undo) = removed_by undo
+held_releases OfInstall = []
+held_releases (OfInstruction undo) = []
+held_releases (OfFinish undo) = removed_by undo.statuses
+held_releases (OfRecovery undo) = []
+held_releases (OfPurges undo statuses) = removed_if_any statuses
+held_releases (OfRestart d) = removed_by d.statuses
+
+-- Whether it holds a script, with all that is noted for it: it does where the script has ended.
+abbrev pub HoldsScript : Record → Type 0
+HoldsScript (OfProcesses undo) = ⊥
+HoldsScript (OfChildren undo ended) = ⊥
+HoldsScript (OfCode undo) = ⊥
+HoldsScript (OfDeletion undo) = ⊥
+HoldsScript (OfReleases undo) = ⊥
+HoldsScript OfInstall = ⊥
+HoldsScript (OfInstruction undo) = ⊥
+HoldsScript (OfFinish undo) = Unit {0}
+HoldsScript (OfRecovery undo) = Unit {0}
+HoldsScript (OfPurges undo statuses) = ⊥
+HoldsScript (OfRestart d) = Unit {0}
+
+-- What is left with a step: of a restart nothing but the releases, for all that booted is new.
+
+abbrev pub processes_left : Record → NodeState → Table
+processes_left (OfRestart d) after = empty_table
+processes_left (OfProcesses undo) after = after.processes
+processes_left (OfChildren undo ended) after = after.processes
+processes_left (OfCode undo) after = after.processes
+processes_left (OfDeletion undo) after = after.processes
+processes_left (OfReleases undo) after = after.processes
+processes_left OfInstall after = after.processes
+processes_left (OfInstruction undo) after = after.processes
+processes_left (OfFinish undo) after = after.processes
+processes_left (OfRecovery undo) after = after.processes
+processes_left (OfPurges undo statuses) after = after.processes
+
+abbrev pub code_left : Record → NodeState → Loaded Forms
+code_left (OfRestart d) after = without_code after.modules
+code_left (OfProcesses undo) after = after.modules
+code_left (OfChildren undo ended) after = after.modules
+code_left (OfCode undo) after = after.modules
+code_left (OfDeletion undo) after = after.modules
+code_left (OfReleases undo) after = after.modules
+code_left OfInstall after = after.modules
+code_left (OfInstruction undo) after = after.modules
+code_left (OfFinish undo) after = after.modules
+code_left (OfRecovery undo) after = after.modules
+code_left (OfPurges undo statuses) after = after.modules
+
+-- Some releases are lost: those after are the others before.
+abbrev pub ReleasesLost : List Listed → List Listed → List Listed → Type 0
+ReleasesLost held before after = (held ≡ []) ⊎ IsPermutation (held ++ after) before
+
+-- Of each kind a record holds only what is lost with its step, and each piece once.
+pub record HoldsLost (r : Record) (before after : NodeState) : Type 0 where
+  pub processes : processes.HoldsLost (held_processes r after.processes) before.processes (processes_left r after)
+  pub instances : CodeLost (held_instances r) before.modules (code_left r after)
+  pub releases : ReleasesLost (held_releases r) before.releases after.releases
+  pub script : HoldsScript r → after.runner ≡ None

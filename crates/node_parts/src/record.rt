@@ -1,0 +1,58 @@
+// What a step of a node gives, and what takes an event back.
+use code_server::Modules;
+use erl_forms::Module;
+use node_types::{Answer, Note, Refusal};
+use process_table::Processes;
+use script_ends::{Finish, Recovery};
+use script_state::{Runner, Unpurged};
+use sys_protocol::AppTable;
+use undo_journal::Stepped;
+use values::{Boxed, Failure};
+
+/// What one step of a node gives: what is told of it and its record, or why it isn't made.
+pub type Step = Result<Stepped<Answer, Note, Record>, Failure<Refusal>>;
+
+/// What stood in a node before it restarted.
+#[derive(Drop)]
+pub struct Displaced {
+    /// The modules.
+    pub modules: Modules<Module>,
+    /// The processes.
+    pub processes: Processes,
+    /// The applications.
+    pub apps: AppTable,
+    /// The old code that was to be purged later.
+    pub unpurged: Vec<Unpurged>,
+    /// The script that ran, if one did.
+    pub runner: Option<Runner>,
+    /// What takes the change of statuses back.
+    pub statuses: release_statuses::Undo,
+}
+
+/// What takes an event back. What is large and seldom has memory of its own.
+#[derive(Drop)]
+pub enum Record {
+    /// The processes were changed, and no children.
+    OfProcesses(process_table::Undo),
+    /// The processes were changed, and with them children.
+    OfChildren(process_table::Undo, Boxed<app_table::Undo>),
+    /// A module was loaded or purged, processes that lingered in it were killed, and with them children, if any.
+    OfCode(Boxed<code_replacement::Undo>),
+    /// A module was deleted.
+    OfDeletion(Boxed<code_server::Undo<Module>>),
+    /// A release was set unpacked, or removed.
+    OfReleases(Boxed<release_statuses::Undo>),
+    /// An install has begun. The script that runs keeps what takes it back.
+    OfInstall,
+    /// An instruction of the script was carried out.
+    OfInstruction(Boxed<script_runner::Undo>),
+    /// The script was finished.
+    OfFinish(Boxed<Finish>),
+    /// The script was given up before its point of no return.
+    OfRecovery(Boxed<Recovery>),
+    /// Several modules were purged, processes that lingered in them were killed, and with them children, if any; and statuses of
+    /// releases were changed, or not.
+    OfPurges(Boxed<code_replacement::Purges>, Option<Boxed<release_statuses::Undo>>),
+    /// The node has restarted.
+    OfRestart(Boxed<Displaced>),
+}

@@ -1,0 +1,4 @@
+pub mod Advances
+pub mod Restarts
+pub mod Scripts
+pub mod Targets

@@ -1,0 +1,38 @@
+-- What takes an instruction back holds nothing of the processes and of the code that the instruction has not taken.
+use Rattle.std.proofs.Common.{◌≡◌, ◌+◌, ◌≤◌, ℕ, List, [], arith, refl, subst, sym, ap}
+use Rattle.code_loading.specs.Pieces.{CodeLost}
+use Rattle.code_server.specs.Modules.{Table as Loaded}
+use Rattle.erl_forms.specs.Module.{Forms}
+use Rattle.process_store.specs.Pieces.{HoldsLost, no_pieces}
+use Rattle.process_store.specs.Table.{Table}
+use Rattle.script_runner.specs.Parts.{Parts}
+use Rattle.script_runner.specs.Pieces.{held_instances, held_processes}
+use Rattle.script_runner.specs.Undo.{TakesBack}
+use Rattle.script_runner.specs.declared.undo.Undo.{Undo}
+use Rattle.script_runner.specs.declared.undo.Undo.TheVariants.{Nothing, Read, Replaced, Purged, Suspended, Resumed, Changed, Children}
+
+pub no_process : (before after : Table) → HoldsLost no_pieces before after
+no_process before after pid = ((_, refl), tt)
+
+pub no_instance : (before after : Loaded Forms) → CodeLost [] before after
+no_instance before after serial some = absurd (omega (arith, some))
+
+pub processes_taken : (u : Undo) (p q : Parts) → TakesBack u p q → HoldsLost (held_processes u q.processes) p.processes q.processes
+processes_taken Nothing p q takes = no_process p.processes q.processes
+processes_taken (Read count) p q takes = no_process p.processes q.processes
+processes_taken (Replaced u noted) p q takes = takes.0.code.pieces
+processes_taken (Purged u) p q takes = takes.0.code.pieces
+processes_taken (Suspended count) p q takes = no_process p.processes q.processes
+processes_taken (Resumed u) p q takes = no_process p.processes q.processes
+processes_taken (Changed u) p q takes = takes.2
+processes_taken (Children u count) p q takes = takes.4
+
+pub instances_taken : (u : Undo) (p q : Parts) → TakesBack u p q → CodeLost (held_instances u) p.modules q.modules
+instances_taken Nothing p q takes = no_instance p.modules q.modules
+instances_taken (Read count) p q takes = no_instance p.modules q.modules
+instances_taken (Replaced u noted) p q takes = takes.0.code.instances
+instances_taken (Purged u) p q takes = takes.0.code.instances
+instances_taken (Suspended count) p q takes = no_instance p.modules q.modules
+instances_taken (Resumed u) p q takes = no_instance p.modules q.modules
+instances_taken (Changed u) p q takes = no_instance p.modules q.modules
+instances_taken (Children u count) p q takes = no_instance p.modules q.modules

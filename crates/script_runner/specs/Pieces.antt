@@ -1,0 +1,36 @@
+-- What takes an instruction back holds of the processes and of the code: no more than the instruction has taken (`TakesBack`). Besides
+-- these it holds numbers, pids, names and flags, and of children and applications what `script_children` says.
+use Rattle.std.specs.Prelude.{ℕ, List, [], option_to_list}
+use Rattle.code_loading.specs.Pieces.{all_held, held_killed}
+use Rattle.code_server.specs.Undo as code
+use Rattle.code_server.specs.declared.modules.Instance.{Instance}
+use Rattle.erl_forms.specs.Module.{Forms}
+use Rattle.process_store.specs.Pieces.{Piece, no_pieces}
+use Rattle.process_store.specs.Table.{Table}
+use Rattle.process_table.specs.States.{held_places}
+use Rattle.process_table.specs.Undo.{held}
+use Rattle.script_children.specs.Pieces as children
+use Rattle.script_runner.specs.declared.undo.Undo.{Undo}
+use Rattle.script_runner.specs.declared.undo.Undo.TheVariants.{Nothing, Read, Replaced, Purged, Suspended, Resumed, Changed, Children}
+
+-- the pieces of the process of a pid, by the processes after the instruction
+abbrev pub held_processes : Undo → Table → ℕ → List Piece
+held_processes Nothing t = no_pieces
+held_processes (Read count) t = no_pieces
+held_processes (Replaced u noted) t = held_killed u.code.killed t
+held_processes (Purged u) t = held u.code.killed t
+held_processes (Suspended count) t = no_pieces
+held_processes (Resumed u) t = no_pieces
+held_processes (Changed u) t = held_places u.states t
+held_processes (Children u count) t = children.held_processes u t
+
+-- the instances of code
+abbrev pub held_instances : Undo → List (Instance Forms)
+held_instances Nothing = []
+held_instances (Read count) = []
+held_instances (Replaced u noted) = option_to_list (code.held u.code.modules)
+held_instances (Purged u) = all_held u.code.modules
+held_instances (Suspended count) = []
+held_instances (Resumed u) = []
+held_instances (Changed u) = []
+held_instances (Children u count) = []

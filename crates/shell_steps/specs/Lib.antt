@@ -1,0 +1,4 @@
+pub mod Halts
+pub mod State
+pub mod Stepping
+pub mod Undone
