@@ -3,6 +3,7 @@ pub mod Keys
 pub mod Once
 pub mod Options
 pub mod Places
+pub mod Renewals
 pub mod Replacing
 pub mod Restoring
 pub mod Spots

@@ -4,4 +4,5 @@ pub mod Children
 pub mod Modules
 pub mod Ordered
 pub mod Pieces
+pub mod Renewing
 pub mod Undo

@@ -5,11 +5,14 @@ use Rattle.std.specs.List.{flat_map}
 use Rattle.child_specs.specs.declared.child.ChildSpec.{ChildSpec}
 use Rattle.otp_files.specs.declared.app.AppSpec.{AppSpec}
 use Rattle.app_table.specs.Applications.{Application}
+use Rattle.app_table.specs.Renewing.{HoldChanged}
 use Rattle.app_table.specs.declared.child.Child.{Child}
+use Rattle.app_table.specs.declared.renewing.ChildEdit.{ChildEdit}
+use Rattle.app_table.specs.declared.renewing.ChildEdit.TheVariants.{Added, Kept}
 use Rattle.app_table.specs.declared.specs.FormerSpecs.{FormerSpecs}
 use Rattle.app_table.specs.declared.undo.PutBack.{PutBack}
 use Rattle.app_table.specs.declared.undo.Undo.{Undo}
-use Rattle.app_table.specs.declared.undo.Undo.TheVariants.{Started, Revived, AllEnded, AllRun, AppStopped}
+use Rattle.app_table.specs.declared.undo.Undo.TheVariants.{Started, Revived, AllEnded, AllRun, AppStopped, Renewed}
 use Rattle.app_table.specs.declared.undo.Unloaded.{Unloaded}
 
 -- A piece of an application.
@@ -33,14 +36,29 @@ abbrev pub child_pieces_at : Option Application → List Child → List Piece
 child_pieces_at None children = []
 child_pieces_at (Some a) children = child_pieces a.spec.name children
 
--- What an undo holds, by the applications after its step: where an application was started, the children that it had before;
--- else none.
+-- the former specifications of children that were specified anew, where they are other ones
+
+abbrev pub former_pieces : List ℕ → Option ChildSpec → List Piece
+former_pieces name None = []
+former_pieces name (Some s) = of_child name s ∷ []
+
+abbrev pub edit_pieces : List ℕ → ChildEdit → List Piece
+edit_pieces name Added = []
+edit_pieces name (Kept from former) = former_pieces name former
+
+abbrev pub renewal_pieces : Option Application → List ChildEdit → List Piece
+renewal_pieces None edits = []
+renewal_pieces (Some a) edits = flat_map (edit_pieces a.spec.name) edits
+
+-- What an undo holds, by the applications after its step: where an application was started, the children that it had before; where
+-- its children were specified anew, their former specifications that are other ones; else none.
 abbrev pub held : Undo → List Application → List Piece
 held (Started app children) apps = child_pieces_at (slice_get apps app) children
 held (Revived spot) apps = []
 held (AllEnded cs) apps = []
 held (AllRun rs) apps = []
 held (AppStopped app states) apps = []
+held (Renewed app edits) apps = renewal_pieces (slice_get apps app) edits
 
 -- what is held of an application that was unloaded, of specifications that were replaced, and of those that were put back
 abbrev pub held_unloaded : Unloaded → List Piece
@@ -51,3 +69,17 @@ held_former f = map (λ r. of_app r.spec) f.replaced
 
 abbrev pub held_back : PutBack → List Piece
 held_back p = map (λ r. of_app r.spec) p.replaced ++ pieces p.added
+
+-- Of children that were specified anew a former specification is held only where its value has changed.
+
+abbrev pub HoldChangedIn : Option Application → List ChildEdit → Type 0
+HoldChangedIn None edits = Unit {0}
+HoldChangedIn (Some a) edits = HoldChanged 0 edits a.children
+
+abbrev pub HoldsChangedSpecs : Undo → List Application → Type 0
+HoldsChangedSpecs (Started app children) apps = Unit {0}
+HoldsChangedSpecs (Revived spot) apps = Unit {0}
+HoldsChangedSpecs (AllEnded cs) apps = Unit {0}
+HoldsChangedSpecs (AllRun rs) apps = Unit {0}
+HoldsChangedSpecs (AppStopped app states) apps = Unit {0}
+HoldsChangedSpecs (Renewed app edits) apps = HoldChangedIn (slice_get apps app) edits

@@ -4,10 +4,11 @@ use Rattle.values.specs.Edits.{changed_at}
 use Rattle.app_table.specs.Applications.{Application, set_child, with_children}
 use Rattle.app_table.specs.Changes.{all_replaced, with_spec}
 use Rattle.app_table.specs.Children.{in_state}
+use Rattle.app_table.specs.Renewing.{with_unrenewed}
 use Rattle.app_table.specs.declared.child.ChildState.TheVariants.{Running, Due, Stopped}
 use Rattle.app_table.specs.declared.undo.ChildProcess.{ChildProcess}
 use Rattle.app_table.specs.declared.undo.Undo.{Undo}
-use Rattle.app_table.specs.declared.undo.Undo.TheVariants.{Started, Revived, AllEnded, AllRun, AppStopped}
+use Rattle.app_table.specs.declared.undo.Undo.TheVariants.{Started, Revived, AllEnded, AllRun, AppStopped, Renewed}
 use Rattle.app_table.specs.declared.undo.Rerun.{Rerun}
 use Rattle.app_table.specs.declared.specs.FormerSpecs.{FormerSpecs}
 use Rattle.app_table.specs.declared.specs.Replaced.{Replaced}
@@ -51,6 +52,7 @@ undone (Revived spot) apps = set_child Due spot apps
 undone (AllEnded es) apps = all_unended es apps
 undone (AllRun rs) apps = all_unrun rs apps
 undone (AppStopped app states) apps = changed_at (unstopped states) apps app
+undone (Renewed app edits) apps = changed_at (with_unrenewed edits) apps app
 
 -- an application that was unloaded stands at its place again
 abbrev pub reloaded : Unloaded → List Application → List Application

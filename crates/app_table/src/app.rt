@@ -1,23 +1,26 @@
 // Applications.
-ghost use Rattle.std.specs.Prelude.{◌≡◌, ◌++◌, OnOk, Some, position, slice_get};
+ghost use Rattle.std.specs.Prelude.{◌≡◌, ◌++◌, IfOk, OnErr, OnOk, Some, position, slice_get};
 ghost use Rattle.app_table.specs.Applications.{has_id, has_process, loaded, with_child, with_children};
 ghost use Rattle.app_table.specs.Changes.{stopped, with_spec};
 ghost use Rattle.app_table.specs.Children.{after_end, in_state, runs_as};
 ghost use Rattle.app_table.specs.Modules.{each_child, idle_for, is_startable, name_for, runs_for};
+ghost use Rattle.app_table.specs.Renewing.{HoldChanged, with_renewed, with_unrenewed};
 ghost use Rattle.app_table.specs.Undo.{unstopped};
 
 use crate::child::{Child, ChildState};
 use crate::children::Children;
 use crate::clean::is_due_after;
 use crate::name::{ChildName, is_named_in};
+use crate::renewing::ChildEdit;
 use crate::spot::Spot;
 use crate::undo::ChildProcess;
+use child_specs::ChildSpec;
 use erl_term::{Atom, Term};
 use otp_files::AppSpec;
 use std::alloc::{AllocError, Global};
 use std::marker::Model;
 use std::mem;
-use values::Duplicate;
+use values::{Duplicate, Row};
 
 /// An application of a node: its specification, whether it is started, and the children of its supervisor.
 #[derive(Drop)]
@@ -135,6 +138,31 @@ impl App {
     {
         self.is_started = true;
         self.children.set_states(states);
+    }
+
+    /// Its children are specified anew. What takes it back is handed out.
+    ///
+    /// # Errors
+    ///
+    /// `AllocError` where memory is refused. All is then as it was.
+    pub(crate) fn renew(
+        &mut self,
+        alloc: Global,
+        specs: Row<ChildSpec>,
+    ) -> Result<Row<ChildEdit>, AllocError>
+        ensures renewed { OnOk result (self.new ≡ with_renewed specs self.old) }
+        ensures back { IfOk result (λ edits. with_unrenewed edits self.new ≡ self.old) }
+        ensures changed { IfOk result (λ edits. HoldChanged 0 edits self.new.children) }
+        ensures err { OnErr result (self.new ≡ self.old) }
+    {
+        self.children.renew(alloc, specs)
+    }
+
+    /// Its children are as they were before they were specified anew.
+    pub(crate) fn unrenew(&mut self, edits: Row<ChildEdit>)
+        ensures { self.new ≡ with_unrenewed edits self.old }
+    {
+        self.children.unrenew(edits);
     }
 
     /// Its specification and another one change places.

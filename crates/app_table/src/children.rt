@@ -1,18 +1,22 @@
 // The children of a supervisor, which are found by their Ids and by their pids.
-ghost use Rattle.std.specs.Prelude.{◌≡◌, IfOk, [], map, position, reverse};
+ghost use Rattle.std.specs.Prelude.{◌≡◌, ◌≤◌, IfOk, OnErr, OnOk, [], length, map, position, reverse, vec_capacity};
 ghost use Rattle.std.specs.List.{filter_map};
 ghost use Rattle.app_table.specs.Applications.{has_id};
 ghost use Rattle.app_table.specs.Children.{in_state, runs_as};
 ghost use Rattle.app_table.specs.Changes.{pids_back};
+ghost use Rattle.app_table.specs.Ordered.{IsOrderOf, by_id, by_pid};
+ghost use Rattle.app_table.specs.Renewing.{HoldChanged, renewed, unrenewed};
 ghost use Rattle.app_table.specs.Undo.{in_states};
 ghost use Rattle.app_table.specs.declared.child.ChildState.TheVariants.{Stopped};
 ghost use Rattle.values.specs.Edits.{changed_at};
 
 use crate::child::{Child, ChildState};
 use crate::orders::{
-    first_of_id, first_of_pid, order_by_id, order_by_pid, order_places, put_all_in_by_pid,
-    set_state,
+    first_of_id, first_of_pid, order_by_id, order_by_pid, order_places, put_all_in_by_id,
+    put_all_in_by_pid, set_state,
 };
+use crate::renewing::{ChildEdit, renew_all, unrenew_all};
+use child_specs::ChildSpec;
 use erl_term::Term;
 use std::alloc::{AllocError, Global};
 use std::marker::Model;
@@ -118,6 +122,52 @@ impl Children {
         set_each(self.row.as_mut_slice(), states);
         put_all_in_by_pid(self.row.as_slice(), &mut self.pids);
     }
+
+    /// They are specified anew: the new specifications stand in their order, each with the child of its Id, and the children that
+    /// are nobody's behind them. What takes it back is handed out.
+    ///
+    /// # Errors
+    ///
+    /// `AllocError` where memory is refused. All is then as it was.
+    pub(crate) fn renew(
+        &mut self,
+        alloc: Global,
+        specs: Row<ChildSpec>,
+    ) -> Result<Row<ChildEdit>, AllocError>
+        ensures renewed { OnOk result (self.new ≡ renewed specs self.old) }
+        ensures back { IfOk result (λ edits. unrenewed 0 edits self.new ≡ self.old) }
+        ensures changed { IfOk result (λ edits. HoldChanged 0 edits self.new) }
+        ensures err { OnErr result (self.new ≡ self.old) }
+    {
+        let specs = specs.into_vec();
+        let count = specs.as_slice().len();
+        let mut edits = Vec::with_capacity(alloc, count)?;
+        self.row.reserve(count)?;
+        self.ids.reserve(count)?;
+        self.pids.reserve(count)?;
+        renew_all(&mut self.row, specs, &mut edits);
+        put_all_in(self.row.as_slice(), &mut self.ids, &mut self.pids);
+        Ok(Row::new(edits))
+    }
+
+    /// They are as they were before they were specified anew. Takes no memory.
+    pub(crate) fn unrenew(&mut self, edits: Row<ChildEdit>)
+        ensures { self.new ≡ unrenewed 0 edits self.old }
+    {
+        unrenew_all(&mut self.row, edits);
+        put_all_in(self.row.as_slice(), &mut self.ids, &mut self.pids);
+    }
+}
+
+/// The places of children in the order of their Ids, and of the pids that they run as, in lists that have room for them.
+fn put_all_in(row: &[Child], ids: &mut Vec<usize>, pids: &mut Vec<usize>)
+    requires ids { length row.now ≤ vec_capacity ids.old }
+    requires pids { length row.now ≤ vec_capacity pids.old }
+    ensures ids { IsOrderOf (by_id row.now) (length row.now) ids.new.items }
+    ensures pids { IsOrderOf (by_pid row.now) (length row.now) pids.new.items }
+{
+    put_all_in_by_id(row, ids);
+    put_all_in_by_pid(row, pids);
 }
 
 /// Each of these has no process, and isn't due.

@@ -161,10 +161,19 @@ pub(crate) fn order_by_id(alloc: Global, row: &[Child]) -> Result<Vec<usize>, Al
     ensures { IfOk result (λ ids. IsOrderOf (by_id row.now) (length row.now) ids.items) }
 {
     let mut ids = Vec::with_capacity(alloc, row.len())?;
-    for place in 0..row.len() {
-        put_in_by_id(row, &mut ids, place);
-    }
+    put_all_in_by_id(row, &mut ids);
     Ok(ids)
+}
+
+/// The places of children in the order of their Ids, in a list that has room for them. Takes no memory.
+pub(crate) fn put_all_in_by_id(row: &[Child], ids: &mut Vec<usize>)
+    requires { length row.now ≤ vec_capacity ids.old }
+    ensures { IsOrderOf (by_id row.now) (length row.now) ids.new.items }
+{
+    ids.clear();
+    for place in 0..row.len() {
+        put_in_by_id(row, ids, place);
+    }
 }
 
 /// The places of children in the order of the pids that they run as.

@@ -11,6 +11,7 @@ ghost use Rattle.values.specs.Edits.{changed_at};
 
 mod changing;
 mod modules;
+mod renewing;
 mod specs;
 
 use crate::app::App;
@@ -254,6 +255,7 @@ impl AppTable {
             Undo::AllEnded(ended) => self.unend(ended.as_slice()),
             Undo::AllRun(reruns) => self.unrun(reruns.as_slice()),
             Undo::AppStopped(app, states) => self.unstop_app(app, states.as_slice()),
+            Undo::Renewed(app, edits) => self.unrenew(app, edits),
         }
     }
 }

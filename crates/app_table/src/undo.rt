@@ -2,6 +2,7 @@
 use crate::app::App;
 use crate::child::ChildState;
 use crate::children::Children;
+use crate::renewing::ChildEdit;
 use crate::specs::Replaced;
 use crate::spot::Spot;
 use values::Row;
@@ -37,6 +38,8 @@ pub enum Undo {
     AllRun(Row<Rerun>),
     /// The application at a place was stopped, whose children were in these states, in order.
     AppStopped(usize, Row<ChildState>),
+    /// The children of the application at a place were specified anew, by each specification in order.
+    Renewed(usize, Row<ChildEdit>),
 }
 
 /// An application that was unloaded, whole.

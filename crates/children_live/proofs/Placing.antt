@@ -26,12 +26,12 @@ same_spots apps after t was kept = record {
 
 -- An application is unloaded: those behind it move up.
 
-abbrev behind : ℕ → ℕ → ℕ
+abbrev pub behind : ℕ → ℕ → ℕ
 behind zero app = suc app
 behind (suc place) zero = zero
 behind (suc place) (suc app) = suc (behind place app)
 
-behind_differ : (place one other : ℕ) → behind place one ≡ behind place other → one ≡ other
+pub behind_differ : (place one other : ℕ) → behind place one ≡ behind place other → one ≡ other
 behind_differ zero one other same = omega (arith, same)
 behind_differ (suc place) zero zero same = refl
 behind_differ (suc place) zero (suc other) same = absurd (omega (arith, same))

@@ -3,6 +3,7 @@ use Rattle.children_live.proofs.Keeping.{all_on, exited_live, spared_live, vacat
 use Rattle.children_live.proofs.Lives.{all_change_on, applied_on, arrival_on, begun_on, rested_on, resumed_on, suspended_on}
 use Rattle.children_live.proofs.Lives.{taken_on, unresumed_on}
 use Rattle.children_live.proofs.Placing.{put_back_live, specs_set_live, unloaded_live}
+use Rattle.children_live.proofs.Renewing.{renewed_live}
 use Rattle.children_live.proofs.Starting.{app_runs, revived_live, start_again_live, started_live}
 use Rattle.children_live.proofs.Stopping.{stopped_app_live, stopped_live}
 use Rattle.children_live.specs.Laws.{ApplicationStepsKeepChildren, EndsKeepChildren, ProcessStepsKeepChildren}
@@ -37,6 +38,7 @@ application_steps_keep_children = record {
   unloads_app = unloaded_live;
   sets_specs = specs_set_live;
   puts_back = put_back_live;
+  renews = renewed_live;
 }
 
 pub ends_keep_children : EndsKeepChildren

@@ -7,7 +7,7 @@ use Rattle.app_table.specs.declared.child.Child.{Child}
 use Rattle.app_table.specs.declared.name.ChildName.{ChildName}
 use Rattle.app_table.specs.declared.specs.FormerSpecs.{FormerSpecs}
 use Rattle.child_specs.specs.declared.child.ChildSpec.{ChildSpec}
-use Rattle.children_live.specs.Children.{ChildrenLive}
+use Rattle.children_live.specs.Children.{AreRenewed, ChildrenLive}
 use Rattle.code_loading.specs.Loading.{lingering, spared}
 use Rattle.code_server.specs.Modules.{Table as Loaded}
 use Rattle.erl_forms.specs.Module.{Forms}
@@ -60,9 +60,9 @@ pub record ProcessStepsKeepChildren : Type 0 where
   pub begins : (name : Option (List ℕ)) (code : List Instance) (acts : List Act) (apps : List Application) (t : Table) →
       ChildrenLive apps t → ChildrenLive apps (acts_begun name code acts t)
 
--- Where children are stopped, are started again, or one is revived, where an application starts, stops or is unloaded, and where
--- specifications are put in place of others or put back, each child that runs then is a process of its own: one that ran and
--- wasn't stopped goes on, and one that starts is a new process.
+-- Where children are stopped, are started again, or one is revived, where an application starts, stops or is unloaded, where
+-- specifications are put in place of others or put back, and where supervisors specify their children anew, each child that runs then is
+-- a process of its own: one that ran and wasn't stopped goes on, and one that starts is a new process.
 pub record ApplicationStepsKeepChildren : Type 0 where
   pub stops : (modules : List (List ℕ)) (apps : List Application) (t : Table) →
       ChildrenLive apps t → ChildrenLive (all_stopped (running_with modules apps) apps) (all_vacated (to_stop modules apps) t)
@@ -84,6 +84,7 @@ pub record ApplicationStepsKeepChildren : Type 0 where
       ChildrenLive apps t → ChildrenLive (specs_set specs apps) t
   pub puts_back : (former : FormerSpecs) (apps : List Application) (t : Table) →
       ChildrenLive apps t → ChildrenLive (put_back former apps) t
+  pub renews : (apps after : List Application) (t : Table) → AreRenewed apps after → ChildrenLive apps t → ChildrenLive after t
 
 -- Where a process ends with its job, where several leave, and where those who linger in the old code of a module are killed, the
 -- child that each was runs no more, and each other child that runs goes on.

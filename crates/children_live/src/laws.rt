@@ -9,7 +9,8 @@ pub fn process_steps_keep_children()
 {}
 
 /// Each child that runs is a process of its own, which lives, where children stop, start again or are revived, where an
-/// application starts, stops or is unloaded, and where specifications are put in place of others, or put back.
+/// application starts, stops or is unloaded, where specifications are put in place of others, or put back, and where supervisors
+/// specify their children anew.
 pub fn application_steps_keep_children()
     ensures { ApplicationStepsKeepChildren }
 {}

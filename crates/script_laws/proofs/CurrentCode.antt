@@ -1,11 +1,14 @@
 -- No process is left with code that is gone, whatever an instruction does.
 use Rattle.std.proofs.Common.{ℕ, All, List, [], ◌∷◌, codes, map, Option, None, Some, refl, sym, subst}
 use Rattle.child_specs.specs.declared.child.ChildSpec.{ChildSpec}
+use Rattle.app_table.specs.Applications.{Application}
 use Rattle.app_table.specs.declared.child.Child.{Child}
 use Rattle.code_loading.proofs.Consistency.{loading_keeps_code}
 use Rattle.code_loading.proofs.Removals.{purges_keep_code}
 use Rattle.code_loading.proofs.Stepping.{steps_keep_code}
 use Rattle.code_loading.specs.Consistent.{IsConsistent}
+use Rattle.code_changes.specs.Changing.{AllUpgrade, Script, Upgraded, changes_in}
+use Rattle.code_changes.specs.Renewing.{AllRenew, RenewsIf, supervisor_in}
 use Rattle.code_loading.specs.Current.{current_code}
 use Rattle.code_loading.specs.Laws.{StartsIn}
 use Rattle.code_loading.specs.Loading.{spared}
@@ -23,6 +26,7 @@ use Rattle.erl_term.specs.Term.{tree}
 use Rattle.erl_term.specs.Tree.{Tree, Trees, more, none}
 use Rattle.low_instructions.specs.declared.low.Low.{Low}
 use Rattle.low_instructions.specs.declared.low.Low.TheVariants.{LoadObjectCode, PointOfNoReturn, Load, Remove, Purge, Suspend, Resume, CodeChange, Stop, Start, Apply}
+use Rattle.low_instructions.specs.declared.modules.ModuleChange.{ModuleChange}
 use Rattle.otp_files.specs.declared.app.StartModule.{StartModule}
 use Rattle.process.specs.Named.{StandsIn}
 use Rattle.process_effects.specs.declared.told.Reply.{Reply}
@@ -36,7 +40,7 @@ use Rattle.script_children.specs.Children.{Supervised}
 use Rattle.script_children.specs.declared.calls.AppCall.{AppCall}
 use Rattle.script_children.specs.declared.calls.AppCall.TheVariants as call
 use Rattle.script_laws.specs.Laws.{InstructionsKeepCode}
-use Rattle.script_runner.specs.Instructions.{Does, changes_in, running_of, supervised_of}
+use Rattle.script_runner.specs.Instructions.{Does, running_of, script_of, supervised_of}
 use Rattle.script_runner.specs.Parts.{Parts}
 use Rattle.suspensions.specs.Suspending.{names, to_resume, to_suspend}
 use Rattle.sys_protocol.specs.AppStarts.{InitGives, initialized}
@@ -107,6 +111,28 @@ module _ (m : Loaded Forms) (code : List Instance) (stand : All (StandsIn m) (ma
       changes_keep cs (after_change code c o state t) after others rest
       (steps_keep_code.starts None code o.acts m (with_state c state t) restated stand begins)
 
+  renews_keep : (o : Option StartModule) (a b : Application) (t after : Table) (told : List Reply) → RenewsIf code o a b t after told →
+      IsConsistent m t → IsConsistent m after
+  renews_keep None a b t after told renews kept = subst (λ (u : Table). IsConsistent m u) (sym renews.1) kept
+  renews_keep (Some s) a b t after told renews kept =
+      let begins = subst (All (StartsIn code)) (sym renews.gives.asks) (init_begins code s renews.gives.outcome renews.gives.gives) in
+      subst (λ (u : Table). IsConsistent m u) (sym renews.done) (steps_keep_code.starts None code renews.acts m t kept stand begins)
+
+  all_renew_keep : (name : List ℕ) (apps : List Application) (t : Table) (last : List Application) (after : Table) (told : List Reply) →
+      AllRenew code name apps t last after told → IsConsistent m t → IsConsistent m after
+  all_renew_keep name [] t last after told renew kept = subst (λ (u : Table). IsConsistent m u) (sym renew.1) kept
+  all_renew_keep name (a ∷ apps) t [] after told renew kept = absurd renew
+  all_renew_keep name (a ∷ apps) t (b ∷ last) after told (mid, said, rest, one, all, tells) kept =
+      all_renew_keep name apps mid last after rest all (renews_keep (supervisor_in name a) a b t mid said one kept)
+
+  all_upgrade_keep : (s : Script) (ms : List ModuleChange) (apps : List Application) (t : Table) (u : Upgraded) →
+      AllUpgrade code s ms apps t u → IsConsistent m t → IsConsistent m u.processes
+  all_upgrade_keep s [] apps t u all kept = subst (λ (v : Upgraded). IsConsistent m v.processes) (sym all) kept
+  all_upgrade_keep s (c ∷ ms) apps t u (one, rest, up, all, is) kept =
+      let changed = changes_keep (changes_in s c apps t) t up.between up.said up.change kept in
+      let renewed = all_renew_keep c.name apps up.between one.apps one.processes up.rest up.renew changed in
+      subst (λ (v : Upgraded). IsConsistent m v.processes) (sym is) (all_upgrade_keep s ms one.apps one.processes rest all renewed)
+
   function_keeps : (n f : List ℕ) (args : Trees) (t after : Table) (told : List Reply) →
       functions.Applies code n f args t after told → IsConsistent m t → IsConsistent m after
   function_keeps n f args t after told applies kept =
@@ -163,10 +189,10 @@ does_keep r (Suspend ms) p q told does kept =
 does_keep r (Resume ms) p q told does kept =
     let pids = to_resume ms p.suspended p.apps p.processes in
     subst Consistent (sym does.0) (steps_keep_code.resumes pids p.modules p.processes kept)
-does_keep r (CodeChange direction changes) p q told (after, is, all, counted) kept =
+does_keep r (CodeChange direction changes) p q told (u, all, counted, is, tells) kept =
     let code = current_code p.modules in
-    let cs = changes_in direction changes p in
-    subst Consistent (sym is) (changes_keep p.modules code (currents p kept) cs p.processes after told all kept)
+    subst Consistent (sym is)
+    (all_upgrade_keep p.modules code (currents p kept) (script_of direction p) changes p.apps p.processes u all kept)
 does_keep r (Stop ms) p q told does kept =
     subst Consistent (sym does.0) (steps_keep_code.ends (to_stop ms p.apps) p.modules p.processes kept)
 does_keep r (Start ms) p q told (apps, after, is, start) kept =

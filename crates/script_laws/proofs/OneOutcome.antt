@@ -5,6 +5,8 @@ use Rattle.app_table.specs.Applications.{Application}
 use Rattle.app_table.specs.Changes.{all_run, at_spots}
 use Rattle.app_table.specs.Modules.{startable}
 use Rattle.app_table.specs.declared.name.ChildName.{ChildName}
+use Rattle.code_changes.proofs.OneWay.{changes_one_way}
+use Rattle.code_changes.specs.Changing.{Script, Upgraded}
 use Rattle.code_loading.specs.Current.{current_code}
 use Rattle.code_loading.specs.Loading.{purge_told}
 use Rattle.code_replacement.specs.Replacing.{code_loaded}
@@ -15,6 +17,7 @@ use Rattle.erl_semantics.specs.declared.instance.Instance.{Instance}
 use Rattle.erl_term.specs.declared.term.Term.{Term}
 use Rattle.low_instructions.specs.declared.low.Low.{Low}
 use Rattle.low_instructions.specs.declared.low.Low.TheVariants.{LoadObjectCode, PointOfNoReturn, Load, Remove, Purge, Suspend, Resume, CodeChange, Stop, Start, Apply}
+use Rattle.low_instructions.specs.declared.modules.ModuleChange.{ModuleChange}
 use Rattle.process_effects.specs.declared.told.Reply.{Reply}
 use Rattle.process_store.specs.Table.{Table}
 use Rattle.release_table.specs.declared.table.Release.{Release}
@@ -22,19 +25,15 @@ use Rattle.script_children.specs.Calls.{call_of, start_failed}
 use Rattle.script_children.specs.Children.{Supervised}
 use Rattle.script_laws.proofs.Applying.{applied-once, applied_or_not, not_applied-once}
 use Rattle.script_laws.specs.Laws.{InstructionsHaveOneOutcome}
-use Rattle.script_runner.specs.Failures.{code_change_failed, no_object_code}
-use Rattle.script_runner.specs.Instructions.{Does, Fails, Halts, IsAtEnd, busy_of, changes_in, running_of, supervised_of, with_running, with_supervised, with_unpurged}
+use Rattle.script_runner.specs.Failures.{no_object_code}
+use Rattle.script_runner.specs.Instructions.{Does, Fails, Halts, IsAtEnd, busy_of, running_of, script_of, supervised_of, with_running, with_supervised, with_unpurged}
 use Rattle.script_runner.specs.Parts.{Parts}
+use Rattle.script_runner.specs.Suspending.{HaltsChange, halt_of}
 use Rattle.script_runner.specs.declared.halt.Halt.{Halt}
 use Rattle.script_runner.specs.declared.halt.Halt.TheVariants.{Busy, Failed, CounterEnd}
 use Rattle.sys_protocol.proofs.ChildrenOneWay.{children_start_one_way}
 use Rattle.sys_protocol.specs.Stopping.{StartAgain, to_start}
 use Rattle.sys_protocol.specs.declared.start_failed.StartFailed.{StartFailed}
-use Rattle.upgrade_calls.proofs.ChangesOneWay.{changes_one_way}
-use Rattle.upgrade_calls.specs.Changing.{FirstUnchanged, RefusesChange}
-use Rattle.upgrade_calls.specs.declared.changing.Change.{Change}
-use Rattle.upgrade_calls.specs.declared.changing.ChangeError.TheVariants as change_error
-use Rattle.upgrade_calls.specs.declared.changing.ChangeFailed.{ChangeFailed}
 
 -- It does one thing.
 
@@ -48,9 +47,6 @@ again-once code names modules apps t one other after last told said first second
     let same = both first.start second.start in
     let run = λ (pids : List ℕ). all_run (at_spots (startable names modules apps) pids) apps in
     (first.run ∙ ap run same.0 ∙ sym second.run, same.1, same.2)
-
-abbrev with_processes : Table → Parts → Parts
-with_processes t p = record p { processes = t }
 
 abbrev with_children : List Application → Table → Parts → Parts
 with_children apps t p = record p { processes = t; apps = apps }
@@ -68,11 +64,10 @@ does-once r (Remove m pre post) p q s told said first second = (first.0 ∙ sym 
 does-once r (Purge ms) p q s told said first second = (first.0 ∙ sym second.0, first.1 ∙ sym second.1)
 does-once r (Suspend ms) p q s told said first second = (first.0 ∙ sym second.0, first.1 ∙ sym second.1)
 does-once r (Resume ms) p q s told said first second = (first.0 ∙ sym second.0, first.1 ∙ sym second.1)
-does-once r (CodeChange direction changes) p q s told said (after, is, all, counted) (last, also, all_too, counted_too) =
+does-once r (CodeChange direction changes) p q s told said (u, all, counted, is, tells) (v, all_too, counted_too, also, says) =
     let code = current_code p.modules in
-    let cs = changes_in direction changes p in
-    let same = changes_one_way.changes code cs p.processes after last told said all all_too in
-    (is ∙ ap (λ (t : Table). with_processes t p) same.0 ∙ sym also, same.1)
+    let same = changes_one_way.upgrades code (script_of direction p) changes p.apps p.processes u v all all_too in
+    (is ∙ ap (λ (w : Upgraded). with_children w.apps w.processes p) same ∙ sym also, tells ∙ ap (λ (w : Upgraded). w.told) same ∙ sym says)
 does-once r (Stop ms) p q s told said first second = (first.0 ∙ sym second.0, first.1 ∙ sym second.1)
 does-once r (Start ms) p q s told said (one, after, is, start) (other, last, also, start_too) =
     let code = current_code p.modules in
@@ -85,17 +80,16 @@ does-once r (Apply m f args) p q s told said (one, is, applied) (other, also, ap
 
 -- It fails for one reason.
 
-unchanged-once : (code : List Instance) (cs : List Change) (t : Table) (one other : ChangeFailed) → FirstUnchanged code cs t one →
-    FirstUnchanged code cs t other → one ≡ other
-unchanged-once code cs t one other first second =
-    let both = changes_one_way.refuses code cs t (change_error.Failed one) (change_error.Failed other) first second in
-    cc
+changes_halt-once : (code : List Instance) (s : Script) (ms : List ModuleChange) (apps : List Application) (t : Table) (h k : Halt) →
+    HaltsChange h code s ms apps t → HaltsChange k code s ms apps t → h ≡ k
+changes_halt-once code s ms apps t h k (e, refuses, is) (f, refuses_too, also) =
+    is ∙ ap halt_of (changes_one_way.refuses code s ms apps t e f refuses refuses_too) ∙ sym also
 
-unchanged_or_ends : (code : List Instance) (cs : List Change) (t : Table) (one : ChangeFailed) → FirstUnchanged code cs t one →
-    RefusesChange change_error.CounterEnd code cs t → ⊥
-unchanged_or_ends code cs t one fails ends =
-    let both = changes_one_way.refuses code cs t (change_error.Failed one) change_error.CounterEnd fails ends in
-    cc
+failed-once : (x y : Term) → Failed x ≡ Failed y → x ≡ y
+failed-once x y same = cc
+
+failed_or_ends : (x : Term) → Failed x ≡ CounterEnd → ⊥
+failed_or_ends x same = cc
 
 fails-once : (r : Release) (i : Low) (p : Parts) (x y : Term) → Fails r i p x → Fails r i p y → x ≡ y
 fails-once r (LoadObjectCode app vsn ms) p x y (m, missing, is) (n, missing_too, also) =
@@ -106,10 +100,9 @@ fails-once r (Remove m pre post) p x y first second = absurd first
 fails-once r (Purge ms) p x y first second = absurd first
 fails-once r (Suspend ms) p x y first second = absurd first
 fails-once r (Resume ms) p x y first second = absurd first
-fails-once r (CodeChange direction changes) p x y (one, fails, is) (other, fails_too, also) =
+fails-once r (CodeChange direction changes) p x y first second =
     let code = current_code p.modules in
-    let same = unchanged-once code (changes_in direction changes p) p.processes one other fails fails_too in
-    is ∙ ap (λ (failed : ChangeFailed). code_change_failed failed.pid failed.reason) same ∙ sym also
+    failed-once x y (changes_halt-once code (script_of direction p) changes p.apps p.processes (Failed x) (Failed y) first second)
 fails-once r (Stop ms) p x y first second = absurd first
 fails-once r (Start ms) p x y (one, fails, is) (other, fails_too, also) =
     let code = current_code p.modules in
@@ -128,8 +121,9 @@ fails_or_ends r (Remove m pre post) p x fails ends = ends
 fails_or_ends r (Purge ms) p x fails ends = ends
 fails_or_ends r (Suspend ms) p x fails ends = ends
 fails_or_ends r (Resume ms) p x fails ends = ends
-fails_or_ends r (CodeChange direction changes) p x (one, fails, is) ends =
-    unchanged_or_ends (current_code p.modules) (changes_in direction changes p) p.processes one fails ends
+fails_or_ends r (CodeChange direction changes) p x fails ends =
+    let code = current_code p.modules in
+    failed_or_ends x (changes_halt-once code (script_of direction p) changes p.apps p.processes (Failed x) CounterEnd fails ends)
 fails_or_ends r (Stop ms) p x fails ends = ends
 fails_or_ends r (Start ms) p x fails ends = ends
 fails_or_ends r (Apply m f args) p x fails ends = ends
@@ -157,10 +151,9 @@ does_or_fails r (Remove m pre post) p q told x does fails = fails
 does_or_fails r (Purge ms) p q told x does fails = fails
 does_or_fails r (Suspend ms) p q told x does fails = fails
 does_or_fails r (Resume ms) p q told x does fails = fails
-does_or_fails r (CodeChange direction changes) p q told x (after, is, all, counted) (one, fails, because) =
+does_or_fails r (CodeChange direction changes) p q told x (u, all, counted, is, tells) (e, refuses, because) =
     let code = current_code p.modules in
-    let cs = changes_in direction changes p in
-    changes_one_way.never_both code cs p.processes after told (change_error.Failed one) all counted fails
+    changes_one_way.never_both code (script_of direction p) changes p.apps p.processes u e all counted refuses
 does_or_fails r (Stop ms) p q told x does fails = fails
 does_or_fails r (Start ms) p q told x (apps, after, is, start) (failed, fails, because) =
     let code = current_code p.modules in
@@ -180,10 +173,9 @@ does_or_ends r (Remove m pre post) p q told does ends = ends
 does_or_ends r (Purge ms) p q told does ends = ends
 does_or_ends r (Suspend ms) p q told does ends = ends
 does_or_ends r (Resume ms) p q told does ends = ends
-does_or_ends r (CodeChange direction changes) p q told (after, is, all, counted) ends =
+does_or_ends r (CodeChange direction changes) p q told (u, all, counted, is, tells) (e, refuses, because) =
     let code = current_code p.modules in
-    let cs = changes_in direction changes p in
-    changes_one_way.never_both code cs p.processes after told change_error.CounterEnd all counted ends
+    changes_one_way.never_both code (script_of direction p) changes p.apps p.processes u e all counted refuses
 does_or_ends r (Stop ms) p q told does ends = ends
 does_or_ends r (Start ms) p q told does ends = ends
 does_or_ends r (Apply m f args) p q told does ends = ends

@@ -5,17 +5,16 @@ use Rattle.std.specs.Prelude.{◌≡◌, ℕ, Bool, List, [], ◌++◌, Option, 
 use Rattle.app_table.specs.Changes.{all_stopped}
 use Rattle.app_table.specs.Modules.{names_at, running_with}
 use Rattle.app_table.specs.Applications.{Application}
+use Rattle.code_changes.specs.Changing.{AllUpgrade, Script, Upgraded, script}
 use Rattle.code_loading.specs.Current.{current_code}
 use Rattle.code_server.specs.Modules.{load_refusal, purged}
 use Rattle.erl_forms.specs.Module.{Forms}
 use Rattle.erl_term.specs.declared.term.Term.{Term}
 use Rattle.low_instructions.specs.declared.low.Low.{Low}
 use Rattle.low_instructions.specs.declared.modules.Direction.{Direction}
-use Rattle.low_instructions.specs.declared.modules.ModuleChange.{ModuleChange}
 use Rattle.code_replacement.specs.Replacing.{RunningSystem, all_without, code_loaded, code_removed}
 use Rattle.code_loading.specs.Loading.{purge_told}
 use Rattle.code_loading.specs.Purging.{all_purge_told}
-use Rattle.upgrade_calls.specs.declared.changing.Change.{Change}
 use Rattle.low_instructions.specs.declared.low.Low.TheVariants.{LoadObjectCode, PointOfNoReturn, Load, Remove, Purge, Suspend, Resume, CodeChange, Stop, Start, Apply}
 use Rattle.process_effects.specs.Ends.{all_vacated}
 use Rattle.process_effects.specs.Kills.{all_downs}
@@ -34,10 +33,10 @@ use Rattle.script_runner.specs.Replacing.{HaltsLoad, unpurged_of}
 use Rattle.script_runner.specs.Suspending.{HaltsChange}
 use Rattle.script_runner.specs.declared.halt.Halt.{Halt}
 use Rattle.script_runner.specs.declared.halt.Halt.TheVariants.{Busy, Failed, CounterEnd}
-use Rattle.suspensions.specs.Suspending.{changes_of, names, still_suspended, suspend_refusal, to_resume, to_suspend}
+use Rattle.suspensions.specs.Suspending.{names, still_suspended, suspend_refusal, to_resume, to_suspend}
 use Rattle.sys_protocol.specs.Stopping.{FailToStartAgain, StartAgain, shutdown, to_stop}
 use Rattle.sys_protocol.specs.declared.start_failed.StartFailed.{StartFailed}
-use Rattle.upgrade_calls.specs.Changing.{AllChange, AreCounted}
+use Rattle.upgrade_calls.specs.Changing.{AreCounted}
 
 -- Old code that an instruction has left is noted with how it is purged later, where it has left any.
 abbrev pub with_unpurged : List ℕ → Kind → Parts → Parts
@@ -76,9 +75,9 @@ all_stopped_in modules p = record p {
   stopped = p.stopped ++ names_at (running_with modules p.apps) p.apps;
 }
 
--- What the changes of a `code_change` are.
-abbrev pub changes_in : Direction → List ModuleChange → Parts → List Change
-changes_in direction changes p = changes_of direction changes p.versions p.suspended p.apps p.processes
+-- What is known of the script where a `code_change` of a direction is carried out.
+abbrev pub script_of : Direction → Parts → Script
+script_of direction p = script direction p.versions p.suspended
 
 -- What it does. A load purges old code, makes the object code that is at hand current, and what was current old; a removal
 -- purges old code, and makes what was current old. The old code that results is to be purged by their `PostPurge`; their
@@ -97,9 +96,9 @@ Does r (Purge ms) p q told = (q ≡ with_running (all_without ms (running_of p))
     (told ≡ all_purge_told ms p.modules p.processes)
 Does r (Suspend ms) p q told = (q ≡ all_suspended_in (to_suspend (names ms) p.apps p.processes) p) × (told ≡ [])
 Does r (Resume ms) p q told = (q ≡ all_resumed_in ms p) × (told ≡ [])
-Does r (CodeChange direction changes) p q told = (after : Table) × (q ≡ record p { processes = after }) ×
-    AllChange (current_code p.modules) (changes_in direction changes p) p.processes after told ×
-    AreCounted (changes_in direction changes p) after
+Does r (CodeChange direction changes) p q told = (u : Upgraded) ×
+    AllUpgrade (current_code p.modules) (script_of direction p) changes p.apps p.processes u × AreCounted u.changes u.processes ×
+    (q ≡ record p { processes = u.processes; apps = u.apps }) × (told ≡ u.told)
 Does r (Stop ms) p q told = (q ≡ all_stopped_in ms p) × (told ≡ all_downs shutdown (to_stop ms p.apps) p.processes)
 Does r (Start ms) p q told = (apps : List Application) × (after : Table) × (q ≡ record p { processes = after; apps = apps }) ×
     StartAgain (current_code p.modules) p.stopped ms p.apps p.processes apps after told
@@ -117,7 +116,7 @@ Fails r (Purge ms) p reason = ⊥
 Fails r (Suspend ms) p reason = ⊥
 Fails r (Resume ms) p reason = ⊥
 Fails r (CodeChange direction changes) p reason =
-    HaltsChange (Failed reason) (current_code p.modules) (changes_in direction changes p) p.processes
+    HaltsChange (Failed reason) (current_code p.modules) (script_of direction p) changes p.apps p.processes
 Fails r (Stop ms) p reason = ⊥
 Fails r (Start ms) p reason = (failed : StartFailed) ×
     FailToStartAgain failed (current_code p.modules) p.stopped ms p.apps p.processes ×
@@ -134,7 +133,7 @@ IsAtEnd r (Purge ms) p = ⊥
 IsAtEnd r (Suspend ms) p = ⊥
 IsAtEnd r (Resume ms) p = ⊥
 IsAtEnd r (CodeChange direction changes) p =
-    HaltsChange CounterEnd (current_code p.modules) (changes_in direction changes p) p.processes
+    HaltsChange CounterEnd (current_code p.modules) (script_of direction p) changes p.apps p.processes
 IsAtEnd r (Stop ms) p = ⊥
 IsAtEnd r (Start ms) p = ⊥
 IsAtEnd r (Apply m f args) p = ⊥

@@ -21,7 +21,7 @@ held_processes (Replaced u noted) t = held_killed u.code.killed t
 held_processes (Purged u) t = held u.code.killed t
 held_processes (Suspended count) t = no_pieces
 held_processes (Resumed u) t = no_pieces
-held_processes (Changed u) t = held_places u.states t
+held_processes (Changed u) t = held_places u.processes.states t
 held_processes (Children u count) t = children.held_processes u t
 
 -- the instances of code

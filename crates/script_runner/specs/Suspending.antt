@@ -1,17 +1,21 @@
--- Why suspended processes don't change their states.
+-- Why a `code_change` isn't made.
 use Rattle.std.specs.Prelude.{◌≡◌, List}
+use Rattle.app_table.specs.Applications.{Application}
+use Rattle.code_changes.specs.Changing.{RefusesCodeChange, Script}
+use Rattle.code_changes.specs.declared.changing.CodeChangeError.{CodeChangeError}
+use Rattle.code_changes.specs.declared.changing.CodeChangeError.TheVariants as change_error
 use Rattle.erl_semantics.specs.declared.instance.Instance.{Instance}
+use Rattle.low_instructions.specs.declared.modules.ModuleChange.{ModuleChange}
 use Rattle.process_store.specs.Table.{Table}
 use Rattle.script_runner.specs.Failures.{code_change_failed}
 use Rattle.script_runner.specs.declared.halt.Halt.{Halt}
-use Rattle.script_runner.specs.declared.halt.Halt.TheVariants.{Busy, Failed, CounterEnd}
-use Rattle.upgrade_calls.specs.Changing.{FirstUnchanged, RefusesChange}
-use Rattle.upgrade_calls.specs.declared.changing.Change.{Change}
-use Rattle.upgrade_calls.specs.declared.changing.ChangeError.TheVariants as change_error
-use Rattle.upgrade_calls.specs.declared.changing.ChangeFailed.{ChangeFailed}
+use Rattle.script_runner.specs.declared.halt.Halt.TheVariants.{Failed, CounterEnd}
 
-abbrev pub HaltsChange : Halt → List Instance → List Change → Table → Type 0
-HaltsChange (Busy pid) code changes t = ⊥
-HaltsChange (Failed reason) code changes t =
-    (failed : ChangeFailed) × FirstUnchanged code changes t failed × (reason ≡ code_change_failed failed.pid failed.reason)
-HaltsChange CounterEnd code changes t = RefusesChange change_error.CounterEnd code changes t
+-- A process has failed to change its state, a supervisor gives no supervision, which says so itself, or a turn can't be counted.
+abbrev pub halt_of : CodeChangeError → Halt
+halt_of (change_error.Unchanged failed) = Failed (code_change_failed failed.pid failed.reason)
+halt_of (change_error.BadInit reason) = Failed reason
+halt_of change_error.CounterEnd = CounterEnd
+
+abbrev pub HaltsChange : Halt → List Instance → Script → List ModuleChange → List Application → Table → Type 0
+HaltsChange halt code s changes apps t = (e : CodeChangeError) × RefusesCodeChange e code s changes apps t × (halt ≡ halt_of e)

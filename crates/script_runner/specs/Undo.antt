@@ -1,6 +1,7 @@
 -- What takes an instruction back: from the parts after the instruction it gives those before, and it holds no piece of a process and
 -- no instance of code but what the instruction has taken. Parts that it doesn't name weren't changed.
 use Rattle.std.specs.Prelude.{◌≡◌, ◌≤◌, ◌-◌, Bool, if◌then◌else◌, List, length, take}
+use Rattle.code_changes.specs.Undo as changes
 use Rattle.code_replacement.specs.Undo as code
 use Rattle.process_store.specs.Pieces.{HoldsLost}
 use Rattle.process_table.specs.States.{all_resumed, all_unresumed, held_places}
@@ -12,7 +13,6 @@ use Rattle.script_runner.specs.Parts.{Parts}
 use Rattle.script_runner.specs.declared.undo.Undo.{Undo}
 use Rattle.script_runner.specs.declared.undo.Undo.TheVariants.{Nothing, Read, Replaced, Purged, Suspended, Resumed, Changed, Children}
 use Rattle.suspensions.specs.Suspending.{but_last, last_of}
-use Rattle.upgrade_calls.specs.Changing.{ChangesBack}
 
 -- without the last item, where one was added
 abbrev pub without_note : {A : Type 0} → Bool → List A → List A
@@ -31,8 +31,9 @@ TakesBack (Suspended count) p q = (count ≤ length q.suspended) ×
     (but_last count q.suspended ≡ p.suspended) × (q ≡ record p { processes = q.processes; suspended = q.suspended })
 TakesBack (Resumed u) p q = (all_unresumed u.resumed q.processes ≡ p.processes) × (u.former.items ≡ p.suspended) ×
     (q ≡ record p { processes = q.processes; suspended = q.suspended })
-TakesBack (Changed u) p q = ChangesBack u p.processes q.processes × (q ≡ record p { processes = q.processes }) ×
-    HoldsLost (held_places u.states q.processes) p.processes q.processes
+TakesBack (Changed u) p q = changes.TakesBack u p.apps p.processes q.apps q.processes ×
+    (q ≡ record p { processes = q.processes; apps = q.apps }) ×
+    HoldsLost (held_places u.processes.states q.processes) p.processes q.processes
 TakesBack (Children u count) p q = children.TakesBack u (supervised_of p) (supervised_of q) × (count ≤ length q.stopped) ×
     (take (length q.stopped - count) q.stopped ≡ p.stopped) ×
     (q ≡ record p { processes = q.processes; apps = q.apps; stopped = q.stopped }) ×

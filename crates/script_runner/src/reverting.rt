@@ -8,12 +8,13 @@ ghost use Rattle.script_runner.specs.declared.undo.Undo.TheVariants as undo_of;
 
 use crate::undo::Undo;
 use app_table::{AppTable, ChildName};
+use code_changes::{CodeChangeUndo, revert_code_change};
 use code_server::Modules;
 use erl_forms::Module;
 use process_table::Processes;
 use script_state::{Progress, Unpurged, forget_versions};
 use std::alloc::Global;
-use suspensions::{ChangeUndo, ResumeUndo, revert_change, unresume, unsuspend};
+use suspensions::{ResumeUndo, unresume, unsuspend};
 use sys_protocol::unnote;
 
 /// The note that was added last goes, where one was. Takes no memory.
@@ -149,14 +150,14 @@ fn revert_resumed(
     Ok(())
 }
 
-/// Processes have their former states again.
+/// Processes have their former states again, and supervisors their former children.
 fn revert_changed(
     modules: &mut Modules<Module>,
     processes: &mut Processes,
     apps: &mut AppTable,
     unpurged: &mut Vec<Unpurged>,
     progress: &mut Progress,
-    undo: ChangeUndo,
+    undo: CodeChangeUndo,
 ) -> Result<(), Undo>
     requires { (before : Parts) × HasItsCode (running_of before) × TakesBack (undo_of.Changed undo) before
         (parts_of modules.old processes.old apps.old unpurged.old.items progress.old) }
@@ -168,7 +169,7 @@ fn revert_changed(
         parts_of modules.old processes.old apps.old unpurged.old.items progress.old) }
     ensures next { progress.new.next ≡ progress.old.next }
 {
-    match revert_change(processes, modules, undo) {
+    match revert_code_change(apps, processes, modules, undo) {
         Ok(()) => Ok(()),
         Err(undo) => Err(Undo::Changed(undo)),
     }

@@ -1,17 +1,19 @@
 // Processes are suspended and resumed, and change their states.
-ghost use Rattle.std.specs.Prelude.{◌≡◌, ◌≤◌, ◌++◌, [], List, IfErr, IfOk, None, OnErr, OnOk, Some, length, option_map, replicate};
+ghost use Rattle.std.specs.Prelude.{◌≡◌, ◌≤◌, ◌++◌, [], List, IfErr, IfOk, None, OnErr, OnOk, Some, length, option_map};
+ghost use Rattle.std.specs.Prelude.{replicate};
+ghost use Rattle.code_changes.specs.Changing.{IsMade, script};
+ghost use Rattle.code_changes.specs.Undo.{TakesBack};
 ghost use Rattle.code_loading.specs.Current.{current_code};
-ghost use Rattle.process_effects.specs.declared.told.Reply.{Reply as Told};
 ghost use Rattle.process_store.specs.Pieces.{HoldsLost};
 ghost use Rattle.process_table.specs.States.{all_resumed, all_suspended, all_unresumed, held_places};
 ghost use Rattle.script_runner.specs.Failures.{code_change_failed};
-ghost use Rattle.script_runner.specs.Suspending.{HaltsChange};
-ghost use Rattle.suspensions.specs.Suspending.{but_last, changes_of, last_of, names, still_suspended, suspend_refusal, to_resume, to_suspend};
-ghost use Rattle.upgrade_calls.specs.Changing.{AllChange, AreCounted, ChangesBack};
+ghost use Rattle.script_runner.specs.Suspending.{HaltsChange, halt_of};
+ghost use Rattle.suspensions.specs.Suspending.{but_last, last_of, names, still_suspended, suspend_refusal, to_resume, to_suspend};
 ghost use Rattle.values.specs.Failure.{Fails, Tells};
 
 use crate::halt::Halt;
 use app_table::AppTable;
+use code_changes::{ChangeFailed, CodeChangeError, CodeChanged, change_code};
 use code_loading::current_code;
 use code_server::Modules;
 use erl_forms::Module;
@@ -22,9 +24,7 @@ use process_table::Processes;
 use script_children::nothing_told;
 use script_state::NotedVersion;
 use std::alloc::{AllocError, Global};
-use suspensions::{
-    Busy, ChangeError, ChangeFailed, Changed, ResumeUndo, change_suspended, resume, suspend,
-};
+use suspensions::{Busy, ResumeUndo, resume, suspend};
 use values::{Failure, Row};
 
 /// What a suspension has come to: what clients are told, and how many processes were suspended.
@@ -106,11 +106,22 @@ fn code_change_failed(alloc: Global, failed: ChangeFailed) -> Result<Term, Alloc
     Ok(Term::Tuple(Terms::new(alloc, parts)?))
 }
 
-/// The suspended gen_server processes whose children have one of these modules change their states, in every module's current
-/// code.
+/// Why a `code_change` isn't made.
+fn halt_of(alloc: Global, error: CodeChangeError) -> Result<Halt, AllocError>
+    ensures { IfOk result (λ halt. halt ≡ halt_of error) }
+{
+    match error {
+        CodeChangeError::Unchanged(failed) => Ok(Halt::Failed(code_change_failed(alloc, failed)?)),
+        CodeChangeError::BadInit(reason) => Ok(Halt::Failed(reason)),
+        CodeChangeError::CounterEnd => Ok(Halt::CounterEnd),
+    }
+}
+
+/// For each of these modules the suspended gen_server processes whose children have it change their states, and its supervisors
+/// specify their children anew, in every module's current code.
 pub(crate) fn change_children(
     modules: &Modules<Module>,
-    apps: &AppTable,
+    apps: &mut AppTable,
     processes: &mut Processes,
     alloc: Global,
     direction: Direction,
@@ -118,20 +129,17 @@ pub(crate) fn change_children(
     versions: &[NotedVersion],
     suspended: &[u64],
     n: usize,
-) -> Result<Changed, Failure<Halt>>
-    ensures changed { IfOk result (λ it. (told : List Told) × AllChange (current_code modules.now)
-        (changes_of direction changes.now versions.now suspended.now apps.now processes.old) processes.old processes.new told ×
-        (it.told.items ≡ replicate n told)) }
-    ensures counted { OnOk result (AreCounted
-        (changes_of direction changes.now versions.now suspended.now apps.now processes.old) processes.new) }
-    ensures back { IfOk result (λ it. ChangesBack it.undo processes.old processes.new) }
-    ensures pieces { IfOk result (λ it. HoldsLost (held_places it.undo.states processes.new) processes.old processes.new) }
+) -> Result<CodeChanged, Failure<Halt>>
+    ensures made { IfOk result (λ it. IsMade (current_code modules.now) (script direction versions.now suspended.now)
+        changes.now apps.old processes.old n apps.new processes.new it.told.items) }
+    ensures back { IfOk result (λ it. TakesBack it.undo apps.old processes.old apps.new processes.new) }
+    ensures pieces { IfOk result (λ it. HoldsLost (held_places it.undo.processes.states processes.new) processes.old processes.new) }
     ensures halted { IfErr result (Fails (λ halt. HaltsChange halt (current_code modules.now)
-        (changes_of direction changes.now versions.now suspended.now apps.now processes.old) processes.old) (Unit {0})) }
-    ensures err { OnErr result (processes.new ≡ processes.old) }
+        (script direction versions.now suspended.now) changes.now apps.old processes.old) (Unit {0})) }
+    ensures err { OnErr result ((apps.new ≡ apps.old) × (processes.new ≡ processes.old)) }
 {
     let code = current_code(alloc, modules)?;
-    match change_suspended(
+    match change_code(
         apps,
         processes,
         alloc,
@@ -143,10 +151,7 @@ pub(crate) fn change_children(
         n,
     ) {
         Ok(changed) => Ok(changed),
-        Err(Failure::Refused(ChangeError::Failed(failed))) => {
-            Err(Failure::Refused(Halt::Failed(code_change_failed(alloc, failed)?)))
-        }
-        Err(Failure::Refused(ChangeError::CounterEnd)) => Err(Failure::Refused(Halt::CounterEnd)),
+        Err(Failure::Refused(error)) => Err(Failure::Refused(halt_of(alloc, error)?)),
         Err(Failure::Memory) => Err(Failure::Memory),
     }
 }

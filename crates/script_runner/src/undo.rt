@@ -1,5 +1,6 @@
 // What takes an instruction back.
-use suspensions::{ChangeUndo, ResumeUndo};
+use code_changes::CodeChangeUndo;
+use suspensions::ResumeUndo;
 
 /// What takes an instruction of a script back. At most one part of it can be refused, for want of memory, and it goes first.
 #[derive(Drop)]
@@ -16,8 +17,8 @@ pub enum Undo {
     Suspended(usize),
     /// Processes were resumed.
     Resumed(ResumeUndo),
-    /// Processes have changed their states.
-    Changed(ChangeUndo),
+    /// Processes have changed their states, and supervisors have specified their children anew.
+    Changed(CodeChangeUndo),
     /// Children and applications were changed, and so many children were noted.
     Children(script_children::Undo, usize),
 }

@@ -93,7 +93,7 @@ to_resume modules suspended apps t = filter (is_resumed modules apps t) suspende
 abbrev pub still_suspended : List (List ℕ) → List ℕ → List Application → Table → List ℕ
 still_suspended modules suspended apps t = filter (λ p. not (is_resumed modules apps t p)) suspended
 
--- Code change: for each module in turn those of the suspended gen_server processes that live, and whose child has the module, in the order in
+-- Code change, for a module: those of the suspended gen_server processes that live, and whose child has the module, in the order in
 -- which they were suspended. Each is given the old version of the module, and the module's extra term.
 
 abbrev pub is_changed : List ℕ → List Application → Table → ℕ → Bool
@@ -102,6 +102,3 @@ is_changed m apps t p = is_server (living p t) && runs_with m p apps
 abbrev pub changes_for : Direction → List NotedVersion → List ℕ → List Application → Table → ModuleChange → List Change
 changes_for direction versions suspended apps t m =
     map (λ p. record { pid = p; vsn = old_vsn direction m.name versions; extra = m.extra }) (filter (is_changed m.name apps t) suspended)
-
-abbrev pub changes_of : Direction → List ModuleChange → List NotedVersion → List ℕ → List Application → Table → List Change
-changes_of direction modules versions suspended apps t = flat_map (changes_for direction versions suspended apps t) modules

@@ -2,7 +2,7 @@
 //! Modules).
 //!
 //! An upgrade names modules, and means the processes of the children whose specifications name them. [`suspend`] and [`resume`] keep the
-//! pids of those that are suspended, in order; [`change_suspended`] has them change their states by `code_change/3`.
+//! pids of those that are suspended, in order; [`changes_for`] tells which of them change their states by `code_change/3`.
 //!
 //! # What is proved
 //!
@@ -11,9 +11,8 @@
 //!   over. [`unsuspend`] takes it back, by how many were suspended.
 //! - [`resume`] resumes those of the suspended processes that live, and whose children have one of the modules; the others stay suspended, in
 //!   their order (`to_resume`, `still_suspended`). [`unresume`] takes it back, whole.
-//! - [`change_suspended`] has the suspended gen_server processes change their states, for each module in turn in the order in which they were
-//!   suspended, each told of the old version of the module by the direction of the change (`changes_of`, `old_vsn`); all do, or none
-//!   ([`upgrade_calls::change_code`]).
+//! - [`changes_for`] gives the suspended gen_server processes that are to change their states for a module, in the order in which they were
+//!   suspended, each told of the old version of the module by the direction of the change (`changes_for`, `old_vsn`).
 //! - Where memory is refused, all is as it was; what takes a suspension or a resumption back takes none.
 //!
 //! # What no contract says
@@ -29,7 +28,7 @@ mod suspending;
 mod versions;
 
 pub use busy::{Busy, suspend_refusal};
-pub use changing::change_suspended;
+pub use changing::changes_for;
 pub use script_state::NotedVersion;
 pub use suspending::{ResumeUndo, resume, suspend, unresume, unsuspend};
-pub use upgrade_calls::{Change, ChangeError, ChangeFailed, ChangeUndo, Changed, revert_change};
+pub use upgrade_calls::Change;

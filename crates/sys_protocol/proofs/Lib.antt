@@ -4,3 +4,4 @@ pub mod ChildrenOneWay
 pub mod Lengths
 pub mod Names
 pub mod Reached
+pub mod SupervisionGiven

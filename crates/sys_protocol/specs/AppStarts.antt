@@ -7,6 +7,7 @@ use Rattle.erl_term.specs.Term.{tree}
 use Rattle.erl_term.specs.declared.term.Term.{Term}
 use Rattle.erl_term.specs.declared.term.Term.TheVariants as term
 use Rattle.erl_semantics.specs.Views.{outcome_of, instance}
+use Rattle.erl_semantics.specs.declared.acts.Act.{Act}
 use Rattle.erl_semantics.specs.declared.outcome.Outcome.{Outcome}
 use Rattle.erl_semantics.specs.declared.outcome.End.{End}
 use Rattle.erl_semantics.specs.declared.outcome.End.TheVariants.{Rest, Value, Exit}
@@ -47,6 +48,20 @@ abbrev pub init_fault : End → Term
 init_fault (Rest place) = bad_init (exit_value (term.Atom (codes "not_in_profile")))
 init_fault (Value v) = bad_init v
 init_fault (Exit reason) = bad_init (exit_value reason)
+
+-- It gives a supervision of these children, and asks for these acts.
+pub record GivesSupervision (code : List Instance) (m : StartModule) (specs : List ChildSpec) (acts : List Act) : Type 0 where
+  pub outcome : Outcome
+  pub gives : InitGives code m outcome
+  pub supervision : children_in outcome.end ≡ Some specs
+  pub asks : acts ≡ outcome.acts
+
+-- Or it gives none, for this reason.
+pub record GivesNoSupervision (code : List Instance) (m : StartModule) (reason : Term) : Type 0 where
+  pub outcome : Outcome
+  pub gives : InitGives code m outcome
+  pub none : children_in outcome.end ≡ None
+  pub because : reason ≡ init_fault outcome.end
 
 -- the processes once that is done, before the children start
 abbrev pub initialized : List Instance → Outcome → Table → Table

@@ -1,7 +1,8 @@
 //! The applications of a node: their specifications, and the children of their supervisors (application(3); supervisor(3)).
 //!
-//! [`start_app`] starts an application, and [`revive`] a child that is due. The applications ([`AppTable`]) are told of processes that
-//! have ended ([`AppTable::ended`]), and take a step back ([`AppTable::revert`]).
+//! [`start_app`] starts an application, and [`revive`] a child that is due; [`supervision_of`] tells what a callback module's
+//! `init` gives. The applications ([`AppTable`]) are told of processes that have ended ([`AppTable::ended`]), and take a step back
+//! ([`AppTable::revert`]).
 //!
 //! # What is proved
 //!
@@ -56,3 +57,4 @@ pub use laws::{applications_start_one_way, children_start_one_way};
 pub use start_failed::StartFailed;
 pub use starting_again::{StartedAgain, start};
 pub use stopping::{AppStop, ChildStop, stop, stop_app, unload_app, unnote};
+pub use supervising::{Supervision, supervision_of};

@@ -12,7 +12,7 @@ ghost use Rattle.process_store.specs.Pieces.{HoldsLost};
 ghost use Rattle.process_store.specs.Table.{Table};
 ghost use Rattle.process_table.specs.Undo.{TakesBack, held};
 ghost use Rattle.sys_protocol.specs.RunningChildren.{all_running};
-ghost use Rattle.sys_protocol.specs.AppStarts.{AllRun, AppFails, AppStarts, InitGives, bad_init, children_in, exit_value, init_fault};
+ghost use Rattle.sys_protocol.specs.AppStarts.{AllRun, AppFails, AppStarts, GivesNoSupervision, GivesSupervision, InitGives, bad_init, children_in, exit_value, init_fault};
 
 use crate::app_error::AppError;
 use crate::child_starting::start_children;
@@ -21,7 +21,7 @@ use crate::start_failed::StartFailed;
 use app_table::Children;
 use callback_lang::evaluate;
 use child_specs::{ChildSpec, read_children};
-use erl_semantics::{End, Instance, Mode, Outcome};
+use erl_semantics::{Act, End, Instance, Mode, Outcome};
 use erl_term::{Atom, Predefined, Term, Terms};
 use otp_files::StartModule;
 use process_effects::{Batch, Reply};
@@ -81,6 +81,39 @@ fn children_in(alloc: Global, end: &End) -> Result<Option<Row<ChildSpec>>, Alloc
     }
 }
 
+/// What `init` of a callback module has come to: the children that it specifies, and what it asks for.
+#[derive(Drop)]
+pub struct Supervision {
+    /// What the children are, in order.
+    pub specs: Row<ChildSpec>,
+    /// What is to be done, in order.
+    pub acts: Row<Act>,
+}
+
+/// The supervision that `init` of a callback module gives in this code, which is every module's current code (supervisor(3),
+/// init/1). Nothing is done of what it asks for.
+///
+/// # Errors
+///
+/// `{bad_init,V}` where it gives none, and `Memory`.
+pub fn supervision_of(
+    alloc: Global,
+    code: &[Instance],
+    module: &StartModule,
+) -> Result<Supervision, Failure<Term>>
+    ensures given { IfOk result (λ it. GivesSupervision code.now module.now it.specs it.acts) }
+    ensures failed { IfErr result (Fails (GivesNoSupervision code.now module.now) (Unit {0})) }
+{
+    let outcome = init(alloc, code, module)?;
+    let Some(specs) = children_in(alloc, &outcome.end)? else {
+        return Err(Failure::Refused(init_fault(alloc, &outcome.end)?));
+    };
+    Ok(Supervision {
+        specs,
+        acts: outcome.acts,
+    })
+}
+
 /// What the start of an application has come to.
 #[derive(Drop)]
 pub struct Supervised {
@@ -123,12 +156,12 @@ fn begin_supervision(
     ensures failed { IfErr result (λ failure. (before t : Table) (told : List Told) → IsUnderWay batch.old.changes.items batch.old.answers.items before processes.old t told → Fails (AppFails code.now module.now t) (Unit {0}) failure) }
     ensures back { (before : Table) → CanGiveUp batch.old.changes.items before processes.old → CanGiveUp batch.new.changes.items before processes.new }
 {
-    let outcome = init(alloc, code, module)?;
-    let Some(specs) = children_in(alloc, &outcome.end)? else {
-        let reason = init_fault(alloc, &outcome.end)?;
-        return Err(Failure::Refused(AppError::BadInit(reason)));
+    let Supervision { specs, acts } = match supervision_of(alloc, code, module) {
+        Ok(it) => it,
+        Err(Failure::Refused(reason)) => return Err(Failure::Refused(AppError::BadInit(reason))),
+        Err(Failure::Memory) => return Err(Failure::Memory),
     };
-    processes.begin(batch, None, code, outcome.acts)?;
+    processes.begin(batch, None, code, acts)?;
     match begin_children(processes, alloc, batch, code, specs) {
         Ok(children) => Ok(children),
         Err(Failure::Refused(failed)) => Err(Failure::Refused(AppError::StartFailed(failed))),

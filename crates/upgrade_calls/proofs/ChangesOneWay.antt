@@ -1,5 +1,5 @@
 -- Processes change in one way, or don't for one reason.
-use Rattle.std.proofs.Common.{◌≡◌, inl, inr, List, [], ◌∷◌, ◌++◌, codes, map, Option, None, Some, refl, sym, ap, subst, ◌∙◌}
+use Rattle.std.proofs.Common.{◌≡◌, inl, inr, List, [], ◌∷◌, ◌++◌, codes, map, Option, None, Some, sym, ap, subst, ◌∙◌}
 use Rattle.callback_lang.proofs.Evaluated.{evaluates-once}
 use Rattle.callback_lang.specs.Returns.{ChangeReturn, new_state, unchanged}
 use Rattle.erl_semantics.specs.State.{plain}
@@ -14,11 +14,9 @@ use Rattle.erl_term.specs.declared.term.Term.{Term}
 use Rattle.process_effects.specs.declared.told.Reply.{Reply}
 use Rattle.process_store.specs.Table.{Table, living}
 use Rattle.process_store.specs.declared.living.Living.{Living}
-use Rattle.upgrade_calls.specs.Changing.{AllChange, AreCounted, Changes, FailsToChange, FirstUnchanged, Gives, GivesAt, RefusesChange, after_change, change_told, return_of}
+use Rattle.upgrade_calls.specs.Changing.{AllChange, Changes, FailsToChange, FirstUnchanged, Gives, GivesAt, after_change, change_told, return_of}
 use Rattle.upgrade_calls.specs.Laws.{ChangesOneWay}
 use Rattle.upgrade_calls.specs.declared.changing.Change.{Change}
-use Rattle.upgrade_calls.specs.declared.changing.ChangeError.{ChangeError}
-use Rattle.upgrade_calls.specs.declared.changing.ChangeError.TheVariants.{Failed, CounterEnd}
 use Rattle.upgrade_calls.specs.declared.changing.ChangeFailed.{ChangeFailed}
 
 same_tree : (a b : Term) → tree a ≡ tree b → a ≡ b
@@ -100,16 +98,5 @@ changes_or_fails code (c ∷ cs) t after told failed (o, state, others, changes,
     let there : AllChange code cs (after_change code c p next t) after others = subst (λ (x : Outcome). AllChange code cs (after_change code c x next t) after others) same.0 (subst (λ (s : Term). AllChange code cs (after_change code c o s t) after others) same.1 rest) in
     changes_or_fails code cs (after_change code c p next t) after others failed there later
 
-refuses-once : (code : List Instance) (cs : List Change) (t : Table) (e f : ChangeError) → RefusesChange e code cs t → RefusesChange f code cs t → e ≡ f
-refuses-once code cs t (Failed one) (Failed other) first second = ap Failed (fails-once code cs t one other first second)
-refuses-once code cs t (Failed one) CounterEnd first (after, told, all, uncounted) = absurd (changes_or_fails code cs t after told one all first)
-refuses-once code cs t CounterEnd (Failed other) (after, told, all, uncounted) second = absurd (changes_or_fails code cs t after told other all second)
-refuses-once code cs t CounterEnd CounterEnd first second = refl
-
-never_both : (code : List Instance) (cs : List Change) (t after : Table) (told : List Reply) (e : ChangeError) → AllChange code cs t after told → AreCounted cs after → RefusesChange e code cs t → ⊥
-never_both code cs t after told (Failed failed) all counted refuses = changes_or_fails code cs t after told failed all refuses
-never_both code cs t after told CounterEnd all counted (last, said, all_too, uncounted) =
-    uncounted (subst (AreCounted cs) (changes-once code cs t after last told said all all_too).0 counted)
-
 pub changes_one_way : ChangesOneWay
-changes_one_way = record { changes = changes-once; refuses = refuses-once; never_both = never_both }
+changes_one_way = record { changes = changes-once; fails = fails-once; never_both = changes_or_fails }

@@ -1,6 +1,6 @@
 -- Evaluating goes from change to change: all states so far given first, and then all acts so far done, is what has come of the changes
--- so far, in order.
-use Rattle.std.proofs.Common.{◌≡◌, inl, inr, ℕ, ◌+◌, ◌<◌, List, [], ◌∷◌, ◌++◌, map, Option, None, Some, refl, sym, ap, subst, ◌∙◌, arith}
+-- so far, in order, and of what else was asked for.
+use Rattle.std.proofs.Common.{◌≡◌, inl, inr, ℕ, ◌+◌, ◌<◌, List, [], ◌∷◌, ◌++◌, length, length-append, map, Option, None, Some, refl, sym, ap, subst, ◌∙◌, arith}
 use Rattle.std.proofs.lemmas.List.{append-nil, append_assoc}
 use Rattle.std.proofs.lemmas.List.Elements.{All-from_recursion, recursion_from_All}
 use Rattle.std.specs.Cmp.{ranks}
@@ -22,12 +22,12 @@ use Rattle.process_store.specs.Table.{Table, living}
 use Rattle.process_store.specs.declared.living.Living.{Living}
 use Rattle.process_table.specs.States.{all_restated}
 use Rattle.process_table.specs.declared.states.StateChange.{StateChange}
-use Rattle.upgrade_calls.proofs.NewStates.{apart, put_restated, rising_put}
+use Rattle.upgrade_calls.proofs.NewStates.{apart, put_restated, rising_put, within_put}
 use Rattle.upgrade_calls.proofs.Seen.{changes_there, fails_there, seen, seen_begun}
 use Rattle.upgrade_calls.proofs.StatesFirst.{MessagesOnly, acts_begun-append, begun_told-append, messages_append, state_first, told_first}
 use Rattle.upgrade_calls.specs.Changing.{AllChange, AreCounted, Changes, FailsToChange, FirstUnchanged, Gives, GivesAt, HasTurnLeft, IsServer, after_change, change_told, with_state}
-use Rattle.upgrade_calls.specs.Evaluated.{AreEvaluated, IsChange}
-use Rattle.upgrade_calls.specs.NewStates.{AreRising, change_to, with_new}
+use Rattle.upgrade_calls.specs.Evaluated.{AreEvaluated, AreMessages, Evaluated, HasChanged, IsChange, asked, nothing_evaluated, processes_after, told_after}
+use Rattle.upgrade_calls.specs.NewStates.{AreRising, AreWithin, change_to, with_new}
 use Rattle.upgrade_calls.specs.declared.changing.Change.{Change}
 use Rattle.upgrade_calls.specs.declared.changing.ChangeFailed.{ChangeFailed}
 use Rattle.values.specs.Failure.{Fails}
@@ -84,27 +84,15 @@ changes_put t pid state (c ∷ cs) server all =
       | Greater ↦ (all.0, changes_put t pid state cs server all.1)
     ]
 
--- How far it has come.
-pub record Reached (code : List Instance) (cs : List Change) (t : Table) (rest : List Change) (states : List StateChange) (acts : List Act) : Type 0 where
-  pub all : (after : Table) (others : List Reply) → AllChange code rest (acts_begun None code acts (all_restated states t)) after others →
-      AllChange code cs t after (begun_told None code acts (all_restated states t) ++ others)
-  pub fails : (failed : ChangeFailed) → FirstUnchanged code rest (acts_begun None code acts (all_restated states t)) failed → FirstUnchanged code cs t failed
-  pub messages : MessagesOnly acts
-  pub rising : AreRising states
-  pub changes : AllByRecursion (IsChange t) states
-  pub counts : (u : Table) → AreCounted rest u → AllLeft u states → AreCounted cs u
-  pub counted : (u : Table) → AreCounted cs u → AreCounted rest u × AllLeft u states
+-- Turns of some changes, and of others behind them.
 
-pub none_reached : (code : List Instance) (cs : List Change) (t : Table) → Reached code cs t cs [] []
-none_reached code cs t = record {
-  all = λ after others x. x;
-  fails = λ failed x. x;
-  messages = tt;
-  rising = tt;
-  changes = tt;
-  counts = λ u left all. left;
-  counted = λ u left. (left, tt);
-}
+counted_behind : (u : Table) (cs : List Change) (c : Change) → AreCounted cs u → HasTurnLeft (living c.pid u) → AreCounted (cs ++ c ∷ []) u
+counted_behind u [] c counted left = (left, tt)
+counted_behind u (first ∷ cs) c counted left = (counted.0, counted_behind u cs c counted.1 left)
+
+counted_before : (u : Table) (cs : List Change) (c : Change) → AreCounted (cs ++ c ∷ []) u → AreCounted cs u × HasTurnLeft (living c.pid u)
+counted_before u [] c counted = (tt, counted.0)
+counted_before u (first ∷ cs) c counted = let rest = counted_before u cs c counted.1 in ((counted.0, rest.0), rest.1)
 
 -- One more: its state is given behind the others, and its acts are done behind the others.
 module _ (code : List Instance) (t : Table) (c : Change) (states : List StateChange) (acts : List Act) (rising : AreRising states) (only : MessagesOnly acts) where
@@ -129,53 +117,122 @@ module _ (code : List Instance) (t : Table) (c : Change) (states : List StateCha
         begun_told-append code acts o.acts (all_restated (with_new c.pid state states) t) only
         ∙ (λ i. before i ++ begun_told None code o.acts (given_first state i))
 
-pub more_reached : (code : List Instance) (cs : List Change) (t : Table) (c : Change) (rest left : List Change) (states : List StateChange) (acts : List Act) (o : Outcome) (state : Term) → Reached code cs t left states acts → left ≡ c ∷ rest → IsServer (living c.pid t) → Changes code c (all_restated states t) o state → Reached code cs t rest (with_new c.pid state states) (acts ++ o.acts)
-more_reached code cs t c rest left states acts o state reached next server changes =
-    let now = acts_begun None code acts (all_restated states t) in
-    let told = begun_told None code acts (all_restated states t) in
-    let said = change_told code c o state now in
-    let here = changes_there code c (all_restated states t) now o state (seen_now code t c states acts reached.rising reached.messages) changes in
-    let then = one_more code t c states acts reached.rising reached.messages o state in
-    let tells = told_more code t c states acts reached.rising reached.messages o state in
+-- What is evaluated once one more has changed.
+abbrev pub with_change : Change → Term → List Act → Evaluated → Evaluated
+with_change c state acts e = record { changes = e.changes ++ c ∷ []; states = with_new c.pid state e.states; acts = e.acts ++ acts }
+
+pub one_changed : (code : List Instance) (t : Table) (c : Change) (e : Evaluated) (o : Outcome) (state : Term) → AreEvaluated t e → IsServer (living c.pid t) → Changes code c (all_restated e.states t) o state → HasChanged code c t e (with_change c state o.acts e)
+one_changed code t c e o state it server changes =
+    let only = recursion_from_All (λ (a : Act). IsMessage (act_of a)) e.acts it.messages in
+    let now = processes_after code e t in
+    let here = changes_there code c (all_restated e.states t) now o state (seen_now code t c e.states e.acts it.rising only) changes in
+    let left = λ (u : Table) (d : StateChange). HasTurnLeft (living d.pid u) in
+    let long : length e.changes + 1 ≡ length (e.changes ++ c ∷ []) = omega (arith, length-append e.changes (c ∷ [])) in
     record {
+      outcome = o;
+      state = state;
+      changes = here;
+      evaluated = record {
+        messages = All-from_recursion (λ (a : Act). IsMessage (act_of a)) (e.acts ++ o.acts) (messages_append e.acts o.acts only (messages_of code c (living c.pid now) o here.gives));
+        apart = apart (with_new c.pid state e.states) (rising_put c.pid state e.states it.rising);
+        rising = rising_put c.pid state e.states it.rising;
+        within = subst (λ n. AreWithin n (with_new c.pid state e.states)) long (within_put c.pid state (length e.changes) e.states it.within);
+        changes = All-from_recursion (IsChange t) (with_new c.pid state e.states) (changes_put t c.pid state e.states server (recursion_from_All (IsChange t) e.states it.changes));
+        counts = λ u all.
+            let back = pids_back (λ pid. HasTurnLeft (living pid u)) c.pid state e.states (recursion_from_All (left u) (with_new c.pid state e.states) all) in
+            counted_behind u e.changes c (it.counts u (All-from_recursion (left u) e.states back.1)) back.0;
+        counted = λ u all.
+            let before = counted_before u e.changes c all in
+            All-from_recursion (left u) (with_new c.pid state e.states) (pids_put (λ pid. HasTurnLeft (living pid u)) c.pid state e.states before.1 (recursion_from_All (left u) e.states (it.counted u before.0)));
+      };
+      last = refl;
+      processes = one_more code t c e.states e.acts it.rising only o state;
+      tells = told_more code t c e.states e.acts it.rising only o state;
+    }
+
+-- it fails, of the processes as they are by then
+pub one_fails : (code : List Instance) (t : Table) (c : Change) (e : Evaluated) (reason : Term) → AreEvaluated t e → FailsToChange code c (all_restated e.states t) reason → FailsToChange code c (processes_after code e t) reason
+one_fails code t c e reason it fails =
+    let only = recursion_from_All (λ (a : Act). IsMessage (act_of a)) e.acts it.messages in
+    fails_there code c (all_restated e.states t) (processes_after code e t) reason (seen_now code t c e.states e.acts it.rising only) fails
+
+pub fails_after : (x : Failure ChangeFailed) (code : List Instance) (t : Table) (c : Change) (e : Evaluated) → AreEvaluated t e → Fails (λ (failed : ChangeFailed). (failed.pid ≡ c.pid) × FailsToChange code c (all_restated e.states t) failed.reason) (Unit {0}) x → Fails (λ (failed : ChangeFailed). (failed.pid ≡ c.pid) × FailsToChange code c (processes_after code e t) failed.reason) (Unit {0}) x
+fails_after (Refused failed) code t c e it fails = (fails.0, one_fails code t c e failed.reason it fails.1)
+fails_after Memory code t c e it fails = tt
+
+-- More is asked for.
+
+pub nothing_yet : (t : Table) → AreEvaluated t nothing_evaluated
+nothing_yet t = record {
+  messages = All-from_recursion (λ (a : Act). IsMessage (act_of a)) [] tt;
+  apart = tt;
+  rising = tt;
+  within = tt;
+  changes = All-from_recursion (IsChange t) [] tt;
+  counts = λ u all. tt;
+  counted = λ u all. All-from_recursion (λ (d : StateChange). HasTurnLeft (living d.pid u)) [] tt;
+}
+
+pub more_asked : (t : Table) (acts : List Act) (e : Evaluated) → AreMessages acts → AreEvaluated t e → AreEvaluated t (asked acts e)
+more_asked t acts e more it =
+    let only = recursion_from_All (λ (a : Act). IsMessage (act_of a)) e.acts it.messages in
+    record {
+      messages = All-from_recursion (λ (a : Act). IsMessage (act_of a)) (e.acts ++ acts) (messages_append e.acts acts only (recursion_from_All (λ (a : Act). IsMessage (act_of a)) acts more));
+      apart = it.apart;
+      rising = it.rising;
+      within = it.within;
+      changes = it.changes;
+      counts = it.counts;
+      counted = it.counted;
+    }
+
+-- it is done behind the rest
+pub asked_after : (code : List Instance) (t : Table) (acts : List Act) (e : Evaluated) → AreEvaluated t e → (processes_after code (asked acts e) t ≡ acts_begun None code acts (processes_after code e t)) × (told_after code (asked acts e) t ≡ told_after code e t ++ begun_told None code acts (processes_after code e t))
+asked_after code t acts e it =
+    let only = recursion_from_All (λ (a : Act). IsMessage (act_of a)) e.acts it.messages in
+    (acts_begun-append code e.acts acts (all_restated e.states t) only, begun_told-append code e.acts acts (all_restated e.states t) only)
+
+-- How far it has come: what comes of the rest comes, behind what was told so far, of all.
+pub record Reached (code : List Instance) (cs : List Change) (t : Table) (from : Evaluated) (rest : List Change) (e : Evaluated) : Type 0 where
+  pub since : List Reply
+  pub tells : told_after code e t ≡ told_after code from t ++ since
+  pub all : (after : Table) (others : List Reply) → AllChange code rest (processes_after code e t) after others →
+      AllChange code cs (processes_after code from t) after (since ++ others)
+  pub fails : (failed : ChangeFailed) → FirstUnchanged code rest (processes_after code e t) failed →
+      FirstUnchanged code cs (processes_after code from t) failed
+
+pub none_reached : (code : List Instance) (cs : List Change) (t : Table) (e : Evaluated) → Reached code cs t e cs e
+none_reached code cs t e = record {
+  since = [];
+  tells = sym (append-nil (told_after code e t));
+  all = λ after others x. x;
+  fails = λ failed x. x;
+}
+
+pub more_reached : (code : List Instance) (cs : List Change) (t : Table) (from e f : Evaluated) (c : Change) (rest : List Change) → Reached code cs t from (c ∷ rest) e → HasChanged code c t e f → Reached code cs t from rest f
+more_reached code cs t from e f c rest reached has =
+    let now = processes_after code e t in
+    let said = change_told code c has.outcome has.state now in
+    record {
+      since = reached.since ++ said;
+      tells = has.tells ∙ ap (λ (r : List Reply). r ++ said) reached.tells ∙ append_assoc (told_after code from t) reached.since said;
       all = λ after others x.
-          let there : AllChange code rest (after_change code c o state now) after others = subst (λ (u : Table). AllChange code rest u after others) then x in
-          let more = reached.all after (said ++ others) (subst (λ xs. AllChange code xs now after (said ++ others)) (sym next) (o, state, others, here, there, refl)) in
-          subst (λ (r : List Reply). AllChange code cs t after r) (sym (append_assoc told said others) ∙ ap (λ r. r ++ others) (sym tells)) more;
+          let there : AllChange code rest (after_change code c has.outcome has.state now) after others = subst (λ (u : Table). AllChange code rest u after others) has.processes x in
+          let more = reached.all after (said ++ others) (has.outcome, has.state, others, has.changes, there, refl) in
+          subst (λ (r : List Reply). AllChange code cs (processes_after code from t) after r) (sym (append_assoc reached.since said others)) more;
       fails = λ failed x.
-          let there : FirstUnchanged code rest (after_change code c o state now) failed = subst (λ (u : Table). FirstUnchanged code rest u failed) then x in
-          reached.fails failed (subst (λ xs. FirstUnchanged code xs now failed) (sym next) (inr (o, state, here, there)));
-      messages = messages_append acts o.acts reached.messages (messages_of code c (living c.pid now) o here.gives);
-      rising = rising_put c.pid state states reached.rising;
-      changes = changes_put t c.pid state states server reached.changes;
-      counts = λ u left_rest all.
-          let back = pids_back (λ pid. HasTurnLeft (living pid u)) c.pid state states all in
-          reached.counts u (subst (λ xs. AreCounted xs u) (sym next) (back.0, left_rest)) back.1;
-      counted = λ u all.
-          let before = reached.counted u all in
-          let both : AreCounted (c ∷ rest) u = subst (λ xs. AreCounted xs u) next before.0 in
-          (both.1, pids_put (λ pid. HasTurnLeft (living pid u)) c.pid state states both.0 before.1);
+          let there : FirstUnchanged code rest (after_change code c has.outcome has.state now) failed = subst (λ (u : Table). FirstUnchanged code rest u failed) has.processes x in
+          reached.fails failed (inr (has.outcome, has.state, has.changes, there));
     }
 
 -- All have changed, or the first has failed.
 
-pub all_reached : (code : List Instance) (cs : List Change) (t : Table) (rest : List Change) (states : List StateChange) (acts : List Act) → rest ≡ [] → Reached code cs t rest states acts → AreEvaluated code cs t states acts
-all_reached code cs t rest states acts none reached =
-    let now = acts_begun None code acts (all_restated states t) in
-    let told = begun_told None code acts (all_restated states t) in
-    record {
-      all_change = subst (AllChange code cs t now) (append-nil told) (reached.all now [] (subst (λ xs. AllChange code xs now now []) (sym none) (refl, refl)));
-      messages = All-from_recursion (λ (a : Act). IsMessage (act_of a)) acts reached.messages;
-      apart = apart states reached.rising;
-      rising = reached.rising;
-      changes = All-from_recursion (IsChange t) states reached.changes;
-      counts = λ u all. reached.counts u (subst (λ xs. AreCounted xs u) (sym none) tt) (recursion_from_All (λ (c : StateChange). HasTurnLeft (living c.pid u)) states all);
-      counted = λ u all. All-from_recursion (λ (c : StateChange). HasTurnLeft (living c.pid u)) states (reached.counted u all).1;
-    }
+pub all_reached : (code : List Instance) (cs : List Change) (t : Table) (from e : Evaluated) → Reached code cs t from [] e → (told : List Reply) × AllChange code cs (processes_after code from t) (processes_after code e t) told × (told_after code e t ≡ told_after code from t ++ told)
+all_reached code cs t from e reached =
+    let now = processes_after code e t in
+    let all = subst (AllChange code cs (processes_after code from t) now) (append-nil reached.since) (reached.all now [] (refl, refl)) in
+    (reached.since, all, reached.tells)
 
-pub first_fails : (e : Failure ChangeFailed) (code : List Instance) (cs : List Change) (t : Table) (c : Change) (rest left : List Change) (states : List StateChange) (acts : List Act) → left ≡ c ∷ rest → Reached code cs t left states acts → Fails (λ (failed : ChangeFailed). (failed.pid ≡ c.pid) × FailsToChange code c (all_restated states t) failed.reason) (Unit {0}) e → Fails (FirstUnchanged code cs t) (Unit {0}) e
-first_fails (Refused failed) code cs t c rest left states acts is reached fails =
-    let now = acts_begun None code acts (all_restated states t) in
-    let there = fails_there code c (all_restated states t) now failed.reason (seen_now code t c states acts reached.rising reached.messages) fails.1 in
-    reached.fails failed (subst (λ xs. FirstUnchanged code xs now failed) (sym is) (inl (fails.0, there)))
-first_fails Memory code cs t c rest left states acts is reached fails = tt
+pub first_fails : (x : Failure ChangeFailed) (code : List Instance) (cs : List Change) (t : Table) (from e : Evaluated) (c : Change) (rest : List Change) → Reached code cs t from (c ∷ rest) e → Fails (λ (failed : ChangeFailed). (failed.pid ≡ c.pid) × FailsToChange code c (processes_after code e t) failed.reason) (Unit {0}) x → Fails (FirstUnchanged code cs (processes_after code from t)) (Unit {0}) x
+first_fails (Refused failed) code cs t from e c rest reached fails = reached.fails failed (inl (fails.0, fails.1))
+first_fails Memory code cs t from e c rest reached fails = tt

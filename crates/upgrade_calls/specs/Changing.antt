@@ -21,8 +21,6 @@ use Rattle.process_store.specs.declared.living.Living.{Living}
 use Rattle.process_table.specs.States.{CanUnrestateAll, all_unrestated}
 use Rattle.process_table.specs.Undo.{Fits, undone}
 use Rattle.upgrade_calls.specs.declared.changing.Change.{Change}
-use Rattle.upgrade_calls.specs.declared.changing.ChangeError.{ChangeError}
-use Rattle.upgrade_calls.specs.declared.changing.ChangeError.TheVariants.{Failed, CounterEnd}
 use Rattle.upgrade_calls.specs.declared.changing.ChangeFailed.{ChangeFailed}
 use Rattle.upgrade_calls.specs.declared.changing.ChangeUndo.{ChangeUndo}
 
@@ -85,12 +83,6 @@ HasTurnLeft (Some l) = l.process.turn < 2 ^ 64
 abbrev pub AreCounted : List Change → Table → Type 0
 AreCounted [] t = Unit {0}
 AreCounted (c ∷ cs) t = HasTurnLeft (living c.pid t) × AreCounted cs t
-
--- Why a change is refused, in order: a process fails to; or all change, but a turn can't be counted.
-abbrev pub RefusesChange : ChangeError → List Instance → List Change → Table → Type 0
-RefusesChange (Failed failed) code cs t = FirstUnchanged code cs t failed
-RefusesChange CounterEnd code cs t =
-    (after : Table) × (told : List Reply) × AllChange code cs t after told × (AreCounted cs after → ⊥)
 
 -- a gen_server process lives
 

@@ -1,17 +1,15 @@
 // Processes change their states.
-ghost use Rattle.std.specs.Prelude.{◌≡◌, All, IfErr, IfOk, List, None, OnErr, OnOk, replicate};
+ghost use Rattle.std.specs.Prelude.{◌≡◌, IfErr, IfOk, None, OnErr, OnOk, replicate};
 ghost use Rattle.values.specs.Failure.{Fails};
 ghost use Rattle.process_effects.specs.Begins.{acts_begun, begun_told};
-ghost use Rattle.process_effects.specs.declared.told.Reply.{Reply as Told};
 ghost use Rattle.process_store.specs.Pieces.{HoldsLost};
-ghost use Rattle.process_store.specs.Table.{living};
 ghost use Rattle.process_table.specs.States.{CanRestateAll, all_restated, held_places};
-ghost use Rattle.upgrade_calls.specs.Changing.{AllChange, AreCounted, CanUnchange, ChangesBack, IsServer, RefusesChange};
+ghost use Rattle.upgrade_calls.specs.Changing.{AreCounted, CanUnchange, ChangesBack};
 ghost use Rattle.upgrade_calls.specs.Changing.{unchanged_by};
-ghost use Rattle.upgrade_calls.specs.Evaluated.{AreMessages};
+ghost use Rattle.upgrade_calls.specs.Evaluated.{AreEvaluated, AreMessages, processes_after, told_after};
 
 use crate::acting::act;
-use crate::evaluating::{Evaluated, can_count_all, evaluate_changes};
+use crate::evaluating::{Evaluation, can_count_all};
 use code_server::Modules;
 use erl_forms::Module;
 use erl_semantics::{Act, Instance};
@@ -41,14 +39,9 @@ pub struct ChangeFailed {
     pub reason: Term,
 }
 
-/// Why processes don't change their states.
-#[derive(Drop)]
-pub enum ChangeError {
-    /// One of them has failed to, the first.
-    Failed(ChangeFailed),
-    /// A turn can't be counted on.
-    CounterEnd,
-}
+/// A turn can't be counted on.
+#[derive(Clone, Copy, Debug, PartialEq, Eq, Drop)]
+pub struct CounterEnd;
 
 /// What takes back that processes have changed their states.
 #[derive(Drop)]
@@ -107,41 +100,32 @@ fn make_changes(
     }
 }
 
-/// Processes change their states, one after the other, in this code, which is every module's current code: `code_change/3` of
-/// the callback module of each gives its new state, and what it has asked for is done. What clients are told is handed out in
-/// `n` equal values.
+/// Makes what was evaluated in this code: each process gets its state, and what was asked for is done, in order. What
+/// clients are told is handed out in `n` equal values.
 ///
 /// # Errors
 ///
-/// In this order: `Failed` with the first process that fails to, and why; `CounterEnd` where a turn can't be counted; `Memory`,
-/// which may also come in place of these. The processes are then as they were.
-pub fn change_code(
+/// `CounterEnd` where a turn can't be counted, and `Memory`. The processes are then as they were.
+pub fn make(
     processes: &mut Processes,
     alloc: Global,
     code: &[Instance],
-    changes: &[Change],
+    evaluation: Evaluation,
     n: usize,
-) -> Result<Changed, Failure<ChangeError>>
-    requires servers { All (λ c. IsServer (living c.pid processes.old)) changes.now }
-    ensures changed { IfOk result (λ it. (told : List Told) ×
-        AllChange code.now changes.now processes.old processes.new told × (it.told.items ≡ replicate n told)) }
-    ensures counted { OnOk result (AreCounted changes.now processes.new) }
+) -> Result<Changed, Failure<CounterEnd>>
+    requires { AreEvaluated processes.old evaluation }
+    ensures made { OnOk result (processes.new ≡ processes_after code.now evaluation processes.old) }
+    ensures told { IfOk result (λ it. it.told.items ≡ replicate n (told_after code.now evaluation processes.old)) }
+    ensures counted { OnOk result (AreCounted evaluation.changes processes.new) }
     ensures inverse { IfOk result (λ it. ChangesBack it.undo processes.old processes.new) }
     ensures pieces { IfOk result (λ it. HoldsLost (held_places it.undo.states processes.new) processes.old processes.new) }
-    ensures refused { IfErr result (Fails (λ e. RefusesChange e code.now changes.now processes.old) (Unit {0})) }
+    ensures refused { IfErr result (Fails
+        (λ e. AreCounted evaluation.changes (processes_after code.now evaluation processes.old) → ⊥) (Unit {0})) }
     ensures err { OnErr result (processes.new ≡ processes.old) }
 {
-    let evaluated = match evaluate_changes(processes, alloc, code, changes) {
-        Ok(evaluated) => evaluated,
-        Err(Failure::Refused(failed)) => {
-            return Err(Failure::Refused(ChangeError::Failed(failed)));
-        }
-        Err(Failure::Memory) => return Err(Failure::Memory),
-    };
-    let Evaluated { states, acts } = evaluated;
-    let states = states.into_vec(alloc)?;
+    let (states, acts) = evaluation.into_parts(alloc)?;
     if !can_count_all(processes, states.as_slice()) {
-        return Err(Failure::Refused(ChangeError::CounterEnd));
+        return Err(Failure::Refused(CounterEnd));
     }
     let changed = make_changes(processes, alloc, code, states, acts, n)?;
     Ok(changed)

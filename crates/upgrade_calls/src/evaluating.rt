@@ -1,15 +1,17 @@
-// What each `code_change/3` gives, before any process is changed.
-ghost use Rattle.std.specs.Prelude.{◌≡◌, ◌↔◌, ◌++◌, All, IfErr, IfOk, IsTrue, OnOk, Some};
+// What calls of an upgrade give, before any process is changed.
+ghost use Rattle.std.specs.Prelude.{◌≡◌, ◌↔◌, ◌++◌, ◌∷◌, [], All, IfErr, IfOk, IsTrue, List, OnOk, Some};
 ghost use Rattle.values.specs.Failure.{Fails};
 ghost use Rattle.erl_semantics.specs.declared.outcome.Outcome.{Outcome as Given};
 ghost use Rattle.erl_term.specs.Term.{tree, trees};
 ghost use Rattle.erl_term.specs.Tree.{more, none};
-ghost use Rattle.process_store.specs.Table.{living};
+ghost use Rattle.process_effects.specs.declared.told.Reply.{Reply as Told};
+ghost use Rattle.process_store.specs.Table.{Table, living};
 ghost use Rattle.process_table.specs.States.{all_restated};
-ghost use Rattle.upgrade_calls.specs.Changing.{Changes, FailsToChange, FirstUnchanged, GivesAt, IsServer};
+ghost use Rattle.upgrade_calls.specs.Changing.{AllChange, Changes, FailsToChange, FirstUnchanged, GivesAt, IsServer};
 ghost use Rattle.erl_semantics.specs.declared.acts.Place.TheVariants.{Server};
 ghost use Rattle.upgrade_calls.specs.NewStates.{AreRising, place_by, state_of};
-ghost use Rattle.upgrade_calls.specs.Evaluated.{AreEvaluated, CanCount};
+ghost use Rattle.upgrade_calls.specs.Evaluated.{AreEvaluated, AreMessages, CanCount, HasChanged, asked, nothing_evaluated};
+ghost use Rattle.upgrade_calls.specs.Evaluated.{processes_after, told_after};
 
 use crate::changing::{Change, ChangeFailed};
 use crate::new_states::NewStates;
@@ -19,6 +21,7 @@ use erl_semantics::{Act, Instance, Mode, Outcome, Place};
 use erl_term::{Atom, Term};
 use process_table::{Processes, StateChange};
 use std::alloc::{AllocError, Global};
+use std::marker::Model;
 use values::{Duplicate, Failure, Row};
 
 /// The arguments of `code_change/3`.
@@ -108,12 +111,25 @@ fn change_one(
     }
 }
 
-/// What evaluating has come to.
-pub(crate) struct Evaluated {
-    /// The state of each process that has changed, once.
-    pub(crate) states: NewStates,
-    /// What was asked for, in order.
-    pub(crate) acts: Vec<Act>,
+/// What evaluating for an upgrade has come to, before any process is changed: which processes are to change, their
+/// new states, and what was asked for, in order.
+#[derive(Drop)]
+pub struct Evaluation {
+    changes: Vec<Change>,
+    states: NewStates,
+    acts: Vec<Act>,
+}
+
+impl Model for Evaluation {
+    ghost use Rattle.std.specs.Coded.{codes};
+    ghost use Rattle.erl_term.specs.contracts.term.Terms as terms;
+    ghost use Rattle.upgrade_calls.specs.Evaluated.{Evaluated};
+
+    ghost Value = { Evaluated };
+
+    ghost coded = { Prim.hlevel (codes, terms.the_row.coded) };
+
+    ghost view = { λ e. record { changes = e.changes.items; states = e.states; acts = e.acts.items } };
 }
 
 /// Puts acts behind others.
@@ -125,32 +141,126 @@ fn append(acts: &mut Vec<Act>, others: Row<Act>) -> Result<(), AllocError>
     Ok(())
 }
 
-/// What each `code_change/3` gives, in order, each of the state that its process has by then.
-///
-/// # Errors
-///
-/// `ChangeFailed` of the first process that fails to change, and `Memory`.
-pub(crate) fn evaluate_changes(
-    processes: &Processes,
-    alloc: Global,
-    code: &[Instance],
-    changes: &[Change],
-) -> Result<Evaluated, Failure<ChangeFailed>>
-    requires servers { All (λ c. IsServer (living c.pid processes.now)) changes.now }
-    ensures evaluated { IfOk result (λ it. AreEvaluated code.now changes.now processes.now it.states it.acts.items) }
-    ensures failed { IfErr result (Fails (FirstUnchanged code.now changes.now processes.now) (Unit {0})) }
+/// Puts a change behind others.
+fn push(changes: &mut Vec<Change>, change: Change) -> Result<(), AllocError>
+    ensures { OnOk result (changes.new.items ≡ changes.old.items ++ change ∷ []) }
 {
-    let mut states = NewStates::new(alloc);
-    let mut acts = Vec::new(alloc);
-    for change in changes {
-        let (state, more) = match change_one(processes, alloc, code, &states, change) {
+    changes.push(change)?;
+    Ok(())
+}
+
+impl Evaluation {
+    /// Nothing is evaluated yet. Takes no memory.
+    pub fn new(alloc: Global) -> Evaluation
+        ensures { result ≡ nothing_evaluated }
+    {
+        Evaluation {
+            changes: Vec::new(alloc),
+            states: NewStates::new(alloc),
+            acts: Vec::new(alloc),
+        }
+    }
+
+    /// More is asked for, behind the rest: messages and replies.
+    ///
+    /// # Errors
+    ///
+    /// `AllocError` where memory is refused.
+    pub fn ask(self, more: Row<Act>) -> Result<Evaluation, AllocError>
+        requires { AreMessages more }
+        ensures asked { IfOk result (λ it. it ≡ asked more self) }
+        ensures evaluated { (t : Table) → AreEvaluated t self → IfOk result (AreEvaluated t) }
+    {
+        let Evaluation {
+            changes,
+            states,
+            mut acts,
+        } = self;
+        append(&mut acts, more)?;
+        Ok(Evaluation {
+            changes,
+            states,
+            acts,
+        })
+    }
+
+    /// One process more changes: what its `code_change/3` gives, of the state that it has by then.
+    fn change(
+        self,
+        processes: &Processes,
+        alloc: Global,
+        code: &[Instance],
+        change: Change,
+    ) -> Result<Evaluation, Failure<ChangeFailed>>
+        requires evaluated { AreEvaluated processes.now self }
+        requires server { IsServer (living change.pid processes.now) }
+        ensures changed { IfOk result (HasChanged code.now change processes.now self) }
+        ensures failed { IfErr result (Fails (λ failed. (failed.pid ≡ change.pid) ×
+            FailsToChange code.now change (processes_after code.now self processes.now) failed.reason) (Unit {0})) }
+    {
+        let Evaluation {
+            mut changes,
+            mut states,
+            mut acts,
+        } = self;
+        let (state, more) = match change_one(processes, alloc, code, &states, &change) {
             Ok(changed) => changed,
             Err(failure) => return Err(failure),
         };
         states.put(change.pid, state)?;
         append(&mut acts, more)?;
+        push(&mut changes, change)?;
+        Ok(Evaluation {
+            changes,
+            states,
+            acts,
+        })
     }
-    Ok(Evaluated { states, acts })
+
+    /// Processes change, one after the other, in this code, which is every module's current code: what the `code_change/3` of the
+    /// callback module of each gives, of the state that it has by then.
+    ///
+    /// # Errors
+    ///
+    /// `ChangeFailed` with the first process that fails to, and why; and `Memory`, which may also come in place of it.
+    pub fn change_all(
+        self,
+        processes: &Processes,
+        alloc: Global,
+        code: &[Instance],
+        changes: Vec<Change>,
+    ) -> Result<Evaluation, Failure<ChangeFailed>>
+        requires evaluated { AreEvaluated processes.now self }
+        requires servers { All (λ c. IsServer (living c.pid processes.now)) changes.items }
+        ensures evaluated { IfOk result (AreEvaluated processes.now) }
+        ensures changes { IfOk result (λ it. it.changes ≡ self.changes ++ changes.items) }
+        ensures changed { IfOk result (λ it. (told : List Told) ×
+            AllChange code.now changes.items (processes_after code.now self processes.now)
+            (processes_after code.now it processes.now) told ×
+            (told_after code.now it processes.now ≡ told_after code.now self processes.now ++ told)) }
+        ensures failed { IfErr result (Fails
+            (FirstUnchanged code.now changes.items (processes_after code.now self processes.now)) (Unit {0})) }
+    {
+        let mut evaluation = self;
+        for change in changes {
+            evaluation = match evaluation.change(processes, alloc, code, change) {
+                Ok(changed) => changed,
+                Err(failure) => return Err(failure),
+            };
+        }
+        Ok(evaluation)
+    }
+
+    /// The processes that were to change, their new states, and what was asked for.
+    pub(crate) fn into_parts(
+        self,
+        alloc: Global,
+    ) -> Result<(Vec<StateChange>, Vec<Act>), AllocError>
+        ensures { IfOk result (λ it. (it.0.items ≡ self.states) × (it.1.items ≡ self.acts)) }
+    {
+        let Evaluation { states, acts, .. } = self;
+        Ok((states.into_vec(alloc)?, acts))
+    }
 }
 
 /// Whether the turn of a process can be counted on by as many as it has changed.

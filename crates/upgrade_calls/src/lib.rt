@@ -1,8 +1,10 @@
 //! The calls that an upgrade makes: processes change their states by `code_change/3`, and a function is applied (gen_server(3);
 //! appup(4)).
 //!
-//! [`change_code`] changes processes one after the other, and [`revert_change`] takes that back. [`apply`] applies a function;
-//! what takes that back is an undo of the processes ([`process_table::Processes::revert`]).
+//! An [`Evaluation`] goes through calls in order, and changes nothing: what each `code_change/3` gives
+//! ([`Evaluation::change_all`]), and what else is asked for ([`Evaluation::ask`]). [`make`] then makes all of it at once, and
+//! [`revert_change`] takes that back. [`apply`] applies a function; what takes that back is an undo of the processes
+//! ([`process_table::Processes::revert`]).
 //!
 //! # What is proved
 //!
@@ -13,7 +15,7 @@
 //!   this is the same is proved.
 //! - Where they don't, it is told which process has failed first, and for what reason: R of `{error,R}` and of an exit, and
 //!   `{bad_return_value,V}` of any other value V (`FirstUnchanged`). Where all would change, but a turn can't be counted, that
-//!   is told (`RefusesChange`). All is then as it was.
+//!   is told. All is then as it was.
 //! - A function that is applied succeeds unless it gives `{error,R}`, which fails with R, or exits, which fails with
 //!   `{'EXIT',R}` (`Applies`, `FailsToApply`). What it asked for is done in order, or, where it fails, all is as it was.
 //! - By the rules both have one outcome ([`changes_one_way`], [`applications_of_functions_one_way`]).
@@ -37,7 +39,6 @@ mod new_states;
 mod results;
 
 pub use applying::{Applied, apply};
-pub use changing::{
-    Change, ChangeError, ChangeFailed, ChangeUndo, Changed, change_code, revert_change,
-};
+pub use changing::{Change, ChangeFailed, ChangeUndo, Changed, CounterEnd, make, revert_change};
+pub use evaluating::Evaluation;
 pub use laws::{applications_of_functions_one_way, changes_one_way};

@@ -84,7 +84,7 @@ pub(crate) fn resume(
     }
 }
 
-/// `code_change`: see [`suspensions::change_suspended`].
+/// `code_change`: see [`code_changes::change_code`].
 pub(crate) fn change_code(
     modules: &mut Modules<Module>,
     processes: &mut Processes,

@@ -1,0 +1,39 @@
+-- The application at the place has its children specified anew, and has them back.
+use Rattle.std.proofs.Common.{◌<◌, ◌∙◌, List, Some, ap, arith, length, subst, sym}
+use Rattle.std.specs.Prelude.{slice_get}
+use Rattle.values.proofs.Edits.{slice_get-changed_at}
+use Rattle.values.specs.Edits.{changed_at}
+use Rattle.app_table.proofs.Backs.{changed_back}
+use Rattle.app_table.proofs.Spots.{got}
+use Rattle.app_table.proofs.Writes.{changed_from_write}
+use Rattle.app_table.specs.Applications.{Application}
+use Rattle.app_table.specs.Pieces.{HoldChangedIn}
+use Rattle.app_table.specs.Renewing.{with_renewed, with_unrenewed}
+use Rattle.app_table.proofs.table.AppTable.renew.Goals as goal
+
+pub returns-clause-renewed : goal.returns-clause-renewed
+returns-clause-renewed c =
+    let xs = c.self.inside.list.items in
+    let within : c.args.place < length xs = omega (arith, ap (λ (l : List Application). length l) c.self.view_is, c.requires) in
+    changed_from_write (with_renewed c.args.specs) xs c.args.place c.index_mut.result.now c.renew.new.self within c.index_mut.ensures.value c.in_ok-edits.ensures.renewed
+    ∙ ap (λ (l : List Application). changed_at (with_renewed c.args.specs) l c.args.place) c.self.view_is
+
+pub returns-clause-inverse : goal.returns-clause-inverse
+returns-clause-inverse c =
+    let xs = c.self.inside.list.items in
+    let within : c.args.place < length xs = omega (arith, ap (λ (l : List Application). length l) c.self.view_is, c.requires) in
+    let write = changed_from_write (with_renewed c.args.specs) xs c.args.place c.index_mut.result.now c.renew.new.self within c.index_mut.ensures.value c.in_ok-edits.ensures.renewed in
+    let stands = got xs c.args.place c.index_mut.result.now within ∙ ap Some (sym c.index_mut.ensures.value) in
+    let back = ap (with_unrenewed c.in_ok-edits.edits) (sym c.in_ok-edits.ensures.renewed) ∙ c.in_ok-edits.ensures.back in
+    ap (λ (l : List Application). changed_at (with_unrenewed c.in_ok-edits.edits) l c.args.place) write
+    ∙ changed_back (with_renewed c.args.specs) (with_unrenewed c.in_ok-edits.edits) xs c.args.place c.index_mut.result.now stands back
+    ∙ c.self.view_is
+
+pub returns-clause-pieces : goal.returns-clause-pieces
+returns-clause-pieces c =
+    let xs = c.self.inside.list.items in
+    let within : c.args.place < length xs = omega (arith, ap (λ (l : List Application). length l) c.self.view_is, c.requires) in
+    let write = changed_from_write (with_renewed c.args.specs) xs c.args.place c.index_mut.result.now c.renew.new.self within c.index_mut.ensures.value c.in_ok-edits.ensures.renewed in
+    let stands = got xs c.args.place c.index_mut.result.now within ∙ ap Some (sym c.index_mut.ensures.value) in
+    let there = ap (λ (l : List Application). slice_get l c.args.place) write ∙ slice_get-changed_at (with_renewed c.args.specs) xs c.args.place c.index_mut.result.now stands ∙ ap Some (sym c.in_ok-edits.ensures.renewed) in
+    subst (λ o. HoldChangedIn o c.in_ok-edits.edits) (sym there) c.in_ok-edits.ensures.changed

@@ -1,0 +1,46 @@
+// The children of an application are specified anew.
+ghost use Rattle.std.specs.Prelude.{◌≡◌, ◌<◌, IfOk, OnErr, OnOk, length, slice_get};
+ghost use Rattle.app_table.specs.Pieces.{HoldsChangedSpecs};
+ghost use Rattle.app_table.specs.Renewing.{children_renewed, with_unrenewed};
+ghost use Rattle.app_table.specs.Undo.{undone};
+ghost use Rattle.values.specs.Edits.{changed_at};
+
+use super::AppTable;
+use crate::renewing::ChildEdit;
+use crate::undo::Undo;
+use child_specs::ChildSpec;
+use std::alloc::AllocError;
+use values::Row;
+
+impl AppTable {
+    /// The children of the application at a place, counted from 0, are specified anew (appup(4),
+    /// `{update,Mod,supervisor}`). The new specifications stand in their order: a child whose Id was there keeps its
+    /// process, or that it has none, and whether it is due; a new one has no process, and isn't due. Children whose
+    /// Ids aren't among the new ones are as they were, behind the others. Looks for each Id among the children that
+    /// are left, from where the last one stood.
+    ///
+    /// # Errors
+    ///
+    /// `AllocError` where memory is refused. All is then as it was.
+    pub fn renew(&mut self, place: usize, specs: Row<ChildSpec>) -> Result<Undo, AllocError>
+        requires { place < length self.old }
+        ensures renewed { OnOk result (self.new ≡ children_renewed place specs self.old) }
+        ensures inverse { IfOk result (λ undo. undone undo self.new ≡ self.old) }
+        ensures pieces { IfOk result (λ undo. HoldsChangedSpecs undo self.new) }
+        ensures err { OnErr result (self.new ≡ self.old) }
+    {
+        let alloc = self.alloc;
+        let edits = self.list[place].renew(alloc, specs)?;
+        Ok(Undo::Renewed(place, edits))
+    }
+
+    /// The children of the application at a place, if there is one, are as they were before they were specified anew.
+    #[tactic(auto, using(crate::proofs::Writes::changed_from_write, crate::proofs::Writes::changed_past))]
+    pub(super) fn unrenew(&mut self, place: usize, edits: Row<ChildEdit>)
+        ensures { self.new ≡ changed_at (with_unrenewed edits) self.old place }
+    {
+        if place < self.list.len() {
+            self.list[place].unrenew(edits);
+        }
+    }
+}

@@ -1,0 +1,4 @@
+pub mod Changing
+pub mod Laws
+pub mod Renewing
+pub mod Undo
