@@ -26,7 +26,8 @@ use Rattle.shell_steps.specs.declared.fate.Fate.TheVariants.{StoppedAt}
 use Rattle.node_shell.specs.Replay.{Obeyed, AreObeyed, Forgets, IsReplayed, IsHeadline, IsNamed, MarksName, NamesMark, Stops, Undoes, commands_in, shell_behind, timeline_behind}
 use Rattle.node_shell.specs.Run.{Runs, RunsWhole, Starts}
 use Rattle.node_shell.specs.Shell.{shell_turn}
-use Rattle.node_shell.proofs.Led.{Does-cuts, Does-dead, Does-floors, Does-forgotten, Does-led, Does-stops}
+use Rattle.shell_deeds.proofs.Led.{Does-led}
+use Rattle.node_shell.proofs.Led.{Does-cuts, Does-dead, Does-floors, Does-forgotten, Does-stops}
 use Rattle.node_shell.proofs.Turns.{obeyed-from_answered, unrefused-obeyed}
 
 after-obeyed : (s : ShellState) (obeyed : List Obeyed) → AreObeyed s obeyed → AreAfter Step (commands_in obeyed) s.timeline (timeline_behind s obeyed)

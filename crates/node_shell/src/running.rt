@@ -6,7 +6,7 @@ ghost use Rattle.shell_steps.specs.State.{opened_shell};
 use crate::fault::StartFault;
 use crate::shell::Shell;
 use line_server::{Ended, serve};
-use node_core::Node;
+use shell_steps::Node;
 use release_files::{Files, read_release};
 use std::alloc::Global;
 use std::hash::RandomState;

@@ -4,12 +4,11 @@ ghost use Rattle.node_shell.specs.Shell.{shell_turn};
 ghost use Rattle.shell_steps.specs.State.{opened_shell};
 
 use line_server::Session;
-use node_core::Node;
 use release_files::Files;
 use shell_deeds::obey;
 use shell_holdings::Holdings;
 use shell_requests::runs_code;
-use shell_steps::Fate;
+use shell_steps::{Fate, Node};
 use std::alloc::{AllocError, Global};
 use std::hash::RandomState;
 use std::marker::Model;

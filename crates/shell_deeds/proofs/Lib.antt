@@ -3,3 +3,4 @@ mod Finding
 mod Refusing
 mod Sources
 pub mod Answering
+pub mod Led

@@ -11,12 +11,11 @@ ghost use Rattle.shell_deeds.specs.Done.{refusal_of_change};
 use code_loading::is_lingered_in;
 use code_server::CodeError;
 use erl_term::Atom;
-use node_core::Node;
 use node_types::{Answer, Event, Refusal};
 use shell_answers::Fixed;
 use shell_holdings::Holdings;
 use shell_requests::{Change, Name};
-use shell_steps::{Halt, Said, say, tell_halt};
+use shell_steps::{Halt, Node, Said, say, tell_halt};
 
 /// Deletes or purges a module's code.
 pub(crate) fn change(held: &mut Holdings, kind: Change, name: Name<'_>, out: &mut Vec<u8>) -> Said

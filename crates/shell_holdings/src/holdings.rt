@@ -2,7 +2,7 @@
 ghost use Rattle.std.specs.Prelude.{◌≡◌, ◌+◌, ◌↔◌, IfOk, IsTrue, OnErr, OnOk, length};
 
 use erl_semantics::Job;
-use node_core::Node;
+use shell_steps::Node;
 use process_effects::Reply;
 use process_table::Processes;
 use release_files::Files;

@@ -31,6 +31,7 @@ mod undoing;
 
 pub use committing::tell_committed;
 pub use fate::Fate;
+pub use node_core::Node;
 pub use stepping::{Halt, halt_of, send_told, step};
 pub use taking::{halt_of_take, step_take, tell_taken};
 pub use telling::{

@@ -11,12 +11,11 @@ ghost use Rattle.shell_upgrades.specs.Upgrades.{AdvancesScript};
 
 use erl_term::Term;
 use low_instructions::{Low, low_term};
-use node_core::Node;
 use node_types::{Answer, Event};
 use script_state::instruction_at;
 use shell_answers::{Fixed, write_carried_out, write_finished, write_recovered, write_restarted};
 use shell_holdings::Holdings;
-use shell_steps::{Said, say, tell_halt};
+use shell_steps::{Node, Said, say, tell_halt};
 use std::alloc::{AllocError, Global};
 
 /// Has the script that runs go on by its next instruction, or end. The term that its answer tells is made before.

@@ -16,14 +16,13 @@ ghost use Rattle.shell_upgrades.specs.Upgrades.{AltersReleases, refusal_of_alter
 use code_server::CodeError;
 use install_checks::{InstallError, install_refusal, script_to};
 use low_instructions::Low;
-use node_core::Node;
 use node_restart::restart_refusal;
 use node_types::{Answer, Event, Refusal};
 use release_statuses::{RelError, Releases, Vsn};
 use shell_answers::{Fixed, Subject, write_installing};
 use shell_holdings::Holdings;
 use shell_requests::ReleaseChange;
-use shell_steps::{Halt, Said, say, tell_halt_of};
+use shell_steps::{Halt, Node, Said, say, tell_halt_of};
 
 /// Removes, installs or makes permanent the release of a version, or restarts the node with it.
 pub fn alter_releases(
