@@ -1,9 +1,11 @@
--- What a record holds of a node, by the kinds of its pieces: the messages and places of processes, the instances of code, the releases, and
--- the script that runs, with its description and what is noted for it. Besides pieces it holds numbers, names, statuses, flags and
--- positions.
+-- What a record holds of a node, by the kinds of its pieces: the messages and places of processes, the instances of code, the
+-- specifications of applications and of their children, the releases, and the script that runs, with its description and what is noted for
+-- it. Besides pieces it holds numbers, names, statuses, flags and positions.
 use Rattle.std.specs.Prelude.{◌≡◌, ℕ, ◌⊎◌, ◌++◌, IsPermutation, List, [], ◌∷◌, Option, None, Some, option_map, option_to_list}
 use Rattle.std.specs.List.{flat_map}
+use Rattle.app_table.specs.Pieces as apps
 use Rattle.code_loading.specs.Pieces.{CodeLost, all_held, held_killed}
+use Rattle.code_replacement.specs.Undo as replacing
 use Rattle.code_server.specs.Modules.{Entry, Table as Loaded, emptied as without_code}
 use Rattle.code_server.specs.Undo as code
 use Rattle.code_server.specs.declared.modules.Instance.{Instance}
@@ -51,6 +53,34 @@ held_instances (OfFinish undo) = []
 held_instances (OfRecovery undo) = []
 held_instances (OfPurges undo statuses) = all_held undo.code.modules
 held_instances (OfRestart d) = flat_map instances_in d.modules.entries
+
+-- The specifications of a node: those in its applications, and the former ones that the script keeps.
+
+abbrev pub former_of : Option RunnerState → List apps.Piece
+former_of None = []
+former_of (Some r) = apps.held_former r.former
+
+abbrev pub specs_of : NodeState → List apps.Piece
+specs_of n = former_of n.runner ++ apps.pieces n.apps
+
+-- All of the specifications before are lost that are not left.
+abbrev pub AllTaken : List apps.Piece → List apps.Piece → List apps.Piece → Type 0
+AllTaken held before left = IsPermutation (held ++ left) before
+
+-- Of specifications a record holds only what its step has taken: a finished script's former ones, where it was given up the new ones, and
+-- all where the node has restarted.
+abbrev pub SpecsLost : Record → NodeState → NodeState → Type 0
+SpecsLost (OfProcesses undo) before after = Unit {0}
+SpecsLost (OfChildren undo ended) before after = apps.held ended after.apps ≡ []
+SpecsLost (OfCode undo) before after = replacing.held_of undo.ended after.apps ≡ []
+SpecsLost (OfDeletion undo) before after = Unit {0}
+SpecsLost (OfReleases undo) before after = Unit {0}
+SpecsLost OfInstall before after = Unit {0}
+SpecsLost (OfInstruction undo) before after = instructions.SpecsLost undo before.apps after.apps
+SpecsLost (OfFinish undo) before after = AllTaken (apps.held_former undo.runner.former) (specs_of before) (specs_of after)
+SpecsLost (OfRecovery undo) before after = AllTaken (apps.held_back undo.specs) (specs_of before) (specs_of after)
+SpecsLost (OfPurges undo statuses) before after = replacing.held_of undo.ended after.apps ≡ []
+SpecsLost (OfRestart d) before after = AllTaken (former_of (option_map runner_of d.runner) ++ apps.pieces d.apps) (specs_of before) []
 
 -- the releases
 abbrev pub removed_by : releases_undo.Undo → List Listed
@@ -125,5 +155,6 @@ ReleasesLost held before after = (held ≡ []) ⊎ IsPermutation (held ++ after)
 pub record HoldsLost (r : Record) (before after : NodeState) : Type 0 where
   pub processes : processes.HoldsLost (held_processes r after.processes) before.processes (processes_left r after)
   pub instances : CodeLost (held_instances r) before.modules (code_left r after)
+  pub specs : SpecsLost r before after
   pub releases : ReleasesLost (held_releases r) before.releases after.releases
   pub script : HoldsScript r → after.runner ≡ None

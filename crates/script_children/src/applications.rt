@@ -1,7 +1,5 @@
 // Applications start, stop and are unloaded.
-ghost use Rattle.std.specs.Prelude.{◌≡◌, ◌++◌, [], IfErr, IfOk, IfSome, IsPermutation, List, OnErr, Some, replicate};
-ghost use Rattle.app_table.specs.Applications.{app_of};
-ghost use Rattle.app_table.specs.Pieces.{child_pieces, pieces};
+ghost use Rattle.std.specs.Prelude.{◌≡◌, [], IfErr, IfOk, List, OnErr, Some, replicate};
 ghost use Rattle.process_effects.specs.declared.told.Reply.{Reply as Told};
 ghost use Rattle.process_store.specs.Pieces.{HoldsLost};
 ghost use Rattle.process_store.specs.Table.{Table};
@@ -9,7 +7,7 @@ ghost use Rattle.sys_protocol.specs.Refusals.{RefusesStart};
 ghost use Rattle.sys_protocol.specs.Stopping.{stop_refusal, unload_refusal};
 ghost use Rattle.values.specs.Failure.{Fails};
 ghost use Rattle.script_children.specs.Applying.{AppStarts, AppStops, AppUnloads, Does, Refuses};
-ghost use Rattle.script_children.specs.Pieces.{HoldsAppOf, held_apps, held_processes};
+ghost use Rattle.script_children.specs.Pieces.{SpecsTaken, held_apps, held_processes};
 ghost use Rattle.script_children.specs.Undo.{TakesBack};
 
 use crate::applying::Applied;
@@ -40,8 +38,7 @@ fn start(
     ensures inverse { IfOk result (λ it. TakesBack it.undo
         (record { apps = apps.old; processes = processes.old }) (record { apps = apps.new; processes = processes.new })) }
     ensures pieces { IfOk result (λ it. HoldsLost (held_processes it.undo processes.new) processes.old processes.new) }
-    ensures app_pieces { IfOk result (λ it. IfSome (app_of name.now apps.old) (λ a.
-        held_apps it.undo apps.new ≡ child_pieces a.spec.name a.children)) }
+    ensures app_pieces { IfOk result (λ it. SpecsTaken (held_apps it.undo apps.new) apps.old apps.new) }
     ensures refused { IfErr result (Fails (λ e. RefusesStart e code.now name.now apps.old processes.old) (Unit {0})) }
     ensures err { OnErr result ((apps.new ≡ apps.old) × (processes.new ≡ processes.old)) }
 {
@@ -66,7 +63,7 @@ fn stop(
     ensures inverse { IfOk result (λ it. TakesBack it.undo
         (record { apps = apps.old; processes = processes.old }) (record { apps = apps.new; processes = processes.new })) }
     ensures pieces { IfOk result (λ it. HoldsLost (held_processes it.undo processes.new) processes.old processes.new) }
-    ensures app_pieces { IfOk result (λ it. held_apps it.undo apps.new ≡ []) }
+    ensures app_pieces { IfOk result (λ it. SpecsTaken (held_apps it.undo apps.new) apps.old apps.new) }
     ensures refused { IfErr result (Fails (λ e. stop_refusal name.now apps.old ≡ Some e) (Unit {0})) }
     ensures err { OnErr result ((apps.new ≡ apps.old) × (processes.new ≡ processes.old)) }
 {
@@ -90,7 +87,7 @@ fn unload(
     ensures inverse { IfOk result (λ it. (t : Table) → TakesBack it.undo
         (record { apps = apps.old; processes = t }) (record { apps = apps.new; processes = t })) }
     ensures pieces { IfOk result (λ it. (t : Table) → HoldsLost (held_processes it.undo t) t t) }
-    ensures app_pieces { IfOk result (λ it. IsPermutation (held_apps it.undo apps.new ++ pieces apps.new) (pieces apps.old)) }
+    ensures app_pieces { IfOk result (λ it. SpecsTaken (held_apps it.undo apps.new) apps.old apps.new) }
     ensures refused { IfErr result (Fails (λ e. unload_refusal name.now apps.old ≡ Some e) (Unit {0})) }
     ensures err { OnErr result (apps.new ≡ apps.old) }
 {
@@ -125,7 +122,7 @@ pub(crate) fn call_app(
     ensures inverse { IfOk result (λ it. TakesBack it.undo
         (record { apps = apps.old; processes = processes.old }) (record { apps = apps.new; processes = processes.new })) }
     ensures pieces { IfOk result (λ it. HoldsLost (held_processes it.undo processes.new) processes.old processes.new) }
-    ensures app_pieces { IfOk result (λ it. HoldsAppOf call (Some name.now) it.undo apps.old apps.new) }
+    ensures app_pieces { IfOk result (λ it. SpecsTaken (held_apps it.undo apps.new) apps.old apps.new) }
     ensures refused { IfErr result (Fails (λ e. Refuses e code.now call (Some name.now)
         (record { apps = apps.old; processes = processes.old })) (Unit {0})) }
     ensures err { OnErr result ((apps.new ≡ apps.old) × (processes.new ≡ processes.old)) }

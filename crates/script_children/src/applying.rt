@@ -10,7 +10,7 @@ ghost use Rattle.upgrade_calls.specs.Applying.{Applies, FailsToApply};
 ghost use Rattle.values.specs.Failure.{Fails};
 ghost use Rattle.script_children.specs.Applying.{Applied as IsApplied, Does, NotApplied, Refuses};
 ghost use Rattle.script_children.specs.Calls.{reason_of};
-ghost use Rattle.script_children.specs.Pieces.{HoldsAppOf, HoldsApps, held_apps, held_processes};
+ghost use Rattle.script_children.specs.Pieces.{SpecsTaken, held_apps, held_processes};
 ghost use Rattle.script_children.specs.Undo.{TakesBack};
 
 use crate::applications::call_app;
@@ -55,7 +55,7 @@ fn apply_to_app(
     ensures inverse { IfOk result (λ it. TakesBack it.undo
         (record { apps = apps.old; processes = processes.old }) (record { apps = apps.new; processes = processes.new })) }
     ensures pieces { IfOk result (λ it. HoldsLost (held_processes it.undo processes.new) processes.old processes.new) }
-    ensures app_pieces { IfOk result (λ it. HoldsAppOf call (atom_of (tree app.now)) it.undo apps.old apps.new) }
+    ensures app_pieces { IfOk result (λ it. SpecsTaken (held_apps it.undo apps.new) apps.old apps.new) }
     ensures failed { IfErr result (Fails (λ reason. (e : Why) × Refuses e code.now call (atom_of (tree app.now))
         (record { apps = apps.old; processes = processes.old }) × (reason ≡ reason_of (tree app.now) e)) (Unit {0})) }
     ensures err { OnErr result ((apps.new ≡ apps.old) × (processes.new ≡ processes.old)) }
@@ -95,7 +95,7 @@ fn apply_other(
     ensures inverse { IfOk result (λ it. (apps : List Application) → TakesBack it.undo
         (record { apps = apps; processes = processes.old }) (record { apps = apps; processes = processes.new })) }
     ensures pieces { IfOk result (λ it. HoldsLost (held_processes it.undo processes.new) processes.old processes.new) }
-    ensures app_pieces { IfOk result (λ it. (apps : List Application) → held_apps it.undo apps ≡ []) }
+    ensures app_pieces { IfOk result (λ it. (apps : List Application) → SpecsTaken (held_apps it.undo apps) apps apps) }
     ensures failed { IfErr result (Fails (λ reason.
         FailsToApply code.now module.now function.now arguments.now reason) (Unit {0})) }
     ensures err { OnErr result (processes.new ≡ processes.old) }
@@ -132,7 +132,7 @@ pub fn apply(
     ensures inverse { IfOk result (λ it. TakesBack it.undo
         (record { apps = apps.old; processes = processes.old }) (record { apps = apps.new; processes = processes.new })) }
     ensures pieces { IfOk result (λ it. HoldsLost (held_processes it.undo processes.new) processes.old processes.new) }
-    ensures app_pieces { IfOk result (λ it. HoldsApps module.now function.now arguments.now it.undo apps.old apps.new) }
+    ensures app_pieces { IfOk result (λ it. SpecsTaken (held_apps it.undo apps.new) apps.old apps.new) }
     ensures failed { IfErr result (Fails (λ reason. NotApplied code.now module.now function.now arguments.now
         (record { apps = apps.old; processes = processes.old }) reason) (Unit {0})) }
     ensures err { OnErr result ((apps.new ≡ apps.old) × (processes.new ≡ processes.old)) }

@@ -16,7 +16,7 @@
 //! - [`revert`] gives the applications and the processes before, whole (`TakesBack`), where the instances that the processes
 //!   used stand. Where memory is refused, all is as it was, and it hands the undo out again.
 //! - An undo holds of processes only what the function has taken from them (`HoldsLost`), and of specifications the children
-//!   before of an application that was started, all of one that was unloaded, and else none (`HoldsApps`).
+//!   before of an application that was started, all of one that was unloaded, and else none (`SpecsTaken`).
 //!
 //! # What no contract says
 //!

@@ -1,8 +1,9 @@
 -- A script ends (release_handler(3), install_release/1; relup(4)): it is finished, and the release is installed; or it is given
 -- up before the point of no return, and the specifications of applications are as before the install.
-use Rattle.std.specs.Prelude.{◌≡◌, List}
+use Rattle.std.specs.Prelude.{◌≡◌, ◌++◌, IsPermutation, List}
 use Rattle.app_table.specs.Applications.{Application}
 use Rattle.app_table.specs.Changes.{put_back}
+use Rattle.app_table.specs.Pieces.{held_back, held_former, pieces}
 use Rattle.app_table.specs.Undo.{former_of, put_again}
 use Rattle.app_table.specs.declared.specs.FormerSpecs.{FormerSpecs}
 use Rattle.process_store.specs.Table.{Table}
@@ -50,7 +51,8 @@ abandoned_of a former = record {
 }
 
 -- What takes that back: the specifications are in place again, with the applications that were added, and the script is where it
--- was.
+-- was. Of specifications it holds those that were in the applications or kept for the script, and are not left.
 pub record RecoveryBack (undo : Recovery) (r : RunnerState) (before after : List Application) : Type 0 where
   pub apps : put_again undo.specs after ≡ before
   pub runner : abandoned_of undo.script (former_of undo.specs after) ≡ r
+  pub pieces : IsPermutation (held_back undo.specs ++ pieces after) (held_former r.former ++ pieces before)

@@ -1,6 +1,5 @@
 // A script is given up before its point of no return.
-ghost use Rattle.std.specs.Prelude.{◌≡◌, ◌++◌, IfErr, IfOk, IsPermutation, OnErr, OnOk};
-ghost use Rattle.app_table.specs.Pieces.{held_back, held_former, pieces};
+ghost use Rattle.std.specs.Prelude.{◌≡◌, IfErr, IfOk, OnErr, OnOk};
 ghost use Rattle.app_table.specs.Undo.{Fits, former_of, put_again};
 ghost use Rattle.script_ends.specs.Ends.{RecoveryBack, abandoned_of, apps_recovered};
 ghost use Rattle.script_state.specs.Runner.{runner_of};
@@ -19,8 +18,6 @@ pub fn recover(apps: &mut AppTable, runner: Runner) -> Result<Recovery, Runner>
     requires { Fits runner.former apps.old }
     ensures apps { OnOk result (apps.new ≡ apps_recovered (runner_of runner) apps.old) }
     ensures back { IfOk result (λ undo. RecoveryBack undo (runner_of runner) apps.old apps.new) }
-    ensures pieces { IfOk result (λ undo.
-        IsPermutation (held_back undo.specs ++ pieces apps.new) (held_former runner.former ++ pieces apps.old)) }
     ensures given_back { IfErr result (λ it. it ≡ runner) }
     ensures err { OnErr result (apps.new ≡ apps.old) }
 {

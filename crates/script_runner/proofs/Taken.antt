@@ -1,4 +1,4 @@
--- What takes an instruction back holds nothing of the processes and of the code that the instruction has not taken.
+-- What takes an instruction back holds nothing of processes, code and specifications that the instruction has not taken.
 use Rattle.std.proofs.Common.{◌≡◌, ◌+◌, ◌≤◌, ℕ, List, [], arith, refl, subst, sym, ap}
 use Rattle.code_loading.specs.Pieces.{CodeLost}
 use Rattle.code_server.specs.Modules.{Table as Loaded}
@@ -6,7 +6,7 @@ use Rattle.erl_forms.specs.Module.{Forms}
 use Rattle.process_store.specs.Pieces.{HoldsLost, no_pieces}
 use Rattle.process_store.specs.Table.{Table}
 use Rattle.script_runner.specs.Parts.{Parts}
-use Rattle.script_runner.specs.Pieces.{held_instances, held_processes}
+use Rattle.script_runner.specs.Pieces.{SpecsLost, held_instances, held_processes}
 use Rattle.script_runner.specs.Undo.{TakesBack}
 use Rattle.script_runner.specs.declared.undo.Undo.{Undo}
 use Rattle.script_runner.specs.declared.undo.Undo.TheVariants.{Nothing, Read, Replaced, Purged, Suspended, Resumed, Changed, Children}
@@ -36,3 +36,13 @@ instances_taken (Suspended count) p q takes = no_instance p.modules q.modules
 instances_taken (Resumed u) p q takes = no_instance p.modules q.modules
 instances_taken (Changed u) p q takes = no_instance p.modules q.modules
 instances_taken (Children u count) p q takes = no_instance p.modules q.modules
+
+pub specs_taken : (u : Undo) (p q : Parts) → TakesBack u p q → SpecsLost u p.apps q.apps
+specs_taken Nothing p q takes = tt
+specs_taken (Read count) p q takes = tt
+specs_taken (Replaced u noted) p q takes = takes.0.specs
+specs_taken (Purged u) p q takes = takes.0.specs
+specs_taken (Suspended count) p q takes = tt
+specs_taken (Resumed u) p q takes = tt
+specs_taken (Changed u) p q takes = takes.0.renewals.pieces
+specs_taken (Children u count) p q takes = takes.5

@@ -1,7 +1,10 @@
--- What takes an instruction back holds of the processes and of the code: no more than the instruction has taken (`TakesBack`). Besides
--- these it holds numbers, pids, names and flags, and of children and applications what `script_children` says.
-use Rattle.std.specs.Prelude.{ℕ, List, [], option_to_list}
+-- What takes an instruction back holds of processes, of code, and of the specifications of applications and children: no more than the
+-- instruction has taken (`TakesBack`). Besides these it holds numbers, pids, names and flags.
+use Rattle.std.specs.Prelude.{◌≡◌, ℕ, List, [], option_to_list}
+use Rattle.app_table.specs.Applications.{Application}
+use Rattle.code_changes.specs.Undo.{AllHoldChanged}
 use Rattle.code_loading.specs.Pieces.{all_held, held_killed}
+use Rattle.code_replacement.specs.Undo as replacing
 use Rattle.code_server.specs.Undo as code
 use Rattle.code_server.specs.declared.modules.Instance.{Instance}
 use Rattle.erl_forms.specs.Module.{Forms}
@@ -34,3 +37,15 @@ held_instances (Suspended count) = []
 held_instances (Resumed u) = []
 held_instances (Changed u) = []
 held_instances (Children u count) = []
+
+-- It holds of the specifications what the instruction has taken: of a change of code those alone of the children that are specified
+-- otherwise now.
+abbrev pub SpecsLost : Undo → List Application → List Application → Type 0
+SpecsLost Nothing before after = Unit {0}
+SpecsLost (Read count) before after = Unit {0}
+SpecsLost (Replaced u noted) before after = replacing.held_of u.ended after ≡ []
+SpecsLost (Purged u) before after = replacing.held_of u.ended after ≡ []
+SpecsLost (Suspended count) before after = Unit {0}
+SpecsLost (Resumed u) before after = Unit {0}
+SpecsLost (Changed u) before after = AllHoldChanged u.renewals after
+SpecsLost (Children u count) before after = children.SpecsTaken (children.held_apps u after) before after

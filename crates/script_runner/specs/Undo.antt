@@ -1,11 +1,11 @@
--- What takes an instruction back: from the parts after the instruction it gives those before, and it holds no piece of a process and
--- no instance of code but what the instruction has taken. Parts that it doesn't name weren't changed.
+-- What takes an instruction back: from the parts after the instruction it gives those before, and it holds no piece of a process, no
+-- instance of code and no specification but what the instruction has taken. Parts that it doesn't name weren't changed.
 use Rattle.std.specs.Prelude.{◌≡◌, ◌≤◌, ◌-◌, Bool, if◌then◌else◌, List, length, take}
 use Rattle.code_changes.specs.Undo as changes
 use Rattle.code_replacement.specs.Undo as code
 use Rattle.process_store.specs.Pieces.{HoldsLost}
 use Rattle.process_table.specs.States.{all_resumed, all_unresumed, held_places}
-use Rattle.script_children.specs.Pieces.{held_processes}
+use Rattle.script_children.specs.Pieces.{SpecsTaken, held_apps, held_processes}
 use Rattle.script_children.specs.Undo as children
 use Rattle.script_state.specs.ObjectCode.{but_last_noted}
 use Rattle.script_runner.specs.Instructions.{running_of, supervised_of}
@@ -37,4 +37,4 @@ TakesBack (Changed u) p q = changes.TakesBack u p.apps p.processes q.apps q.proc
 TakesBack (Children u count) p q = children.TakesBack u (supervised_of p) (supervised_of q) × (count ≤ length q.stopped) ×
     (take (length q.stopped - count) q.stopped ≡ p.stopped) ×
     (q ≡ record p { processes = q.processes; apps = q.apps; stopped = q.stopped }) ×
-    HoldsLost (held_processes u q.processes) p.processes q.processes
+    HoldsLost (held_processes u q.processes) p.processes q.processes × SpecsTaken (held_apps u q.apps) p.apps q.apps

@@ -9,7 +9,7 @@ ghost use Rattle.process_effects.specs.declared.told.Reply.{Reply as Told};
 ghost use Rattle.process_store.specs.Pieces.{HoldsLost};
 ghost use Rattle.script_children.specs.Calls.{start_failed};
 ghost use Rattle.script_children.specs.Children.{Supervised};
-ghost use Rattle.script_children.specs.Pieces.{held_processes};
+ghost use Rattle.script_children.specs.Pieces.{SpecsTaken, held_apps, held_processes};
 ghost use Rattle.script_children.specs.Undo.{TakesBack};
 ghost use Rattle.sys_protocol.specs.Stopping.{FailToStartAgain, StartAgain, shutdown, to_stop};
 ghost use Rattle.sys_protocol.specs.declared.start_failed.StartFailed.{StartFailed as FailedStart};
@@ -54,6 +54,7 @@ pub(crate) fn stop_children(
     ensures back { IfOk result (λ it. TakesBack it.undo
         (record { apps = apps.old; processes = processes.old }) (record { apps = apps.new; processes = processes.new })) }
     ensures pieces { IfOk result (λ it. HoldsLost (held_processes it.undo processes.new) processes.old processes.new) }
+    ensures app_pieces { IfOk result (λ it. SpecsTaken (held_apps it.undo apps.new) apps.old apps.new) }
     ensures err { OnErr result ((apps.new ≡ apps.old) × (processes.new ≡ processes.old) × (noted.new.items ≡ noted.old.items)) }
 {
     let stopped = stop(apps, processes, alloc, modules, noted, n)?;
@@ -88,6 +89,7 @@ pub(crate) fn start_children(
     ensures back { IfOk result (λ it. TakesBack it.undo
         (record { apps = apps.old; processes = processes.old }) (record { apps = apps.new; processes = processes.new })) }
     ensures pieces { IfOk result (λ it. HoldsLost (held_processes it.undo processes.new) processes.old processes.new) }
+    ensures app_pieces { IfOk result (λ it. SpecsTaken (held_apps it.undo apps.new) apps.old apps.new) }
     ensures failed { IfErr result (Fails (λ reason. (failed : FailedStart) ×
         FailToStartAgain failed (current_code modules.now) noted.now names.now apps.old processes.old ×
         (reason ≡ start_failed failed.child failed.reason)) (Unit {0})) }
