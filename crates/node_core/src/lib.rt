@@ -19,8 +19,8 @@
 //!   [`undo_journal`] promises holds of the node: after any commands and undos it is the fold of the rule over the steps not undone, and
 //!   an undo reports exactly the replies sent and the messages accepted since.
 //! - What a journal keeps of a step is bounded: of every station its record holds only messages and places of processes, instances of
-//!   code, releases and a script that its step has taken from the node, each once ([`record_at`], `HoldsLost`). Of a restart that is
-//!   all but the releases.
+//!   code, specifications of applications and children, releases and a script that its step has taken from the node, each once
+//!   ([`record_at`], `HoldsLost`). Of a restart that is all but the releases.
 //! - Every node keeps what stands in `IsKept`: of its code, its children, and a script that it runs; [`Node::modules`] tells it.
 //! - Of its processes it tells who lives under a pid ([`Node::process`]) and under a name ([`Node::pid_of`]), which job one runs
 //!   ([`Node::retake`]), and which could take a message now ([`Node::is_runnable`], [`Node::runnable`]: `IsNextRunnable`); of its
