@@ -31,9 +31,9 @@ app_pieces a = of_app a.spec ∷ child_pieces a.spec.name a.children
 abbrev pub pieces : List Application → List Piece
 pieces apps = flat_map app_pieces apps
 
--- the pieces of the children of the application at a place
+-- The pieces of children of the application at a place. Where no application stands they count too, as those of one without a name.
 abbrev pub child_pieces_at : Option Application → List Child → List Piece
-child_pieces_at None children = []
+child_pieces_at None children = child_pieces [] children
 child_pieces_at (Some a) children = child_pieces a.spec.name children
 
 -- the former specifications of children that were specified anew, where they are other ones
@@ -47,7 +47,7 @@ edit_pieces name Added = []
 edit_pieces name (Kept from former) = former_pieces name former
 
 abbrev pub renewal_pieces : Option Application → List ChildEdit → List Piece
-renewal_pieces None edits = []
+renewal_pieces None edits = flat_map (edit_pieces []) edits
 renewal_pieces (Some a) edits = flat_map (edit_pieces a.spec.name) edits
 
 -- What an undo holds, by the applications after its step: where an application was started, the children that it had before; where
@@ -70,16 +70,16 @@ held_former f = map (λ r. of_app r.spec) f.replaced
 abbrev pub held_back : PutBack → List Piece
 held_back p = map (λ r. of_app r.spec) p.replaced ++ pieces p.added
 
--- Of children that were specified anew a former specification is held only where its value has changed.
+-- Children were specified anew, and a former specification is held only where its value has changed.
 
 abbrev pub HoldChangedIn : Option Application → List ChildEdit → Type 0
-HoldChangedIn None edits = Unit {0}
+HoldChangedIn None edits = ⊥
 HoldChangedIn (Some a) edits = HoldChanged 0 edits a.children
 
 abbrev pub HoldsChangedSpecs : Undo → List Application → Type 0
-HoldsChangedSpecs (Started app children) apps = Unit {0}
-HoldsChangedSpecs (Revived spot) apps = Unit {0}
-HoldsChangedSpecs (AllEnded cs) apps = Unit {0}
-HoldsChangedSpecs (AllRun rs) apps = Unit {0}
-HoldsChangedSpecs (AppStopped app states) apps = Unit {0}
+HoldsChangedSpecs (Started app children) apps = ⊥
+HoldsChangedSpecs (Revived spot) apps = ⊥
+HoldsChangedSpecs (AllEnded cs) apps = ⊥
+HoldsChangedSpecs (AllRun rs) apps = ⊥
+HoldsChangedSpecs (AppStopped app states) apps = ⊥
 HoldsChangedSpecs (Renewed app edits) apps = HoldChangedIn (slice_get apps app) edits

@@ -23,7 +23,8 @@
 //!   put in place again, as they were ([`AppTable::reload`], [`AppTable::put_again`]), for which there may be no memory: then
 //!   all is as it was.
 //! - What a record holds of specifications is told (`pieces`): of a start those of the children that there were, of an
-//!   application that was unloaded and of specifications that were put back those that the applications have no more, of the
+//!   application that was unloaded and of specifications that were put back those that the applications have no more, of children
+//!   that were specified anew their former ones, where these are others (`HoldsChangedSpecs`), and of the
 //!   other steps of an [`Undo`] none.
 //!
 //! The record of an end, or of a stop, has of each child its spot and its pid alone, for it ran: so an undo finds it without

@@ -7,8 +7,7 @@ ghost use Rattle.code_changes.specs.Changing.{script};
 ghost use Rattle.code_changes.specs.Undo.{AreRenewals, TakesBack};
 ghost use Rattle.process_store.specs.Pieces.{HoldsLost};
 ghost use Rattle.process_store.specs.Table.{Table};
-ghost use Rattle.process_table.specs.States.{held_places};
-ghost use Rattle.upgrade_calls.specs.Changing.{ChangesBack};
+ghost use Rattle.upgrade_calls.specs.Changing.{ChangesBack, held_changed};
 ghost use Rattle.upgrade_calls.specs.Evaluated.{AreEvaluated, nothing_evaluated, processes_after};
 ghost use Rattle.values.specs.Failure.{Fails};
 
@@ -149,7 +148,7 @@ fn upgrade(
     ensures made { IfOk result (λ it. IsMade code.now (script direction versions.now suspended.now)
         modules.now apps.old processes.old n apps.new processes.new it.told.items) }
     ensures inverse { IfOk result (λ it. ChangesBack it.undo processes.old processes.new) }
-    ensures pieces { IfOk result (λ it. HoldsLost (held_places it.undo.states processes.new) processes.old processes.new) }
+    ensures pieces { IfOk result (λ it. HoldsLost (held_changed it.undo processes.new) processes.old processes.new) }
     ensures refused { IfErr result (Fails (λ e. RefusesCodeChange e code.now (script direction versions.now suspended.now)
         modules.now apps.old processes.old) (Unit {0})) }
     ensures err { OnErr result (processes.new ≡ processes.old) }
@@ -194,7 +193,7 @@ pub fn change_code(
         modules.now apps.old processes.old n apps.new processes.new it.told.items) }
     ensures inverse { IfOk result (λ it. TakesBack it.undo apps.old processes.old apps.new processes.new) }
     ensures pieces { IfOk result
-        (λ it. HoldsLost (held_places it.undo.processes.states processes.new) processes.old processes.new) }
+        (λ it. HoldsLost (held_changed it.undo.processes processes.new) processes.old processes.new) }
     ensures refused { IfErr result (Fails (λ e. RefusesCodeChange e code.now (script direction versions.now suspended.now)
         modules.now apps.old processes.old) (Unit {0})) }
     ensures err { OnErr result ((apps.new ≡ apps.old) × (processes.new ≡ processes.old)) }

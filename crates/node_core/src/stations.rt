@@ -1,5 +1,5 @@
 // What a journal over nodes keeps of its stations.
-ghost use Rattle.std.specs.Prelude.{IfSome};
+ghost use Rattle.std.specs.Prelude.{◌<◌, ◌↔◌, IfSome, IsTrue, is_some, length};
 ghost use Rattle.node_parts.specs.Pieces.{HoldsLost};
 ghost use Rattle.undo_journal.specs.Past.{IsRecordAt};
 
@@ -10,7 +10,8 @@ use undo_journal::Journal;
 /// The record that takes back the step to the station at a place behind a journal's first, counted from 0; none past its last station.
 /// It holds only what its step has lost, and each piece once (`HoldsLost`). Takes no memory.
 pub fn record_at(journal: &Journal<Node>, place: usize) -> Option<&Record>
-    ensures { IfSome result (λ it. IsRecordAt HoldsLost place journal.now it.now) }
+    ensures kept { IsTrue (is_some result) ↔ (place < length journal.now.later) }
+    ensures lost { IfSome result (λ it. IsRecordAt HoldsLost place journal.now it.now) }
 {
     journal.record(place)
 }

@@ -23,7 +23,7 @@ use Rattle.script_runner.proofs.Taken.{instances_taken, no_instance, no_process,
 use Rattle.script_state.specs.Runner.{RunnerState, runner_of}
 use Rattle.node_rules.specs.Node.{NodeState}
 use Rattle.node_rules.specs.Scripts.{parts_in}
-use Rattle.node_parts.specs.Pieces.{AllTaken, HoldsLost, ReleasesLost, former_of, instances_in, removed_by, removed_if_any, specs_of}
+use Rattle.node_parts.specs.Pieces.{AllTaken, HoldsLost, ReleasesLost, ScriptLost, specs_kept, instances_in, removed_by, removed_if_any, specs_of}
 use Rattle.node_parts.specs.Record.{ReleasesBack, RestartBack, Restores}
 use Rattle.node_parts.specs.declared.record.Displaced.{Displaced}
 use Rattle.node_parts.specs.declared.record.Record.{Record}
@@ -88,22 +88,27 @@ all_of xs ys same = subst (λ (l : List apps.Piece). IsPermutation (xs ++ []) l)
 
 finished_script : (u : Finish) (s : RunnerState) (before after : NodeState) → before.runner ≡ Some s → FinishBack u s before.processes after.processes before.releases after.releases → after ≡ record before { processes = after.processes; releases = after.releases; runner = None } → AllTaken (apps.held_former u.runner.former) (specs_of before) (specs_of after)
 finished_script u s before after ran back is =
-    let former : apps.held_former u.runner.former ≡ former_of before.runner = ap (λ (r : RunnerState). apps.held_former r.former) back.runner ∙ ap former_of (sym ran) in
+    let former : apps.held_former u.runner.former ≡ specs_kept before.runner = ap (λ (r : RunnerState). apps.held_former r.former) back.runner ∙ ap specs_kept (sym ran) in
     let left : specs_of after ≡ apps.pieces before.apps = ap specs_of is in
     let whole : apps.held_former u.runner.former ++ specs_of after ≡ specs_of before = ap (λ l. apps.held_former u.runner.former ++ l) left ∙ ap (λ l. l ++ apps.pieces before.apps) former in
     subst (λ (l : List apps.Piece). IsPermutation (apps.held_former u.runner.former ++ specs_of after) l) whole (IsPermutation-refl (apps.held_former u.runner.former ++ specs_of after))
 
 given_up : (u : Recovery) (s : RunnerState) (before after : NodeState) → before.runner ≡ Some s → RecoveryBack u s before.apps after.apps → after ≡ record before { apps = after.apps; runner = None } → AllTaken (apps.held_back u.specs) (specs_of before) (specs_of after)
 given_up u s before after ran back is =
-    let left : specs_of after ≡ apps.pieces after.apps = ap (λ (n : NodeState). former_of n.runner ++ apps.pieces after.apps) is in
-    let old : specs_of before ≡ apps.held_former s.former ++ apps.pieces before.apps = ap (λ o. former_of o ++ apps.pieces before.apps) ran in
+    let left : specs_of after ≡ apps.pieces after.apps = ap (λ (n : NodeState). specs_kept n.runner ++ apps.pieces after.apps) is in
+    let old : specs_of before ≡ apps.held_former s.former ++ apps.pieces before.apps = ap (λ o. specs_kept o ++ apps.pieces before.apps) ran in
     subst (λ (l : List apps.Piece). IsPermutation (apps.held_back u.specs ++ specs_of after) l) (sym old) (subst (λ (l : List apps.Piece). IsPermutation (apps.held_back u.specs ++ l) (apps.held_former s.former ++ apps.pieces before.apps)) (sym left) back.pieces)
 
-all_specs : (d : Displaced) (before after : NodeState) → RestartBack d before after → AllTaken (former_of (option_map runner_of d.runner) ++ apps.pieces d.apps) (specs_of before) []
+all_specs : (d : Displaced) (before after : NodeState) → RestartBack d before after → AllTaken (specs_kept (option_map runner_of d.runner) ++ apps.pieces d.apps) (specs_of before) []
 all_specs d before after back =
-    let former = ap former_of back.runner in
+    let former = ap specs_kept back.runner in
     let rest = ap apps.pieces back.apps in
-    all_of (former_of (option_map runner_of d.runner) ++ apps.pieces d.apps) (specs_of before) (ap (λ l. l ++ apps.pieces d.apps) former ∙ ap (λ l. former_of before.runner ++ l) rest)
+    all_of (specs_kept (option_map runner_of d.runner) ++ apps.pieces d.apps) (specs_of before) (ap (λ l. l ++ apps.pieces d.apps) former ∙ ap (λ l. specs_kept before.runner ++ l) rest)
+
+-- of the script that ran at a restart, if one did
+script_stopped : (held before after : Option RunnerState) → held ≡ before → after ≡ None → ScriptLost held before after
+script_stopped None before after is none = tt
+script_stopped (Some s) before after is none = (sym is, none)
 
 -- of each record
 pub held_lost : (r : Record) (before after : NodeState) → Restores r before after → HoldsLost r before after
@@ -112,75 +117,75 @@ held_lost (OfProcesses undo) before after (takes, is, lost) = record {
   instances = no_instance before.modules after.modules;
   specs = tt;
   releases = inl refl;
-  script = λ holds. absurd holds;
+  script = tt;
 }
 held_lost (OfChildren undo ended) before after (takes, apps, is, lost, specs) = record {
   processes = lost;
   instances = no_instance before.modules after.modules;
   specs = specs;
   releases = inl refl;
-  script = λ holds. absurd holds;
+  script = tt;
 }
 held_lost (OfCode undo) before after (takes, is) = record {
   processes = takes.code.pieces;
   instances = takes.code.instances;
   specs = takes.specs;
   releases = inl refl;
-  script = λ holds. absurd holds;
+  script = tt;
 }
 held_lost (OfDeletion undo) before after (fits, back, is, none) = record {
   processes = no_process before.processes after.processes;
   instances = subst (λ (o : Option (Instance Forms)). CodeLost (option_to_list o) before.modules after.modules) (sym none) (no_instance before.modules after.modules);
   specs = tt;
   releases = inl refl;
-  script = λ holds. absurd holds;
+  script = tt;
 }
 held_lost (OfReleases undo) before after (takes, is) = record {
   processes = no_process before.processes after.processes;
   instances = no_instance before.modules after.modules;
   specs = tt;
   releases = releases_taken undo before.releases after.releases takes;
-  script = λ holds. absurd holds;
+  script = tt;
 }
 held_lost OfInstall before after (s, back) = record {
   processes = no_process before.processes after.processes;
   instances = no_instance before.modules after.modules;
   specs = tt;
   releases = inl refl;
-  script = λ holds. absurd holds;
+  script = tt;
 }
 held_lost (OfInstruction undo) before after (s, now, back) = record {
   processes = processes_taken undo (parts_in s before) (parts_in now after) back.back;
   instances = instances_taken undo (parts_in s before) (parts_in now after) back.back;
   specs = specs_taken undo (parts_in s before) (parts_in now after) back.back;
   releases = inl refl;
-  script = λ holds. absurd holds;
+  script = tt;
 }
 held_lost (OfFinish undo) before after (s, ran, back, is) = record {
   processes = no_process before.processes after.processes;
   instances = no_instance before.modules after.modules;
   specs = finished_script undo s before after ran back is;
   releases = inl (none_removed undo.statuses back.kept);
-  script = λ holds. ap (λ (n : NodeState). n.runner) is;
+  script = (ran ∙ ap Some (sym back.runner), ap (λ (n : NodeState). n.runner) is);
 }
 held_lost (OfRecovery undo) before after (s, ran, back, is) = record {
   processes = no_process before.processes after.processes;
   instances = no_instance before.modules after.modules;
   specs = given_up undo s before after ran back is;
   releases = inl refl;
-  script = λ holds. ap (λ (n : NodeState). n.runner) is;
+  script = (ran ∙ ap Some (sym back.runner), ap (λ (n : NodeState). n.runner) is);
 }
 held_lost (OfPurges undo statuses) before after (purges, listed, is) = record {
   processes = purges.code.pieces;
   instances = purges.code.instances;
   specs = purges.specs;
   releases = inl (none_if_any statuses before.releases after.releases listed);
-  script = λ holds. absurd holds;
+  script = tt;
 }
 held_lost (OfRestart d) before after back = record {
   processes = all_processes d.processes before.processes back.processes;
   instances = all_code d.modules before.modules (without_code after.modules) back.modules refl;
   specs = all_specs d before after back;
   releases = inl (none_removed d.statuses back.kept);
-  script = λ holds. back.stopped;
+  script = script_stopped (option_map runner_of d.runner) before.runner after.runner back.runner back.stopped;
 }

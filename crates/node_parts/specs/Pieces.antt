@@ -4,6 +4,7 @@
 use Rattle.std.specs.Prelude.{◌≡◌, ℕ, ◌⊎◌, ◌++◌, IsPermutation, List, [], ◌∷◌, Option, None, Some, option_map, option_to_list}
 use Rattle.std.specs.List.{flat_map}
 use Rattle.app_table.specs.Pieces as apps
+use Rattle.app_table.specs.Undo.{former_of}
 use Rattle.code_loading.specs.Pieces.{CodeLost, all_held, held_killed}
 use Rattle.code_replacement.specs.Undo as replacing
 use Rattle.code_server.specs.Modules.{Entry, Table as Loaded, emptied as without_code}
@@ -17,6 +18,7 @@ use Rattle.process_table.specs.Undo.{held}
 use Rattle.release_statuses.specs.declared.listed.Listed.{Listed}
 use Rattle.release_statuses.specs.declared.undo.Undo as releases_undo
 use Rattle.release_statuses.specs.declared.undo.Undo.TheVariants.{Added, Removed, Statuses}
+use Rattle.script_ends.specs.Ends.{abandoned_of}
 use Rattle.script_runner.specs.Pieces as instructions
 use Rattle.script_state.specs.Runner.{RunnerState, runner_of}
 use Rattle.node_rules.specs.Node.{NodeState}
@@ -56,12 +58,12 @@ held_instances (OfRestart d) = flat_map instances_in d.modules.entries
 
 -- The specifications of a node: those in its applications, and the former ones that the script keeps.
 
-abbrev pub former_of : Option RunnerState → List apps.Piece
-former_of None = []
-former_of (Some r) = apps.held_former r.former
+abbrev pub specs_kept : Option RunnerState → List apps.Piece
+specs_kept None = []
+specs_kept (Some r) = apps.held_former r.former
 
 abbrev pub specs_of : NodeState → List apps.Piece
-specs_of n = former_of n.runner ++ apps.pieces n.apps
+specs_of n = specs_kept n.runner ++ apps.pieces n.apps
 
 -- All of the specifications before are lost that are not left.
 abbrev pub AllTaken : List apps.Piece → List apps.Piece → List apps.Piece → Type 0
@@ -80,7 +82,7 @@ SpecsLost (OfInstruction undo) before after = instructions.SpecsLost undo before
 SpecsLost (OfFinish undo) before after = AllTaken (apps.held_former undo.runner.former) (specs_of before) (specs_of after)
 SpecsLost (OfRecovery undo) before after = AllTaken (apps.held_back undo.specs) (specs_of before) (specs_of after)
 SpecsLost (OfPurges undo statuses) before after = replacing.held_of undo.ended after.apps ≡ []
-SpecsLost (OfRestart d) before after = AllTaken (former_of (option_map runner_of d.runner) ++ apps.pieces d.apps) (specs_of before) []
+SpecsLost (OfRestart d) before after = AllTaken (specs_kept (option_map runner_of d.runner) ++ apps.pieces d.apps) (specs_of before) []
 
 -- the releases
 abbrev pub removed_by : releases_undo.Undo → List Listed
@@ -105,19 +107,25 @@ held_releases (OfRecovery undo) = []
 held_releases (OfPurges undo statuses) = removed_if_any statuses
 held_releases (OfRestart d) = removed_by d.statuses
 
--- Whether it holds a script, with all that is noted for it: it does where the script has ended.
-abbrev pub HoldsScript : Record → Type 0
-HoldsScript (OfProcesses undo) = ⊥
-HoldsScript (OfChildren undo ended) = ⊥
-HoldsScript (OfCode undo) = ⊥
-HoldsScript (OfDeletion undo) = ⊥
-HoldsScript (OfReleases undo) = ⊥
-HoldsScript OfInstall = ⊥
-HoldsScript (OfInstruction undo) = ⊥
-HoldsScript (OfFinish undo) = Unit {0}
-HoldsScript (OfRecovery undo) = Unit {0}
-HoldsScript (OfPurges undo statuses) = ⊥
-HoldsScript (OfRestart d) = Unit {0}
+-- The script that it holds, with all that is noted for it: that which has ended, if one has. The specifications that a script which was given
+-- up had kept are in the applications again.
+abbrev pub held_script : Record → NodeState → Option RunnerState
+held_script (OfProcesses undo) after = None
+held_script (OfChildren undo ended) after = None
+held_script (OfCode undo) after = None
+held_script (OfDeletion undo) after = None
+held_script (OfReleases undo) after = None
+held_script OfInstall after = None
+held_script (OfInstruction undo) after = None
+held_script (OfFinish undo) after = Some (runner_of undo.runner)
+held_script (OfRecovery undo) after = Some (abandoned_of undo.script (former_of undo.specs after.apps))
+held_script (OfPurges undo statuses) after = None
+held_script (OfRestart d) after = option_map runner_of d.runner
+
+-- It is the script that ran before, and none runs after.
+abbrev pub ScriptLost : Option RunnerState → Option RunnerState → Option RunnerState → Type 0
+ScriptLost None before after = Unit {0}
+ScriptLost (Some held) before after = (before ≡ Some held) × (after ≡ None)
 
 -- What is left with a step: of a restart nothing but the releases, for all that booted is new.
 
@@ -157,4 +165,4 @@ pub record HoldsLost (r : Record) (before after : NodeState) : Type 0 where
   pub instances : CodeLost (held_instances r) before.modules (code_left r after)
   pub specs : SpecsLost r before after
   pub releases : ReleasesLost (held_releases r) before.releases after.releases
-  pub script : HoldsScript r → after.runner ≡ None
+  pub script : ScriptLost (held_script r after) before.runner after.runner

@@ -10,11 +10,11 @@ use Rattle.code_server.specs.declared.modules.Instance.{Instance}
 use Rattle.erl_forms.specs.Module.{Forms}
 use Rattle.process_store.specs.Pieces.{Piece, no_pieces}
 use Rattle.process_store.specs.Table.{Table}
-use Rattle.process_table.specs.States.{held_places}
 use Rattle.process_table.specs.Undo.{held}
 use Rattle.script_children.specs.Pieces as children
 use Rattle.script_runner.specs.declared.undo.Undo.{Undo}
 use Rattle.script_runner.specs.declared.undo.Undo.TheVariants.{Nothing, Read, Replaced, Purged, Suspended, Resumed, Changed, Children}
+use Rattle.upgrade_calls.specs.Changing.{held_changed}
 
 -- the pieces of the process of a pid, by the processes after the instruction
 abbrev pub held_processes : Undo → Table → ℕ → List Piece
@@ -24,7 +24,7 @@ held_processes (Replaced u noted) t = held_killed u.code.killed t
 held_processes (Purged u) t = held u.code.killed t
 held_processes (Suspended count) t = no_pieces
 held_processes (Resumed u) t = no_pieces
-held_processes (Changed u) t = held_places u.processes.states t
+held_processes (Changed u) t = held_changed u.processes t
 held_processes (Children u count) t = children.held_processes u t
 
 -- the instances of code

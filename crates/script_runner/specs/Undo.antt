@@ -4,7 +4,7 @@ use Rattle.std.specs.Prelude.{◌≡◌, ◌≤◌, ◌-◌, Bool, if◌then◌e
 use Rattle.code_changes.specs.Undo as changes
 use Rattle.code_replacement.specs.Undo as code
 use Rattle.process_store.specs.Pieces.{HoldsLost}
-use Rattle.process_table.specs.States.{all_resumed, all_unresumed, held_places}
+use Rattle.process_table.specs.States.{all_resumed, all_unresumed}
 use Rattle.script_children.specs.Pieces.{SpecsTaken, held_apps, held_processes}
 use Rattle.script_children.specs.Undo as children
 use Rattle.script_state.specs.ObjectCode.{but_last_noted}
@@ -13,6 +13,7 @@ use Rattle.script_runner.specs.Parts.{Parts}
 use Rattle.script_runner.specs.declared.undo.Undo.{Undo}
 use Rattle.script_runner.specs.declared.undo.Undo.TheVariants.{Nothing, Read, Replaced, Purged, Suspended, Resumed, Changed, Children}
 use Rattle.suspensions.specs.Suspending.{but_last, last_of}
+use Rattle.upgrade_calls.specs.Changing.{held_changed}
 
 -- without the last item, where one was added
 abbrev pub without_note : {A : Type 0} → Bool → List A → List A
@@ -33,7 +34,7 @@ TakesBack (Resumed u) p q = (all_unresumed u.resumed q.processes ≡ p.processes
     (q ≡ record p { processes = q.processes; suspended = q.suspended })
 TakesBack (Changed u) p q = changes.TakesBack u p.apps p.processes q.apps q.processes ×
     (q ≡ record p { processes = q.processes; apps = q.apps }) ×
-    HoldsLost (held_places u.processes.states q.processes) p.processes q.processes
+    HoldsLost (held_changed u.processes q.processes) p.processes q.processes
 TakesBack (Children u count) p q = children.TakesBack u (supervised_of p) (supervised_of q) × (count ≤ length q.stopped) ×
     (take (length q.stopped - count) q.stopped ≡ p.stopped) ×
     (q ≡ record p { processes = q.processes; apps = q.apps; stopped = q.stopped }) ×

@@ -5,10 +5,11 @@ ghost use Rattle.code_changes.specs.Changing.{IsMade, script};
 ghost use Rattle.code_changes.specs.Undo.{TakesBack};
 ghost use Rattle.code_loading.specs.Current.{current_code};
 ghost use Rattle.process_store.specs.Pieces.{HoldsLost};
-ghost use Rattle.process_table.specs.States.{all_resumed, all_suspended, all_unresumed, held_places};
+ghost use Rattle.process_table.specs.States.{all_resumed, all_suspended, all_unresumed};
 ghost use Rattle.script_runner.specs.Failures.{code_change_failed};
 ghost use Rattle.script_runner.specs.Suspending.{HaltsChange, halt_of};
 ghost use Rattle.suspensions.specs.Suspending.{but_last, last_of, names, still_suspended, suspend_refusal, to_resume, to_suspend};
+ghost use Rattle.upgrade_calls.specs.Changing.{held_changed};
 ghost use Rattle.values.specs.Failure.{Fails, Tells};
 
 use crate::halt::Halt;
@@ -133,7 +134,7 @@ pub(crate) fn change_children(
     ensures made { IfOk result (λ it. IsMade (current_code modules.now) (script direction versions.now suspended.now)
         changes.now apps.old processes.old n apps.new processes.new it.told.items) }
     ensures back { IfOk result (λ it. TakesBack it.undo apps.old processes.old apps.new processes.new) }
-    ensures pieces { IfOk result (λ it. HoldsLost (held_places it.undo.processes.states processes.new) processes.old processes.new) }
+    ensures pieces { IfOk result (λ it. HoldsLost (held_changed it.undo.processes processes.new) processes.old processes.new) }
     ensures halted { IfErr result (Fails (λ halt. HaltsChange halt (current_code modules.now)
         (script direction versions.now suspended.now) changes.now apps.old processes.old) (Unit {0})) }
     ensures err { OnErr result ((apps.new ≡ apps.old) × (processes.new ≡ processes.old)) }

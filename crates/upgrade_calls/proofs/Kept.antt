@@ -1,5 +1,6 @@
 -- What changes of states hold is lost also once all acts are done: these leave each place and each turn.
-use Rattle.std.proofs.Common.{◌≡◌, ℕ, ◌-◌, true, false, cond, List, [], ◌∷◌, Option, None, Some, refl, sym, ap, subst}
+use Rattle.std.proofs.Common.{◌≡◌, ◌∙◌, ℕ, zero, suc, ◌-◌, true, false, cond, List, [], ◌∷◌, ◌++◌, Option, None, Some, refl, sym, ap, subst}
+use Rattle.std.proofs.lemmas.List.{append-nil}
 use Rattle.std.proofs.lemmas.Option.{none-some, same_Some}
 use Rattle.std.specs.Prelude.{nat_eq}
 use Rattle.erl_semantics.specs.declared.acts.Place.{Place}
@@ -7,8 +8,8 @@ use Rattle.erl_term.specs.declared.term.Term.{Term}
 use Rattle.process.specs.Process.{with_state}
 use Rattle.process.specs.declared.activity.Activity.{Activity}
 use Rattle.process.specs.declared.activity.Activity.TheVariants.{Idle, Suspended, Runs}
-use Rattle.process_store.specs.Pieces.{AreLost, AreNotAmong, HoldsLost, IsNotAmong, at_place, in_job, in_mailbox, living_pieces, pieces_at, ran_pieces, waiting}
-use Rattle.process_store.specs.Table.{Table, living}
+use Rattle.process_store.specs.Pieces.{AreLost, AreNotAmong, HoldsLost, IsNotAmong, Piece, at_place, in_job, in_mailbox, living_pieces, pieces_at, ran_pieces, waiting}
+use Rattle.process_store.specs.Table.{Table, empty_table, living}
 use Rattle.process_store.specs.declared.living.Living.{Living}
 use Rattle.process_table.specs.States.{held_places, place_before}
 use Rattle.process_table.specs.declared.states.StateChange.{StateChange}
@@ -63,3 +64,20 @@ pub still_lost : (cs : List StateChange) (before t u : Table) → ((pid : ℕ) �
 still_lost cs before t u same lost pid =
     subst (λ held. AreLost held (pieces_at pid before) (pieces_at pid u)) (held_there cs t u pid (same pid))
     ((lost pid).0, lost_there cs t pid (living pid t) (living pid u) (same pid) (lost pid).1)
+
+-- What holds only lost pieces, whatever was there before, holds none.
+
+nobody : (pid : ℕ) → pieces_at pid empty_table ≡ []
+nobody zero = refl
+nobody (suc pid) = refl
+
+none_in_front : (held others : List Piece) → [] ≡ held ++ others → held ≡ []
+none_in_front [] others is = refl
+none_in_front (x ∷ held) others is = absurd (let no : ⊥ = cc in no)
+
+pub nothing_held : (held : ℕ → List Piece) (t : Table) → HoldsLost held empty_table t → (pid : ℕ) → held pid ≡ []
+nothing_held held t lost pid = none_in_front (held pid) (lost pid).0.0 (sym (nobody pid) ∙ (lost pid).0.1)
+
+pub more_lost : (held none : ℕ → List Piece) (before after : Table) → HoldsLost held before after → ((pid : ℕ) → none pid ≡ []) → HoldsLost (λ pid. held pid ++ none pid) before after
+more_lost held none before after lost nothing pid =
+    subst (λ (l : List Piece). AreLost l (pieces_at pid before) (pieces_at pid after)) (sym (ap (λ (l : List Piece). held pid ++ l) (nothing pid) ∙ append-nil (held pid))) (lost pid)

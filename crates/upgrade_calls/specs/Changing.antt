@@ -1,5 +1,5 @@
 -- Processes change their states by `code_change/3`, one after the other (gen_server(3), code_change/3; appup(4), code_change).
-use Rattle.std.specs.Prelude.{◌≡◌, ◌⊎◌, ◌<◌, ◌^◌, List, [], ◌∷◌, ◌++◌, codes, map, Option, None, Some}
+use Rattle.std.specs.Prelude.{◌≡◌, ◌⊎◌, ◌<◌, ◌^◌, ℕ, List, [], ◌∷◌, ◌++◌, codes, map, Option, None, Some}
 use Rattle.callback_lang.specs.Returns.{ChangeReturn, change_return, new_state, unchanged}
 use Rattle.erl_forms.specs.Module.{Forms}
 use Rattle.erl_semantics.specs.Jobs.{Evaluates}
@@ -18,8 +18,9 @@ use Rattle.process_effects.specs.declared.told.Reply.{Reply}
 use Rattle.process_store.specs.Changes.{restate_living}
 use Rattle.process_store.specs.Table.{Table, changed, living}
 use Rattle.process_store.specs.declared.living.Living.{Living}
-use Rattle.process_table.specs.States.{CanUnrestateAll, all_unrestated}
-use Rattle.process_table.specs.Undo.{Fits, undone}
+use Rattle.process_store.specs.Pieces.{Piece}
+use Rattle.process_table.specs.States.{CanUnrestateAll, all_unrestated, held_places}
+use Rattle.process_table.specs.Undo.{Fits, held, undone}
 use Rattle.upgrade_calls.specs.declared.changing.Change.{Change}
 use Rattle.upgrade_calls.specs.declared.changing.ChangeFailed.{ChangeFailed}
 use Rattle.upgrade_calls.specs.declared.changing.ChangeUndo.{ChangeUndo}
@@ -105,3 +106,8 @@ CanUnchange modules u t = Fits modules u.done t × CanUnrestateAll u.states (und
 
 abbrev pub ChangesBack : ChangeUndo → Table → Table → Type 0
 ChangesBack u before after = (modules : Loaded Forms) → CanUnchange modules u after × (unchanged_by modules u after ≡ before)
+
+-- The pieces that it holds of the process of a pid, by the processes after the change: former places, and what the way back of what was
+-- asked for holds.
+abbrev pub held_changed : ChangeUndo → Table → ℕ → List Piece
+held_changed u t = λ pid. held_places u.states t pid ++ held u.done t pid

@@ -1,5 +1,5 @@
 // What a call has asked for is done.
-ghost use Rattle.std.specs.Prelude.{◌≡◌, IfOk, None, OnErr, OnOk, replicate};
+ghost use Rattle.std.specs.Prelude.{◌≡◌, ℕ, [], IfOk, None, OnErr, OnOk, replicate};
 ghost use Rattle.process_effects.specs.Begins.{acts_begun, begun_told};
 ghost use Rattle.process_store.specs.Pieces.{HoldsLost};
 ghost use Rattle.process_table.specs.Undo.{TakesBack, held};
@@ -26,6 +26,7 @@ pub(crate) fn act(
     ensures told { IfOk result (λ it. it.0.items ≡ replicate n (begun_told None code.now acts processes.old)) }
     ensures inverse { IfOk result (λ it. TakesBack it.1 processes.old processes.new) }
     ensures pieces { IfOk result (λ it. HoldsLost (held it.1 processes.new) processes.old processes.new) }
+    ensures none { IfOk result (λ it. (pid : ℕ) → held it.1 processes.new pid ≡ []) }
     ensures err { OnErr result (processes.new ≡ processes.old) }
 {
     let mut batch = Batch::new(alloc);

@@ -3,9 +3,9 @@ ghost use Rattle.std.specs.Prelude.{◌≡◌, IfErr, IfOk, None, OnErr, OnOk, r
 ghost use Rattle.values.specs.Failure.{Fails};
 ghost use Rattle.process_effects.specs.Begins.{acts_begun, begun_told};
 ghost use Rattle.process_store.specs.Pieces.{HoldsLost};
-ghost use Rattle.process_table.specs.States.{CanRestateAll, all_restated, held_places};
+ghost use Rattle.process_table.specs.States.{CanRestateAll, all_restated};
 ghost use Rattle.upgrade_calls.specs.Changing.{AreCounted, CanUnchange, ChangesBack};
-ghost use Rattle.upgrade_calls.specs.Changing.{unchanged_by};
+ghost use Rattle.upgrade_calls.specs.Changing.{held_changed, unchanged_by};
 ghost use Rattle.upgrade_calls.specs.Evaluated.{AreEvaluated, AreMessages, processes_after, told_after};
 
 use crate::acting::act;
@@ -80,7 +80,7 @@ fn make_changes(
     ensures told { IfOk result (λ it. it.told.items ≡
         replicate n (begun_told None code.now acts.items (all_restated states.items processes.old))) }
     ensures inverse { IfOk result (λ it. ChangesBack it.undo processes.old processes.new) }
-    ensures pieces { IfOk result (λ it. HoldsLost (held_places it.undo.states processes.new) processes.old processes.new) }
+    ensures pieces { IfOk result (λ it. HoldsLost (held_changed it.undo processes.new) processes.old processes.new) }
     ensures err { OnErr result (processes.new ≡ processes.old) }
 {
     let mut changes = states;
@@ -118,7 +118,7 @@ pub fn make(
     ensures told { IfOk result (λ it. it.told.items ≡ replicate n (told_after code.now evaluation processes.old)) }
     ensures counted { OnOk result (AreCounted evaluation.changes processes.new) }
     ensures inverse { IfOk result (λ it. ChangesBack it.undo processes.old processes.new) }
-    ensures pieces { IfOk result (λ it. HoldsLost (held_places it.undo.states processes.new) processes.old processes.new) }
+    ensures pieces { IfOk result (λ it. HoldsLost (held_changed it.undo processes.new) processes.old processes.new) }
     ensures refused { IfErr result (Fails
         (λ e. AreCounted evaluation.changes (processes_after code.now evaluation processes.old) → ⊥) (Unit {0})) }
     ensures err { OnErr result (processes.new ≡ processes.old) }

@@ -2,5 +2,5 @@
 use Rattle.node_core.proofs.Kept.{of_record}
 use Rattle.node_core.proofs.stations.record_at.Goals as goal
 
-pub returns : goal.returns
-returns c = of_record c.args.place c.args.journal.now c.record.result c.record.ensures.takes_back
+pub returns-clause-lost : goal.returns-clause-lost
+returns-clause-lost c = of_record c.args.place c.args.journal.now c.record.result c.record.ensures.takes_back

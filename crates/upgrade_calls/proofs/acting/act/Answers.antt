@@ -1,6 +1,9 @@
 -- What is under way from the processes as they are stands.
 use Rattle.std.proofs.Common.{[], None}
 use Rattle.process_effects.specs.Begins.{acts_begun, begun_told}
+use Rattle.process_store.specs.Table.{empty_table}
+use Rattle.process_table.specs.Undo.{held}
+use Rattle.upgrade_calls.proofs.Kept.{nothing_held}
 use Rattle.upgrade_calls.proofs.acting.act.Goals as goal
 
 pub returns-in_ok-told-in-Ok-clause-done : goal.returns-in_ok-told-in-Ok-clause-done
@@ -25,3 +28,6 @@ returns-in_ok-told-in-Ok-clause-inverse c =
 
 pub returns-in_ok-told-in-Ok-clause-pieces : goal.returns-in_ok-told-in-Ok-clause-pieces
 returns-in_ok-told-in-Ok-clause-pieces c = c.in_ok-told-in-Ok.ensures.pieces c.args.processes.now
+
+pub returns-in_ok-told-in-Ok-clause-none : goal.returns-in_ok-told-in-Ok-clause-none
+returns-in_ok-told-in-Ok-clause-none c = nothing_held (held c.in_ok-told-in-Ok.undo c.finish.new.self) c.finish.new.self (c.in_ok-told-in-Ok.ensures.pieces empty_table)

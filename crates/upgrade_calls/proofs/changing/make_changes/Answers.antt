@@ -10,7 +10,8 @@ use Rattle.process_store.specs.Table.{living}
 use Rattle.process_table.specs.States.{CanUnrestateAll, all_unrestated, held_places}
 use Rattle.process_table.specs.declared.states.StateChange.{StateChange}
 use Rattle.upgrade_calls.proofs.Back.{changes_back, written}
-use Rattle.upgrade_calls.proofs.Kept.{still_lost}
+use Rattle.process_table.specs.Undo.{held}
+use Rattle.upgrade_calls.proofs.Kept.{more_lost, still_lost}
 use Rattle.upgrade_calls.proofs.Seen.{seen, seen_begun}
 use Rattle.upgrade_calls.proofs.changing.make_changes.Goals as goal
 
@@ -34,4 +35,4 @@ returns-in-Ok-clause-pieces c =
     let only = recursion_from_All (λ (a : Act). IsMessage (act_of a)) acts c.requires.messages in
     let lost = subst (λ (ss : List StateChange). HoldsLost (held_places ss now) before now) (sym is) c.restate_all.ensures.pieces in
     let same = λ (pid : ℕ). sym (seen_begun c.args.code.now pid acts now only) ∙ ap (λ t. seen (living pid t)) (ap (λ xs. acts_begun None c.args.code.now xs now) (sym c.new.ensures) ∙ sym c.in-Ok.ensures.done) in
-    still_lost c.new-states.result before now after same lost
+    more_lost (held_places c.new-states.result after) (held c.in-Ok.done after) before after (still_lost c.new-states.result before now after same lost) c.in-Ok.ensures.none
