@@ -1,0 +1,2 @@
+mod Commanded
+mod OneEnd

@@ -1,0 +1,22 @@
+//! A node that several seats share: one history of all that they asked, in the order in which it was done.
+//!
+//! A seat is who asks: a client of the node, with a number from 1. [`Command`] is what it asks, [`Said`] what it is answered, [`Fault`] why
+//! not, and an [`Entry`] of the history has all three, with the seat and what an undo of the step would report.
+//!
+//! Here stands as a definition what a history means (`specs/History`): each entry is what the node's rule and the journal's timeline make
+//! of its command where the entries before have led (`Legal`).
+//!
+//! # What is proved
+//!
+//! - A history has one end: at one point a command gives one answer, one note and one timeline ([`histories_have_one_end`]).
+//! - A legal history leads where its commands lead, so that what is proved of commands to a journal, marks among it, holds of it
+//!   ([`histories_are_commands`]).
+#![tactic(auto)]
+
+mod command;
+mod entry;
+mod laws;
+
+pub use command::{Command, Fault, Said};
+pub use entry::{Entry, Line};
+pub use laws::{histories_are_commands, histories_have_one_end};
