@@ -1,6 +1,5 @@
 -- A legal history leads where the commands lead that its entries made.
-use Rattle.std.proofs.Common.{◌≡◌, ◌-◌, ◌^◌, ℕ, inl, inr, List, [], ◌∷◌, ◌++◌, drop, length, Option, None, Some, unwrap_or, Result, Ok, Err, refl, sym, ap, subst, ◌∙◌}
-use Rattle.erl_semantics.specs.declared.jobs.Job.{Job}
+use Rattle.std.proofs.Common.{◌≡◌, ℕ, List, [], ◌∷◌, ◌++◌, drop, length, Option, None, Some, unwrap_or, Result, Ok, Err, refl, sym, ap, subst, ◌∙◌}
 use Rattle.undo_journal.proofs.Histories.{AreAfter-append, FoldsTo-live, Makes-live, Runs-of}
 use Rattle.undo_journal.specs.History.{AreAfter}
 use Rattle.undo_journal.specs.Reversible.{Accepted}
@@ -14,7 +13,7 @@ use Rattle.node_types.specs.declared.event.Answer.{Answer}
 use Rattle.node_types.specs.declared.event.Event.{Event}
 use Rattle.node_types.specs.declared.event.Event.TheVariants as event
 use Rattle.process_table.specs.declared.body.Body.TheVariants as body
-use Rattle.node_lock.specs.History.{AllMake, ByEvent, Cuts, Drops, Gives, Legal, Makes, MakesTake, NodeTimeline, Takes, TakesOf, releases_told, replies_to, taken_as}
+use Rattle.node_lock.specs.History.{AllMake, ByEvent, Cuts, Drops, Gives, Legal, Makes, MakesTake, NodeTimeline, TakesOf, releases_told, replies_to, taken_as}
 use Rattle.node_lock.specs.Laws.{IsCommanded}
 use Rattle.node_lock.specs.declared.command.Command.{Command}
 use Rattle.node_lock.specs.declared.command.Command.TheVariants as command

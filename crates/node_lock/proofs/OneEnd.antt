@@ -3,17 +3,16 @@ use Rattle.std.proofs.Common.{◌≡◌, ◌<◌, ◌-◌, ◌^◌, ◌⊎◌, �
 use Rattle.std.proofs.lemmas.Bool.{cases_order, true≢false}
 use Rattle.std.proofs.lemmas.Option.{none-some, same_Some}
 use Rattle.erl_semantics.specs.declared.jobs.Job.{Job}
-use Rattle.erl_term.specs.declared.term.Term.{Term}
 use Rattle.process_effects.specs.Commits.{job_at}
 use Rattle.process_store.specs.Table.{Table, living}
 use Rattle.process_store.specs.declared.living.Living.{Living}
-use Rattle.process_table.specs.Steps.{IsNextRunnable, is_runnable, retake_refusal, retake_refusal_of}
+use Rattle.process_table.specs.Steps.{IsNextRunnable, is_runnable, retake_refusal_of}
 use Rattle.process_table.specs.declared.body.Body.TheVariants as body
 use Rattle.process_table.specs.declared.error.ProcError.{ProcError}
 use Rattle.process_table.specs.declared.error.ProcError.TheVariants.{NotRunning}
 use Rattle.undo_journal.proofs.Forgets.{forgotten_to-uncut}
 use Rattle.undo_journal.specs.Reversible.{Accepted}
-use Rattle.undo_journal.specs.Timeline.{appended, cut_stations, cut_to, forgotten_to, here, report_of}
+use Rattle.undo_journal.specs.Timeline.{appended, cut_stations, cut_to, here, report_of}
 use Rattle.node_rules.proofs.OneOutcome.{one_outcome_of}
 use Rattle.node_rules.specs.Node.{NodeState}
 use Rattle.node_rules.specs.Step.{Step}

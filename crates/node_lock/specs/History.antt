@@ -1,8 +1,7 @@
 -- The history of a node that several seats share: what each asked and was answered, in the order in which it was done.
-use Rattle.std.specs.Prelude.{◌≡◌, ◌⊎◌, ℕ, ◌-◌, ◌^◌, nat_eq, List, [], ◌∷◌, ◌++◌, drop, filter, length, map, Option, None, Some, option_map, Result, Ok, Err}
+use Rattle.std.specs.Prelude.{◌≡◌, ◌⊎◌, ℕ, ◌-◌, ◌^◌, nat_eq, List, [], ◌∷◌, ◌++◌, drop, filter, length, map, Option, None, Some, Result, Ok, Err}
 use Rattle.std.specs.List.{flat_map}
 use Rattle.erl_semantics.specs.declared.jobs.Job.{Job}
-use Rattle.erl_term.specs.declared.term.Term.{Term}
 use Rattle.process_effects.specs.Commits.{job_at}
 use Rattle.process_effects.specs.declared.told.Reply.{Reply}
 use Rattle.process_store.specs.Table.{Table, living}
@@ -10,7 +9,6 @@ use Rattle.process_table.specs.Steps.{IsNextRunnable, retake_refusal}
 use Rattle.process_table.specs.declared.body.Body.TheVariants as body
 use Rattle.process_table.specs.declared.error.ProcError.{ProcError}
 use Rattle.release_statuses.specs.Statuses.{vsn_of, which_releases}
-use Rattle.release_statuses.specs.declared.listed.Listed.{Listed}
 use Rattle.release_statuses.specs.declared.status.Status.{Status}
 use Rattle.undo_journal.specs.declared.history.Command as journal
 use Rattle.undo_journal.specs.declared.history.Command.TheVariants.{Perform as perform, Undo as undo, Forget as forget}
