@@ -1,0 +1,52 @@
+-- What of process_store may go to another thread.
+use denote.Param.Send.{IsSend, IsSync, view_send, view_sync, sendable}
+use denote.Param.SendFields.{declared_send, declared_sync}
+use Rattle.std.proofs.Crossing.{crosses}
+use Rattle.node_sends.proofs.Process as process
+use Rattle.process_index.proofs.calls.Calls.TheSendSync as calls
+use Rattle.process_index.proofs.names.NameIndex.TheSendSync as name_index
+use Rattle.process_index.proofs.numbers.CallIndex.TheSendSync as call_index
+use Rattle.process_index.proofs.slots.Slots.TheSendSync as slots
+use Rattle.process_store.specs.contracts.living.Living as Living
+use Rattle.process_store.specs.contracts.store.ProcessStore as ProcessStore
+use Rattle.process_store.specs.contracts.store.ProcessStore.TheInside as ProcessStoreInside
+
+pub living_send : IsSend Living.the_row
+living_send = declared_send Living.the_type (process.process_send, (calls.the_send, tt))
+
+pub living_sync : IsSync Living.the_row
+living_sync = declared_sync Living.the_type (process.process_sync, (calls.the_sync, tt))
+
+process_store_fields_send : IsSend ProcessStoreInside.the_row
+process_store_fields_send = declared_send ProcessStoreInside.the_type (
+  search sendable depth 20,
+  (
+    search (
+      living_send,
+      slots.the_send,
+      crosses,
+      sendable,
+    ) depth 60 fits 20000,
+    (name_index.the_send, (call_index.the_send, tt)),
+  ),
+)
+
+pub process_store_send : IsSend ProcessStore.the_row
+process_store_send = view_send _ _ _ _ _ process_store_fields_send
+
+process_store_fields_sync : IsSync ProcessStoreInside.the_row
+process_store_fields_sync = declared_sync ProcessStoreInside.the_type (
+  search sendable depth 20,
+  (
+    search (
+      living_sync,
+      slots.the_sync,
+      crosses,
+      sendable,
+    ) depth 60 fits 20000,
+    (name_index.the_sync, (call_index.the_sync, tt)),
+  ),
+)
+
+pub process_store_sync : IsSync ProcessStore.the_row
+process_store_sync = view_sync _ _ _ _ _ process_store_fields_sync

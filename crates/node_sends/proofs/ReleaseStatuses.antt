@@ -1,0 +1,89 @@
+-- What of release_statuses may go to another thread.
+use denote.Param.Send.{IsSend, IsSync, view_send, view_sync, sendable}
+use denote.Param.SendFields.{declared_send, declared_sync, variants_send, variants_sync}
+use Rattle.std.proofs.Crossing.{crosses}
+use Rattle.node_sends.proofs.ReleaseTable as release_table
+use Rattle.release_statuses.proofs.status.Status.TheSendSync as status
+use Rattle.release_statuses.specs.contracts.listed.Listed as Listed
+use Rattle.release_statuses.specs.contracts.releases.Releases as Releases
+use Rattle.release_statuses.specs.contracts.releases.Releases.TheInside as ReleasesInside
+use Rattle.release_statuses.specs.contracts.undo.Undo as Undo
+use Rattle.values.proofs.row.Row.TheSendSync as row
+
+pub listed_send : IsSend Listed.the_row
+listed_send = declared_send Listed.the_type (release_table.release_send, (status.the_send, tt))
+
+pub listed_sync : IsSync Listed.the_row
+listed_sync = declared_sync Listed.the_type (release_table.release_sync, (status.the_sync, tt))
+
+releases_fields_send : IsSend ReleasesInside.the_row
+releases_fields_send = declared_send ReleasesInside.the_type (
+  search sendable depth 20,
+  (
+    search (
+      listed_send,
+      crosses,
+      sendable,
+    ) depth 60 fits 20000,
+    tt,
+  ),
+)
+
+pub releases_send : IsSend Releases.the_row
+releases_send = view_send _ _ _ _ _ releases_fields_send
+
+releases_fields_sync : IsSync ReleasesInside.the_row
+releases_fields_sync = declared_sync ReleasesInside.the_type (
+  search sendable depth 20,
+  (
+    search (
+      listed_sync,
+      crosses,
+      sendable,
+    ) depth 60 fits 20000,
+    tt,
+  ),
+)
+
+pub releases_sync : IsSync Releases.the_row
+releases_sync = view_sync _ _ _ _ _ releases_fields_sync
+
+pub undo_send : IsSend Undo.the_row
+undo_send = variants_send Undo.enum (
+  tt,
+  (
+    (search sendable, (listed_send, tt)),
+    (
+      (
+        search (
+          status.the_send,
+          row.the_send,
+          crosses,
+          sendable,
+        ) depth 60 fits 20000,
+        tt,
+      ),
+      tt,
+    ),
+  ),
+)
+
+pub undo_sync : IsSync Undo.the_row
+undo_sync = variants_sync Undo.enum (
+  tt,
+  (
+    (search sendable, (listed_sync, tt)),
+    (
+      (
+        search (
+          status.the_sync,
+          row.the_sync,
+          crosses,
+          sendable,
+        ) depth 60 fits 20000,
+        tt,
+      ),
+      tt,
+    ),
+  ),
+)
