@@ -1,5 +1,5 @@
 -- At one point a command gives one thing, and a history leads to one end.
-use Rattle.std.proofs.Common.{◌≡◌, ◌<◌, ◌-◌, ◌^◌, ◌⊎◌, ℕ, inl, inr, if◌then◌else◌, true, false, List, [], ◌∷◌, ◌++◌, drop, Option, None, Some, is_some, length, Result, Ok, Err, refl, sym, ap, subst, ◌∙◌, arith}
+use Rattle.std.proofs.Common.{◌≡◌, ◌<◌, ◌-◌, ◌^◌, ◌⊎◌, ℕ, inl, inr, if◌then◌else◌, true, false, List, [], ◌∷◌, ◌++◌, drop, Option, None, Some, is_some, length, map, Result, Ok, Err, refl, sym, ap, subst, ◌∙◌, arith}
 use Rattle.std.proofs.lemmas.Bool.{cases_order, true≢false}
 use Rattle.std.proofs.lemmas.Option.{none-some, same_Some}
 use Rattle.erl_semantics.specs.declared.jobs.Job.{Job}
@@ -7,6 +7,7 @@ use Rattle.process_effects.specs.Commits.{job_at}
 use Rattle.process_store.specs.Table.{Table, living}
 use Rattle.process_store.specs.declared.living.Living.{Living}
 use Rattle.process_table.specs.Steps.{IsNextRunnable, is_runnable, retake_refusal_of}
+use Rattle.release_statuses.specs.Statuses.{which_releases}
 use Rattle.process_table.specs.declared.body.Body.TheVariants as body
 use Rattle.process_table.specs.declared.error.ProcError.{ProcError}
 use Rattle.process_table.specs.declared.error.ProcError.TheVariants.{NotRunning}
@@ -22,7 +23,7 @@ use Rattle.node_types.specs.declared.event.Event.{Event}
 use Rattle.node_types.specs.declared.event.Event.TheVariants as event
 use Rattle.node_types.specs.declared.event.Refusal.{Refusal}
 use Rattle.node_types.specs.declared.event.Refusal.TheVariants.{OfProcesses}
-use Rattle.node_lock.specs.History.{ByEvent, Cuts, Drops, Gives, HasNoStation, IsRetaken, IsTurn, Legal, NodeTimeline, Reads, RefusesBy, Takes, TakesOf, releases_told, replies_to, taken_as}
+use Rattle.node_lock.specs.History.{ByEvent, Cuts, Drops, Gives, IsCalled, IsPerformed, IsRetaken, IsTaken, IsTurn, LacksStation, Legal, NodeTimeline, Reads, RefusesBy, TakesAny, TakesOf, asked_by, replies_to}
 use Rattle.node_lock.specs.declared.command.Command.{Command}
 use Rattle.node_lock.specs.declared.command.Command.TheVariants as command
 use Rattle.node_lock.specs.declared.command.Fault.{Fault}
@@ -63,17 +64,27 @@ same_fault t e (fault.Refused x) fault.DeadMark first second = absurd second
 same_fault t e fault.SerialEnd fault.Forgotten first second = absurd second
 same_fault t e fault.SerialEnd fault.DeadMark first second = absurd second
 
-event-once : (t : NodeTimeline) (e : Event) (told : Answer → Said) (answer other : Result Said Fault) (noting more : Option Note) (after last : NodeTimeline) → ByEvent t e told answer noting after → ByEvent t e told other more last → AreOne answer other noting more after last
-event-once t e told (Ok x) (Ok y) noting more after last (a, room, first, is, noted, now) (b, left, second, was, marked, later) =
+event-once : (t : NodeTimeline) (e : Event) (IsTold : Answer → Said → Type 0) → ((a : Answer) (x y : Said) → IsTold a x → IsTold a y → x ≡ y) → (answer other : Result Said Fault) (noting more : Option Note) (after last : NodeTimeline) → ByEvent t e IsTold answer noting after → ByEvent t e IsTold other more last → AreOne answer other noting more after last
+event-once t e IsTold unique (Ok x) (Ok y) noting more after last (a, room, first, is, noted, now) (b, left, second, was, marked, later) =
     let same = same_accepted t e a b first second in (
-      ap (λ (w : Said). Ok w) (is ∙ ap (λ (o : Accepted NodeState Answer Note). told o.answer) same ∙ sym was),
+      ap (λ (w : Said). Ok w) (unique a.answer x y is (subst (λ (o : Accepted NodeState Answer Note). IsTold o.answer y) (sym same) was)),
       noted ∙ ap (λ (o : Accepted NodeState Answer Note). Some o.note) same ∙ sym marked,
       now ∙ ap (λ (o : Accepted NodeState Answer Note). appended t o.node o.note) same ∙ sym later,
     )
-event-once t e told (Ok x) (Err why) noting more after last (a, room, first, is, noted, now) second = absurd (never_both t e a why first room second.0)
-event-once t e told (Err why) (Ok y) noting more after last first (b, left, second, was, marked, later) = absurd (never_both t e b why second left first.0)
-event-once t e told (Err x) (Err y) noting more after last first second =
+event-once t e IsTold unique (Ok x) (Err why) noting more after last (a, room, first, is, noted, now) second = absurd (never_both t e a why first room second.0)
+event-once t e IsTold unique (Err why) (Ok y) noting more after last first (b, left, second, was, marked, later) = absurd (never_both t e b why second left first.0)
+event-once t e IsTold unique (Err x) (Err y) noting more after last first second =
     (ap (λ (w : Fault). Err w) (same_fault t e x y first.0 second.0), first.1 ∙ sym second.1, first.2 ∙ sym second.2)
+
+performed-once : (a : Answer) (x y : Said) → IsPerformed a x → IsPerformed a y → x ≡ y
+performed-once a x y first second = first ∙ sym second
+
+called-once : (number : ℕ) (a : Answer) (x y : Said) → IsCalled number a x → IsCalled number a y → x ≡ y
+called-once number a x y first second = first ∙ sym second
+
+job-once : (a : Answer) (x y : Said) → IsTaken a x → IsTaken a y → x ≡ y
+job-once a x y (job, told, is) (more, tells, was) =
+    let same : job ≡ more = (let both = sym told ∙ tells in cc) in is ∙ ap (λ (j : Job). said.Taken (Some j)) same ∙ sym was
 
 -- of whose turn it is
 
@@ -110,16 +121,16 @@ turn-once above t (Some p) (Some q) (inr first) (inr second) = next-once 0 t (So
 
 taken-once : (who : Option ℕ) (t : NodeTimeline) (answer other : Result Said Fault) (noting more : Option Note) (after last : NodeTimeline) → TakesOf who t answer noting after → TakesOf who t other more last → AreOne answer other noting more after last
 taken-once None t answer other noting more after last first second = reads-once t (said.Taken None) answer other noting more after last first second
-taken-once (Some pid) t answer other noting more after last first second = event-once t (event.Take pid) taken_as answer other noting more after last first second
+taken-once (Some pid) t answer other noting more after last first second = event-once t (event.Take pid) IsTaken job-once answer other noting more after last first second
 
-takes-once : (above : ℕ) (t : NodeTimeline) (answer other : Result Said Fault) (noting more : Option Note) (after last : NodeTimeline) → Takes above t answer noting after → Takes above t other more last → AreOne answer other noting more after last
+takes-once : (above : ℕ) (t : NodeTimeline) (answer other : Result Said Fault) (noting more : Option Note) (after last : NodeTimeline) → TakesAny above t answer noting after → TakesAny above t other more last → AreOne answer other noting more after last
 takes-once above t answer other noting more after last (who, turn, first) (whom, turns, second) =
     let same = turn-once above (here t).node.processes whom who turns turn in
     taken-once who t answer other noting more after last first (subst (λ w. TakesOf w t other more last) same second)
 
 -- of marks
 
-station-once : (mark : ℕ) (t : NodeTimeline) (x y : Fault) → HasNoStation mark t x → HasNoStation mark t y → x ≡ y
+station-once : (mark : ℕ) (t : NodeTimeline) (x y : Fault) → LacksStation mark t x → LacksStation mark t y → x ≡ y
 station-once mark t (fault.Refused why) y first second = absurd first
 station-once mark t fault.SerialEnd y first second = absurd first
 station-once mark t fault.Forgotten (fault.Refused why) first second = absurd second
@@ -131,7 +142,7 @@ station-once mark t fault.DeadMark fault.SerialEnd first second = absurd second
 station-once mark t fault.DeadMark fault.Forgotten first second = absurd (omega (arith, first.0, second.0))
 station-once mark t fault.DeadMark fault.DeadMark first second = refl
 
-uncut : (mark : ℕ) (t : NodeTimeline) (why : Fault) → HasNoStation mark t why → cut_to mark t ≡ None
+uncut : (mark : ℕ) (t : NodeTimeline) (why : Fault) → LacksStation mark t why → cut_to mark t ≡ None
 uncut mark t (fault.Refused why) none = absurd none
 uncut mark t fault.Forgotten none = none.1
 uncut mark t fault.DeadMark none = none.1
@@ -173,8 +184,8 @@ retaken-once pid n (Err x) (Err y) (e, refused, is) (f, refuses, was) =
 
 -- of each command
 pub gives-once : (t : NodeTimeline) (before : List Entry) (seat : ℕ) (c : Command) (answer other : Result Said Fault) (noting more : Option Note) (after last : NodeTimeline) → Gives t before seat c answer noting after → Gives t before seat c other more last → AreOne answer other noting more after last
-gives-once t before seat (command.Perform e) answer other noting more after last first second = event-once t e said.Performed answer other noting more after last first second
-gives-once t before seat (command.Call name term) answer other noting more after last first second = event-once t (event.Arrive seat name (body.Call (length before) term)) (λ it. said.Called (length before)) answer other noting more after last first second
+gives-once t before seat (command.Perform e) answer other noting more after last first second = event-once t e IsPerformed performed-once answer other noting more after last first second
+gives-once t before seat (command.Call name term) answer other noting more after last first second = event-once t (event.Arrive seat name (body.Call (length before) term)) (IsCalled (length before)) (called-once (length before)) answer other noting more after last first second
 gives-once t before seat (command.TakeAny above) answer other noting more after last first second = takes-once above t answer other noting more after last first second
 gives-once t before seat command.Mark answer other noting more after last first second = reads-once t (said.Marked (here t).serial) answer other noting more after last first second
 gives-once t before seat (command.Undo mark) answer other noting more after last first second = cuts-once mark t answer other noting more after last first second
@@ -182,10 +193,29 @@ gives-once t before seat (command.Forget mark) answer other noting more after la
 gives-once t before seat (command.Retake pid) answer other noting more after last first second =
     (retaken-once pid (here t).node answer other first.0 second.0, first.1 ∙ sym second.1, first.2 ∙ sym second.2)
 gives-once t before seat (command.Replies from) answer other noting more after last first second = reads-once t (said.Replied (drop from (replies_to seat before))) answer other noting more after last first second
-gives-once t before seat command.Which answer other noting more after last first second = reads-once t (said.Listed (releases_told (here t).node)) answer other noting more after last first second
+gives-once t before seat command.Which answer other noting more after last first second = reads-once t (said.Releases (which_releases (here t).node.releases)) answer other noting more after last first second
 
-pub end-once : (t : NodeTimeline) (before entries : List Entry) (end last : NodeTimeline) → Legal t before entries end → Legal t before entries last → end ≡ last
-end-once t before [] end last first second = first ∙ sym second
-end-once t before (e ∷ entries) end last (mid, gives, rest) (other, gave, others) =
-    let same = (gives-once t before e.seat e.command e.answer e.answer e.note e.note other mid gave gives).2 in
-    end-once mid (before ++ e ∷ []) entries end last rest (subst (λ (u : NodeTimeline). Legal u (before ++ e ∷ []) entries last) same others)
+-- Of what is asked in one order there is one history.
+
+same_head : (x y : ℕ × Command) (xs ys : List (ℕ × Command)) → x ∷ xs ≡ y ∷ ys → x ≡ y
+same_head x y xs ys same = cc
+
+same_tail : (x y : ℕ × Command) (xs ys : List (ℕ × Command)) → x ∷ xs ≡ y ∷ ys → xs ≡ ys
+same_tail x y xs ys same = cc
+
+nobody_asked : (x : ℕ × Command) (xs : List (ℕ × Command)) → [] ≡ x ∷ xs → ⊥
+nobody_asked x xs same = let no : ⊥ = cc in no
+
+pub history-once : (t : NodeTimeline) (before entries others : List Entry) (end last : NodeTimeline) → map asked_by entries ≡ map asked_by others → Legal t before entries end → Legal t before others last → (entries ≡ others) × (end ≡ last)
+history-once t before [] [] end last same first second = (refl, first ∙ sym second)
+history-once t before [] (o ∷ others) end last same first second = absurd (nobody_asked (asked_by o) (map asked_by others) same)
+history-once t before (e ∷ entries) [] end last same first second = absurd (nobody_asked (asked_by e) (map asked_by entries) (sym same))
+history-once t before (e ∷ entries) (o ∷ others) end last same (mid, gives, rest) (other, gave, more) =
+    let head = same_head (asked_by e) (asked_by o) (map asked_by entries) (map asked_by others) same in
+    let tail = same_tail (asked_by e) (asked_by o) (map asked_by entries) (map asked_by others) same in
+    let one = gives-once t before e.seat e.command e.answer o.answer e.note o.note mid other gives (subst (λ (p : ℕ × Command). Gives t before p.0 p.1 o.answer o.note other) (sym head) gave) in
+    let entry : e ≡ o = (λ i. record { seat = (head i).0; command = (head i).1; answer = one.0 i; note = one.1 i }) in
+    let there = subst (λ (u : NodeTimeline). Legal u (before ++ o ∷ []) others last) (sym one.2) more in
+    let behind = subst (λ (x : Entry). Legal mid (before ++ x ∷ []) others last) (sym entry) there in
+    let all = history-once mid (before ++ e ∷ []) entries others end last tail rest behind in
+    (λ i. entry i ∷ all.0 i, all.1)

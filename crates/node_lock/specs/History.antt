@@ -1,5 +1,5 @@
 -- The history of a node that several seats share: what each asked and was answered, in the order in which it was done.
-use Rattle.std.specs.Prelude.{◌≡◌, ◌⊎◌, ℕ, ◌-◌, ◌^◌, nat_eq, List, [], ◌∷◌, ◌++◌, drop, filter, length, map, Option, None, Some, Result, Ok, Err}
+use Rattle.std.specs.Prelude.{◌≡◌, ◌⊎◌, ℕ, ◌-◌, ◌^◌, nat_eq, List, [], ◌∷◌, ◌++◌, drop, filter, length, Option, None, Some, Result, Ok, Err}
 use Rattle.std.specs.List.{flat_map}
 use Rattle.erl_semantics.specs.declared.jobs.Job.{Job}
 use Rattle.process_effects.specs.Commits.{job_at}
@@ -8,10 +8,10 @@ use Rattle.process_store.specs.Table.{Table, living}
 use Rattle.process_table.specs.Steps.{IsNextRunnable, retake_refusal}
 use Rattle.process_table.specs.declared.body.Body.TheVariants as body
 use Rattle.process_table.specs.declared.error.ProcError.{ProcError}
-use Rattle.release_statuses.specs.Statuses.{vsn_of, which_releases}
-use Rattle.release_statuses.specs.declared.status.Status.{Status}
+use Rattle.release_statuses.specs.Statuses.{which_releases}
 use Rattle.undo_journal.specs.declared.history.Command as journal
 use Rattle.undo_journal.specs.declared.history.Command.TheVariants.{Perform as perform, Undo as undo, Forget as forget}
+use Rattle.undo_journal.specs.History.{AreAfter}
 use Rattle.undo_journal.specs.Reversible.{Accepted}
 use Rattle.undo_journal.specs.Timeline.{IsDead, IsForgotten, Timeline, appended, cut_stations, cut_to, forgotten_to, here, report_of}
 use Rattle.node_rules.specs.Node.{NodeState}
@@ -30,7 +30,7 @@ use Rattle.node_lock.specs.declared.command.Said.{Said}
 use Rattle.node_lock.specs.declared.command.Said.TheVariants as said
 use Rattle.node_lock.specs.declared.entry.Entry.{Entry}
 
--- where the node stands, has stood, and still can go back to
+-- where the node stands, and the stations that it can go back to: neither cut nor forgotten
 abbrev pub NodeTimeline : Type 0
 NodeTimeline = Timeline NodeState Note
 
@@ -38,7 +38,8 @@ NodeTimeline = Timeline NodeState Note
 abbrev pub Reads : NodeTimeline → Said → Result Said Fault → Option Note → NodeTimeline → Type 0
 Reads t it answer note after = (answer ≡ Ok it) × (note ≡ None) × (after ≡ t)
 
--- An event, by the node's rule: it is told, and its note is entered; or why it is refused. No serial is left for a step: that comes first.
+-- An event, by the node's rule: it is told, and its note is entered; or why it is refused. Where no serial is left for a step, that is told
+-- before what the rule refuses.
 
 abbrev pub IsFull : NodeTimeline → Type 0
 IsFull t = t.last ≡ 2 ^ 64 - 1
@@ -49,51 +50,50 @@ RefusesBy t e fault.Forgotten = ⊥
 RefusesBy t e fault.DeadMark = ⊥
 RefusesBy t e fault.SerialEnd = IsFull t
 
-abbrev pub ByEvent : NodeTimeline → Event → (Answer → Said) → Result Said Fault → Option Note → NodeTimeline → Type 0
-ByEvent t e told (Ok it) note after = (a : Accepted NodeState Answer Note) × (IsFull t → ⊥) × Step (here t).node e (Ok a) ×
-    (it ≡ told a.answer) × (note ≡ Some a.note) × (after ≡ appended t a.node a.note)
-ByEvent t e told (Err why) note after = RefusesBy t e why × (note ≡ None) × (after ≡ t)
+abbrev pub ByEvent : NodeTimeline → Event → (Answer → Said → Type 0) → Result Said Fault → Option Note → NodeTimeline → Type 0
+ByEvent t e IsTold (Ok it) note after = (a : Accepted NodeState Answer Note) × (IsFull t → ⊥) × Step (here t).node e (Ok a) ×
+    IsTold a.answer it × (note ≡ Some a.note) × (after ≡ appended t a.node a.note)
+ByEvent t e IsTold (Err why) note after = RefusesBy t e why × (note ≡ None) × (after ≡ t)
+
+-- how its answer is told: to an event as it is, to a call by the number, to a take by the job
+
+abbrev pub IsPerformed : Answer → Said → Type 0
+IsPerformed told it = it ≡ said.Performed told
+
+abbrev pub IsCalled : ℕ → Answer → Said → Type 0
+IsCalled number told it = it ≡ said.Called number
+
+abbrev pub IsTaken : Answer → Said → Type 0
+IsTaken told it = (job : Job) × (told ≡ told_as.Job job) × (it ≡ said.Taken (Some job))
 
 -- The process whose turn it is: of those that could take a message that with the least pid above another, else that with the least of all.
 abbrev pub IsTurn : ℕ → Option ℕ → Table → Type 0
-IsTurn after None t = IsNextRunnable 0 None t
-IsTurn after (Some pid) t = IsNextRunnable after (Some pid) t ⊎ (IsNextRunnable after None t × IsNextRunnable 0 (Some pid) t)
-
-abbrev pub taken_as : Answer → Said
-taken_as (told_as.Job job) = said.Taken (Some job)
-taken_as (told_as.Revived pid) = said.Taken None
-taken_as (told_as.Killed killed) = said.Taken None
-taken_as (told_as.Installing vsn count) = said.Taken None
-taken_as (told_as.Ran it) = said.Taken None
-taken_as (told_as.Finished vsn description) = said.Taken None
-taken_as (told_as.Recovered reason) = said.Taken None
-taken_as (told_as.Restarted reason) = said.Taken None
-taken_as (told_as.Swept names) = said.Taken None
-taken_as told_as.Unit = said.Taken None
+IsTurn above None t = IsNextRunnable 0 None t
+IsTurn above (Some pid) t = IsNextRunnable above (Some pid) t ⊎ (IsNextRunnable above None t × IsNextRunnable 0 (Some pid) t)
 
 abbrev pub TakesOf : Option ℕ → NodeTimeline → Result Said Fault → Option Note → NodeTimeline → Type 0
 TakesOf None t answer note after = Reads t (said.Taken None) answer note after
-TakesOf (Some pid) t answer note after = ByEvent t (event.Take pid) taken_as answer note after
+TakesOf (Some pid) t answer note after = ByEvent t (event.Take pid) IsTaken answer note after
 
-abbrev pub Takes : ℕ → NodeTimeline → Result Said Fault → Option Note → NodeTimeline → Type 0
-Takes above t answer note after = (who : Option ℕ) × IsTurn above who (here t).node.processes × TakesOf who t answer note after
+abbrev pub TakesAny : ℕ → NodeTimeline → Result Said Fault → Option Note → NodeTimeline → Type 0
+TakesAny above t answer note after = (who : Option ℕ) × IsTurn above who (here t).node.processes × TakesOf who t answer note after
 
 -- An undo to a mark, and a forget up to one; or the mark has no station.
 
-abbrev pub HasNoStation : ℕ → NodeTimeline → Fault → Type 0
-HasNoStation mark t (fault.Refused why) = ⊥
-HasNoStation mark t fault.Forgotten = IsForgotten mark t
-HasNoStation mark t fault.DeadMark = IsDead mark t
-HasNoStation mark t fault.SerialEnd = ⊥
+abbrev pub LacksStation : ℕ → NodeTimeline → Fault → Type 0
+LacksStation mark t (fault.Refused why) = ⊥
+LacksStation mark t fault.Forgotten = IsForgotten mark t
+LacksStation mark t fault.DeadMark = IsDead mark t
+LacksStation mark t fault.SerialEnd = ⊥
 
 abbrev pub Cuts : ℕ → NodeTimeline → Result Said Fault → Option Note → NodeTimeline → Type 0
 Cuts mark t (Ok it) note after =
     (cut_to mark t ≡ Some after) × (it ≡ said.Undone (report_of (cut_stations t after))) × (note ≡ None)
-Cuts mark t (Err why) note after = HasNoStation mark t why × (note ≡ None) × (after ≡ t)
+Cuts mark t (Err why) note after = LacksStation mark t why × (note ≡ None) × (after ≡ t)
 
 abbrev pub Drops : ℕ → NodeTimeline → Result Said Fault → Option Note → NodeTimeline → Type 0
-Drops mark t (Ok it) note after = (forgotten_to mark t ≡ Some after) × (it ≡ said.Forgotten) × (note ≡ None)
-Drops mark t (Err why) note after = HasNoStation mark t why × (note ≡ None) × (after ≡ t)
+Drops mark t (Ok it) note after = (forgotten_to mark t ≡ Some after) × (it ≡ said.Floored) × (note ≡ None)
+Drops mark t (Err why) note after = LacksStation mark t why × (note ≡ None) × (after ≡ t)
 
 -- The job that a process runs, once more; or why there is none.
 
@@ -113,22 +113,18 @@ replies_in (Some note) = note.replies
 abbrev pub replies_to : ℕ → List Entry → List Reply
 replies_to client entries = filter (λ r. nat_eq r.client client) (flat_map (λ e. replies_in e.note) entries)
 
--- the releases with their statuses, the latest that was set unpacked first
-abbrev pub releases_told : NodeState → List (List ℕ × Status)
-releases_told n = map (λ it. (vsn_of it, it.status)) (which_releases n.releases)
-
 -- What a command of a seat gives behind the entries so far: its answer, its note, and where it leads.
 abbrev pub Gives : NodeTimeline → List Entry → ℕ → Command → Result Said Fault → Option Note → NodeTimeline → Type 0
-Gives t before seat (command.Perform e) answer note after = ByEvent t e said.Performed answer note after
+Gives t before seat (command.Perform e) answer note after = ByEvent t e IsPerformed answer note after
 Gives t before seat (command.Call name term) answer note after =
-    ByEvent t (event.Arrive seat name (body.Call (length before) term)) (λ it. said.Called (length before)) answer note after
-Gives t before seat (command.TakeAny above) answer note after = Takes above t answer note after
+    ByEvent t (event.Arrive seat name (body.Call (length before) term)) (IsCalled (length before)) answer note after
+Gives t before seat (command.TakeAny above) answer note after = TakesAny above t answer note after
 Gives t before seat command.Mark answer note after = Reads t (said.Marked (here t).serial) answer note after
 Gives t before seat (command.Undo mark) answer note after = Cuts mark t answer note after
 Gives t before seat (command.Forget mark) answer note after = Drops mark t answer note after
 Gives t before seat (command.Retake pid) answer note after = Retakes pid t answer note after
 Gives t before seat (command.Replies from) answer note after = Reads t (said.Replied (drop from (replies_to seat before))) answer note after
-Gives t before seat command.Which answer note after = Reads t (said.Listed (releases_told (here t).node)) answer note after
+Gives t before seat command.Which answer note after = Reads t (said.Releases (which_releases (here t).node.releases)) answer note after
 
 -- A history is legal: each of its entries is what its command gives, in turn, behind those before, from a timeline to an end.
 abbrev pub Legal : NodeTimeline → List Entry → List Entry → NodeTimeline → Type 0
@@ -136,38 +132,35 @@ Legal t before [] end = end ≡ t
 Legal t before (e ∷ entries) end = (mid : NodeTimeline) × Gives t before e.seat e.command e.answer e.note mid ×
     Legal mid (before ++ e ∷ []) entries end
 
--- The commands to the journal that an entry made, if any: an accepted event, an undo to a mark that has a station, and a forget up to one. What
--- was refused made none, and no question does.
+-- The commands to the journal that an entry asked, if any: an accepted event, the take of whose turn it was, an undo to a mark that has a
+-- station, and a forget up to one. What was refused asked none, and no question does.
 
-abbrev pub MakesTake : Said → List (journal.Command Event) → Type 0
-MakesTake (said.Taken None) cs = cs ≡ []
-MakesTake (said.Taken (Some job)) cs = (pid : ℕ) × (cs ≡ perform (event.Take pid) ∷ [])
-MakesTake (said.Performed told) cs = ⊥
-MakesTake (said.Called number) cs = ⊥
-MakesTake (said.Marked mark) cs = ⊥
-MakesTake (said.Undone report) cs = ⊥
-MakesTake said.Forgotten cs = ⊥
-MakesTake (said.Retaken job) cs = ⊥
-MakesTake (said.Replied replies) cs = ⊥
-MakesTake (said.Listed releases) cs = ⊥
+abbrev pub AsksTake : ℕ → NodeTimeline → Said → List (journal.Command Event) → Type 0
+AsksTake above t it cs = ((it ≡ said.Taken None) × (cs ≡ [])) ⊎
+    ((pid : ℕ) × IsTurn above (Some pid) (here t).node.processes × (cs ≡ perform (event.Take pid) ∷ []))
 
-abbrev pub MakesAccepted : ℕ → ℕ → Command → Said → List (journal.Command Event) → Type 0
-MakesAccepted seat number (command.Perform e) it cs = cs ≡ perform e ∷ []
-MakesAccepted seat number (command.Call name term) it cs = cs ≡ perform (event.Arrive seat name (body.Call number term)) ∷ []
-MakesAccepted seat number (command.TakeAny above) it cs = MakesTake it cs
-MakesAccepted seat number command.Mark it cs = cs ≡ []
-MakesAccepted seat number (command.Undo mark) it cs = cs ≡ undo mark ∷ []
-MakesAccepted seat number (command.Forget mark) it cs = cs ≡ forget mark ∷ []
-MakesAccepted seat number (command.Retake pid) it cs = cs ≡ []
-MakesAccepted seat number (command.Replies from) it cs = cs ≡ []
-MakesAccepted seat number command.Which it cs = cs ≡ []
+abbrev pub AsksAccepted : NodeTimeline → ℕ → ℕ → Command → Said → List (journal.Command Event) → Type 0
+AsksAccepted t seat number (command.Perform e) it cs = cs ≡ perform e ∷ []
+AsksAccepted t seat number (command.Call name term) it cs = cs ≡ perform (event.Arrive seat name (body.Call number term)) ∷ []
+AsksAccepted t seat number (command.TakeAny above) it cs = AsksTake above t it cs
+AsksAccepted t seat number command.Mark it cs = cs ≡ []
+AsksAccepted t seat number (command.Undo mark) it cs = cs ≡ undo mark ∷ []
+AsksAccepted t seat number (command.Forget mark) it cs = cs ≡ forget mark ∷ []
+AsksAccepted t seat number (command.Retake pid) it cs = cs ≡ []
+AsksAccepted t seat number (command.Replies from) it cs = cs ≡ []
+AsksAccepted t seat number command.Which it cs = cs ≡ []
 
-abbrev pub Makes : ℕ → ℕ → Command → Result Said Fault → List (journal.Command Event) → Type 0
-Makes seat number c (Ok it) cs = MakesAccepted seat number c it cs
-Makes seat number c (Err why) cs = cs ≡ []
+abbrev pub Asks : NodeTimeline → ℕ → ℕ → Command → Result Said Fault → List (journal.Command Event) → Type 0
+Asks t seat number c (Ok it) cs = AsksAccepted t seat number c it cs
+Asks t seat number c (Err why) cs = cs ≡ []
 
--- those of entries, in turn, behind those before
-abbrev pub AllMake : List Entry → List Entry → List (journal.Command Event) → Type 0
-AllMake before [] cs = cs ≡ []
-AllMake before (e ∷ entries) cs = (one rest : List (journal.Command Event)) × Makes e.seat (length before) e.command e.answer one ×
-    AllMake (before ++ e ∷ []) entries rest × (cs ≡ one ++ rest)
+-- The commands of entries, in turn, each entry's leading to where the entry has led.
+abbrev pub AllAsk : NodeTimeline → List Entry → List Entry → List (journal.Command Event) → NodeTimeline → Type 0
+AllAsk t before [] cs end = (cs ≡ []) × (end ≡ t)
+AllAsk t before (e ∷ entries) cs end = (mid : NodeTimeline) × (one rest : List (journal.Command Event)) ×
+    Gives t before e.seat e.command e.answer e.note mid × Asks t e.seat (length before) e.command e.answer one ×
+    AreAfter Step one t mid × AllAsk mid (before ++ e ∷ []) entries rest end × (cs ≡ one ++ rest)
+
+-- what an entry has asked of the node, and of whom it comes
+abbrev pub asked_by : Entry → ℕ × Command
+asked_by e = (e.seat, e.command)

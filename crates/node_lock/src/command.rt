@@ -3,11 +3,9 @@ use erl_semantics::Job;
 use erl_term::{Atom, Term};
 use node_types::{Answer, Event, Note, Refusal};
 use process_effects::Reply;
-use release_statuses::Status;
-use release_words::Version;
-use std::alloc::{AllocError, Global};
+use release_statuses::Listed;
 use undo_journal::{Mark, Report};
-use values::{Boxed, Duplicate, Row, Same, Shared};
+use values::{Boxed, Row, Shared};
 
 /// What a seat asks.
 #[derive(Drop)]
@@ -51,14 +49,14 @@ pub enum Said {
     Marked(Mark),
     /// To an undo: what it cut.
     Undone(Report<Note>),
-    /// To a forget.
-    Forgotten,
+    /// To a forget: its mark is the first that is kept.
+    Floored,
     /// The job, once more.
     Retaken(Boxed<Job>),
     /// The replies.
     Replied(Row<Reply>),
     /// The releases, the latest that was set unpacked first.
-    Listed(Row<(Version, Status)>),
+    Releases(Row<Listed>),
 }
 
 /// Why a command is refused; never for want of memory.
@@ -68,7 +66,7 @@ pub enum Fault {
     Refused(Shared<Refusal>),
     /// The mark is below the first that is kept.
     Forgotten,
-    /// The mark has no station.
+    /// The mark is any other that has no station: that was cut, or the mark was never given.
     DeadMark,
     /// No serial is left for a step.
     SerialEnd,

@@ -6,11 +6,14 @@
 //! Here stands as a definition what a history means (`specs/History`): each entry is what the node's rule and the journal's timeline make
 //! of its command where the entries before have led (`Legal`).
 //!
+//! No call makes a history yet.
+//!
 //! # What is proved
 //!
-//! - A history has one end: at one point a command gives one answer, one note and one timeline ([`histories_have_one_end`]).
-//! - A legal history leads where its commands lead, so that what is proved of commands to a journal, marks among it, holds of it
-//!   ([`histories_are_commands`]).
+//! - What seats ask, in one order, gives one history with one end: at one point a command gives one answer, one note and one timeline
+//!   ([`histories_have_one_end`]).
+//! - A legal history leads where the commands to the journal lead that its entries have asked, entry by entry; and the node at its end is
+//!   the fold of the rule over the steps that were not undone ([`histories_are_commands`]).
 #![tactic(auto)]
 
 mod command;
