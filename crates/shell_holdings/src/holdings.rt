@@ -2,10 +2,10 @@
 ghost use Rattle.std.specs.Prelude.{◌≡◌, ◌+◌, ◌↔◌, IfOk, IsTrue, OnErr, OnOk, length};
 
 use erl_semantics::Job;
-use shell_steps::Node;
 use process_effects::Reply;
 use process_table::Processes;
 use release_files::Files;
+use shell_steps::Node;
 use std::alloc::{AllocError, Global};
 use std::hash::RandomState;
 use std::marker::Model;
