@@ -8,6 +8,7 @@ pub mod Replacing
 pub mod Restoring
 pub mod Spots
 pub mod States
+pub mod Taken
 pub mod Turns
 pub mod Walks
 pub mod Writes

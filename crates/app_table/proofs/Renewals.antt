@@ -3,14 +3,14 @@ use Rattle.std.proofs.Common.{◌≡◌, ◌<◌, ◌≤◌, ◌+◌, ℕ, zero,
 use Rattle.std.specs.Prelude.{insert, option_and_then, option_map, remove}
 use Rattle.std.proofs.lemmas.List.Edits.{length-insert, length-remove}
 use Rattle.std.proofs.lemmas.Option.{slice_get_past}
-use Rattle.values.proofs.Edits.{changed_at-back, changed_at-insert, insert-remove, remove-insert, slice_get-changed_at}
+use Rattle.values.proofs.Edits.{changed_at-back, changed_at-insert, insert-remove, remove-insert}
 use Rattle.values.specs.Edits.{changed_at}
 use Rattle.child_specs.specs.declared.child.ChildSpec.{ChildSpec}
 use Rattle.app_table.proofs.Options.{none_some, some_is}
 use Rattle.app_table.proofs.Spots.{found, got}
 use Rattle.app_table.proofs.Writes.{changed_from_write, changed_past}
 use Rattle.app_table.specs.Applications.{has_id}
-use Rattle.app_table.specs.Renewing.{HoldChanged, HoldsChanged, IsOther, child_by_id, child_for, moved, moved_if, renewed, unedited, unrenewed, with_former, with_spec, without, without_at}
+use Rattle.app_table.specs.Renewing.{AreEdits, IsEdit, child_by_id, child_for, moved, moved_if, renewed, unedited, unrenewed, with_former, with_spec, without, without_at}
 use Rattle.app_table.specs.declared.child.Child.{Child}
 use Rattle.app_table.specs.declared.renewing.ChildEdit.{ChildEdit}
 use Rattle.app_table.specs.declared.renewing.ChildEdit.TheVariants.{Added, Kept}
@@ -145,12 +145,6 @@ drop_front xs ys zero y within = refl
 drop_front [] ys (suc n) y within = absurd (omega (arith, within))
 drop_front (x ∷ xs) ys (suc n) y within = drop_front xs ys n y (omega (arith, within))
 
-get_front : {A : Type 0} (xs ys : List A) (n k : ℕ) → k < n → n ≤ length xs → slice_get (take n xs ++ ys) k ≡ slice_get xs k
-get_front xs ys zero k below within = absurd (omega (arith, below))
-get_front [] ys (suc n) k below within = absurd (omega (arith, within))
-get_front (x ∷ xs) ys (suc n) zero below within = refl
-get_front (x ∷ xs) ys (suc n) (suc k) below within = get_front xs ys n k (omega (arith, below)) (omega (arith, within))
-
 long_front : {A : Type 0} (xs ys : List A) (n : ℕ) (y : A) → n ≤ length xs → n + 1 ≤ length (take n xs ++ y ∷ ys)
 long_front xs ys zero y within = omega arith
 long_front [] ys (suc n) y within = absurd (omega (arith, within))
@@ -175,22 +169,24 @@ renewed_more row now at s ss within is =
 pub within_more : (row now others : List Child) (at : ℕ) (c : Child) → at ≤ length row → now ≡ take at row ++ c ∷ others → at + 1 ≤ length now
 within_more row now others at c within is = subst (λ (l : List Child). at + 1 ≤ length l) (sym is) (long_front row others at c within)
 
-pub same_front : (row now others : List Child) (at : ℕ) (c : Child) → at ≤ length row → now ≡ take at row ++ c ∷ others → (k : ℕ) → k < at → slice_get now k ≡ slice_get row k
-same_front row now others at c within is k below = ap (λ (l : List Child). slice_get l k) is ∙ get_front row (c ∷ others) at k below within
-
 pub unrenewed_more : (at : ℕ) (edits : List ChildEdit) (e : ChildEdit) (row : List Child) → unrenewed at (edits ++ e ∷ []) row ≡ unrenewed at edits (unedited (at + length edits) e row)
 unrenewed_more at [] e row = ap (λ n. unedited n e row) (let none : at ≡ at + 0 = omega arith in none)
 unrenewed_more at (first ∷ edits) e row =
     let next : at + 1 + length edits ≡ at + suc (length edits) = omega arith in
     ap (unedited at first) (unrenewed_more (at + 1) edits e row ∙ ap (λ n. unrenewed (at + 1) edits (unedited n e row)) next)
 
-pub changed_more : (at : ℕ) (edits : List ChildEdit) (e : ChildEdit) (row now : List Child) → ((k : ℕ) → k < at + length edits → slice_get now k ≡ slice_get row k) → HoldChanged at edits row → HoldsChanged e (slice_get now (at + length edits)) → HoldChanged at (edits ++ e ∷ []) now
-changed_more at [] e row now same all one = (subst (λ n. HoldsChanged e (slice_get now n)) (let none : at + 0 ≡ at = omega arith in none) one, tt)
-changed_more at (first ∷ edits) e row now same all one =
-    let next : at + 1 + length edits ≡ at + suc (length edits) = omega arith in (
-      subst (HoldsChanged first) (sym (same at (omega arith))) all.0,
-      changed_more (at + 1) edits e row now (λ k below. same k (omega (arith, below, next))) all.1 (subst (λ n. HoldsChanged e (slice_get now n)) (sym next) one),
-    )
+-- Those behind the front, with one more.
+pub left_more : (row now : List Child) (at : ℕ) (s : ChildSpec) → at ≤ length row → now ≡ take at row ++ child_for s (child_by_id s.id (drop at row)) ∷ without s.id (drop at row) → drop (at + 1) now ≡ without s.id (drop at row)
+left_more row now at s within is =
+    let c = child_for s (child_by_id s.id (drop at row)) in
+    let others = without s.id (drop at row) in
+    let next : at + 1 ≡ suc at = omega arith in
+    ap (drop (at + 1)) is ∙ ap (λ n. drop n (take at row ++ c ∷ others)) next ∙ drop_front row others at c within
+
+-- What is held of those so far, and of one more.
+pub edits_more : (specs : List ChildSpec) (first : List Child) (before : List ChildEdit) (e : ChildEdit) (left : List Child) (s : ChildSpec) (ss : List ChildSpec) → ((es : List ChildEdit) → AreEdits (s ∷ ss) left es → AreEdits specs first (before ++ es)) → IsEdit s (child_by_id s.id left) e → (es : List ChildEdit) → AreEdits ss (without s.id left) es → AreEdits specs first ((before ++ e ∷ []) ++ es)
+edits_more specs first before e left s ss so_far one es others =
+    subst (AreEdits specs first) (sym (append_one before es e)) (so_far (e ∷ es) (one, others))
 
 -- What is taken back of a place where no child stands.
 
@@ -238,11 +234,6 @@ module _ (xs ys : List Child) (at from : ℕ) (old w : Child) (s : ChildSpec) (o
       ∙ ap (moved at from) is
       ∙ moved_back xs from at there at_within
 
-  pub kept_changed : (former : Option ChildSpec) → IsOther former (Some w) → IsOther former (slice_get (slice_set ys at w) at)
-  kept_changed former other =
-      let stands = got ys at old at_moved ∙ ap Some (sym reads) in
-      subst (IsOther former) (sym (ap (λ (zs : List Child). slice_get zs at) written_at ∙ slice_get-changed_at (with_spec s) ys at old stands ∙ ap Some (sym writes))) other
-
 at_found : (o : Option ℕ) (at from : ℕ) → option_map (λ k. at + k) o ≡ Some from → (k : ℕ) × (o ≡ Some k) × (from ≡ at + k)
 at_found None at from is = absurd (none_some is)
 at_found (Some k) at from is = (k, refl, sym (some_is is))
@@ -251,3 +242,20 @@ pub kept_renewed_from : (xs now : List Child) (at from : ℕ) (s : ChildSpec) �
 kept_renewed_from xs now at from s there kept =
     let (k, stands, is) = at_found (position (has_id s.id) (drop at xs)) at from there in
     kept_renewed xs now at k s stands (subst (λ n. (c : Child) → slice_get xs n ≡ Some c → now ≡ insert (remove xs n) at (with_spec s c)) is kept)
+
+-- what is held of the child that is found
+pub kept_edit : (xs : List Child) (at from : ℕ) (s : ChildSpec) (e : ChildEdit) → option_map (λ k. at + k) (position (has_id s.id) (drop at xs)) ≡ Some from → ((c : Child) → slice_get xs from ≡ Some c → IsEdit s (Some c) e) → IsEdit s (child_by_id s.id (drop at xs)) e
+kept_edit xs at from s e there kept =
+    let (k, stands, is) = at_found (position (has_id s.id) (drop at xs)) at from there in
+    let (c, here, has) = found (has_id s.id) (drop at xs) k stands in
+    let by_id : child_by_id s.id (drop at xs) ≡ Some c = ap (option_and_then (slice_get (drop at xs))) stands ∙ here in
+    subst (λ o. IsEdit s o e) (sym by_id) (kept c (ap (slice_get xs) is ∙ get_behind xs at k ∙ here))
+
+none_found : (o : Option ℕ) (at : ℕ) → option_map (λ k. at + k) o ≡ None → o ≡ None
+none_found None at is = refl
+none_found (Some k) at is = absurd (none_some (sym is))
+
+-- or of one that is new
+pub added_edit : (xs : List Child) (at : ℕ) (s : ChildSpec) (e : ChildEdit) → option_map (λ k. at + k) (position (has_id s.id) (drop at xs)) ≡ None → IsEdit s None e → IsEdit s (child_by_id s.id (drop at xs)) e
+added_edit xs at s e none is =
+    subst (λ o. IsEdit s o e) (sym (ap (option_and_then (slice_get (drop at xs))) (none_found (position (has_id s.id) (drop at xs)) at none))) is

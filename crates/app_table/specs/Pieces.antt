@@ -1,11 +1,10 @@
 -- Pieces of applications: specifications of applications and of children, each with whose it is. They tell how much of the
 -- applications the record of a step may hold.
-use Rattle.std.specs.Prelude.{ℕ, List, [], ◌∷◌, ◌++◌, map, Option, None, Some, slice_get}
+use Rattle.std.specs.Prelude.{◌≡◌, ◌==◌, if◌then◌else◌, ℕ, List, [], ◌∷◌, ◌++◌, map, IsPermutation, Option, None, Some, option_to_list, slice_get}
 use Rattle.std.specs.List.{flat_map}
 use Rattle.child_specs.specs.declared.child.ChildSpec.{ChildSpec}
 use Rattle.otp_files.specs.declared.app.AppSpec.{AppSpec}
 use Rattle.app_table.specs.Applications.{Application}
-use Rattle.app_table.specs.Renewing.{HoldChanged}
 use Rattle.app_table.specs.declared.child.Child.{Child}
 use Rattle.app_table.specs.declared.renewing.ChildEdit.{ChildEdit}
 use Rattle.app_table.specs.declared.renewing.ChildEdit.TheVariants.{Added, Kept}
@@ -70,16 +69,57 @@ held_former f = map (λ r. of_app r.spec) f.replaced
 abbrev pub held_back : PutBack → List Piece
 held_back p = map (λ r. of_app r.spec) p.replaced ++ pieces p.added
 
--- Children were specified anew, and a former specification is held only where its value has changed.
+-- Children are specified anew. What is held is by the place of the application, counted from 0.
 
-abbrev pub HoldChangedIn : Option Application → List ChildEdit → Type 0
-HoldChangedIn None edits = ⊥
-HoldChangedIn (Some a) edits = HoldChanged 0 edits a.children
+abbrev pub specs_in : List Child → List ChildSpec
+specs_in children = map (λ c. c.spec) children
 
-abbrev pub HoldsChangedSpecs : Undo → List Application → Type 0
-HoldsChangedSpecs (Started app children) apps = ⊥
-HoldsChangedSpecs (Revived spot) apps = ⊥
-HoldsChangedSpecs (AllEnded cs) apps = ⊥
-HoldsChangedSpecs (AllRun rs) apps = ⊥
-HoldsChangedSpecs (AppStopped app states) apps = ⊥
-HoldsChangedSpecs (Renewed app edits) apps = HoldChangedIn (slice_get apps app) edits
+-- the children of the application at a place; none where no application stands
+
+abbrev pub children_in : Option Application → List Child
+children_in None = []
+children_in (Some a) = a.children
+
+abbrev pub children_at : ℕ → List Application → List Child
+children_at place apps = children_in (slice_get apps place)
+
+-- the former specifications that edits hold, in order
+
+abbrev pub former_in : ChildEdit → List ChildSpec
+former_in Added = []
+former_in (Kept from former) = option_to_list former
+
+abbrev pub formers : List ChildEdit → List ChildSpec
+formers edits = flat_map former_in edits
+
+-- what takes back that the children of the application at a place were specified anew
+abbrev pub IsRenewal : ℕ → Undo → Type 0
+IsRenewal place u = (edits : List ChildEdit) × (u ≡ Renewed place edits)
+
+-- the former specifications that it holds of the application at a place
+abbrev pub formers_at : ℕ → Undo → List ChildSpec
+formers_at place (Started app children) = []
+formers_at place (Revived spot) = []
+formers_at place (AllEnded cs) = []
+formers_at place (AllRun rs) = []
+formers_at place (AppStopped app states) = []
+formers_at place (Renewed app edits) = if app == place then formers edits else []
+
+-- None of some specifications is among others.
+
+abbrev pub IsNotAmong : List ChildSpec → ChildSpec → Type 0
+IsNotAmong [] s = Unit {0}
+IsNotAmong (other ∷ others) s = (other ≡ s → ⊥) × IsNotAmong others s
+
+abbrev pub AreNotAmong : List ChildSpec → List ChildSpec → Type 0
+AreNotAmong others [] = Unit {0}
+AreNotAmong others (s ∷ specs) = IsNotAmong others s × AreNotAmong others specs
+
+-- Specifications of children are lost: those before are these and others that stay, those after are new ones and the ones that
+-- stay, and none of the new ones is one of these. So each stands there before as many times more than after as it is held.
+pub record AreSpecsLost (held : List ChildSpec) (before after : List Child) : Type 0 where
+  pub stay : List ChildSpec
+  pub new : List ChildSpec
+  pub were : IsPermutation (held ++ stay) (specs_in before)
+  pub are : IsPermutation (new ++ stay) (specs_in after)
+  pub lost : AreNotAmong new held

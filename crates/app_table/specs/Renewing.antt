@@ -70,17 +70,21 @@ unrenewed place (e ∷ edits) children = unedited place e (unrenewed (place + 1)
 abbrev pub with_unrenewed : List ChildEdit → Application → Application
 with_unrenewed edits a = record a { children = unrenewed 0 edits a.children }
 
--- A former specification is held only where its value has changed.
+-- What is held of each new specification, in order: that its child is new; or where the child of its Id stood, and the former
+-- specification of that child, where it is another one.
 
-abbrev pub IsOther : Option ChildSpec → Option Child → Type 0
-IsOther None now = Unit {0}
-IsOther (Some s) None = ⊥
-IsOther (Some s) (Some c) = c.spec ≡ s → ⊥
+abbrev pub IsFormer : ChildSpec → Child → Option ChildSpec → Type 0
+IsFormer s c None = c.spec ≡ s
+IsFormer s c (Some former) = (former ≡ c.spec) × (c.spec ≡ s → ⊥)
 
-abbrev pub HoldsChanged : ChildEdit → Option Child → Type 0
-HoldsChanged Added now = Unit {0}
-HoldsChanged (Kept from former) now = IsOther former now
+abbrev pub IsEdit : ChildSpec → Option Child → ChildEdit → Type 0
+IsEdit s None Added = Unit {0}
+IsEdit s None (Kept from former) = ⊥
+IsEdit s (Some c) Added = ⊥
+IsEdit s (Some c) (Kept from former) = IsFormer s c former
 
-abbrev pub HoldChanged : ℕ → List ChildEdit → List Child → Type 0
-HoldChanged place [] children = Unit {0}
-HoldChanged place (e ∷ edits) children = HoldsChanged e (slice_get children place) × HoldChanged (place + 1) edits children
+abbrev pub AreEdits : List ChildSpec → List Child → List ChildEdit → Type 0
+AreEdits [] children [] = Unit {0}
+AreEdits [] children (e ∷ edits) = ⊥
+AreEdits (s ∷ specs) children [] = ⊥
+AreEdits (s ∷ specs) children (e ∷ edits) = IsEdit s (child_by_id s.id children) e × AreEdits specs (without s.id children) edits

@@ -4,7 +4,7 @@ ghost use Rattle.app_table.specs.Applications.{has_id, has_process, loaded, with
 ghost use Rattle.app_table.specs.Changes.{stopped, with_spec};
 ghost use Rattle.app_table.specs.Children.{after_end, in_state, runs_as};
 ghost use Rattle.app_table.specs.Modules.{each_child, idle_for, is_startable, name_for, runs_for};
-ghost use Rattle.app_table.specs.Renewing.{HoldChanged, with_renewed, with_unrenewed};
+ghost use Rattle.app_table.specs.Renewing.{AreEdits, with_renewed, with_unrenewed};
 ghost use Rattle.app_table.specs.Undo.{unstopped};
 
 use crate::child::{Child, ChildState};
@@ -152,7 +152,7 @@ impl App {
     ) -> Result<Row<ChildEdit>, AllocError>
         ensures renewed { OnOk result (self.new ≡ with_renewed specs self.old) }
         ensures back { IfOk result (λ edits. with_unrenewed edits self.new ≡ self.old) }
-        ensures changed { IfOk result (λ edits. HoldChanged 0 edits self.new.children) }
+        ensures edits { IfOk result (AreEdits specs self.old.children) }
         ensures err { OnErr result (self.new ≡ self.old) }
     {
         self.children.renew(alloc, specs)

@@ -5,7 +5,7 @@ ghost use Rattle.app_table.specs.Applications.{has_id};
 ghost use Rattle.app_table.specs.Children.{in_state, runs_as};
 ghost use Rattle.app_table.specs.Changes.{pids_back};
 ghost use Rattle.app_table.specs.Ordered.{IsOrderOf, by_id, by_pid};
-ghost use Rattle.app_table.specs.Renewing.{HoldChanged, renewed, unrenewed};
+ghost use Rattle.app_table.specs.Renewing.{AreEdits, renewed, unrenewed};
 ghost use Rattle.app_table.specs.Undo.{in_states};
 ghost use Rattle.app_table.specs.declared.child.ChildState.TheVariants.{Stopped};
 ghost use Rattle.values.specs.Edits.{changed_at};
@@ -136,7 +136,7 @@ impl Children {
     ) -> Result<Row<ChildEdit>, AllocError>
         ensures renewed { OnOk result (self.new ≡ renewed specs self.old) }
         ensures back { IfOk result (λ edits. unrenewed 0 edits self.new ≡ self.old) }
-        ensures changed { IfOk result (λ edits. HoldChanged 0 edits self.new) }
+        ensures edits { IfOk result (AreEdits specs self.old) }
         ensures err { OnErr result (self.new ≡ self.old) }
     {
         let specs = specs.into_vec();

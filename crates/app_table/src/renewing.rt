@@ -2,7 +2,7 @@
 ghost use Rattle.std.specs.Prelude.{◌≡◌, ◌+◌, ◌≤◌, ◌<◌, ◌++◌, ◌∷◌, [], IfSome, Some, drop, insert, length, option_map};
 ghost use Rattle.std.specs.Prelude.{position, remove, slice_get, take, vec_capacity, vec_len};
 ghost use Rattle.app_table.specs.Applications.{has_id};
-ghost use Rattle.app_table.specs.Renewing.{HoldChanged, HoldsChanged, IsOther, child_by_id, child_for, moved, renewed};
+ghost use Rattle.app_table.specs.Renewing.{AreEdits, IsEdit, IsFormer, child_by_id, child_for, moved, renewed};
 ghost use Rattle.app_table.specs.Renewing.{unedited, unrenewed, with_former, with_spec, without};
 ghost use Rattle.app_table.specs.declared.child.Child.{Child as OneChild};
 ghost use Rattle.values.specs.Edits.{changed_at};
@@ -41,7 +41,7 @@ fn move_child(row: &mut Vec<Child>, from: usize, to: usize)
 fn respecify(child: &mut Child, spec: ChildSpec) -> Option<ChildSpec>
     ensures new { child.new ≡ with_spec spec child.old }
     ensures back { with_former result child.new ≡ child.old }
-    ensures changed { IsOther result (Some child.new) }
+    ensures former { IsFormer spec child.old result }
 {
     if child.spec.same(&spec) {
         return None;
@@ -74,7 +74,7 @@ fn keep_child(row: &mut Vec<Child>, at: usize, from: usize, spec: ChildSpec) -> 
     ensures kept { (c : OneChild) → slice_get row.old.items from ≡ Some c →
         row.new.items ≡ insert (remove row.old.items from) at (with_spec spec c) }
     ensures back { unedited at result row.new.items ≡ row.old.items }
-    ensures changed { HoldsChanged result (slice_get row.new.items at) }
+    ensures edit { (c : OneChild) → slice_get row.old.items from ≡ Some c → IsEdit spec (Some c) result }
     ensures room { (vec_len row.new ≡ vec_len row.old) × (vec_capacity row.new ≡ vec_capacity row.old) }
 {
     move_child(row, from, at);
@@ -88,7 +88,7 @@ fn add_child(row: &mut Vec<Child>, at: usize, spec: ChildSpec) -> ChildEdit
     requires room { vec_len row.old < vec_capacity row.old }
     ensures added { row.new.items ≡ insert row.old.items at (child_for spec None) }
     ensures back { unedited at result row.new.items ≡ row.old.items }
-    ensures changed { HoldsChanged result (slice_get row.new.items at) }
+    ensures edit { IsEdit spec None result }
     ensures room { (vec_len row.new ≡ vec_len row.old + 1) × (vec_capacity row.new ≡ vec_capacity row.old) }
 {
     let child = Child {
@@ -106,7 +106,7 @@ fn renew_child(row: &mut Vec<Child>, at: usize, spec: ChildSpec) -> ChildEdit
     ensures renewed { row.new.items ≡ take at row.old.items ++
         child_for spec (child_by_id spec.id (drop at row.old.items)) ∷ without spec.id (drop at row.old.items) }
     ensures back { unedited at result row.new.items ≡ row.old.items }
-    ensures changed { HoldsChanged result (slice_get row.new.items at) }
+    ensures edit { IsEdit spec (child_by_id spec.id (drop at row.old.items)) result }
     ensures room { (vec_len row.new ≤ vec_len row.old + 1) × (vec_capacity row.new ≡ vec_capacity row.old) }
 {
     match place_from(row.as_slice(), at, &spec.id) {
@@ -122,7 +122,7 @@ pub(crate) fn renew_all(row: &mut Vec<Child>, specs: Vec<ChildSpec>, edits: &mut
     requires none { edits.old.items ≡ [] }
     ensures renewed { row.new.items ≡ renewed specs.items row.old.items }
     ensures back { unrenewed 0 edits.new.items row.new.items ≡ row.old.items }
-    ensures changed { HoldChanged 0 edits.new.items row.new.items }
+    ensures edits { AreEdits specs.items row.old.items edits.new.items }
     ensures room { (vec_len row.new ≤ vec_len row.old + length specs.items) × (vec_capacity row.new ≡ vec_capacity row.old) }
 {
     for spec in specs {

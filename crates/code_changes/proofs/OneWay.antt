@@ -25,7 +25,7 @@ use Rattle.upgrade_calls.specs.Changing.{AreCounted}
 
 -- A supervisor gives one supervision, or none, for one reason.
 
-given-once : (code : List Instance) (s : StartModule) (specs others : List ChildSpec) (acts more : List Act) → GivesSupervision code s specs acts →
+pub given-once : (code : List Instance) (s : StartModule) (specs others : List ChildSpec) (acts more : List Act) → GivesSupervision code s specs acts →
     GivesSupervision code s others more → (specs ≡ others) × (acts ≡ more)
 given-once code s specs others acts more first second =
     let same = applications_start_one_way.gives code s first.outcome second.outcome first.gives second.gives in (

@@ -4,7 +4,7 @@ ghost use Rattle.app_table.specs.Applications.{Application};
 ghost use Rattle.code_changes.specs.Changing.{AllUpgrade, Comes, FirstStops, IsMade, RefusesCodeChange, Stops, Upgraded};
 ghost use Rattle.code_changes.specs.Changing.{Upgrades};
 ghost use Rattle.code_changes.specs.Changing.{script};
-ghost use Rattle.code_changes.specs.Undo.{AreRenewals, TakesBack};
+ghost use Rattle.code_changes.specs.Undo.{AreRenewalsIn, TakesBack};
 ghost use Rattle.process_store.specs.Pieces.{HoldsLost};
 ghost use Rattle.process_store.specs.Table.{Table};
 ghost use Rattle.upgrade_calls.specs.Changing.{ChangesBack, held_changed};
@@ -78,8 +78,8 @@ fn evaluate_module(
     ensures stops { IfErr result (Fails
         (λ e. Stops e code.now (script direction versions.now suspended.now) module.now apps.old
         (processes_after code.now evaluation processes.now)) (Unit {0})) }
-    ensures renewals { (before : List Application) → AreRenewals renewals.old.items before apps.old →
-        AreRenewals renewals.new.items before apps.new }
+    ensures renewals { (before : List Application) → AreRenewalsIn code.now renewals.old.items before apps.old →
+        AreRenewalsIn code.now renewals.new.items before apps.new }
 {
     let changes = changes_for(
         apps, processes, alloc, direction, versions, suspended, module,
@@ -116,8 +116,8 @@ fn evaluate_all(
         (apps.new ≡ u.apps) × Comes code.now processes.now nothing_evaluated it u) }
     ensures stops { IfErr result (Fails (λ e. FirstStops e code.now (script direction versions.now suspended.now)
         modules.now apps.old processes.now) (Unit {0})) }
-    ensures renewals { (before : List Application) → AreRenewals renewals.old.items before apps.old →
-        AreRenewals renewals.new.items before apps.new }
+    ensures renewals { (before : List Application) → AreRenewalsIn code.now renewals.old.items before apps.old →
+        AreRenewalsIn code.now renewals.new.items before apps.new }
 {
     let mut evaluation = Evaluation::new(alloc);
     for module in modules {
@@ -152,8 +152,8 @@ fn upgrade(
     ensures refused { IfErr result (Fails (λ e. RefusesCodeChange e code.now (script direction versions.now suspended.now)
         modules.now apps.old processes.old) (Unit {0})) }
     ensures err { OnErr result (processes.new ≡ processes.old) }
-    ensures renewals { (before : List Application) → AreRenewals renewals.old.items before apps.old →
-        AreRenewals renewals.new.items before apps.new }
+    ensures renewals { (before : List Application) → AreRenewalsIn code.now renewals.old.items before apps.old →
+        AreRenewalsIn code.now renewals.new.items before apps.new }
 {
     let evaluation = match evaluate_all(
         apps, processes, alloc, code, direction, modules, versions, suspended, renewals,

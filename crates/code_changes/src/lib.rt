@@ -17,7 +17,8 @@
 //!   (`RefusesCodeChange`).
 //! - By the rules it has one outcome ([`code_changes_one_way`]).
 //! - What takes it back gives applications and processes as they were, whole, or hands itself back (`TakesBack`). The
-//!   processes, which may be refused, go first.
+//!   processes, which may be refused, go first. Of the specifications of children it holds no more than the whole step has
+//!   taken from each application, however often a module is named (`AreRenewals`).
 //!
 //! # What no contract says
 //!

@@ -3,7 +3,7 @@ ghost use Rattle.std.specs.Prelude.{◌≡◌, ◌<◌, ◌+◌, IfErr, IfOk, If
 ghost use Rattle.std.specs.Option.{option_copied};
 ghost use Rattle.app_table.specs.Applications.{Application};
 ghost use Rattle.code_changes.specs.Renewing.{FirstBadInit, Gives, GivesNone, RenewsAll, RenewsOne, supervisor_in};
-ghost use Rattle.code_changes.specs.Undo.{AreRenewals, all_undone};
+ghost use Rattle.code_changes.specs.Undo.{AreRenewalsIn, all_undone};
 ghost use Rattle.process_store.specs.Table.{Table};
 ghost use Rattle.upgrade_calls.specs.Evaluated.{AreEvaluated};
 ghost use Rattle.values.specs.Failure.{Fails};
@@ -49,8 +49,8 @@ fn renew_app(
     ensures gives { OnOk result (IfSome (slice_get apps.old place) (λ a. Gives code.now (supervisor_in name.now a))) }
     ensures failed { IfErr result (Fails (λ reason. IfSome (slice_get apps.old place)
         (λ a. GivesNone code.now (supervisor_in name.now a) reason)) (Unit {0})) }
-    ensures renewals { (before : List Application) → AreRenewals renewals.old.items before apps.old →
-        AreRenewals renewals.new.items before apps.new }
+    ensures renewals { (before : List Application) → AreRenewalsIn code.now renewals.old.items before apps.old →
+        AreRenewalsIn code.now renewals.new.items before apps.new }
 {
     let Some(module) = supervisor_in(apps.app_at(place), name) else {
         return Ok(evaluation);
@@ -74,8 +74,8 @@ pub(crate) fn renew_apps(
     ensures renews { IfOk result (λ it. (t : Table) → AreEvaluated t evaluation →
         RenewsAll code.now name.now apps.old apps.new t evaluation it) }
     ensures failed { IfErr result (Fails (FirstBadInit code.now name.now apps.old) (Unit {0})) }
-    ensures renewals { (before : List Application) → AreRenewals renewals.old.items before apps.old →
-        AreRenewals renewals.new.items before apps.new }
+    ensures renewals { (before : List Application) → AreRenewalsIn code.now renewals.old.items before apps.old →
+        AreRenewalsIn code.now renewals.new.items before apps.new }
 {
     let mut evaluation = evaluation;
     for place in 0..apps.len() {

@@ -72,8 +72,8 @@ impl Node {
         }
     }
 
-    /// The least pid above `after` of a process that would take a message now, if there is one. It walks over the living
-    /// processes from there on; evaluates nothing, and takes no memory.
+    /// The least pid above `after` of a process that would take a message now, if there is one. It is looked up in
+    /// logarithmic time; evaluates nothing, and takes no memory.
     pub fn runnable(&self, after: u64) -> Option<u64>
         ensures { IsNextRunnable after result self.now.processes }
     {

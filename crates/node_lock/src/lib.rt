@@ -17,9 +17,11 @@
 #![tactic(auto)]
 
 mod command;
+mod entries;
 mod entry;
 mod laws;
 
 pub use command::{Command, Fault, Said};
+pub use entries::{Entries, Repeats, Run};
 pub use entry::{Entry, Line};
 pub use laws::{histories_are_commands, histories_have_one_end};

@@ -2,6 +2,7 @@ pub mod Arriving
 pub mod Changes
 pub mod Closing
 pub mod Indexes
+pub mod Marking
 pub mod Runs
 pub mod Slots
 pub mod Sound

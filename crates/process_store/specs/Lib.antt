@@ -3,6 +3,7 @@ pub mod Indexed
 pub mod Inverses
 pub mod Living
 pub mod Pieces
+pub mod Ready
 pub mod Sound
 pub mod Table
 pub mod Vacating

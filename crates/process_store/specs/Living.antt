@@ -1,5 +1,5 @@
 -- A process that lives, and the calls that are open to it.
-use Rattle.std.specs.Prelude.{ℕ, List, Option, None, Some}
+use Rattle.std.specs.Prelude.{ℕ, Bool, List, Option, None, Some, is_some}
 use Rattle.erl_term.specs.declared.term.Term.{Term}
 use Rattle.erl_semantics.specs.declared.instance.Instance.{Instance}
 use Rattle.process.specs.Process.{can_take, delivered, run_at, undelivered, untaken}
@@ -33,3 +33,7 @@ untook position l = record l { process = untaken position l.process }
 abbrev pub takes_next : Option Living → Option ℕ
 takes_next None = None
 takes_next (Some l) = can_take l.process
+
+-- whether it could take a message now: it lives, neither runs nor is suspended, and a message waits that it takes
+abbrev pub is_runnable : Option Living → Bool
+is_runnable o = is_some (takes_next o)

@@ -1,11 +1,12 @@
 //! The processes of a node by pid, with an index of names and one of open calls, and the elementary changes of them.
 //!
-//! [`ProcessStore`] holds each process in the slot of its pid, together with the calls that are open to it. A change touches one
-//! process and what the indexes say of it; beside each change stands the one that takes it back. What a step of the node is made
-//! of, and when it is refused, is said by the crates above.
+//! [`ProcessStore`] holds each process in the slot of its pid, together with the calls that are open to it, and the set of the
+//! pids of those that could take a message now. A change touches one process and what the indexes and the set say of it; beside
+//! each change stands the one that takes it back. What a step of the node is made of, and when it is refused, is said by the
+//! crates above.
 //!
 //! Contracts see a [`ProcessStore`] as a `Table`: of each pid that was given the process that lives under it, with its open calls, and
-//! none where it has ended. The two indexes are no part of it.
+//! none where it has ended. The two indexes and the set are no part of it.
 //!
 //! # What is proved
 //!
@@ -14,6 +15,9 @@
 //!   memory is refused the processes are as they were.
 //! - [`ProcessStore::pid_of`] and [`ProcessStore::is_open`] find by key what stands in the table: the type keeps both indexes right
 //!   (`IsIndexed`).
+//! - [`ProcessStore::ready`] lends the set of the pids of the processes that could take a message now (`ready`), which the
+//!   slots keep right (`IsReady`); [`Ready::next`] gives the least of them above a pid, and [`Ready::contains`] tells whether a
+//!   pid is among them.
 //! - [`ProcessStore::remove`] takes a process out of its slot, with its name and its open calls (`vacated`), and such a process can
 //!   always come back (`CanReturn`). [`ProcessStore::restore`] puts it into its slot again, or leaves all as it was (`occupied`).
 //! - A process rests again, one turn on, and runs again what it ran; a call is closed by its number, whosever it is (`owner_of`), and
@@ -28,13 +32,18 @@
 //! # What no contract says
 //!
 //! That there is memory, and what a call costs. A name and the number of a call are found by hash, and a process by its pid in
-//! logarithmic time. A change touches one process. Memory and time hang on the processes that live, and not on how many pids were
-//! given.
+//! logarithmic time, and so is the next that could take a message. A change touches one process. Memory and time hang on the
+//! processes that live, and not on how many pids were given, but for the set: it has a place for each pid since the table was
+//! last emptied, of about four bytes, and time is logarithmic in their number. Only a start asks for memory for it, and a
+//! return of a process from before that.
 #![tactic(auto)]
 
 mod living;
+mod marked;
 mod places;
+mod ready;
 mod store;
 
 pub use living::Living;
+pub use ready::Ready;
 pub use store::ProcessStore;

@@ -1,22 +1,23 @@
 // The processes of a node by pid, and where each is found.
-ghost use Rattle.std.specs.Prelude.{◌≡◌, ◌+◌, ◌-◌, ◌^◌, ◌<◌, ℕ, None, Some, drop, IfOk, IfSome, IsSome, OnOk, OnErr, false, option_map};
+ghost use Rattle.std.specs.Prelude.{◌≡◌, ◌+◌, ◌-◌, ◌^◌, ◌<◌, ℕ, None, Some, IfOk, IfSome, IsSome, OnOk, OnErr, false, option_map};
 ghost use Rattle.std.specs.Map.Iter.{ShowsInOrder, deref_pair};
 ghost use Rattle.std.specs.Option.{option_copied};
 ghost use Rattle.std.specs.Str.{chars};
-ghost use Rattle.process_index.specs.Standing.{alive, alive_from};
+ghost use Rattle.process_index.specs.Standing.{alive};
 ghost use Rattle.process_store.specs.Indexed.{registered, unregistered};
 
 mod changing;
 mod vacating;
 
 use crate::living::Living;
-use crate::places::{arrive_at, run_at, unarrive_at, untake_at};
+use crate::marked::{MarkedSlots, arrive_at, run_at, unarrive_at, untake_at};
+use crate::ready::Ready;
 use erl_semantics::{Instance, Place};
 use erl_term::{Atom, Term};
 use process::Process;
-use process_index::{Call, CallIndex, Calls, NameIndex, Owner, Slots};
+use process_index::{Call, CallIndex, Calls, NameIndex, Owner};
 use std::alloc::{AllocError, Global};
-use std::collections::btree_map::{Iter, Range};
+use std::collections::btree_map::Iter;
 use std::hash::RandomState;
 use std::marker::Model;
 use values::{Duplicate, Row};
@@ -25,7 +26,7 @@ use values::{Duplicate, Row};
 #[derive(Drop)]
 pub struct ProcessStore {
     alloc: Global,
-    slots: Slots<Living>,
+    slots: MarkedSlots,
     names: NameIndex,
     open_calls: CallIndex,
 }
@@ -75,6 +76,7 @@ fn unregister(names: &mut NameIndex, name: Option<&Atom>)
 impl ProcessStore {
     ghost use Rattle.process_store.specs.Inverses.{WasCalled, WasStarted, WasTaken};
     ghost use Rattle.process_store.specs.Living.{arrived, run, takes_next, unarrived, untook};
+    ghost use Rattle.process_store.specs.Ready.{ready};
     ghost use Rattle.process_store.specs.Sound.{IsSound};
     ghost use Rattle.process_store.specs.Table.{added, changed, emptied, empty_table, is_open, is_taken, living, next_pid, pid_of, without_last};
 
@@ -84,7 +86,7 @@ impl ProcessStore {
     {
         ProcessStore {
             alloc,
-            slots: Slots::new(alloc),
+            slots: MarkedSlots::new(alloc),
             names: NameIndex::new(alloc, names),
             open_calls: CallIndex::new(alloc, numbers),
         }
@@ -125,12 +127,11 @@ impl ProcessStore {
         self.slots.iter()
     }
 
-    /// The processes that live and have a pid or a later one, with their pids, in order of pid. Takes no memory.
-    pub fn iter_from(&self, pid: u64) -> Range<'_, u64, Living>
-        ensures rest { result ≡ alive_from pid (drop pid self.now.slots) }
-        ensures runs { ShowsInOrder (deref_pair {K = ℕ} {X = Living}) }
+    /// The set of the pids of those that could take a message now. Takes no memory.
+    pub fn ready(&self) -> Ready<'_>
+        ensures { result ≡ ready self.now }
     {
-        self.slots.iter_from(pid)
+        self.slots.ready()
     }
 
     /// The process that is registered under the name that a text is, found by key. Takes no memory.

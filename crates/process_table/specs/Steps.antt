@@ -24,6 +24,7 @@ use Rattle.process_table.specs.declared.error.ProcError.{ProcError}
 use Rattle.process_table.specs.declared.error.ProcError.TheVariants.{NoProc, Suspended, Idle, Running, NotRunning, NameTaken, DuplicateCall, CounterEnd}
 use Rattle.process_store.specs.declared.living.Living.{Living}
 use Rattle.process_store.specs.Living.{arrived, run, takes_next}
+pub use Rattle.process_store.specs.Living.{is_runnable}
 use Rattle.process_table.specs.Messages.{message_of}
 use Rattle.process_store.specs.Table.{Table, added, changed, is_open, is_taken, living, next_pid, pid_of}
 
@@ -122,9 +123,6 @@ abbrev pub retake_refusal : ℕ → Table → Option ProcError
 retake_refusal pid t = retake_refusal_of (living pid t)
 
 -- The least pid above another, of those whose processes could take a message now.
-
-abbrev pub is_runnable : Option Living → Bool
-is_runnable o = is_some (takes_next o)
 
 abbrev pub NoneIsRunnable : ℕ → (ℕ → Type 0) → Table → Type 0
 NoneIsRunnable after Before t = (pid : ℕ) → after < pid → Before pid → is_runnable (living pid t) ≡ false

@@ -44,7 +44,8 @@
 //!   who uses an instance, in order (`users`).
 //! - The code of a job is the instance that is entered and what it can reach (`IsCodeOf`, over `IsJobCode` of [`job_code`]).
 //! - [`Processes::pid_of`] and [`Processes::is_open`] find by key what stands in the table; [`Processes::runnable`] is the least
-//!   pid above another whose process could take a message now (`IsNextRunnable`).
+//!   pid above another whose process could take a message now (`IsNextRunnable`), and [`Processes::ready`] the set of all such pids
+//!   (`ready` of [`process_store`]): the table keeps it after each step, and after each that is taken back.
 //! - A name and an open call stand in the process that has them, so each is a living one's. A suspended process runs nothing, by
 //!   the type of what a process does.
 //!
@@ -52,8 +53,8 @@
 //!
 //! That there is memory, and what a call costs: a step costs what its elementary change costs ([`process_store`]), and for each
 //! equal value that is asked for what a copy of the message, of the job or of what is told costs, where copies of terms and of code
-//! share; an end copies names of modules, and its undo looks for their instances. `runnable` walks over the living processes, and
-//! evaluates nothing.
+//! share; an end copies names of modules, and its undo looks for their instances. `runnable` looks the pid up in the
+//! set, in logarithmic time.
 #![tactic(auto)]
 
 mod body;
@@ -66,7 +67,7 @@ mod undo;
 pub use body::{Body, BodyKind};
 pub use error::ProcError;
 pub use process_effects::{Closed, EndedProcess, Exited, Reply, ReplyBody, Rested};
-pub use process_store::Living;
+pub use process_store::{Living, Ready};
 pub use processes::Processes;
 pub use states::{Resumed, StateChange};
 pub use undo::Undo;

@@ -18,7 +18,7 @@ use erl_forms::Module;
 use erl_semantics::{Instance, Job, Place};
 use erl_term::{Atom, Term};
 use process_effects::{EndedProcess, Reply, kill_users, rests_in, return_all, told_by_kill, users};
-use process_store::{Living, ProcessStore};
+use process_store::{Living, ProcessStore, Ready};
 use std::alloc::{AllocError, Global};
 use std::collections::btree_map::Iter;
 use std::hash::RandomState;
@@ -56,6 +56,7 @@ impl Processes {
     ghost use Rattle.process_effects.specs.Uses.{users};
     ghost use Rattle.process_table.specs.Undo.{Fits, IsKept, TakesBack, TakesBackEnds, held, undone};
     ghost use Rattle.process_store.specs.Pieces.{HoldsLost};
+    ghost use Rattle.process_store.specs.Ready.{ready};
     ghost use Rattle.process_store.specs.Sound.{IsSound};
 
     /// No process. Names and numbers are hashed by keys that nobody outside knows. Takes no memory.
@@ -248,17 +249,20 @@ impl Processes {
         Ok((arrivals, Undo::Arrived { pid, call }))
     }
 
+    /// The set of the pids of the processes that could take a message now, in order: those that neither run nor are suspended, and
+    /// for which a message waits that they take. Takes no memory.
+    pub fn ready(&self) -> Ready<'_>
+        ensures { result ≡ ready self.now }
+    {
+        self.store.ready()
+    }
+
     /// The least pid above `after` of a process that could take a message now: it neither runs nor is suspended, and a message
-    /// waits that it takes. Evaluates nothing, and takes no memory.
+    /// waits that it takes. It is looked up in logarithmic time. Evaluates nothing, and takes no memory.
     pub fn runnable(&self, after: u64) -> Option<u64>
         ensures { IsNextRunnable after result self.now }
     {
-        for (pid, living) in self.store.iter_from(after) {
-            if after < *pid && living.process.can_take().is_some() {
-                return Some(*pid);
-            }
-        }
-        None
+        self.ready().next(after)
     }
 
     /// Why a take by the process of a pid would be refused, but for want of memory. Takes no memory.

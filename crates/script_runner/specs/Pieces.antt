@@ -2,7 +2,8 @@
 -- instruction has taken (`TakesBack`). Besides these it holds numbers, pids, names and flags.
 use Rattle.std.specs.Prelude.{◌≡◌, ℕ, List, [], option_to_list}
 use Rattle.app_table.specs.Applications.{Application}
-use Rattle.code_changes.specs.Undo.{AllHoldChanged}
+use Rattle.app_table.specs.Pieces.{AreSpecsLost, children_at}
+use Rattle.code_changes.specs.Undo.{all_formers_at}
 use Rattle.code_loading.specs.Pieces.{all_held, held_killed}
 use Rattle.code_replacement.specs.Undo as replacing
 use Rattle.code_server.specs.Undo as code
@@ -38,8 +39,8 @@ held_instances (Resumed u) = []
 held_instances (Changed u) = []
 held_instances (Children u count) = []
 
--- It holds of the specifications what the instruction has taken: of a change of code those alone of the children that are specified
--- otherwise now.
+-- It holds of the specifications what the instruction has taken: of a change of code those that stood in each application more often
+-- before than after.
 abbrev pub SpecsLost : Undo → List Application → List Application → Type 0
 SpecsLost Nothing before after = Unit {0}
 SpecsLost (Read count) before after = Unit {0}
@@ -47,5 +48,6 @@ SpecsLost (Replaced u noted) before after = replacing.held_of u.ended after ≡ 
 SpecsLost (Purged u) before after = replacing.held_of u.ended after ≡ []
 SpecsLost (Suspended count) before after = Unit {0}
 SpecsLost (Resumed u) before after = Unit {0}
-SpecsLost (Changed u) before after = AllHoldChanged u.renewals after
+SpecsLost (Changed u) before after =
+    (place : ℕ) → AreSpecsLost (all_formers_at place u.renewals) (children_at place before) (children_at place after)
 SpecsLost (Children u count) before after = children.SpecsTaken (children.held_apps u after) before after

@@ -2,7 +2,7 @@
 ghost use Rattle.std.specs.Prelude.{◌≡◌, IfOk};
 
 use std::alloc::{AllocError, Global};
-use values::{Duplicate, Row};
+use values::{Duplicate, Row, Same};
 
 /// What an undo cut.
 #[derive(Drop)]
@@ -19,5 +19,11 @@ impl<N: Duplicate> Duplicate for Report<N> {
             cut: self.cut,
             notes: self.notes.copy(alloc)?,
         })
+    }
+}
+
+impl<N: Same> Same for Report<N> {
+    fn same(&self, other: &Report<N>) -> bool {
+        self.cut == other.cut && self.notes.same(&other.notes)
     }
 }

@@ -1,6 +1,8 @@
 // Values that stand in memory of their own, which was reserved before they were there.
 ghost use Rattle.std.specs.Prelude.{◌≡◌, ⊤, None, Some};
 
+use crate::duplicate::Duplicate;
+use crate::same::Same;
 use std::alloc::{AllocError, Global};
 use std::marker::Model;
 use std::snapshot::Snapshot;
@@ -76,6 +78,16 @@ impl<T> Reserved<T> {
 }
 
 impl<T> Boxed<T> {
+    /// The value. Takes no memory.
+    pub fn get(&self) -> &T
+        ensures { result.now ≡ self.now }
+    {
+        match self.place.as_ref() {
+            Some(value) => value,
+            None => unreachable!(),
+        }
+    }
+
     /// Takes the value out, and keeps its memory. Takes no memory.
     pub fn open(self) -> (T, Reserved<T>)
         ensures { result.0 ≡ self }
@@ -85,5 +97,18 @@ impl<T> Boxed<T> {
             Some(value) => (value, Reserved { place }),
             None => unreachable!(),
         }
+    }
+}
+
+impl<T: Same> Same for Boxed<T> {
+    fn same(&self, other: &Boxed<T>) -> bool {
+        self.get().same(other.get())
+    }
+}
+
+impl<T: Duplicate> Duplicate for Boxed<T> {
+    fn copy(&self, alloc: Global) -> Result<Boxed<T>, AllocError> {
+        let room = Reserved::new(alloc)?;
+        Ok(room.fill(self.get().copy(alloc)?))
     }
 }

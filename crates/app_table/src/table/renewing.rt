@@ -1,8 +1,9 @@
 // The children of an application are specified anew.
 ghost use Rattle.std.specs.Prelude.{◌≡◌, ◌<◌, IfOk, OnErr, OnOk, length, slice_get};
-ghost use Rattle.app_table.specs.Pieces.{HoldsChangedSpecs};
+ghost use Rattle.app_table.specs.Pieces.{AreSpecsLost, IsRenewal, children_at, formers_at};
 ghost use Rattle.app_table.specs.Renewing.{children_renewed, with_unrenewed};
 ghost use Rattle.app_table.specs.Undo.{undone};
+ghost use Rattle.child_specs.specs.Forms.{AreDistinct};
 ghost use Rattle.values.specs.Edits.{changed_at};
 
 use super::AppTable;
@@ -26,7 +27,9 @@ impl AppTable {
         requires { place < length self.old }
         ensures renewed { OnOk result (self.new ≡ children_renewed place specs self.old) }
         ensures inverse { IfOk result (λ undo. undone undo self.new ≡ self.old) }
-        ensures pieces { IfOk result (λ undo. HoldsChangedSpecs undo self.new) }
+        ensures renewal { IfOk result (IsRenewal place) }
+        ensures pieces { AreDistinct specs → IfOk result
+            (λ undo. AreSpecsLost (formers_at place undo) (children_at place self.old) (children_at place self.new)) }
         ensures err { OnErr result (self.new ≡ self.old) }
     {
         let alloc = self.alloc;

@@ -7,7 +7,7 @@ ghost use Rattle.process_store.specs.Living.{arrived, unarrived};
 ghost use Rattle.process_store.specs.Table.{changed, living};
 
 use super::ProcessStore;
-use crate::places::{
+use crate::marked::{
     arrive_at, close_at, reopen_at, rest_at, restate_at, resume_at, suspend_at, unarrive_at,
     unrest_at, unrestate_at,
 };

@@ -3,7 +3,7 @@ use Rattle.std.proofs.Common.{List, drop}
 use Rattle.app_table.specs.Applications.{Application}
 use Rattle.code_changes.proofs.Upgraded.{Reached}
 use Rattle.code_changes.specs.Changing.{script}
-use Rattle.code_changes.specs.Undo.{AreRenewals}
+use Rattle.code_changes.specs.Undo.{AreRenewalsIn}
 use Rattle.upgrade_calls.specs.Evaluated.{AreEvaluated}
 use Rattle.code_changes.proofs.changing.evaluate_all.Given as goal
 
@@ -11,5 +11,5 @@ abbrev pub invariant-loop-module : goal.invariant-loop-module
 invariant-loop-module l = record {
   evaluated : AreEvaluated l.processes l.evaluation;
   reached : Reached l.code (script l.direction l.versions l.suspended) l.processes l.modules l.fn.apps (drop l.module-index l.modules) l.apps l.evaluation;
-  renewals : (before : List Application) → AreRenewals l.fn.renewals.items before l.fn.apps → AreRenewals l.renewals.items before l.apps;
+  renewals : (before : List Application) → AreRenewalsIn l.code l.fn.renewals.items before l.fn.apps → AreRenewalsIn l.code l.renewals.items before l.apps;
 }

@@ -3,11 +3,11 @@ use Rattle.std.proofs.Common.{◌≡◌, ◌+◌, ◌++◌, ◌∷◌, ◌∙◌
 use Rattle.std.specs.Option.{IsSome, option_copied}
 use Rattle.std.specs.Prelude.{IfSome}
 use Rattle.code_changes.proofs.Renewed.{drop_changed, is_renewed, messages_given, not_renewed, stands}
-use Rattle.code_changes.proofs.Backs.{renewals_more}
+use Rattle.code_changes.proofs.Backs.{its_supervisor, renewals_more}
 use Rattle.app_table.specs.Applications.{Application}
 use Rattle.app_table.specs.Renewing.{with_renewed}
 use Rattle.app_table.specs.declared.undo.Undo.{Undo}
-use Rattle.code_changes.specs.Undo.{AreRenewals}
+use Rattle.code_changes.specs.Undo.{AreRenewalsIn}
 use Rattle.values.proofs.Edits.{length-changed_at}
 use Rattle.code_changes.specs.Renewing.{RenewsOne, supervisor_in}
 use Rattle.script_state.proofs.Firsts.{none_unless}
@@ -60,8 +60,15 @@ returns-clause-others c =
 
 pub returns-clause-renewals : goal.returns-clause-renewals
 returns-clause-renewals c =
+    let code = c.args.code.now in
+    let name = c.args.name.now in
     let undo = c.in_ok-renew.field-0 in
-    let before = c.args.renewals.now.items in
+    let a = c.app_at.result.now in
+    let m = c.in-Some.module.now in
+    let specs = c.in_ok-specs.field-0.specs in
+    let acts = c.in_ok-specs.field-0.acts in
+    let is : supervisor_in name a ≡ Some m = sym c.supervisor_in.ensures ∙ ap option_copied c.in-Some.is in
+    let so_far = c.args.renewals.now.items in
     let pushed = c.push_reserved.ensures.items ∙ ap (λ (us : List Undo). us ++ undo ∷ []) c.in_ok-reserve.ensures.items in
-    λ first x. subst (λ (us : List Undo). AreRenewals us first c.renew.new.self) (sym pushed)
-    (renewals_more before undo first c.args.apps.now c.renew.new.self c.in_ok-renew.ensures.inverse c.in_ok-renew.ensures.pieces x)
+    λ before x. subst (λ (us : List Undo). AreRenewalsIn code us before c.renew.new.self) (sym pushed)
+    (renewals_more code so_far undo before c.args.apps.now c.renew.new.self c.args.place a m specs acts c.app_at.ensures (its_supervisor name a m is) c.in_ok-specs.ensures.given c.in_ok-renew.ensures.renewed c.in_ok-renew.ensures.inverse c.in_ok-renew.ensures.renewal c.in_ok-renew.ensures.pieces x)

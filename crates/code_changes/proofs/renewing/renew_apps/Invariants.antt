@@ -4,7 +4,7 @@ use Rattle.std.proofs.Common.{◌≡◌, List, drop, length}
 use Rattle.app_table.specs.Applications.{Application}
 use Rattle.code_changes.proofs.Renewed.{Renewing}
 use Rattle.code_changes.specs.Renewing.{FirstBadInit}
-use Rattle.code_changes.specs.Undo.{AreRenewals}
+use Rattle.code_changes.specs.Undo.{AreRenewalsIn}
 use Rattle.erl_term.specs.declared.term.Term.{Term}
 use Rattle.process_store.specs.Table.{Table}
 use Rattle.upgrade_calls.specs.Evaluated.{AreEvaluated}
@@ -16,5 +16,5 @@ invariant-loop-place l = record {
   same : drop l.place l.apps ≡ drop l.place l.fn.apps;
   renewing : (t : Table) → AreEvaluated t l.fn.evaluation → Renewing l.code l.name t l.fn.apps l.fn.evaluation l.place l.apps l.evaluation;
   bad : (x : Term) → FirstBadInit l.code l.name (drop l.place l.fn.apps) x → FirstBadInit l.code l.name l.fn.apps x;
-  renewals : (before : List Application) → AreRenewals l.fn.renewals.items before l.fn.apps → AreRenewals l.renewals.items before l.apps;
+  renewals : (before : List Application) → AreRenewalsIn l.code l.fn.renewals.items before l.fn.apps → AreRenewalsIn l.code l.renewals.items before l.apps;
 }

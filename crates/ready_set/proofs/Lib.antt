@@ -1,0 +1,4 @@
+mod Sizes
+mod Climbing
+mod Descending
+mod Kept

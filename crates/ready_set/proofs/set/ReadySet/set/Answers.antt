@@ -1,0 +1,20 @@
+-- One leaf is written, and so is one flag.
+use Rattle.std.proofs.Common.{◌≡◌, ◌∙◌, arith, ap, sym, length, set, List, Bool}
+use Rattle.std.proofs.lemmas.List.{with_items_is}
+use Rattle.ready_set.specs.Marks.{flags_of, is_leaf_marked}
+use Rattle.ready_set.proofs.Kept.{length-flags, put_flags}
+use Rattle.ready_set.proofs.set.ReadySet.set.Goals as goal
+
+pub returns : goal.returns
+returns c =
+    let s = c.self.inside in
+    let old = s.marks.items in
+    let new = c.put.new.marks in
+    let place = c.args.place in
+    let same = c.deref_mut.ensures.value in
+    let long : length new ≡ length old = c.put.auto.marks ∙ ap length same in
+    let many : length c.args.self.now ≡ s.places = sym (ap length c.self.view_is) ∙ length-flags old s.places c.self.invariant.room in
+    ap (λ (ms : List Bool). flags_of ms s.places) (with_items_is s.marks new (c.put.auto.marks ∙ c.deref_mut.ensures.len))
+    ∙ put_flags old new s.places place c.args.marked long c.self.invariant.room (omega (arith, c.requires, many)) c.put.ensures.here
+    (λ k other. c.put.ensures.others k other ∙ ap (λ (ms : List Bool). is_leaf_marked ms k) same)
+    ∙ ap (λ (fs : List Bool). set fs place c.args.marked) c.self.view_is
