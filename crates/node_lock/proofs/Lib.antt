@@ -1,2 +1,3 @@
-mod Commanded
-mod OneEnd
+mod Entered
+pub mod Refused
+pub mod Crossing

@@ -1,3 +1,2 @@
-pub mod Entries
-pub mod History
-pub mod Laws
+pub mod Acting
+pub mod Core

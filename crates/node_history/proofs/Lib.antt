@@ -1,0 +1,4 @@
+mod Commanded
+pub mod Longer
+mod Marks
+mod OneEnd

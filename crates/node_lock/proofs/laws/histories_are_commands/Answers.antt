@@ -1,6 +1,0 @@
--- A legal history leads where its commands lead.
-use Rattle.node_lock.proofs.Commanded.{commanded, led}
-use Rattle.node_lock.proofs.laws.histories_are_commands.Goals as goal
-
-pub returns : goal.returns
-returns c = record { lead = led; fold = commanded }

@@ -1,0 +1,60 @@
+// Seats.
+ghost use Rattle.std.specs.Prelude.{◌≡◌, []};
+
+use entry_lists::{Entries, Run};
+use node_history::Line;
+use std::alloc::Global;
+use std::marker::Model;
+
+/// Who asks: a client of the node, with its number, and what it was answered. Contracts see the number and the lines, in order.
+#[derive(Drop)]
+pub struct Seat {
+    pub(crate) number: u64,
+    pub(crate) lines: Entries<Line>,
+}
+
+impl Model for Seat {
+    ghost use Rattle.std.specs.Coded.{codes};
+    ghost use Rattle.erl_term.specs.contracts.term.Terms as terms;
+    ghost use Rattle.erl_forms.specs.contracts.module.Module as forms;
+    ghost use Rattle.node_lock.specs.Core.{SeatState};
+
+    ghost Value = { SeatState };
+
+    ghost coded = { Prim.hlevel (codes, terms.the_row.coded, forms.the_row.coded) };
+
+    ghost view = { λ s. record { number = s.number; lines = s.lines.items } };
+}
+
+impl Seat {
+    ghost use Rattle.node_lock.specs.Core.{SeatState};
+    ghost use Rattle.std.specs.Prelude.{All};
+    ghost use Rattle.entry_lists.specs.Entries.{IsRun, written_out};
+    ghost use Rattle.node_history.specs.History.{IsIdleLine};
+
+    /// A seat that has asked nothing yet. Takes no memory.
+    pub fn new(alloc: Global, number: u64) -> Seat
+        ensures { (result.number ≡ number) × (result.lines ≡ []) }
+    {
+        Seat {
+            number,
+            lines: Entries::new(alloc),
+        }
+    }
+
+    /// Its number: the client that its calls come from. Takes no memory.
+    pub fn number(&self) -> u64
+        ensures { result ≡ self.now.number }
+    {
+        self.number
+    }
+
+    /// What it has asked and was answered, in order: each line as often as its run counts it, which is once but for
+    /// idle turns. Takes no memory.
+    pub fn lines(&self) -> &[Run<Line>]
+        ensures lines { written_out result.now ≡ self.now.lines }
+        ensures counts { All (IsRun IsIdleLine) result.now }
+    {
+        self.lines.runs()
+    }
+}
