@@ -1,5 +1,6 @@
-//! A table of processes as it is written in plain Rust, for figures to compare with: the processes in a `BTreeMap` by pid, names
-//! and open calls in hash maps, mailboxes in `VecDeque`s, and a step's undo in an enum. Terms, places and instances share.
+//! A table of processes as it is written in plain Rust, for figures to compare with: the processes in a `BTreeMap` by pid, the pids of
+//! those that could take a message in a `BTreeSet`, names and open calls in hash maps, mailboxes in `VecDeque`s, and a step's undo in an
+//! enum. Terms, places and instances share.
 //!
 //! `plain_table MEASURE PROCESSES SIZE TURNS` does as `main.rattle` does, by the same steps with the same refusals. What the
 //! callbacks do is written by hand: a counter that counts one on and replies.
@@ -151,6 +152,11 @@ impl Process {
         self.mailbox.push_back(message);
     }
 
+    /// Whether it could take a message now.
+    fn can_take(&self) -> bool {
+        matches!(self.activity, Activity::Idle) && self.next.is_some()
+    }
+
     /// Whether it runs this job: equal by value, code included.
     fn runs(&self, pid: u64, job: &Job) -> bool {
         let Activity::Runs(running) = &self.activity else { return false };
@@ -173,6 +179,8 @@ impl Process {
 #[derive(Default)]
 struct Processes {
     table: BTreeMap<u64, Process>,
+    /// The pids of those that could take a message now.
+    ready: BTreeSet<u64>,
     next_pid: u64,
     names: HashMap<Atom, u64>,
     /// The open calls by their numbers: the process that is to answer, and the client.
@@ -195,6 +203,19 @@ impl Processes {
         Ok(pid)
     }
 
+    /// Puts a pid among those that could take a message now, or takes it out, by what its process is.
+    fn mark(&mut self, pid: u64) {
+        match self.table.get(&pid).is_some_and(Process::can_take) {
+            true => self.ready.insert(pid),
+            false => self.ready.remove(&pid),
+        };
+    }
+
+    /// The least pid above another of a process that could take a message now.
+    fn runnable(&self, after: u64) -> Option<u64> {
+        self.ready.range(after + 1..).next().copied()
+    }
+
     fn arrive(&mut self, client: u64, name: &Atom, body: &Body) -> Result<Undo, Refusal> {
         let pid = *self.names.get(name).ok_or(Refusal::NoProc)?;
         let process = self.table.get_mut(&pid).ok_or(Refusal::NoProc)?;
@@ -211,6 +232,7 @@ impl Processes {
             Body::Cast(term) => (tuple([atom("$gen_cast"), term.clone()]), None),
         };
         process.deliver(message);
+        self.mark(pid);
         Ok(Undo::Arrived { pid, call })
     }
 
@@ -233,6 +255,7 @@ impl Processes {
         let job = Job { pid, turn, place, entry_serial, message: message.clone(), code: code.clone() };
         process.activity = Activity::Runs(Running { entry_serial, message, code });
         process.next = None;
+        self.ready.remove(&pid);
         Ok((job, Undo::Taken { pid, position }))
     }
 
@@ -253,12 +276,14 @@ impl Processes {
                 replies.push(Reply { call, told: Told::Reply(term.clone()) });
             }
         }
+        self.mark(job.pid);
         Ok((replies, Undo::Rested { pid: job.pid, place, rests_in, running, closed }))
     }
 
     /// Takes a process out, with its name and its open calls.
     fn remove(&mut self, pid: u64) -> Option<Process> {
         let process = self.table.remove(&pid)?;
+        self.ready.remove(&pid);
         if let Some(name) = &process.name {
             self.names.remove(name);
         }
@@ -277,6 +302,7 @@ impl Processes {
             self.open.insert(*number, (pid, *client));
         }
         self.table.insert(pid, process);
+        self.mark(pid);
     }
 
     fn end(&mut self, pid: u64) -> Result<Undo, Refusal> {
@@ -304,6 +330,7 @@ impl Processes {
                     process.calls.remove(&call);
                     self.open.remove(&call.1);
                 }
+                self.mark(pid);
             }
             Undo::Taken { pid, position } => {
                 let process = self.table.get_mut(&pid).expect("a process");
@@ -311,6 +338,7 @@ impl Processes {
                     process.mailbox.insert(position, running.message);
                     process.next = Some(position);
                 }
+                self.mark(pid);
             }
             Undo::Rested { pid, place, rests_in, running, closed } => {
                 for (owner, call) in closed.iter().rev() {
@@ -321,6 +349,7 @@ impl Processes {
                 (process.place, process.rests_in) = (place, rests_in);
                 process.activity = Activity::Runs(running);
                 (process.turn, process.next) = (process.turn - 1, None);
+                self.ready.remove(&pid);
             }
             Undo::Ended { pid, process } => self.restore(pid, process),
             Undo::Killed(killed) => killed.into_iter().for_each(|(pid, process)| self.restore(pid, process)),
@@ -372,7 +401,7 @@ fn done(job: Job) -> Option<Done> {
 
 // The program.
 
-enum Step { Arrive(Atom, Body), Take(u64), Commit(Done), End(u64), Kill(u64) }
+enum Step { Arrive(Atom, Body), Take(u64), Commit(Done), End(u64), Kill(u64), Next, Serve(Atom, Body) }
 
 struct Node {
     modules: HashMap<Atom, Instance>,
@@ -402,6 +431,13 @@ impl Node {
     /// Fills the table for a measure. The step that it measures is handed out.
     fn fill(&mut self, measure: &str, count: u64, size: u64) -> Step {
         let (server, looping) = (self.load(1, "ctr", |_| true), self.load(2, "lp", is_bump));
+        if measure == "given" {
+            for pid in 1..=count {
+                self.begin(name_of(pid), &server, false);
+                self.processes.end(pid).expect("an end");
+            }
+            return Step::Next;
+        }
         let pid = count / 2;
         let every = match measure {
             "kill" => count / size,
@@ -430,8 +466,25 @@ impl Node {
             }
             "end" => Step::End(pid),
             "kill" => Step::Kill(looping.serial),
+            "next" => Step::Next,
+            "serve" => Step::Serve(name, bump(size + 1)),
             _ => panic!("no measure"),
         }
+    }
+
+    /// The pid of the process that could take a message next, or 0.
+    fn next(&self) -> u64 {
+        self.processes.runnable(0).unwrap_or(0)
+    }
+
+    /// A message comes, and the process that could take one next takes one; and both are taken back. Its pid is handed out.
+    fn serve(&mut self, name: &Atom, body: &Body) -> Result<u64, Refusal> {
+        let came = self.processes.arrive(1, name, body)?;
+        let pid = self.next();
+        let (_, taken) = self.processes.take(&self.modules, pid)?;
+        self.processes.revert(taken);
+        self.processes.revert(came);
+        Ok(pid)
     }
 
     /// Makes a step and takes it back. How long the step took, if that is told, and what was seen, are handed out.
@@ -441,6 +494,8 @@ impl Node {
             _ => None,
         };
         let (undo, mut seen) = match step {
+            Step::Next => return Ok((Duration::ZERO, self.next())),
+            Step::Serve(name, body) => return Ok((Duration::ZERO, self.serve(name, body)?)),
             Step::Arrive(name, body) => (self.processes.arrive(1, name, body)?, 0),
             Step::Take(pid) => {
                 let (job, undo) = self.processes.take(&self.modules, *pid)?;
