@@ -1,3 +1,4 @@
 mod Fronts
 mod Looked
+mod Left
 mod Runs

@@ -1,5 +1,5 @@
 -- Entries in order, and how they are kept.
-use Rattle.std.specs.Prelude.{◌≡◌, ◌<◌, Bool, List, ◌++◌, map, replicate}
+use Rattle.std.specs.Prelude.{◌≡◌, ℕ, ◌<◌, Bool, List, [], ◌∷◌, ◌++◌, All, map, replicate}
 use Rattle.std.specs.List.{flat_map}
 use Rattle.entry_lists.specs.declared.entries.Run.{Run}
 
@@ -25,3 +25,13 @@ entries_of runs = map (λ run. run.entry) runs
 -- a list stays, and more may come behind it
 abbrev pub GrowsAtEnd : {A : Type 0} → List A → List A → Type 0
 GrowsAtEnd {A} old new = (more : List A) × (new ≡ old ++ more)
+
+-- an entry is an idle turn, and says the same as the last one
+abbrev pub RepeatsLast : {E : Type 0} → (E → Type 0) → List (Run E) → E → Type 0
+RepeatsLast {E} IsIdle runs entry =
+    (front : List (Run E)) × (last : Run E) × (runs ≡ front ++ last ∷ []) × (last.entry ≡ entry) × IsIdle entry
+
+-- Each run counts its entry once or more, and of the first one's entry more is left than was given so often.
+abbrev pub HasLeft : {E : Type 0} → ℕ → List (Run E) → Type 0
+HasLeft given [] = given ≡ 0
+HasLeft given (run ∷ runs) = (given < run.count) × All (λ r. 0 < r.count) (run ∷ runs)

@@ -1,7 +1,7 @@
 // Entries in order, of which repeats take no room.
-ghost use Rattle.std.specs.Prelude.{◌≡◌, ◌^◌, ◌-◌, ◌<◌, ◌++◌, ◌∷◌, [], All, IsOk, IsTrue, OnErr, OnOk, length};
+ghost use Rattle.std.specs.Prelude.{◌≡◌, ◌↔◌, ◌^◌, ◌-◌, ◌<◌, ◌++◌, ◌∷◌, [], All, IsOk, IsTrue, OnErr, OnOk, length};
 ghost use Rattle.std.specs.Bool.{OnFalse, OnTrue};
-ghost use Rattle.entry_lists.specs.Entries.{GrowsAtEnd, IsRun, entries_of, written_out};
+ghost use Rattle.entry_lists.specs.Entries.{GrowsAtEnd, IsRun, RepeatsLast, entries_of, written_out};
 
 use std::alloc::{AllocError, Global};
 use std::marker::Model;
@@ -13,7 +13,7 @@ pub trait Repeats {
 
     /// Whether it is an idle turn that says the same as another: then they are equal. Takes no memory.
     fn repeats(&self, other: &Self) -> bool
-        ensures { IsTrue result → (self.now ≡ other.now) × IsIdle self.now };
+        ensures { IsTrue result ↔ (self.now ≡ other.now) × IsIdle self.now };
 }
 
 /// An entry, and how often it stands in a row.
@@ -108,6 +108,7 @@ impl<E: Repeats + Drop> Entries<E> {
         requires { IsTrue self.old.room }
         ensures items { self.new.items ≡ self.old.items ++ entry ∷ [] }
         ensures runs { GrowsAtEnd (entries_of self.old.runs) (entries_of self.new.runs) }
+        ensures counted { RepeatsLast E.IsIdle self.old.runs entry → entries_of self.new.runs ≡ entries_of self.old.runs }
     {
         let counted = count_repeat(&mut self.runs, &entry);
         self.len += 1;
@@ -126,6 +127,7 @@ fn count_repeat<E: Repeats>(runs: &mut [Run<E>], entry: &E) -> bool
     requires few { length (written_out runs.old) < 2 ^ 64 - 1 }
     ensures counted { OnTrue result (written_out runs.new ≡ written_out runs.old ++ entry.now ∷ []) }
     ensures unchanged { OnFalse result (runs.new ≡ runs.old) }
+    ensures other { OnFalse result (RepeatsLast E.IsIdle runs.old entry.now → ⊥) }
     ensures entries { entries_of runs.new ≡ entries_of runs.old }
     ensures counts { All (IsRun E.IsIdle) runs.new }
 {

@@ -1,6 +1,6 @@
 // A history whose replies are found by client.
 ghost use Rattle.std.specs.Prelude.{◌≡◌, ◌++◌, ◌∷◌, [], All, IfOk, IsOk, IsTrue, OnErr, OnOk, drop, length};
-ghost use Rattle.entry_lists.specs.Entries.{GrowsAtEnd, IsRun, entries_of, written_out};
+ghost use Rattle.entry_lists.specs.Entries.{GrowsAtEnd, IsRun, RepeatsLast, entries_of, written_out};
 ghost use Rattle.entry_lists.specs.Replies.{replies_to};
 
 use crate::entries::{Entries, Run};
@@ -105,6 +105,7 @@ impl<E: Replying + Drop> History<E> {
         requires { IsTrue self.old.room }
         ensures items { self.new.items ≡ self.old.items ++ entry ∷ [] }
         ensures runs { GrowsAtEnd (entries_of self.old.runs) (entries_of self.new.runs) }
+        ensures counted { RepeatsLast E.IsIdle self.old.runs entry → entries_of self.new.runs ≡ entries_of self.old.runs }
     {
         self.entries.push(entry);
     }

@@ -22,7 +22,9 @@ mod entries;
 mod found;
 mod history;
 mod replying;
+mod written_out;
 
 pub use entries::{Entries, Repeats, Run};
 pub use history::History;
 pub use replying::Replying;
+pub use written_out::WrittenOut;

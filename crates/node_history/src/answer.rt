@@ -4,7 +4,7 @@ ghost use Rattle.std.specs.Prelude.{◌≡◌};
 use node_types::Answer;
 use std::alloc::{AllocError, Global};
 use std::marker::Model;
-use values::{Boxed, Duplicate, Reserved};
+use values::{Boxed, Duplicate, Reserved, Same};
 
 /// The answer to an event, as it is kept: one that tells nothing takes no memory of its own. Contracts see it as the answer.
 #[derive(Drop)]
@@ -63,5 +63,15 @@ impl Duplicate for KeptAnswer {
         Ok(KeptAnswer {
             told: self.told.copy(alloc)?,
         })
+    }
+}
+
+impl Same for KeptAnswer {
+    fn same(&self, other: &KeptAnswer) -> bool {
+        match (&self.told, &other.told) {
+            (None, None) => true,
+            (Some(told), Some(with)) => told.same(with),
+            (None, Some(told)) | (Some(told), None) => told.get().same(&Answer::Unit),
+        }
     }
 }

@@ -7,7 +7,7 @@ use process_effects::Reply;
 use release_statuses::Listed;
 use std::alloc::{AllocError, Global};
 use undo_journal::{Mark, Report};
-use values::{Boxed, Duplicate, Row, Shared};
+use values::{Boxed, Duplicate, Row, Same, Shared};
 
 /// What a seat asks.
 #[derive(Drop)]
@@ -21,8 +21,8 @@ pub enum Command {
         /// What is asked.
         term: Shared<Term>,
     },
-    /// The process whose turn it is takes its next message: of those that could take one that with the least pid
-    /// above this one, else that with the least of all.
+    /// The process that is next takes its next message: of those that could take one that with the least pid above
+    /// this one, else that with the least of all.
     TakeAny(u64),
     /// The mark of where the node stands.
     Mark,
@@ -117,5 +117,52 @@ impl Duplicate for Fault {
             Fault::DeadMark => Fault::DeadMark,
             Fault::SerialEnd => Fault::SerialEnd,
         })
+    }
+}
+
+impl Same for Command {
+    fn same(&self, other: &Command) -> bool {
+        match (self, other) {
+            (Command::Perform(event), Command::Perform(with)) => event.same(with),
+            (Command::Call { name, term }, Command::Call { name: n, term: t }) => name.same(n)
+                && term.same(t),
+            (Command::TakeAny(above), Command::TakeAny(with)) => *above == *with,
+            (Command::Mark, Command::Mark) => true,
+            (Command::Undo(mark), Command::Undo(with)) => *mark == *with,
+            (Command::Forget(mark), Command::Forget(with)) => *mark == *with,
+            (Command::Retake(pid), Command::Retake(with)) => *pid == *with,
+            (Command::Replies(from), Command::Replies(with)) => *from == *with,
+            (Command::Which, Command::Which) => true,
+            (_, _) => false,
+        }
+    }
+}
+
+impl Same for Said {
+    fn same(&self, other: &Said) -> bool {
+        match (self, other) {
+            (Said::Performed(answer), Said::Performed(with)) => answer.same(with),
+            (Said::Called(number), Said::Called(with)) => *number == *with,
+            (Said::Taken(job), Said::Taken(with)) => job.same(with),
+            (Said::Marked(mark), Said::Marked(with)) => *mark == *with,
+            (Said::Undone(report), Said::Undone(with)) => report.same(with),
+            (Said::Floored, Said::Floored) => true,
+            (Said::Retaken(job), Said::Retaken(with)) => job.same(with),
+            (Said::Replied(replies), Said::Replied(with)) => replies.same(with),
+            (Said::Releases(releases), Said::Releases(with)) => releases.same(with),
+            (_, _) => false,
+        }
+    }
+}
+
+impl Same for Fault {
+    fn same(&self, other: &Fault) -> bool {
+        match (self, other) {
+            (Fault::Refused(why), Fault::Refused(with)) => why.same(with),
+            (Fault::Forgotten, Fault::Forgotten) => true,
+            (Fault::DeadMark, Fault::DeadMark) => true,
+            (Fault::SerialEnd, Fault::SerialEnd) => true,
+            (_, _) => false,
+        }
     }
 }

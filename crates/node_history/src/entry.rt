@@ -1,6 +1,10 @@
 // Entries of a history, and lines of a seat.
+ghost use Rattle.std.specs.Prelude.{◌≡◌, ◌↔◌, IsTrue};
+ghost use Rattle.node_history.specs.Lists.{line_of};
+
 use crate::command::{Command, Fault, Said};
 use node_types::Note;
+use values::Same;
 
 /// What was done in one holding of the node.
 #[derive(Drop)]
@@ -22,4 +26,27 @@ pub struct Line {
     pub command: Command,
     /// What it was answered, or why not.
     pub answer: Result<Said, Fault>,
+}
+
+impl Line {
+    ghost use Rattle.std.specs.Prelude.{◌≡◌, ◌↔◌, IsTrue};
+    ghost use Rattle.node_history.specs.Lists.{line_of};
+
+    /// Whether it is what a seat keeps of an entry. Takes no memory.
+    pub fn is_of(&self, entry: &Entry) -> bool
+        ensures { IsTrue result ↔ (self.now ≡ line_of entry.now) }
+    {
+        self.command.same(&entry.command) && is_same_answer(&self.answer, &entry.answer)
+    }
+}
+
+/// Whether two answers are equal.
+fn is_same_answer(answer: &Result<Said, Fault>, other: &Result<Said, Fault>) -> bool
+    ensures { IsTrue result ↔ (answer.now ≡ other.now) }
+{
+    match (answer, other) {
+        (Ok(said), Ok(with)) => said.same(with),
+        (Err(fault), Err(with)) => fault.same(with),
+        (_, _) => false,
+    }
 }

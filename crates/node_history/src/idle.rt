@@ -32,7 +32,7 @@ fn is_same_idle_turn(
     other: &Command,
     told: &Result<Said, Fault>,
 ) -> bool
-    ensures { IsTrue result → (command.now ≡ other.now) × (answer.now ≡ told.now) × IsIdleTurn command.now answer.now }
+    ensures { IsTrue result ↔ (command.now ≡ other.now) × (answer.now ≡ told.now) × IsIdleTurn command.now answer.now }
 {
     match (command, other) {
         (Command::TakeAny(above), Command::TakeAny(after)) => {
