@@ -1,12 +1,10 @@
--- What of a node that seats share may go to another thread.
+-- What of entries and lines may go to another thread.
 use denote.RattleType.{RattleType}
 use denote.Struct.Field.{row_field}
-use denote.Param.Send.{IsSend, IsSync, view_send, sendable}
+use denote.Param.Send.{IsSend, view_send, sendable}
 use denote.Param.SendFields.{as_row_send, declared_send, variants_send}
 use Rattle.std.proofs.Crossing.{crosses}
 use Rattle.std.specs.contracts.result.Result as Result
-use Rattle.entry_lists.proofs.entries.Entries.TheSendSync as entries
-use Rattle.entry_lists.proofs.history.History.TheSendSync as history
 use Rattle.erl_semantics.specs.contracts.jobs.Job as Job
 use Rattle.erl_term.proofs.atom.Atom.TheSendSync as atom
 use Rattle.node_history.specs.contracts.answer.KeptAnswer as KeptAnswer
@@ -16,13 +14,8 @@ use Rattle.node_history.specs.contracts.command.Fault as Fault
 use Rattle.node_history.specs.contracts.command.Said as Said
 use Rattle.node_history.specs.contracts.entry.Entry as Entry
 use Rattle.node_history.specs.contracts.entry.Line as Line
-use Rattle.node_lock.specs.contracts.locked.Core as Core
-use Rattle.node_lock.specs.contracts.locked.Core.TheInside as CoreInside
-use Rattle.node_lock.specs.contracts.seat.Seat as Seat
-use Rattle.node_lock.specs.contracts.seat.Seat.TheInside as SeatInside
 use Rattle.node_sends.proofs.ErlSemantics as erl_semantics
 use Rattle.node_sends.proofs.ErlTerm as erl_term
-use Rattle.node_sends.proofs.NodeJournal as node_journal
 use Rattle.node_sends.proofs.NodeTypes as node_types
 use Rattle.node_sends.proofs.ProcessEffects as process_effects
 use Rattle.node_sends.proofs.ReleaseStatuses as release_statuses
@@ -128,35 +121,11 @@ said_send = variants_send Said.enum (
 answer_send : IsSend (Result.the_row Said.the_row Fault.the_row)
 answer_send = result_send Said.the_row Fault.the_row said_send fault_send
 
-entry_send : IsSend Entry.the_row
+pub entry_send : IsSend Entry.the_row
 entry_send = declared_send Entry.the_type (
   search sendable,
   (command_send, (answer_send, (values.option_send Note.the_row node_types.note_send, tt))),
 )
 
-line_send : IsSend Line.the_row
+pub line_send : IsSend Line.the_row
 line_send = declared_send Line.the_type (command_send, (answer_send, tt))
-
-core_fields : IsSend CoreInside.the_row
-core_fields = declared_send CoreInside.the_type (
-  search sendable depth 20,
-  (
-    search (crosses, sendable) depth 20,
-    (
-      node_journal.node_journal_send,
-      (search (entry_send, process_effects.reply_send, history.the_send, crosses, sendable) depth 60 fits 20000, tt),
-    ),
-  ),
-)
-
-pub core_send : IsSend Core.the_row
-core_send = view_send _ _ _ _ _ core_fields
-
-seat_fields : IsSend SeatInside.the_row
-seat_fields = declared_send SeatInside.the_type (
-  search sendable,
-  (search (line_send, entries.the_send, crosses, sendable) depth 60 fits 20000, tt),
-)
-
-pub seat_send : IsSend Seat.the_row
-seat_send = view_send _ _ _ _ _ seat_fields

@@ -1,3 +1,5 @@
+mod Counted
+mod Crossing
 mod Entered
-pub mod Refused
-pub mod Crossing
+mod Lined
+mod Listed

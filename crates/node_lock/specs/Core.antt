@@ -1,9 +1,9 @@
 -- What a command of a seat does to the node that seats share, and to the seat's list.
-use Rattle.std.specs.Prelude.{◌≡◌, ℕ, ◌<◌, List, [], ◌∷◌, ◌++◌, Option, None, IsSome, Result, Ok, Err}
+use Rattle.std.specs.Prelude.{◌≡◌, ℕ, List, [], ◌∷◌, ◌++◌, Option, None, Result, Ok, Err}
 use Rattle.release_boot.specs.Boot.{Boots}
 use Rattle.release_statuses.specs.Statuses.{booted as booted_with}
 use Rattle.release_table.specs.declared.table.Release.{Release}
-use Rattle.undo_journal.specs.Timeline.{cut_to, opened}
+use Rattle.undo_journal.specs.Timeline.{opened}
 use Rattle.undo_journal.specs.declared.error.JournalError.{JournalError}
 use Rattle.undo_journal.specs.declared.error.JournalError.TheVariants as error
 use Rattle.undo_journal.specs.declared.report.Report.{Report}
@@ -19,6 +19,7 @@ use Rattle.node_history.specs.declared.command.Said.{Said}
 use Rattle.node_history.specs.declared.command.Said.TheVariants as said
 use Rattle.node_history.specs.declared.entry.Entry.{Entry}
 use Rattle.node_history.specs.declared.entry.Line.{Line}
+use Rattle.node_commands.specs.Telling.{Stops}
 use Rattle.node_lock.specs.declared.error.LockError.{LockError}
 use Rattle.node_lock.specs.declared.error.LockError.TheVariants as lock
 
@@ -33,15 +34,20 @@ pub record SeatState : Type 0 where
   pub number : ℕ
   pub lines : List Line
 
--- the node is one that a release boots
-abbrev pub IsBooted : NodeState → Type 0
-IsBooted n = (release : Release) × Boots release n.modules n.processes n.apps × (n.releases ≡ booted_with release) ×
+-- the node is one that this release boots
+abbrev pub IsBooted : Release → NodeState → Type 0
+IsBooted release n = Boots release n.modules n.processes n.apps × (n.releases ≡ booted_with release) ×
     (n.unpurged ≡ []) × (n.runner ≡ None)
 
--- A release has booted the node, and the history has led from that to where it stands.
-pub record HasLegalHistory (c : CoreState) : Type 0 where
-  pub booted : IsBooted c.booted
+-- The release has booted the node, and the history has led from that to where it stands.
+pub record HasLegalHistory (release : Release) (c : CoreState) : Type 0 where
+  pub booted : IsBooted release c.booted
   pub legal : Legal (opened c.booted) [] c.history c.timeline
+
+-- what a seat keeps of an entry goes last in its list
+abbrev pub AddsLine : Command → Result Said Fault → SeatState → SeatState → Type 0
+AddsLine c answer seat after =
+    after ≡ record { number = seat.number; lines = seat.lines ++ record { command = c; answer = answer } ∷ [] }
 
 -- A command is answered as `Gives` says behind the history. The entry, with its note, goes last in the history, and
 -- the line, without it, last in the seat's list.
@@ -51,16 +57,7 @@ pub record Adds (c : Command) (answer : Result Said Fault) (old : CoreState) (se
   pub gives : Gives old.timeline old.history seat.number c answer note new.timeline
   pub history : new.history ≡ old.history ++ record { seat = seat.number; command = c; answer = answer; note = note } ∷ []
   pub booted : new.booted ≡ old.booted
-  pub lines : after.lines ≡ seat.lines ++ record { command = c; answer = answer } ∷ []
-  pub number : after.number ≡ seat.number
-
--- An undo to a mark that has a station has found no memory after it had cut stations. It stands at a mark behind its
--- own, and tells what it has cut; called again it has the end that it had.
-pub record Stops (mark reached : ℕ) (report : Report Note) (t after : NodeTimeline) : Type 0 where
-  pub alive : IsSome (cut_to mark t)
-  pub behind : mark < reached
-  pub cut : 0 < report.cut
-  pub same_end : cut_to mark after ≡ cut_to mark t
+  pub line : AddsLine c answer seat after
 
 -- It's entered as the undo to the mark where it stands.
 pub record AddsStop (c : Command) (reached : ℕ) (reports : List (Report Note)) (old : CoreState) (seat : SeatState)
@@ -71,13 +68,6 @@ pub record AddsStop (c : Command) (reached : ℕ) (reports : List (Report Note))
   pub told : reports ≡ report ∷ []
   pub stops : Stops mark reached report old.timeline new.timeline
   pub adds : Adds (command.Undo reached) (Ok (said.Undone report)) old seat new after
-
--- why a command is refused, as the journal tells it
-abbrev pub error_of : Fault → JournalError Refusal Note
-error_of (fault.Refused why) = error.Step why
-error_of fault.Forgotten = error.Forgotten
-error_of fault.DeadMark = error.DeadMark
-error_of fault.SerialEnd = error.SerialEnd
 
 abbrev pub Fails : Command → JournalError Refusal Note → CoreState → SeatState → CoreState → SeatState → Type 0
 Fails c (error.Step why) old seat new after = Adds c (Err (fault.Refused why)) old seat new after

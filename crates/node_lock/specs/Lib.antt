@@ -1,2 +1,7 @@
-pub mod Acting
+pub mod Closing
 pub mod Core
+pub mod Entering
+pub mod Naming
+pub mod Opening
+pub mod Seats
+pub mod Unclosed

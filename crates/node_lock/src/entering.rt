@@ -2,13 +2,13 @@
 ghost use Rattle.std.specs.Prelude.{◌≡◌, ◌++◌, ◌∷◌, [], IsTrue, None};
 ghost use Rattle.node_history.specs.declared.command.Command.TheVariants.{Undo};
 ghost use Rattle.node_history.specs.declared.command.Said.TheVariants.{Undone};
-ghost use Rattle.node_lock.specs.Acting.{Puts};
+ghost use Rattle.node_lock.specs.Entering.{Puts};
 ghost use Rattle.node_lock.specs.declared.error.LockError.TheVariants as lock;
 ghost use Rattle.undo_journal.specs.declared.error.JournalError.TheVariants as error;
 
 use crate::error::{LockError, told_fault};
-use crate::given::{Acted, Given, Stop};
 use entry_lists::{Entries, History};
+use node_commands::{Acted, Given, Stop};
 use node_history::{Command, Entry, Fault, Line, Said};
 use undo_journal::JournalError;
 

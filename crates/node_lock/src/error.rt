@@ -1,11 +1,11 @@
 // Why a command is not carried out.
-ghost use Rattle.std.specs.Prelude.{◌≡◌, IfOk};
-ghost use Rattle.node_lock.specs.Core.{error_of};
+ghost use Rattle.std.specs.Prelude.{◌≡◌};
+ghost use Rattle.node_commands.specs.Telling.{error_of};
 ghost use Rattle.node_lock.specs.declared.error.LockError.TheVariants.{Journal, Memory};
 
 use node_history::Fault;
 use node_types::{Note, Refusal};
-use std::alloc::{AllocError, Global};
+use std::alloc::AllocError;
 use std::fmt;
 use thiserror::Error;
 use undo_journal::JournalError;
@@ -48,25 +48,5 @@ pub(crate) fn told_fault(fault: Fault) -> LockError
         Fault::Forgotten => JournalError::Forgotten,
         Fault::DeadMark => JournalError::DeadMark,
         Fault::SerialEnd => JournalError::SerialEnd,
-    })
-}
-
-/// Why a command is refused, by the journal's error.
-///
-/// # Errors
-///
-/// `AllocError` where memory is refused, as the error tells, or as a refusal's own is.
-pub(crate) fn fault_of(
-    alloc: Global,
-    error: JournalError<Refusal, Note>,
-) -> Result<Fault, AllocError>
-    ensures { IfOk result (λ fault. error_of fault ≡ error) }
-{
-    Ok(match error {
-        JournalError::Step(why) => Fault::Refused(Shared::new(alloc, why)?),
-        JournalError::Forgotten => Fault::Forgotten,
-        JournalError::DeadMark => Fault::DeadMark,
-        JournalError::SerialEnd => Fault::SerialEnd,
-        JournalError::Memory { .. } => return Err(AllocError),
     })
 }

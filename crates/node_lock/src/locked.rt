@@ -1,15 +1,13 @@
-// The node that seats share.
-ghost use Rattle.std.specs.Prelude.{◌≡◌, [], IfErr, IfOk, None};
-ghost use Rattle.node_lock.specs.Core.{Enters};
-ghost use Rattle.release_boot.specs.Boot.{BootFails, Boots};
-ghost use Rattle.release_statuses.specs.Statuses.{booted};
-ghost use Rattle.undo_journal.specs.Timeline.{opened};
+// The node that seats share, as it lies under the lock.
+ghost use Rattle.std.specs.Prelude.{◌≡◌, ◌+◌, [], IfErr, IfOk};
+ghost use Rattle.release_boot.specs.Boot.{BootFails};
 
-use crate::acting::act;
 use crate::entering::put;
 use crate::error::LockError;
+use crate::naming::{Few, Naming};
 use crate::seat::Seat;
-use entry_lists::{History, Run};
+use entry_lists::History;
+use node_commands::act;
 use node_core::Node;
 use node_history::{Command, Entry, Said};
 use release_boot::BootError;
@@ -18,23 +16,28 @@ use std::alloc::Global;
 use std::hash::RandomState;
 use std::marker::Model;
 use std::snapshot::Snapshot;
+use std::sync::ledger::{Book, Share};
 use undo_journal::Journal;
 use values::Duplicate;
 
-/// A node that several seats share, and the history of what they asked: the value that one holding of a lock changes.
+/// A node that several seats share, and the history of what they asked: the value that one holding of the lock changes.
 ///
 /// Contracts see the node that it booted, the history, and the journal's timeline; the history has led from the one
-/// to the other.
+/// to the other. The ledger's book counts the entries; the parts of the ledger that no seat has lie here.
 #[derive(Drop)]
-pub struct Core {
-    alloc: Global,
-    booted: Snapshot<Node>,
-    journal: Journal<Node>,
-    history: History<Entry>,
+pub struct Core<N: Naming> {
+    pub(crate) alloc: Global,
+    pub(crate) booted: Snapshot<Node>,
+    pub(crate) journal: Journal<Node>,
+    pub(crate) history: History<Entry>,
+    pub(crate) book: Book<N>,
+    pub(crate) rest: Share<N>,
+    pub(crate) few: Few<N>,
 }
 
-impl Model for Core {
+impl<N: Naming> Model for Core<N> {
     ghost use Rattle.std.specs.Coded.{codes};
+    ghost use Rattle.std.specs.Prelude.{◌≡◌, ◌+◌, length};
     ghost use Rattle.erl_term.specs.contracts.term.Terms as terms;
     ghost use Rattle.erl_forms.specs.contracts.module.Module as forms;
     ghost use Rattle.node_lock.specs.Core.{CoreState, HasLegalHistory};
@@ -46,26 +49,34 @@ impl Model for Core {
     ghost view = { λ c. record { booted = c.booted.value; history = c.history.items; timeline = c.journal } };
 
     ghost invariant = { λ c.
-        HasLegalHistory (record { booted = c.booted.value; history = c.history.items; timeline = c.journal }) };
+        HasLegalHistory N.opened (record { booted = c.booted.value; history = c.history.items; timeline = c.journal })
+        × (c.book.total ≡ length c.history.items) × (c.rest.parts + N.seats ≡ 17) × (c.rest.amount ≡ 0) };
 }
 
-impl Core {
-    ghost use Rattle.std.specs.Prelude.{All};
-    ghost use Rattle.entry_lists.specs.Entries.{IsRun, written_out};
-    ghost use Rattle.node_history.specs.History.{IsIdleEntry};
-    ghost use Rattle.node_lock.specs.Core.{HasLegalHistory};
+impl<N: Naming> Core<N> {
+    ghost use Rattle.std.specs.Prelude.{◌≡◌, ◌+◌, [], IfErr, IfOk};
+    ghost use Rattle.node_lock.specs.Core.{Enters};
+    ghost use Rattle.node_lock.specs.Seats.{Lists};
+    ghost use Rattle.release_boot.specs.Boot.{BootFails};
 
-    /// The node that a release boots, of which nothing was asked yet. Names are hashed by `hashing`.
+    /// The node that the name's release boots, of which nothing was asked yet. Names are hashed by `hashing`.
     ///
     /// # Errors
     ///
     /// `NotStarted` of the first application that doesn't start, and `Memory`.
-    pub fn open(alloc: Global, hashing: RandomState, release: &Release) -> Result<Core, BootError>
-        ensures booted { IfOk result (λ c. Boots release.now c.booted.modules c.booted.processes c.booted.apps) }
-        ensures releases { IfOk result (λ c. c.booted.releases ≡ booted release.now) }
-        ensures idle { IfOk result (λ c. (c.booted.unpurged ≡ []) × (c.booted.runner ≡ None)) }
-        ensures opened { IfOk result (λ c. (c.history ≡ []) × (c.timeline ≡ opened c.booted)) }
-        ensures failed { IfErr result (λ e. BootFails e release.now) }
+    pub(crate) fn open(
+        alloc: Global,
+        hashing: RandomState,
+        release: &Release,
+        book: Book<N>,
+        rest: Share<N>,
+        few: Few<N>,
+    ) -> Result<Core<N>, BootError>
+        requires release { release.now ≡ N.opened }
+        requires book { book.total ≡ 0 }
+        requires rest { (rest.parts + N.seats ≡ 17) × (rest.amount ≡ 0) }
+        ensures opened { IfOk result (λ c. c.history ≡ []) }
+        ensures failed { IfErr result (λ e. BootFails e N.opened) }
     {
         let node = Node::boot(alloc, hashing, release)?;
         let booted = Snapshot::of(&node);
@@ -76,24 +87,10 @@ impl Core {
             booted,
             journal,
             history,
+            book,
+            rest,
+            few,
         })
-    }
-
-    /// What was asked and answered, in order: each entry as often as its run counts it, which is once but for idle
-    /// turns. It has led from the node that booted to where the node stands. Takes no memory.
-    pub fn history(&self) -> &[Run<Entry>]
-        ensures entries { written_out result.now ≡ self.now.history }
-        ensures counts { All (IsRun IsIdleEntry) result.now }
-        ensures legal { HasLegalHistory self.now }
-    {
-        self.history.runs()
-    }
-
-    /// The journal of the node. Takes no memory.
-    pub fn journal(&self) -> &Journal<Node>
-        ensures { result.now ≡ self.now.timeline }
-    {
-        &self.journal
     }
 
     /// Does what a seat asks, and enters it in the history and in the seat's list, with what it is answered.
@@ -106,8 +103,9 @@ impl Core {
     /// What the node or its journal refuses is entered as a fault. `Memory` where memory is refused, and then all is
     /// as it was. But an undo that has cut stations before is entered as the undo to the mark where it stands, and
     /// told with the journal's error.
-    pub fn enter(&mut self, seat: &mut Seat, command: Command) -> Result<Said, LockError>
-        ensures { Enters command result self.old seat.old self.new seat.new }
+    pub fn enter(&mut self, seat: &mut Seat<N>, command: Command) -> Result<Said, LockError>
+        ensures entered { Enters command result self.old seat.old self.new seat.new }
+        ensures listed { Lists command result seat.old seat.new }
     {
         self.history.make_room()?;
         seat.lines.make_room()?;
@@ -120,6 +118,7 @@ impl Core {
             number,
             &command,
         )?;
+        self.book.add(&mut seat.share, 1);
         put(
             &mut self.history,
             &mut seat.lines,

@@ -1,0 +1,4 @@
+mod Behind
+mod MoreAdvances
+mod MoreReads
+mod MoreTurns

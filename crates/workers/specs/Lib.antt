@@ -1,0 +1,5 @@
+pub mod Calling
+pub mod Errors
+pub mod Installing
+pub mod Lines
+pub mod Serving

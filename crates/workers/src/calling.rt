@@ -1,0 +1,119 @@
+// A client: it calls, and waits for its reply.
+ghost use Rattle.std.specs.Prelude.{◌≡◌, IfOk};
+ghost use Rattle.workers.specs.Calling.{Awaits, Calls, Looks};
+
+use crate::error::WorkError;
+use crate::reading::{end_of_reads, reply_to};
+use erl_term::{Atom, Term};
+use node_lock::{Naming, Seat, SharedNode};
+use process_effects::Reply;
+use std::alloc::Global;
+use std::sync::Wait;
+use std::thread;
+use std::time::{Clock, Duration};
+use values::Duplicate;
+
+/// So many turns pause but for a moment, and are followed by a read each.
+const QUICK_TURNS: u64 = 32;
+
+/// Behind those each turn whose number is a multiple of this one is followed by a read.
+const TURNS_A_READ: u64 = 64;
+
+/// How long each turn behind the quick ones pauses, in microseconds.
+const PAUSE: u64 = 50;
+
+/// The pause of a turn, counted from 1.
+fn pause<R: Clock>(rt: &R, turn: u64) {
+    if turn <= QUICK_TURNS {
+        thread::yield_now();
+    } else {
+        thread::sleep(rt, Duration::from_micros(PAUSE));
+    }
+}
+
+/// Whether a turn, counted from 1, is followed by a read.
+fn reads(turn: u64) -> bool {
+    turn <= QUICK_TURNS || turn % TURNS_A_READ == 0
+}
+
+/// Reads the replies from a place on, and looks for the reply to the call of a number. Where it isn't there, the place
+/// is then that where the read ended.
+///
+/// # Errors
+///
+/// `Memory`, also where replies can't be counted further.
+fn look<N: Naming, R: Wait>(
+    rt: &R,
+    alloc: Global,
+    shared: &SharedNode<N>,
+    seat: &mut Seat<N>,
+    number: u64,
+    from: &mut usize,
+) -> Result<Option<Reply>, WorkError>
+    ensures { IfOk result (λ found. Looks number from.old from.new found seat.old seat.new) }
+{
+    let replies = shared.replies(rt, seat, *from)?;
+    let replies = replies.get().as_slice();
+    if let Some(reply) = reply_to(replies, number) {
+        return Ok(Some(reply.copy(alloc)?));
+    }
+    *from = from.checked_add(replies.len()).ok_or(WorkError::Memory)?;
+    Ok(None)
+}
+
+/// Waits for the reply to the call of a number, and reads from a place on.
+///
+/// # Errors
+///
+/// As [`call`].
+#[tactic(auto, using(crate::proofs::MoreReads::reads_laws))]
+fn wait_for<N: Naming, R: Wait + Clock>(
+    rt: &R,
+    alloc: Global,
+    shared: &SharedNode<N>,
+    seat: &mut Seat<N>,
+    number: u64,
+    first: usize,
+    turns: u64,
+) -> Result<Reply, WorkError>
+    ensures { IfOk result (λ reply. Awaits number first seat.old seat.new reply) }
+{
+    let mut from = first;
+    for turn in 0..turns {
+        pause(rt, turn + 1);
+        if !reads(turn + 1) {
+            continue;
+        }
+        if let Some(reply) = look(rt, alloc, shared, seat, number, &mut from)? {
+            return Ok(reply);
+        }
+    }
+    Err(WorkError::NoReply)
+}
+
+/// Calls the process of a name, and waits for the reply, for so many turns.
+///
+/// A turn is a pause, of a moment at first, then of 50 microseconds. The replies are read after each of the first 32
+/// turns, and then after every 64th, from where the seat's last read ended that brought some. No contract says that a
+/// reply comes.
+///
+/// # Errors
+///
+/// `Lock` where the node refuses the call. `NoReply` where no reply has come in all turns, also where another seat has
+/// undone the call's arrival. `Memory` where memory is refused, or replies can't be counted further; the call stands.
+#[tactic(auto, using(crate::proofs::MoreReads::calls))]
+pub fn call<N: Naming, R: Wait + Clock>(
+    rt: &R,
+    alloc: Global,
+    shared: &SharedNode<N>,
+    seat: &mut Seat<N>,
+    name: Atom,
+    term: Term,
+    turns: u64,
+) -> Result<Reply, WorkError>
+    ensures { IfOk result (λ reply. Calls name term seat.old seat.new reply) }
+{
+    let from = end_of_reads(seat.lines());
+    let number = shared.call(rt, alloc, seat, name, term)?;
+    wait_for(rt, alloc, shared, seat, number, from, turns)
+}
