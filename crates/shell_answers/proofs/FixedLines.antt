@@ -97,6 +97,14 @@ pub erts_changed-line : line_of (fixed it.ErtsChanged) ≡ codes "{error,erts_ch
 unfolding utf8 is_quoted_word encode
 erts_changed-line = refl
 
+pub stepped_only-line : line_of (fixed it.SteppedOnly) ≡ codes "{error,stepped_only}\n"
+unfolding utf8 is_quoted_word encode
+stepped_only-line = refl
+
+pub no_reply-line : line_of (fixed it.NoReply) ≡ codes "{error,no_reply}\n"
+unfolding utf8 is_quoted_word encode
+no_reply-line = refl
+
 pub name_taken-line : line_of (fixed it.NameTaken) ≡ codes "{error,name_taken}\n"
 unfolding utf8 is_quoted_word encode
 name_taken-line = refl

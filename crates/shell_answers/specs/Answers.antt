@@ -32,7 +32,7 @@ use Rattle.node_types.specs.Note.{Note}
 use Rattle.shell_answers.specs.declared.fixed.Fixed.{Fixed}
 use Rattle.shell_answers.specs.declared.fixed.Fixed.TheVariants.{Done, True, False, BadCommand, LineTooLong, SerialEnd, CounterAtEnd}
 use Rattle.shell_answers.specs.declared.fixed.Fixed.TheVariants.{Forgotten, DeadMark, Memory, NoJob, NoProc, Suspended, Running, Idle as IsIdle, NotRunning}
-use Rattle.shell_answers.specs.declared.fixed.Fixed.TheVariants.{Stale, DuplicateCall, NameTaken, NoChild, NotDue, Installing, NotInstalling, ErtsChanged}
+use Rattle.shell_answers.specs.declared.fixed.Fixed.TheVariants.{Stale, DuplicateCall, NameTaken, NoChild, NotDue, Installing, NotInstalling, ErtsChanged, SteppedOnly, NoReply}
 
 -- the line of a term
 abbrev pub line_of : Tree → List ℕ
@@ -75,6 +75,8 @@ fixed NotDue = error (codes "not_due")
 fixed Installing = error (codes "installing")
 fixed NotInstalling = error (codes "not_installing")
 fixed ErtsChanged = error (codes "erts_changed")
+fixed SteppedOnly = error (codes "stepped_only")
+fixed NoReply = error (codes "no_reply")
 
 -- `{module,Mod}`, `{mark,K}`, `{floor,K}`, `{call,N}`, `{job,J,Pid}`, `{revived,Pid}`
 

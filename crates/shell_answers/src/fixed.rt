@@ -56,6 +56,10 @@ pub enum Fixed {
     NotInstalling,
     /// `{error,erts_changed}`
     ErtsChanged,
+    /// `{error,stepped_only}`
+    SteppedOnly,
+    /// `{error,no_reply}`
+    NoReply,
 }
 
 impl Fixed {
@@ -88,6 +92,8 @@ impl Fixed {
             Fixed::Installing => b"{error,installing}\n",
             Fixed::NotInstalling => b"{error,not_installing}\n",
             Fixed::ErtsChanged => b"{error,erts_changed}\n",
+            Fixed::SteppedOnly => b"{error,stepped_only}\n",
+            Fixed::NoReply => b"{error,no_reply}\n",
         }
     }
 

@@ -30,7 +30,7 @@ pub use processes::write_process;
 pub use refusals::{Subject, code_refusal, proc_refusal, write_refusal};
 pub use releases::{names_in_releases, write_releases, write_unpacked};
 pub use relups::{write_relup, write_unmade};
-pub use replies::{write_committed, write_replies, write_stopped, write_undone};
+pub use replies::{write_committed, write_replies, write_reply, write_stopped, write_undone};
 pub use scripts::{
     write_carried_out, write_finished, write_installing, write_recovered, write_restarted,
     write_swept,

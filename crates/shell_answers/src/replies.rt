@@ -38,6 +38,14 @@ fn put_reply(reply: &Reply, out: &mut Vec<u8>) -> Result<(), AllocError>
     }
 }
 
+/// Appends `{reply,Client,N,T}` or `{down,Client,N,R}`.
+pub fn write_reply(reply: &Reply, out: &mut Vec<u8>) -> Result<(), AllocError>
+    ensures { OnOk result (out.new.items ≡ out.old.items ++ line_of (replied reply.now)) }
+{
+    put_reply(reply, out)?;
+    put(b"\n", out)
+}
+
 /// Appends replies, as the elements that are left of a row, of which none, or some, are written. Answers whether none is written still.
 fn put_replies(replies: &[Reply], is_first: bool, out: &mut Vec<u8>) -> Result<bool, AllocError>
     ensures written { OnOk result (out.new.items ≡ out.old.items ++ utf8 (listed is_first (replies_in replies.now))) }

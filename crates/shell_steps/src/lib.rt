@@ -38,4 +38,4 @@ pub use telling::{
     Said, refuse, say, say_file_fault, say_term_fault, tell_halt, tell_halt_of, tell_missed,
     tell_missed_of,
 };
-pub use undoing::{Undone, tell_forget, tell_undo, undo_steps};
+pub use undoing::{Undone, tell_forget, tell_stopped, tell_undo, tell_undone, undo_steps};

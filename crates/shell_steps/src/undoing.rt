@@ -59,7 +59,7 @@ fn nothing_cut(alloc: Global) -> Report<Note>
 }
 
 /// Tells what was undone.
-fn tell_undone(alloc: Global, reports: &[Report<Note>], out: &mut Vec<u8>) -> Said
+pub fn tell_undone(alloc: Global, reports: &[Report<Note>], out: &mut Vec<u8>) -> Said
     ensures { IfOk result (λ fate. (fate ≡ None) × (out.new.items ≡ out.old.items ++ line_of (undone_steps (first_of reports.now)))) }
 {
     match reports {
@@ -70,7 +70,7 @@ fn tell_undone(alloc: Global, reports: &[Report<Note>], out: &mut Vec<u8>) -> Sa
 }
 
 /// Tells what was undone by an undo that stopped at a mark.
-fn tell_stopped(alloc: Global, mark: Mark, reports: &[Report<Note>], out: &mut Vec<u8>) -> Said
+pub fn tell_stopped(alloc: Global, mark: Mark, reports: &[Report<Note>], out: &mut Vec<u8>) -> Said
     ensures { IfOk result (λ fate. (fate ≡ Some (StoppedAt mark)) × (out.new.items ≡ out.old.items ++ line_of (stopped_undo mark (first_of reports.now)))) }
 {
     match reports {

@@ -43,7 +43,7 @@ pub fn alter_releases(
 }
 
 /// The event of a change.
-fn release_event(kind: ReleaseChange, vsn: Vsn) -> Event
+pub fn release_event(kind: ReleaseChange, vsn: Vsn) -> Event
     ensures { result ≡ release_event kind vsn }
 {
     match kind {

@@ -22,6 +22,6 @@ mod sweeping;
 mod unpacking;
 
 pub use advancing::advance;
-pub use altering::alter_releases;
-pub use sweeping::sweep;
-pub use unpacking::unpack;
+pub use altering::{alter_releases, release_event};
+pub use sweeping::{sweep, tell_swept};
+pub use unpacking::{tell_unpacked, unpack};

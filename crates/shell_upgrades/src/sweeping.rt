@@ -21,7 +21,7 @@ pub fn sweep(held: &mut Holdings, out: &mut Vec<u8>) -> Said
 }
 
 /// Tells the modules whose old code was purged.
-fn tell_swept(answer: &Answer, out: &mut Vec<u8>) -> Said
+pub fn tell_swept(answer: &Answer, out: &mut Vec<u8>) -> Said
     ensures { IfOk result (λ fate. (fate ≡ None) × (out.new.items ≡ out.old.items ++ line_of (swept_in answer.now))) }
 {
     match answer {

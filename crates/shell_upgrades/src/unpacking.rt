@@ -67,7 +67,7 @@ fn halt_of_unpack(held: &Holdings, vsn: &str) -> Halt
 }
 
 /// Tells that a release is unpacked.
-fn tell_unpacked(vsn: &str, out: &mut Vec<u8>) -> Said
+pub fn tell_unpacked(vsn: &str, out: &mut Vec<u8>) -> Said
     ensures { IfOk result (λ fate. (fate ≡ None) × (out.new.items ≡ out.old.items ++ line_of (set_unpacked (chars vsn.now)))) }
 {
     write_unpacked(vsn, out)?;

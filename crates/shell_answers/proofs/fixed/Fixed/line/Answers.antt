@@ -1,7 +1,7 @@
 -- Each line is its term's.
 use Rattle.std.proofs.Common.{sym, ap, ◌∙◌}
 use Rattle.shell_answers.specs.Answers.{line_of, fixed}
-use Rattle.shell_answers.proofs.FixedLines.{done-line, true-line, false-line, bad_command-line, line_too_long-line, serial_end-line, counter_at_end-line, forgotten-line, dead_mark-line, memory-line, no_job-line, no_proc-line, suspended-line, running-line, idle-line, not_running-line, stale-line, duplicate_call-line, name_taken-line, no_child-line, not_due-line, installing-line, not_installing-line, erts_changed-line}
+use Rattle.shell_answers.proofs.FixedLines.{done-line, true-line, false-line, bad_command-line, line_too_long-line, serial_end-line, counter_at_end-line, forgotten-line, dead_mark-line, memory-line, no_job-line, no_proc-line, suspended-line, running-line, idle-line, not_running-line, stale-line, duplicate_call-line, name_taken-line, no_child-line, not_due-line, installing-line, not_installing-line, erts_changed-line, stepped_only-line, no_reply-line}
 use Rattle.shell_answers.proofs.fixed.Fixed.line.Goals as goal
 
 pub returns-in-Done : goal.returns-in-Done
@@ -75,3 +75,9 @@ returns-in-NotInstalling c = sym not_installing-line ∙ ap (λ f. line_of (fixe
 
 pub returns-in-ErtsChanged : goal.returns-in-ErtsChanged
 returns-in-ErtsChanged c = sym erts_changed-line ∙ ap (λ f. line_of (fixed f)) (sym c.in-ErtsChanged.is)
+
+pub returns-in-SteppedOnly : goal.returns-in-SteppedOnly
+returns-in-SteppedOnly c = sym stepped_only-line ∙ ap (λ f. line_of (fixed f)) (sym c.in-SteppedOnly.is)
+
+pub returns-in-NoReply : goal.returns-in-NoReply
+returns-in-NoReply c = sym no_reply-line ∙ ap (λ f. line_of (fixed f)) (sym c.in-NoReply.is)
