@@ -1,11 +1,11 @@
 // A node is closed, and each seat's list is compared with the history.
-ghost use Rattle.std.specs.Prelude.{◌≡◌, ◌+◌, ◌≤◌, ◌<◌, ◌∷◌, ◌++◌, ◌↔◌, List, [], All, IsTrue, IfErr, IfOk, length};
+ghost use Rattle.std.specs.Prelude.{◌≡◌, ◌+◌, ◌≤◌, ◌<◌, ◌∷◌, ◌++◌, ◌↔◌, List, [], All, IsTrue, IfErr, IfOk, MatchResult, length};
 ghost use Rattle.std.specs.Bool.{OnFalse, OnTrue};
 ghost use Rattle.entry_lists.specs.Entries.{written_out};
 ghost use Rattle.node_history.specs.Lists.{lines_of};
 ghost use Rattle.node_history.specs.declared.entry.Line.{Line as Lined};
 ghost use Rattle.node_lock.specs.Closing.{AreAll, AreDistinct, HasForeign, IsClosed, IsListOf, IsNumber, has_number, lines_in};
-ghost use Rattle.node_lock.specs.Unclosed.{FailsToClose, IsForeign};
+ghost use Rattle.node_lock.specs.Unclosed.{FailsToClose, HandsBack, HandsOut, IsForeign};
 
 use crate::locked::Core;
 use crate::naming::Naming;
@@ -158,7 +158,8 @@ fn gathered<N: Naming>(mut rest: Share<N>, mut seats: Vec<Seat<N>>) -> Share<N>
 fn settle<N: Naming>(core: Core<N>, seats: Vec<Seat<N>>) -> Closed
     requires each { AreAll N.seats seats.items }
     requires lists { All (IsListOf core.history) seats.items }
-    ensures { IsClosed N.opened N.seats seats.items result.history.items result.journal }
+    ensures closed { IsClosed N.opened N.seats seats.items result.history.items result.journal }
+    ensures kept { HandsOut core result }
 {
     let _ = &core.few;
     let Core {
@@ -177,8 +178,7 @@ fn settle<N: Naming>(core: Core<N>, seats: Vec<Seat<N>>) -> Closed
 
 /// A node, closed, whatever its seats have.
 fn let_go<N: Naming>(core: Core<N>) -> Closed
-    ensures history { result.history.items ≡ core.history }
-    ensures journal { result.journal ≡ core.timeline }
+    ensures { HandsOut core result }
 {
     let Core {
         alloc: _,
@@ -197,6 +197,7 @@ fn close_core<N: Naming>(core: Core<N>, seats: Vec<Seat<N>>) -> Result<Closed, C
     requires { AreAll N.seats seats.items }
     ensures ok { IfOk result (λ closed. IsClosed N.opened N.seats seats.items closed.history.items closed.journal) }
     ensures err { IfErr result (IsForeign N.opened seats.items) }
+    ensures kept { MatchResult result (HandsOut core) (HandsBack core) }
 {
     if has_foreign(core.history.runs(), seats.as_slice()) {
         let closed = let_go(core);

@@ -5,8 +5,8 @@ use Rattle.node_lock.specs.Core.{CoreState}
 use Rattle.node_lock.proofs.Counted.{only-theirs}
 use Rattle.node_lock.proofs.closing.settle.Goals as goal
 
-pub returns : goal.returns
-returns g c =
+pub returns-clause-closed : goal.returns-clause-closed
+returns-clause-closed g c =
     let inside = c.core.inside in
     let seats = c.args.seats.items in
     let history = inside.history.items in
