@@ -1,5 +1,6 @@
 pub mod Backs
 pub mod Keys
+pub mod NormalEnds
 pub mod Once
 pub mod Options
 pub mod Places

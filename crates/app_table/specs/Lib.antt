@@ -1,6 +1,7 @@
 pub mod Applications
 pub mod Changes
 pub mod Children
+pub mod Laws
 pub mod Modules
 pub mod Ordered
 pub mod Pieces

@@ -5,6 +5,7 @@ ghost use Rattle.erl_term.specs.Ascii.{is_ascii_text};
 ghost use Rattle.erl_term.specs.Conversions.{given};
 ghost use Rattle.erl_term.specs.Term.{tree};
 ghost use Rattle.app_table.specs.Children.{is_clean, is_due_after, is_shutdown_pair, is_word};
+ghost use Rattle.app_table.specs.Laws.{RestartTable};
 
 use child_specs::Restart;
 use erl_term::{Term, two};
@@ -50,3 +51,9 @@ pub(crate) fn is_due_after(reason: &Term, restart: Restart) -> bool
         Restart::Temporary => false,
     }
 }
+
+/// A law: an end is no failure exactly where its reason is `normal`, `shutdown` or `{shutdown,Term}`, and by that and its
+/// Restart a child is to be started again.
+pub fn children_restart_by_reason()
+    ensures { RestartTable }
+{}

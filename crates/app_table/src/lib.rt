@@ -8,6 +8,8 @@
 //! - An application that starts has the children that it is given (`started`), a child that was due runs (`revived`), and one
 //!   whose process has ended is due where its Restart and the reason say so and its application is started, else it is stopped
 //!   (`all_ended`, `after_end`).
+//! - [`children_restart_by_reason`]: an end is no failure exactly where its reason is `normal`, `shutdown` or `{shutdown,Term}`;
+//!   a permanent child is always to be started again, a transient one after a failure, and a temporary one never.
 //! - A child that is found by its Id or its pid is the first that has it ([`Children::place_of`], [`Children::place_by_pid`]).
 //! - Children are found by the modules that their specifications name, each once: those that run ([`AppTable::running_with`]),
 //!   and those that have no process, are among some names, and belong to an application that is started
@@ -53,6 +55,7 @@ mod undo;
 pub use app::App;
 pub use child::{Child, ChildState};
 pub use children::Children;
+pub use clean::children_restart_by_reason;
 pub use name::ChildName;
 pub use renewing::ChildEdit;
 pub use specs::{FormerSpecs, Replaced};

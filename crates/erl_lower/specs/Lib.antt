@@ -4,3 +4,5 @@ pub mod Patterns
 pub mod Expressions
 pub mod Meaning
 pub mod Lowering
+pub mod WellScoped
+pub mod Laws

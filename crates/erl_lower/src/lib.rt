@@ -19,6 +19,11 @@
 //! trees that no source is read as: there a variable that nothing binds has the place behind all that are bound, and an integer
 //! that no term has is the nearest one.
 //!
+//! A module without a static fault is well scoped ([`modules_are_well_scoped`]): the definitions of `specs/WellScoped.antt` say
+//! of a module, with no names and no faults, where how many variables are bound, and that each is read where it is bound. In a
+//! module that comes of a source each clause has as many patterns as its function has arguments. That an operand reads nothing
+//! that another operand of the same expression binds is `erl_lint`'s alone.
+//!
 //! # What no contract says
 //!
 //! That there is memory, and what a call costs. Variables are looked up as [`Scope`](erl_lint::Scope) does it, and functions by
@@ -37,4 +42,13 @@ mod parts;
 mod patterns;
 mod program;
 
+ghost use Rattle.erl_lower.specs.Laws.{MeaningsAreWellScoped, MeaningsHaveArities};
+
 pub use module::{Lowering, lowered};
+
+/// A module without a static fault reads no variable that is not bound. In one that comes of a source each clause of a function
+/// has as many patterns as the function has arguments.
+pub fn modules_are_well_scoped()
+    ensures scopes { MeaningsAreWellScoped }
+    ensures arities { MeaningsHaveArities }
+{}

@@ -12,6 +12,7 @@ use Rattle.erl_semantics.specs.Jobs as job
 use Rattle.erl_semantics.specs.Examples.{CallsAreAdded, ZeroDividesNothing, IntegersEnd, OneIsNoTruth, NoClauseFits}
 use Rattle.erl_semantics.specs.Examples.{GuardsThatFailAreFalse, VariablesCompare, StartStandsBeforeItsActs}
 use Rattle.erl_semantics.specs.Examples.{OtherMessagesAreDropped, SendsBeforeItsReply, RestsWithItsArguments, StartsWithAName}
+use Rattle.erl_semantics.specs.Examples.{StopsWithAReply, OddValueIsBad, RestsWithoutReply, StopsByItself}
 
 -- the values of one operand, of two, and of three
 
@@ -114,3 +115,16 @@ stands_before = job.called (rule.clauses (rule.taken
     (rule.matched_to (refl, refl)))
     (rule.onward (rule.next (rule.apply (two (rule.literal (refl, refl)) (rule.literal (refl, refl))) (rule.operator (refl, refl)))
     (rule.onward (rule.last (rule.variable (refl, refl))))))))) refl)) refl
+
+pub stops_with_reply : StopsWithAReply
+stops_with_reply = job.handled (rule.clauses (rule.taken (rule.last (rule.literal (refl, refl))) refl)) refl
+
+pub odd_is_bad : OddValueIsBad
+odd_is_bad = job.handled (rule.clauses (rule.taken (rule.last (rule.literal (refl, refl))) refl)) refl
+
+pub rests_silently : RestsWithoutReply
+rests_silently = job.handled (rule.clauses (rule.taken (rule.last (rule.apply
+    (two (rule.literal (refl, refl)) (rule.variable (refl, refl))) (rule.tuple (refl, refl)))) refl)) refl
+
+pub stops_itself : StopsByItself
+stops_itself = job.handled (rule.clauses (rule.taken (rule.last (rule.literal (refl, refl))) refl)) refl

@@ -1,10 +1,13 @@
+pub mod CallbackReturns
 pub mod Doing
 pub mod Elements
 pub mod Examples
+pub mod GuardLaws
 pub mod Hearing
 pub mod Kept
 pub mod Matched
 pub mod Moved
+pub mod OperatorLaws
 pub mod Options
 pub mod OutcomeLaws
 pub mod Outcomes

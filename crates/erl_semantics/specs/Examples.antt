@@ -181,6 +181,26 @@ lp = record {
       ) ∷ [];
 }
 
+-- -module(ender).
+-- handle_call(go,_F,_S) -> {stop,done,bye,0}; handle_call(odd,_F,_S) -> odd.
+-- handle_cast(_,S) -> {noreply,S}.
+-- handle_info(_,_S) -> {stop,gone,0}.
+abbrev pub ender : Forms
+ender = record {
+  name = codes "ender";
+  vsn = None;
+  functions =
+      exported (codes "handle_call") 3
+      (clause_of (pattern.literal (a (codes "go")) ∷ pattern.anything ∷ pattern.anything ∷ [])
+      (literal (term.tuple (row (a (codes "stop") ∷ a (codes "done") ∷ a (codes "bye") ∷ n 0 ∷ []))) ∷ []) ∷
+      clause_of (pattern.literal (a (codes "odd")) ∷ pattern.anything ∷ pattern.anything ∷ [])
+      (literal (a (codes "odd")) ∷ []) ∷ []) ∷
+      exported (codes "handle_cast") 2 (clause_of (pattern.anything ∷ pattern.variable 0 ∷ [])
+      (tuple_of (literal (a (codes "noreply")) ∷ var 0 ∷ []) ∷ []) ∷ []) ∷
+      exported (codes "handle_info") 2 (clause_of (pattern.anything ∷ pattern.anything ∷ [])
+      (literal (term.tuple (row (a (codes "stop") ∷ a (codes "gone") ∷ n 0 ∷ []))) ∷ []) ∷ []) ∷ [];
+}
+
 -- each loaded once
 abbrev pub instance_of : ℕ → Forms → Instance
 instance_of serial m = record { name = m.name; serial = serial; forms = m }
@@ -288,3 +308,35 @@ StartsWithAName = Evaluates start_world (codes "lp") (codes "start") term.none (
   acts = state.start (loop (codes "lp") 3 (codes "loop") (row (n 0 ∷ []))) ∷ state.name (codes "lp") true ∷ [];
   ended = value (term.tuple (row (a (codes "ok") ∷ pid 7 ∷ [])));
 })
+
+-- a message to a process that rests in `ender` with the state 4 gives this
+abbrev pub EnderGives : Tree → List state.Act → state.Result → Type 0
+EnderGives message acts r = GivesJob (record {
+  pid = 2;
+  turn = 0;
+  place = server (codes "ender") (n 4);
+  entry_serial = 6;
+  message = message;
+  code = instance_of 6 ender ∷ [];
+})
+    (record { acts = acts; ended = r })
+
+-- the call of a request by client 0 with the number 5
+abbrev pub call_5 : List ℕ → Tree
+call_5 request = term.tuple (row (a (codes "$gen_call") ∷ term.tuple (row (pid 0 ∷ n 5 ∷ [])) ∷ a request ∷ []))
+
+-- `{stop,done,bye,0}` replies, and ends the process.
+abbrev pub StopsWithAReply : Type 0
+StopsWithAReply = EnderGives (call_5 (codes "go")) (state.reply 5 (a (codes "bye")) ∷ []) (exit (a (codes "done")))
+
+-- `odd` is no value that `handle_call/3` may return.
+abbrev pub OddValueIsBad : Type 0
+OddValueIsBad = EnderGives (call_5 (codes "odd")) [] (exit_by_pair (codes "bad_return_value") (a (codes "odd")))
+
+-- `{noreply,4}` rests.
+abbrev pub RestsWithoutReply : Type 0
+RestsWithoutReply = EnderGives (term.tuple (row (a (codes "$gen_cast") ∷ a (codes "go") ∷ []))) [] (rest (server (codes "ender") (n 4)))
+
+-- `{stop,gone,0}` ends the process.
+abbrev pub StopsByItself : Type 0
+StopsByItself = EnderGives (a (codes "tick")) [] (exit (a (codes "gone")))

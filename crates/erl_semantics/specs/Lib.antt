@@ -1,6 +1,7 @@
 pub mod Acts
 pub mod Bindings
 pub mod BuiltIns
+pub mod CallbackReturns
 pub mod Evaluation
 pub mod Examples
 pub mod Given
@@ -8,6 +9,7 @@ pub mod Guards
 pub mod Jobs
 pub mod Laws
 pub mod Matching
+pub mod OperatorLaws
 pub mod Operators
 pub mod OutcomeLaws
 pub mod Starting

@@ -65,6 +65,12 @@
 //! `receive` takes ([`messages_are_accepted_where_they_are_taken`]). They give what is expected of small modules
 //! ([`rules_hold_of_examples`]).
 //!
+//! What the definitions give is also held against the manual's own words: `div` and `rem` divide integers, truncated toward zero
+//! ([`quotients_are_truncated_toward_zero`]); an element is read where it was set, and the others are kept
+//! ([`elements_are_read_where_they_are_set`]); `lists:reverse/1` gives the reverse order, and twice the list itself
+//! ([`lists_are_reversed`]); `lists:member/2` tells whether a term is an element ([`members_are_elements`]); and a guard
+//! expression gives what it gives elsewhere, and does nothing ([`guards_are_expressions`]).
+//!
 //! A call from outside never ends in a rest ([`calls_from_outside_never_rest`]). A job, and such a call in mode `plain`, starts
 //! no process and names none; in mode `start` a call starts at most one, and its name stands right behind the start
 //! ([`at_most_one_process_is_started`]). Where a process rests in a loop function behind a job, or behind its start, the code
@@ -94,13 +100,22 @@ mod matching;
 mod operators;
 mod outcome;
 
+ghost use Rattle.erl_semantics.specs.CallbackReturns.{ReturnsMeanOneThing};
 ghost use Rattle.erl_semantics.specs.Laws.{OneResult, OneOutcome, OneJobOutcome};
 ghost use Rattle.erl_semantics.specs.Laws.{ServersAcceptEach, LoopsAcceptWhatTheyHear, TakenWhereAccepted, RefusedGiveUndef};
+ghost use Rattle.erl_semantics.specs.OperatorLaws.{QuotientAndRemainder, RemainderIsSmaller, RemainderHasTheSign, ZeroIsBadarith};
+ghost use Rattle.erl_semantics.specs.OperatorLaws.{RemainderIsThere, QuotientIsThere, LeastByMinusOneIsPastTheLimits};
+ghost use Rattle.erl_semantics.specs.OperatorLaws.{ElementsAreNumberedFromOne, NoOtherElements, SetElementReplaces};
+ghost use Rattle.erl_semantics.specs.OperatorLaws.{SetElementIsRead, OtherElementsAreKept, TupleSizeIsKept};
+ghost use Rattle.erl_semantics.specs.OperatorLaws.{SetElementFailsWhereElementDoes};
+ghost use Rattle.erl_semantics.specs.OperatorLaws.{ReverseOrder, ReversedTwice, LengthIsKept, MembersAreElements};
+ghost use Rattle.erl_semantics.specs.OperatorLaws.{GuardsAreExpressions, GuardValuesAreValues};
 ghost use Rattle.erl_semantics.specs.OutcomeLaws.{CallsNeverRest, PlainCallsStartNothing, JobsStartNothing, CallsStartAtMostOne};
 ghost use Rattle.erl_semantics.specs.OutcomeLaws.{JobsRestInTheirCode, CallsStartInTheirCode};
 ghost use Rattle.erl_semantics.specs.Examples.{CallsAreAdded, ZeroDividesNothing, IntegersEnd, OneIsNoTruth, NoClauseFits};
 ghost use Rattle.erl_semantics.specs.Examples.{GuardsThatFailAreFalse, VariablesCompare, OtherMessagesAreDropped, StartStandsBeforeItsActs};
 ghost use Rattle.erl_semantics.specs.Examples.{SendsBeforeItsReply, RestsWithItsArguments, StartsWithAName};
+ghost use Rattle.erl_semantics.specs.Examples.{StopsWithAReply, OddValueIsBad, RestsWithoutReply, StopsByItself};
 
 pub use acts::{Act, Place, Receiver, does, reply_to, sends};
 pub use arity::arity_of;
@@ -122,6 +137,12 @@ pub fn expressions_have_one_result()
 pub fn evaluation_has_one_outcome()
     ensures call { OneOutcome }
     ensures job { OneJobOutcome }
+{}
+
+/// By the forms of gen_server(3) each value that a callback returns means one thing: what is replied, and where the process rests or by
+/// which reason it ends; it is what a job gives.
+pub fn returns_mean_one_thing()
+    ensures { ReturnsMeanOneThing }
 {}
 
 /// A place accepts a message exactly where by the rules something takes it: in a callback module each message, and in a loop
@@ -156,7 +177,8 @@ pub fn processes_rest_in_code_that_was_given()
 {}
 
 /// The rules give what the Reference Manual says of small modules: calls that are not in tail position, exits, guards, a send
-/// and a reply, a rest, a message that is dropped, and processes that are started and named.
+/// and a reply, a rest, a message that is dropped, callbacks that stop or return what they may not, and processes that are started and
+/// named.
 pub fn rules_hold_of_examples()
     ensures calls { CallsAreAdded }
     ensures divides { ZeroDividesNothing }
@@ -170,4 +192,53 @@ pub fn rules_hold_of_examples()
     ensures compares { VariablesCompare }
     ensures drops { OtherMessagesAreDropped }
     ensures stands_before { StartStandsBeforeItsActs }
+    ensures stops_with_reply { StopsWithAReply }
+    ensures odd_is_bad { OddValueIsBad }
+    ensures rests_silently { RestsWithoutReply }
+    ensures stops_itself { StopsByItself }
+{}
+
+/// `div` and `rem` are integer division and its remainder (Erlang Reference Manual, Arithmetic Expressions): the quotient is
+/// truncated toward zero, and the remainder has the dividend's sign. To divide by 0 is `badarith`; all other integers have a
+/// remainder, and a quotient that is an integer, but for the least by -1, which is `system_limit`.
+pub fn quotients_are_truncated_toward_zero()
+    ensures whole { QuotientAndRemainder }
+    ensures smaller { RemainderIsSmaller }
+    ensures sign { RemainderHasTheSign }
+    ensures by_zero { ZeroIsBadarith }
+    ensures remainder { RemainderIsThere }
+    ensures quotient { QuotientIsThere }
+    ensures past { LeastByMinusOneIsPastTheLimits }
+{}
+
+/// `element/2` reads the elements of a tuple, which are numbered from 1, and `setelement/3` replaces one (erlang(3)): it is read
+/// where it was set, all others are as they were, and the tuple is as large. There is no other element, to be read or replaced.
+pub fn elements_are_read_where_they_are_set()
+    ensures numbered { ElementsAreNumberedFromOne }
+    ensures others { NoOtherElements }
+    ensures replaces { SetElementReplaces }
+    ensures read { SetElementIsRead }
+    ensures kept { OtherElementsAreKept }
+    ensures size { TupleSizeIsKept }
+    ensures fails { SetElementFailsWhereElementDoes }
+{}
+
+/// `lists:reverse/1` gives the elements of a list in reverse order (lists(3)), so that a list reversed twice is itself; and a
+/// list is as long as before.
+pub fn lists_are_reversed()
+    ensures order { ReverseOrder }
+    ensures twice { ReversedTwice }
+    ensures length { LengthIsKept }
+{}
+
+/// `lists:member/2` gives `true` exactly where the term is one of the list's elements, and else `false` (lists(3)).
+pub fn members_are_elements()
+    ensures { MembersAreElements }
+{}
+
+/// A guard expression gives as a test just what comes of it where it is evaluated, and does nothing (Erlang Reference Manual,
+/// Guard Sequences): it leaves behind no more than the calls that it made. The same is so of whatever gives a value as a test.
+pub fn guards_are_expressions()
+    ensures expressions { GuardsAreExpressions }
+    ensures values { GuardValuesAreValues }
 {}

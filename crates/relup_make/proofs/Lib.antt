@@ -12,3 +12,4 @@ pub mod Scripted
 pub mod Shape
 pub mod Standing
 pub mod InTarget
+pub mod InstructionRows

@@ -1,6 +1,6 @@
 // The laws of the translation.
 ghost use Rattle.std.specs.Prelude.{List, Option};
-ghost use Rattle.relup_make.specs.Laws.{AtMostOneAnswer, AtMostOneScript, EachStandsOnce};
+ghost use Rattle.relup_make.specs.Laws.{AtMostOneAnswer, AtMostOneScript, EachStandsOnce, InstructionTable};
 ghost use Rattle.relup_make.specs.Work.{Appup};
 ghost use Rattle.relup_make.specs.declared.rel_apps.RelApps.{RelApps};
 
@@ -18,4 +18,10 @@ pub fn at_most_one_answer()
 /// each once.
 pub fn each_stands_once()
     ensures { EachStandsOnce }
+{}
+
+/// A law: each high-level instruction that is a group by itself becomes the low-level instructions that its row of the table
+/// says.
+pub fn each_instruction_has_its_row()
+    ensures { InstructionTable }
 {}

@@ -10,6 +10,7 @@
 //!   refused has none, and is refused for one reason.
 //! - [`each_stands_once`]: a script is object code, one point of no return, and each instruction's suspension, loads, change
 //!   and resumption, each once, and nothing else.
+//! - [`each_instruction_has_its_row`]: what each high-level instruction becomes that is a group by itself, row by row.
 //!
 //! # What no contract says
 //!
@@ -38,6 +39,8 @@ mod way;
 mod working;
 
 pub use error::MakeError;
-pub use laws::{at_most_one_answer, at_most_one_script, each_stands_once};
+pub use laws::{
+    at_most_one_answer, at_most_one_script, each_instruction_has_its_row, each_stands_once,
+};
 pub use making::make;
 pub use rel_apps::RelApps;

@@ -4,4 +4,5 @@ pub mod ChildrenOneWay
 pub mod Lengths
 pub mod Names
 pub mod Reached
+pub mod StartValues
 pub mod SupervisionGiven

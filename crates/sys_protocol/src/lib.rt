@@ -13,6 +13,7 @@
 //!   that it asks for, if any, is free (`Starts`, `start_fault`). Then the processes are those that its acts make, in order, and its pid is
 //!   the next. Else the reason is told by the rules: R of `{error,R}` and of an exit, the value of any other; of a taken name
 //!   `{already_started,Pid}` where `{local,Name}` asked for it, and `badarg` where `register/2` did. A taken name is looked for last.
+//!   Which values start a child stands in written forms too ([`start_values_are_read`]).
 //! - Several start in order, each in the processes that the ones before it have left (`AllStart`), and the first that fails is told
 //!   (`FirstFails`).
 //! - Where an application doesn't start it is told why: that the application is not loaded, or is started already, that `init` gave no supervision, or which child has
@@ -53,7 +54,7 @@ pub use app_error::AppError;
 pub use app_table::{App, AppTable, Child, ChildProcess, ChildState, Undo};
 pub use apps::{AppStart, Revival, revive, revive_refusal, start_app};
 pub use error::SysError;
-pub use laws::{applications_start_one_way, children_start_one_way};
+pub use laws::{applications_start_one_way, children_start_one_way, start_values_are_read};
 pub use start_failed::StartFailed;
 pub use starting_again::{StartedAgain, start};
 pub use stopping::{AppStop, ChildStop, stop, stop_app, unload_app, unnote};
