@@ -8,7 +8,8 @@
 #   make trials NAME=name runs one crate of them. Its last line is 'N passed, M failed'.
 # make relnode: proves and builds the program, and leaves it at crates/relnode/out/relnode.
 # make demo: a session of the program on the example tree, tried with checks and not proved: in two minutes on a new machine (tools/demo).
-RT ?= rt
+# The kit's rt, by a tool that keeps what rt asks again and again of crates.txt; RT=rt is the kit's alone.
+RT ?= $(CURDIR)/tools/rt
 
 .PHONY: test transcripts check edits trials demo relnode
 

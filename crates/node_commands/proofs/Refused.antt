@@ -9,8 +9,8 @@ use Rattle.undo_journal.specs.Timeline.{IsFront, Station, cut_stations, here, re
 use Rattle.undo_journal.specs.declared.error.JournalError.{JournalError}
 use Rattle.undo_journal.specs.declared.error.JournalError.TheVariants as error
 use Rattle.undo_journal.specs.declared.report.Report.{Report}
-use Rattle.node_rules.specs.Node.{NodeState}
-use Rattle.node_rules.specs.Step.{MayRunOut, Step}
+use Rattle.node_core.specs.Node.{NodeState}
+use Rattle.node_core.specs.Step.{MayRunOut, Step}
 use Rattle.node_types.specs.Note.{Note}
 use Rattle.node_types.specs.declared.event.Event.{Event}
 use Rattle.node_types.specs.declared.event.Refusal.{Refusal}

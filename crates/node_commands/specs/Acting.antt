@@ -5,8 +5,8 @@ use Rattle.undo_journal.specs.Timeline.{appended, here}
 use Rattle.undo_journal.specs.declared.error.JournalError.{JournalError}
 use Rattle.undo_journal.specs.declared.report.Report.{Report}
 use Rattle.undo_journal.specs.declared.reversible.Told.{Told}
-use Rattle.node_rules.specs.Node.{NodeState}
-use Rattle.node_rules.specs.Step.{Step}
+use Rattle.node_core.specs.Node.{NodeState}
+use Rattle.node_core.specs.Step.{Step}
 use Rattle.node_types.specs.Note.{Note}
 use Rattle.node_types.specs.declared.event.Answer.{Answer}
 use Rattle.node_types.specs.declared.event.Event.{Event}

@@ -20,3 +20,4 @@ mod questions;
 
 pub use acting::act;
 pub use given::{Acted, Given, Stop};
+pub use node_core::Node;

@@ -1,10 +1,10 @@
 -- A record of a journal holds only what its step has lost.
 use Rattle.std.proofs.Common.{ℕ, Bor, IfSome, Option, None, Some, ◌∷◌, slice_get}
-use Rattle.node_parts.proofs.Lost.{held_lost}
-use Rattle.node_parts.specs.Pieces.{HoldsLost}
-use Rattle.node_parts.specs.Record.{Undoes}
-use Rattle.node_parts.specs.declared.record.Record.{Record}
-use Rattle.node_rules.specs.Node.{NodeState}
+use Rattle.script_events.proofs.Lost.{held_lost}
+use Rattle.script_events.specs.Pieces.{HoldsLost}
+use Rattle.script_events.specs.Record.{Undoes}
+use Rattle.script_events.specs.DeclaredRecord.{Record}
+use Rattle.script_events.specs.Node.{NodeState}
 use Rattle.node_types.specs.Note.{Note}
 use Rattle.undo_journal.specs.Past.{IsRecordAt}
 use Rattle.undo_journal.specs.Timeline.{Station, Timeline}

@@ -7,8 +7,8 @@ use Rattle.release_statuses.specs.declared.error.RelError.{RelError}
 use Rattle.release_table.specs.declared.table.Release.{Release}
 use Rattle.script_events.proofs.Targets.{known_target}
 use Rattle.script_state.specs.Runner.{RunnerState}
-use Rattle.node_rules.specs.Node.{NodeState, RunsScript}
-use Rattle.node_rules.specs.Scripts.{Advances, GoesOn, GoesOnBy, Outcome, UnlessInstalling, advance_refused, busy_by, next_in, unless_installing}
+use Rattle.script_events.specs.Node.{NodeState, RunsScript}
+use Rattle.script_events.specs.Scripts.{Advances, GoesOn, GoesOnBy, Outcome, UnlessInstalling, advance_refused, busy_by, next_in, unless_installing}
 use Rattle.node_types.specs.declared.event.Refusal.{Refusal}
 use Rattle.node_types.specs.declared.event.Refusal.TheVariants as refusal
 

@@ -3,12 +3,12 @@ use Rattle.std.proofs.Common.{◌≡◌, ◌∙◌, ℕ, Option, Some, Result, O
 use Rattle.undo_journal.specs.Reversible.{Accepts, Refuses}
 use Rattle.undo_journal.specs.declared.reversible.Stepped.{Stepped}
 use Rattle.values.specs.declared.failure.Failure.{Failure}
-use Rattle.node_parts.specs.Changes.{IsStep, IsTakenBack}
-use Rattle.node_parts.specs.Record.{Undoes}
-use Rattle.node_parts.specs.declared.record.Record.{Record}
-use Rattle.node_rules.proofs.Steps.{step_keeps}
-use Rattle.node_rules.specs.Node.{IsKept, NodeState}
-use Rattle.node_rules.specs.Step.{MayRunOut, Step}
+use Rattle.script_events.specs.Changes.{IsStep, IsTakenBack}
+use Rattle.script_events.specs.Record.{Undoes}
+use Rattle.script_events.specs.DeclaredRecord.{Record}
+use Rattle.script_events.proofs.Steps.{step_keeps}
+use Rattle.script_events.specs.Node.{IsKept, NodeState}
+use Rattle.script_events.specs.Step.{MayRunOut, Step}
 use Rattle.node_types.specs.declared.event.Answer.{Answer}
 use Rattle.node_types.specs.declared.event.Event.{Event}
 use Rattle.node_types.specs.Note.{Note}

@@ -44,5 +44,5 @@ mod stations;
 mod stepping;
 
 pub use node::Node;
-pub use node_parts::{Displaced, Record};
+pub use script_events::{Displaced, Record};
 pub use stations::record_at;

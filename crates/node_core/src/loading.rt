@@ -1,9 +1,9 @@
 // Events of code.
 ghost use Rattle.std.specs.Prelude.{◌≡◌, [], IfOk, replicate};
 ghost use Rattle.code_loading.specs.Loading.{purge_told};
-ghost use Rattle.node_parts.specs.Changes.{IsStep, state_of};
-ghost use Rattle.node_rules.specs.Scripts.{reporting};
-ghost use Rattle.node_rules.specs.Step.{MayRunOut};
+ghost use Rattle.script_events.specs.Changes.{IsStep, state_of};
+ghost use Rattle.script_events.specs.Scripts.{reporting};
+ghost use Rattle.script_events.specs.Step.{MayRunOut};
 ghost use Rattle.node_types.specs.declared.event.Answer.TheVariants as answer;
 ghost use Rattle.node_types.specs.declared.event.Event.TheVariants as event;
 
@@ -12,9 +12,9 @@ use code_replacement::{load as replace, purge as purge_code};
 use code_server::Modules;
 use erl_forms::Module;
 use erl_term::Atom;
-use node_parts::{NodeParts, Record, Step, reporting, tell};
 use node_types::{Answer, Note};
 use process_table::Processes;
+use script_events::{NodeParts, Record, Step, reporting, tell};
 use std::alloc::{AllocError, Global};
 use undo_journal::{Stepped, Told};
 use values::{Duplicate, Failure, Reserved};

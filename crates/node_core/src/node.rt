@@ -3,15 +3,15 @@ ghost use Rattle.std.specs.Prelude.{◌≡◌, [], IfErr, IfOk, None};
 ghost use Rattle.code_server.specs.Modules.{IsSound};
 ghost use Rattle.release_boot.specs.Boot.{BootFails, Boots};
 ghost use Rattle.release_statuses.specs.Statuses.{booted};
-ghost use Rattle.node_rules.specs.Node.{IsKept};
+ghost use Rattle.script_events.specs.Node.{IsKept};
 
 use code_server::Modules;
 use erl_forms::Module;
-use node_parts::NodeParts;
 use process_table::Processes;
 use release_boot::{BootError, Booted, boot};
 use release_statuses::Releases;
 use release_table::Release;
+use script_events::NodeParts;
 use std::alloc::Global;
 use std::hash::RandomState;
 use std::marker::Model;
@@ -30,8 +30,8 @@ impl Model for Node {
     ghost use Rattle.std.specs.Coded.{codes};
     ghost use Rattle.erl_term.specs.contracts.term.Terms as terms;
     ghost use Rattle.erl_forms.specs.contracts.module.Module as forms;
-    ghost use Rattle.node_parts.specs.Changes.{state_of};
-    ghost use Rattle.node_rules.specs.Node.{IsKept, NodeState};
+    ghost use Rattle.script_events.specs.Changes.{state_of};
+    ghost use Rattle.script_events.specs.Node.{IsKept, NodeState};
 
     ghost Value = { NodeState };
 

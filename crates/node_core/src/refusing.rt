@@ -1,9 +1,9 @@
 // Why an event is refused, as it is told without memory.
 ghost use Rattle.std.specs.Prelude.{◌≡◌, Err, MatchOption, option_map};
-ghost use Rattle.node_parts.specs.Changes.{state_of};
-ghost use Rattle.node_rules.specs.Node.{RunsScript};
-ghost use Rattle.node_rules.specs.Scripts.{advance_refused, busy_next, reboot_refused, unless_installing};
-ghost use Rattle.node_rules.specs.Step.{MayRunOut, Step, soft_purge_refusal};
+ghost use Rattle.script_events.specs.Changes.{state_of};
+ghost use Rattle.script_events.specs.Node.{RunsScript};
+ghost use Rattle.script_events.specs.Scripts.{advance_refused, busy_next, reboot_refused, unless_installing};
+ghost use Rattle.script_events.specs.Step.{MayRunOut, Step, soft_purge_refusal};
 ghost use Rattle.script_state.specs.Runner.{runner_of};
 ghost use Rattle.node_types.specs.declared.event.Refusal.TheVariants.{OfApps, OfInstall, OfModules, OfProcesses, OfReleases};
 
@@ -12,11 +12,11 @@ use code_server::CodeError;
 use erl_term::Atom;
 use install_checks::{InstallError, install_refusal};
 use low_instructions::Low;
-use node_parts::NodeParts;
 use node_restart::restart_refusal;
 use node_types::{Event, Refusal};
 use process_table::ProcError;
 use release_statuses::{RelError, Vsn};
+use script_events::NodeParts;
 use script_state::{Runner, instruction_at};
 use suspensions::suspend_refusal;
 use sys_protocol::{SysError, revive_refusal};

@@ -1,12 +1,12 @@
 // Events of releases.
-ghost use Rattle.node_parts.specs.Changes.{IsStep, state_of};
-ghost use Rattle.node_rules.specs.Step.{MayRunOut};
+ghost use Rattle.script_events.specs.Changes.{IsStep, state_of};
+ghost use Rattle.script_events.specs.Step.{MayRunOut};
 ghost use Rattle.node_types.specs.declared.event.Event.TheVariants as event;
 
 use crate::loading::quiet;
-use node_parts::{NodeParts, Record, Step};
 use release_statuses::Vsn;
 use release_table::Release;
+use script_events::{NodeParts, Record, Step};
 use std::alloc::Global;
 use undo_journal::Stepped;
 use values::{Duplicate, Failure, Reserved};

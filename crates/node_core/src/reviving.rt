@@ -1,12 +1,12 @@
 // Children that are due start again.
-ghost use Rattle.node_parts.specs.Changes.{IsStep, state_of};
-ghost use Rattle.node_rules.specs.Step.{MayRunOut};
+ghost use Rattle.script_events.specs.Changes.{IsStep, state_of};
+ghost use Rattle.script_events.specs.Step.{MayRunOut};
 ghost use Rattle.node_types.specs.declared.event.Event.TheVariants as event;
 
 use code_loading::current_code;
 use erl_term::{Atom, Term};
-use node_parts::{NodeParts, Record, Step, room, tell_revived};
 use node_types::Refusal;
+use script_events::{NodeParts, Record, Step, room, tell_revived};
 use std::alloc::Global;
 use sys_protocol::revive as start_again;
 use undo_journal::Stepped;

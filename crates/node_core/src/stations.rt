@@ -1,10 +1,10 @@
 // What a journal over nodes keeps of its stations.
 ghost use Rattle.std.specs.Prelude.{◌<◌, ◌↔◌, IfSome, IsTrue, is_some, length};
-ghost use Rattle.node_parts.specs.Pieces.{HoldsLost};
+ghost use Rattle.script_events.specs.Pieces.{HoldsLost};
 ghost use Rattle.undo_journal.specs.Past.{IsRecordAt};
 
 use crate::node::Node;
-use node_parts::Record;
+use script_events::Record;
 use undo_journal::Journal;
 
 /// The record that takes back the step to the station at a place behind a journal's first, counted from 0; none past its last station.

@@ -1,9 +1,9 @@
 // Steps of the node, and what takes them back.
-ghost use Rattle.node_parts.specs.Changes.{IsStep, state_of};
-ghost use Rattle.node_rules.specs.Node.{RunsScript};
-ghost use Rattle.node_parts.specs.Record.{Undoes};
-ghost use Rattle.node_rules.specs.Step.{MayRunOut, Step as Steps};
-ghost use Rattle.node_rules.proofs.OneOutcome.{one_outcome_of};
+ghost use Rattle.script_events.specs.Changes.{IsStep, state_of};
+ghost use Rattle.script_events.specs.Node.{RunsScript};
+ghost use Rattle.script_events.specs.Record.{Undoes};
+ghost use Rattle.script_events.specs.Step.{MayRunOut, Step as Steps};
+ghost use Rattle.script_events.specs.OneOutcome.{one_outcome_of};
 
 use crate::loading::{delete, load, purge, soft_purge};
 use crate::node::Node;
@@ -11,9 +11,10 @@ use crate::processes::{arrive, commit, take};
 use crate::refusing::refusal_of;
 use crate::releasing::{remove, set_unpacked};
 use crate::reviving::revive;
-use node_parts::{NodeParts, Record, Step, revert};
 use node_types::{Answer, Event, Note, Refusal};
-use script_events::{advance, install, make_permanent, reboot_old, sweep};
+use script_events::{
+    NodeParts, Record, Step, advance, install, make_permanent, reboot_old, revert, sweep,
+};
 use std::alloc::Global;
 use undo_journal::Reversible;
 use values::Failure;

@@ -3,7 +3,7 @@ use Rattle.std.specs.Prelude.{◌≡◌, ℕ, ◌<◌, ◌≤◌, Bool, false, L
 use Rattle.std.specs.List.{list_any, sum_by}
 use Rattle.release_table.specs.declared.table.Release.{Release}
 use Rattle.undo_journal.specs.Timeline.{opened}
-use Rattle.node_rules.specs.Node.{NodeState}
+use Rattle.node_commands.specs.Node.{NodeState}
 use Rattle.node_history.specs.History.{Legal, NodeTimeline}
 use Rattle.node_history.specs.Lists.{lines_of}
 use Rattle.node_history.specs.declared.entry.Entry.{Entry}

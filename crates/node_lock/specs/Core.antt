@@ -7,7 +7,7 @@ use Rattle.undo_journal.specs.Timeline.{opened}
 use Rattle.undo_journal.specs.declared.error.JournalError.{JournalError}
 use Rattle.undo_journal.specs.declared.error.JournalError.TheVariants as error
 use Rattle.undo_journal.specs.declared.report.Report.{Report}
-use Rattle.node_rules.specs.Node.{NodeState}
+use Rattle.node_commands.specs.Node.{NodeState}
 use Rattle.node_types.specs.Note.{Note}
 use Rattle.node_types.specs.declared.event.Refusal.{Refusal}
 use Rattle.node_history.specs.History.{Gives, Legal, NodeTimeline}

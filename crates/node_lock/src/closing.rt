@@ -12,7 +12,7 @@ use crate::naming::Naming;
 use crate::seat::Seat;
 use crate::shared::SharedNode;
 use entry_lists::{History, Run, WrittenOut};
-use node_core::Node;
+use node_commands::Node;
 use node_history::{Entry, Line};
 use std::sync::ledger::Share;
 use undo_journal::Journal;

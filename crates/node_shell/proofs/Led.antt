@@ -4,12 +4,12 @@ use Rattle.undo_journal.specs.Timeline.{IsDead, IsOrdered, cut_stations, cut_to,
 use Rattle.undo_journal.proofs.Forgets.{cut_to-below, forgotten_to-uncut}
 use Rattle.shell_requests.specs.Request.{Spoken, undo, forget, asks}
 use Rattle.shell_deeds.specs.Deeds as deeds
-use Rattle.shell_holdings.specs.Serving as serving
+use Rattle.shell_deeds.specs.Serving as serving
 use Rattle.shell_answers.specs.Answers.{fixed, stopped_undo, undone_steps}
 use Rattle.shell_answers.specs.declared.fixed.Fixed.TheVariants as words
-use Rattle.shell_steps.specs.State.{Deed, NodeTimeline, ShellState, answered}
-use Rattle.shell_steps.specs.declared.fate.Fate.{Fate}
-use Rattle.shell_steps.specs.declared.fate.Fate.TheVariants.{StoppedAt}
+use Rattle.shell_deeds.specs.State.{Deed, NodeTimeline, ShellState, answered}
+use Rattle.shell_deeds.specs.Fate.{Fate}
+use Rattle.shell_deeds.specs.Fate.TheVariants.{StoppedAt}
 use Rattle.node_shell.specs.Replay.{NamesMark, Stops}
 
 -- An undo at which no memory was refused cuts what it should.

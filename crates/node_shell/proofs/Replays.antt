@@ -13,16 +13,16 @@ use Rattle.line_server.specs.declared.ended.Ended.{Ended}
 use Rattle.line_server.specs.Lines.{heard}
 use Rattle.line_server.specs.Serving.{Serves, ServesWhole}
 use Rattle.line_server.specs.Session.{Answered, lines_in, text_of}
-use Rattle.node_rules.specs.Node.{NodeState}
-use Rattle.node_rules.specs.Step.{MayRunOut, Step}
+use Rattle.shell_deeds.specs.Node.{NodeState}
+use Rattle.shell_deeds.specs.Step.{MayRunOut, Step}
 use Rattle.node_types.specs.declared.event.Event.{Event}
 use Rattle.release_files.specs.Files.{Contents}
 use Rattle.shell_requests.specs.Request.{asks, forget, spoken, undo}
 use Rattle.shell_answers.specs.Answers.{fixed}
 use Rattle.shell_answers.specs.declared.fixed.Fixed.TheVariants as words
-use Rattle.shell_steps.specs.State.{Deed, NodeTimeline, ShellState, answered, opened_shell}
-use Rattle.shell_steps.specs.declared.fate.Fate.{Fate}
-use Rattle.shell_steps.specs.declared.fate.Fate.TheVariants.{StoppedAt}
+use Rattle.shell_deeds.specs.State.{Deed, NodeTimeline, ShellState, answered, opened_shell}
+use Rattle.shell_deeds.specs.Fate.{Fate}
+use Rattle.shell_deeds.specs.Fate.TheVariants.{StoppedAt}
 use Rattle.node_shell.specs.Replay.{Obeyed, AreObeyed, Forgets, IsReplayed, IsHeadline, IsNamed, MarksName, NamesMark, Stops, Undoes, commands_in, shell_behind, timeline_behind}
 use Rattle.node_shell.specs.Run.{Runs, RunsWhole, Starts}
 use Rattle.node_shell.specs.Shell.{shell_turn}

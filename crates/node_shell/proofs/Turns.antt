@@ -3,9 +3,9 @@ use Rattle.std.proofs.Common.{◌≡◌, ℕ, List, [], ◌∷◌, ◌++◌, map
 use Rattle.std.proofs.lemmas.List.Elements.{All-nil, All-cons, All-head, All-tail}
 use Rattle.line_server.specs.Session.{Turn, Answered, IsTurn, AreInTurn}
 use Rattle.shell_deeds.specs.Deeds.{Does}
-use Rattle.shell_holdings.specs.Done.{IsDone}
-use Rattle.shell_steps.specs.State.{ShellState}
-use Rattle.shell_steps.specs.declared.fate.Fate.{Fate}
+use Rattle.shell_deeds.specs.HoldingsDone.{IsDone}
+use Rattle.shell_deeds.specs.State.{ShellState}
+use Rattle.shell_deeds.specs.Fate.{Fate}
 use Rattle.shell_requests.specs.Request.{spoken}
 use Rattle.node_shell.specs.Replay.{Obeyed, AreObeyed, answered_as}
 use Rattle.node_shell.specs.Shell.{shell_turn, turn_of}

@@ -8,16 +8,16 @@ use Rattle.undo_journal.specs.Timeline.{here, opened, cut_to, cut_stations, forg
 use Rattle.undo_journal.specs.History.{Live, Runs, Makes, MakesKept, FoldsTo, HasNoForget}
 use Rattle.line_server.specs.Lines.{heard}
 use Rattle.line_server.specs.Session.{Answered}
-use Rattle.node_rules.specs.Node.{NodeState}
-use Rattle.node_rules.specs.Step.{Step}
+use Rattle.shell_deeds.specs.Node.{NodeState}
+use Rattle.shell_deeds.specs.Step.{Step}
 use Rattle.node_types.specs.declared.event.Event.{Event}
 use Rattle.shell_answers.specs.Answers.{fixed, floor_at, line_of, stopped_undo, undone_steps}
 use Rattle.shell_answers.specs.declared.fixed.Fixed.TheVariants as words
 use Rattle.shell_requests.specs.Request.{Spoken, asks, forget, spoken, undo}
 use Rattle.shell_deeds.specs.Deeds.{Does}
-use Rattle.shell_steps.specs.State.{Deed, NodeTimeline, ShellState, answered}
-use Rattle.shell_steps.specs.declared.fate.Fate.{Fate}
-use Rattle.shell_steps.specs.declared.fate.Fate.TheVariants.{StoppedAt}
+use Rattle.shell_deeds.specs.State.{Deed, NodeTimeline, ShellState, answered}
+use Rattle.shell_deeds.specs.Fate.{Fate}
+use Rattle.shell_deeds.specs.Fate.TheVariants.{StoppedAt}
 use Rattle.node_shell.specs.Shell.{turn_of}
 
 -- A line that was obeyed, what became of it for want of memory, and what it did.

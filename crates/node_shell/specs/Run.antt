@@ -11,8 +11,8 @@ use Rattle.release_files.specs.Releases.{IsRelease}
 use Rattle.release_files.specs.declared.fault.FileFault.TheVariants.{Memory}
 use Rattle.release_boot.specs.Boot.{BootFails, Boots}
 use Rattle.release_statuses.specs.Statuses.{booted}
-use Rattle.node_rules.specs.Node.{NodeState}
-use Rattle.shell_steps.specs.State.{ShellState, opened_shell}
+use Rattle.shell_deeds.specs.Node.{NodeState}
+use Rattle.shell_deeds.specs.State.{ShellState, opened_shell}
 use Rattle.node_shell.specs.Replay.{Obeyed, AreObeyed, IsHeadline, answered_as}
 use Rattle.node_shell.specs.Shell.{shell_turn}
 use Rattle.node_shell.specs.declared.fault.StartFault.{StartFault}

@@ -2,8 +2,8 @@
 use Rattle.std.specs.Prelude.{◌≡◌}
 use Rattle.line_server.specs.Session.{Turn, Turns}
 use Rattle.shell_deeds.specs.Deeds.{Does}
-use Rattle.shell_steps.specs.State.{Deed, ShellState}
-use Rattle.shell_steps.specs.declared.fate.Fate.{Fate}
+use Rattle.shell_deeds.specs.State.{Deed, ShellState}
+use Rattle.shell_deeds.specs.Fate.{Fate}
 use Rattle.shell_requests.specs.Request.{spoken}
 
 abbrev pub turn_of : Deed → Turn ShellState

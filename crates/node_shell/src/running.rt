@@ -1,13 +1,13 @@
 // From the bytes of commands to the bytes of answers.
 ghost use Rattle.std.specs.Prelude.{◌≡◌, ℕ, List, IfErr, IfOk, None, Some, false};
 ghost use Rattle.node_shell.specs.Run.{Runs, RunsWhole, StartFails};
-ghost use Rattle.shell_steps.specs.State.{opened_shell};
+ghost use Rattle.shell_deeds.specs.State.{opened_shell};
 
 use crate::fault::StartFault;
 use crate::shell::Shell;
 use line_server::{Ended, serve};
 use release_files::{Files, read_release};
-use shell_steps::Node;
+use shell_deeds::Node;
 use std::alloc::Global;
 use std::hash::RandomState;
 use std::io::{Read, Write};

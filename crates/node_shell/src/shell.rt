@@ -1,14 +1,12 @@
 // The shell: a session over what it holds.
 ghost use Rattle.std.specs.Prelude.{◌≡◌, IfOk};
 ghost use Rattle.node_shell.specs.Shell.{shell_turn};
-ghost use Rattle.shell_steps.specs.State.{opened_shell};
+ghost use Rattle.shell_deeds.specs.State.{opened_shell};
 
 use line_server::Session;
 use release_files::Files;
-use shell_deeds::obey;
-use shell_holdings::Holdings;
+use shell_deeds::{Fate, Holdings, Node, obey};
 use shell_requests::runs_code;
-use shell_steps::{Fate, Node};
 use std::alloc::{AllocError, Global};
 use std::hash::RandomState;
 use std::marker::Model;
@@ -28,7 +26,7 @@ impl Model for Shell {
     ghost use Rattle.std.specs.Coded.{codes};
     ghost use Rattle.erl_term.specs.contracts.term.Terms as terms;
     ghost use Rattle.erl_forms.specs.contracts.module.Module as forms;
-    ghost use Rattle.shell_steps.specs.State.{ShellState};
+    ghost use Rattle.shell_deeds.specs.State.{ShellState};
 
     ghost Value = { ShellState };
 

@@ -19,8 +19,8 @@ use Rattle.node_parts.specs.Changes.{IsStepOf}
 use Rattle.node_parts.specs.Record.{InstructionBack}
 use Rattle.script_events.specs.declared.carrying.CarriedOn.{CarriedOn}
 use Rattle.node_parts.specs.declared.record.Record.{Record}
-use Rattle.node_rules.specs.Node.{IsInstalling, NodeState}
-use Rattle.node_rules.specs.Scripts.{Advances, CanHalt, FallBack, FallsBack, GivesUp, GoesOn, GoesOnBy, HaltsAs, Outcome, RefusesAdvance, gone_on, is_past, parts_in, recovered_as, reporting, target_in, with_parts}
+use Rattle.node_parts.specs.Node.{IsInstalling, NodeState}
+use Rattle.node_parts.specs.Scripts.{Advances, CanHalt, FallBack, FallsBack, GivesUp, GoesOn, GoesOnBy, HaltsAs, Outcome, RefusesAdvance, gone_on, is_past, parts_in, recovered_as, reporting, target_in, with_parts}
 use Rattle.node_types.specs.declared.event.Answer.{Answer}
 use Rattle.node_types.specs.declared.event.Answer.TheVariants as answer
 use Rattle.node_types.specs.Note.{Note}

@@ -2,3 +2,8 @@ pub mod Advances
 pub mod Restarts
 pub mod Scripts
 pub mod Targets
+pub use Rattle.node_parts.proofs.Accepting
+pub use Rattle.node_parts.proofs.Booting
+pub use Rattle.node_parts.proofs.Lost
+pub use Rattle.node_parts.proofs.OneOutcome
+pub use Rattle.node_parts.proofs.Steps

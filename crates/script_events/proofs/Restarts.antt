@@ -8,8 +8,8 @@ use Rattle.process_effects.specs.declared.told.Reply.{Reply}
 use Rattle.process_store.specs.Table.{Table}
 use Rattle.release_statuses.specs.declared.listed.Listed.{Listed}
 use Rattle.release_table.specs.declared.table.Release.{Release}
-use Rattle.node_rules.specs.Node.{NodeState}
-use Rattle.node_rules.specs.Scripts.{IsRestarted}
+use Rattle.node_parts.specs.Node.{NodeState}
+use Rattle.node_parts.specs.Scripts.{IsRestarted}
 
 pub is_restarted : (r : Release) (releases : List Listed) (n after : NodeState) (told : List Reply) (modules : Loaded Forms) (t : Table) (apps : List Application) →
     restart_refusal r n.modules ≡ None → TellsRestart n.processes told → RestartsAs r n.modules n.processes modules t apps →

@@ -12,7 +12,7 @@ use Rattle.script_steps.specs.Steps.{Steps}
 use Rattle.script_steps.specs.declared.stepping.Stepped.{Stepped}
 use Rattle.script_events.specs.Carrying.{IsCarriedOn}
 use Rattle.script_events.specs.declared.carrying.CarriedOn.{CarriedOn}
-use Rattle.node_rules.specs.Scripts.{reporting}
+use Rattle.node_parts.specs.Scripts.{reporting}
 use Rattle.node_types.specs.declared.event.Answer.TheVariants as answer
 
 pub carried : (r : Release) (give_up : Bool) (n : ℕ) (p q : Parts) (script slice : List Low) (next last : ℕ) (made : Stepped) (it : CarriedOn) (i : Low) →

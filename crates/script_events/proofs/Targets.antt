@@ -4,8 +4,8 @@ use Rattle.release_statuses.proofs.Standing.{Stands-place}
 use Rattle.release_statuses.specs.Statuses.{place_of}
 use Rattle.release_table.specs.declared.table.Release.{Release}
 use Rattle.script_state.specs.Runner.{RunnerState}
-use Rattle.node_rules.specs.Node.{NodeState}
-use Rattle.node_rules.specs.Scripts.{target_in}
+use Rattle.node_parts.specs.Node.{NodeState}
+use Rattle.node_parts.specs.Scripts.{target_in}
 
 known_at : (s : RunnerState) (n : NodeState) (o : Option ℕ) → place_of s.target n.releases ≡ o → IsSome o → (r : Release) × (target_in s n ≡ Some r)
 known_at s n None at some = let never : ⊥ = cc in absurd never

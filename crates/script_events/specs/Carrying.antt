@@ -11,7 +11,7 @@ use Rattle.script_steps.specs.Steps.{ScriptState, Stops, next_of}
 use Rattle.script_steps.specs.declared.stepping.NoStep.{NoStep}
 use Rattle.values.specs.declared.failure.Failure.{Failure}
 use Rattle.values.specs.declared.failure.Failure.TheVariants.{Refused, Memory}
-use Rattle.node_rules.specs.Scripts.{reporting}
+use Rattle.node_parts.specs.Scripts.{reporting}
 use Rattle.script_events.specs.declared.carrying.CarriedOn.{CarriedOn}
 use Rattle.node_types.specs.declared.event.Answer.TheVariants as answer
 

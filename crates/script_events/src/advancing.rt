@@ -1,9 +1,9 @@
 // The script goes on, or ends.
 ghost use Rattle.std.specs.Prelude.{◌≡◌, IfOk, Some, [], replicate};
 ghost use Rattle.node_parts.specs.Changes.{IsStep, IsStepOf, state_of};
-ghost use Rattle.node_rules.specs.Node.{RunsScript};
-ghost use Rattle.node_rules.specs.Scripts.{CanHalt, HaltsAs, reporting};
-ghost use Rattle.node_rules.specs.Step.{MayRunOut};
+ghost use Rattle.node_parts.specs.Node.{RunsScript};
+ghost use Rattle.node_parts.specs.Scripts.{CanHalt, HaltsAs, reporting};
+ghost use Rattle.node_parts.specs.Step.{MayRunOut};
 ghost use Rattle.node_types.specs.declared.event.Answer.TheVariants as answer;
 ghost use Rattle.node_types.specs.declared.event.Event.TheVariants as event;
 ghost use Rattle.script_state.specs.Runner.{RunnerState};

@@ -1,8 +1,8 @@
 // An install begins.
 ghost use Rattle.std.specs.Prelude.{◌≡◌, [], IfOk, replicate};
 ghost use Rattle.node_parts.specs.Changes.{IsStep, state_of};
-ghost use Rattle.node_rules.specs.Scripts.{reporting};
-ghost use Rattle.node_rules.specs.Step.{MayRunOut};
+ghost use Rattle.node_parts.specs.Scripts.{reporting};
+ghost use Rattle.node_parts.specs.Step.{MayRunOut};
 ghost use Rattle.node_types.specs.declared.event.Answer.TheVariants as answer;
 ghost use Rattle.node_types.specs.declared.event.Event.TheVariants as event;
 

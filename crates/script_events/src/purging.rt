@@ -2,8 +2,8 @@
 ghost use Rattle.std.specs.Prelude.{◌≡◌, IfErr, IfOk, OnErr, OnOk, replicate};
 ghost use Rattle.code_loading.specs.Purging.{all_purge_told};
 ghost use Rattle.node_parts.specs.Changes.{IsStep, state_of};
-ghost use Rattle.node_rules.specs.Scripts.{ArePurged, reporting};
-ghost use Rattle.node_rules.specs.Step.{MayRunOut};
+ghost use Rattle.node_parts.specs.Scripts.{ArePurged, reporting};
+ghost use Rattle.node_parts.specs.Step.{MayRunOut};
 ghost use Rattle.node_types.specs.declared.event.Answer.TheVariants as answer;
 ghost use Rattle.node_types.specs.declared.event.Event.TheVariants as event;
 ghost use Rattle.release_statuses.specs.Statuses.{is_permanent, status_of};

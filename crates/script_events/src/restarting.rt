@@ -2,10 +2,10 @@
 ghost use Rattle.std.specs.Prelude.{◌≡◌, List, None, Some, [], IfErr, IfOk, OnOk, replicate};
 ghost use Rattle.code_server.specs.declared.error.CodeError.TheVariants.{CounterEnd as AtEnd};
 ghost use Rattle.node_parts.specs.Changes.{IsStep, IsStepOf, state_of};
-ghost use Rattle.node_rules.specs.Node.{NodeState};
+ghost use Rattle.node_parts.specs.Node.{NodeState};
 ghost use Rattle.node_parts.specs.Record.{Restores};
-ghost use Rattle.node_rules.specs.Scripts.{FallBack, reporting};
-ghost use Rattle.node_rules.specs.Step.{MayRunOut};
+ghost use Rattle.node_parts.specs.Scripts.{FallBack, reporting};
+ghost use Rattle.node_parts.specs.Step.{MayRunOut};
 ghost use Rattle.node_restart.specs.Restart.{RestartsAs, TellsRestart, restart_refusal};
 ghost use Rattle.node_types.specs.declared.event.Event.TheVariants as event;
 ghost use Rattle.node_types.specs.declared.event.Refusal.{Refusal as Why};

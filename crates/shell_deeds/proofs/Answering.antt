@@ -1,12 +1,12 @@
 -- What is done of an event is what each command says of it.
 use Rattle.std.proofs.Common.{◌≡◌, ℕ, List, refl}
 use Rattle.erl_term.specs.declared.term.Term.{Term}
-use Rattle.node_rules.specs.Node.{NodeState}
+use Rattle.shell_upgrades.specs.Node.{NodeState}
 use Rattle.node_types.specs.Note.{Note}
 use Rattle.node_types.specs.declared.event.Answer.{Answer}
 use Rattle.shell_deeds.specs.Deeds.{arrival_answer, change_event, event_of_arrival}
-use Rattle.shell_holdings.specs.Performing.{done_by, truth_in}
-use Rattle.shell_steps.specs.State.{Deed, ShellState, carried, stepped}
+use Rattle.shell_upgrades.specs.Performing.{done_by, truth_in}
+use Rattle.shell_upgrades.specs.State.{Deed, ShellState, carried, stepped}
 use Rattle.shell_requests.specs.declared.request.Arrival.{Arrival}
 use Rattle.shell_requests.specs.declared.request.Arrival.TheVariants as arrivals
 use Rattle.shell_requests.specs.declared.request.Change.{Change}

@@ -1,7 +1,7 @@
 -- Lemmas on arrivals: a call that was tried is counted.
 use Rattle.std.proofs.Common.{◌≡◌, ℕ, List, ◌++◌, Option, None, Some, refl, sym, ap, subst, ◌∙◌}
 use Rattle.undo_journal.specs.Reversible.{Accepted}
-use Rattle.node_rules.specs.Node.{NodeState}
+use Rattle.shell_upgrades.specs.Node.{NodeState}
 use Rattle.node_types.specs.Note.{Note}
 use Rattle.node_types.specs.declared.event.Answer.{Answer}
 use Rattle.node_types.specs.declared.event.Event.{Event}
@@ -9,14 +9,14 @@ use Rattle.shell_answers.specs.Answers.{line_of}
 use Rattle.shell_answers.specs.Refusals.{naming_nothing}
 use Rattle.shell_requests.specs.declared.request.Arrival.{Arrival}
 use Rattle.shell_requests.specs.declared.request.Arrival.TheVariants as arrivals
-use Rattle.shell_holdings.specs.Done.{IsDone}
-use Rattle.shell_steps.specs.Halts.{Halts, halt_answer, halt_fate}
-use Rattle.shell_holdings.specs.Performing.{Performs, accepted, full, no_memory, refused}
-use Rattle.shell_steps.specs.State.{Deed, ShellState, carried, next_number, stepped}
-use Rattle.shell_steps.specs.Stepping.{IsStepped}
-use Rattle.shell_steps.specs.declared.fate.Fate.{Fate}
-use Rattle.shell_steps.specs.declared.stepping.Halt.{Halt}
-use Rattle.shell_steps.specs.declared.stepping.Halt.TheVariants as halts
+use Rattle.shell_upgrades.specs.Done.{IsDone}
+use Rattle.shell_upgrades.specs.Halts.{Halts, halt_answer, halt_fate}
+use Rattle.shell_upgrades.specs.Performing.{Performs, accepted, full, no_memory, refused}
+use Rattle.shell_upgrades.specs.State.{Deed, ShellState, carried, next_number, stepped}
+use Rattle.shell_upgrades.specs.Stepping.{IsStepped}
+use Rattle.shell_upgrades.specs.Fate.{Fate}
+use Rattle.shell_upgrades.specs.Halt.{Halt}
+use Rattle.shell_upgrades.specs.Halt.TheVariants as halts
 use Rattle.shell_deeds.specs.Deeds.{arrival_answer, tried}
 use Rattle.shell_deeds.specs.Done.{after_missed}
 

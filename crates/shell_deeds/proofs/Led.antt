@@ -9,8 +9,8 @@ use Rattle.undo_journal.specs.History.{AreAfter}
 use Rattle.undo_journal.specs.Reversible.{Accepted}
 use Rattle.undo_journal.specs.Timeline.{appended}
 use Rattle.undo_journal.specs.declared.history.Command.TheVariants as command
-use Rattle.node_rules.specs.Node.{NodeState}
-use Rattle.node_rules.specs.Step.{Step}
+use Rattle.shell_upgrades.specs.Node.{NodeState}
+use Rattle.shell_upgrades.specs.Step.{Step}
 use Rattle.node_types.specs.declared.event.Answer.{Answer}
 use Rattle.node_types.specs.declared.event.Answer.TheVariants as tells
 use Rattle.node_types.specs.declared.event.Event.{Event}
@@ -28,16 +28,16 @@ use Rattle.shell_requests.specs.declared.request.ReleaseChange.TheVariants as re
 use Rattle.shell_requests.specs.declared.request.Service.{Service}
 use Rattle.shell_requests.specs.declared.request.Service.TheVariants as services
 use Rattle.shell_deeds.specs.Deeds as deeds
-use Rattle.shell_holdings.specs.Performing as performing
-use Rattle.shell_holdings.specs.Serving as serving
+use Rattle.shell_upgrades.specs.Performing as performing
+use Rattle.shell_upgrades.specs.Serving as serving
 use Rattle.shell_relups.specs.Relups as relups
 use Rattle.shell_upgrades.specs.Upgrades as upgrades
 use Rattle.shell_answers.specs.Answers.{fixed}
 use Rattle.shell_answers.specs.Refusals.{Subject, naming, naming_nothing}
 use Rattle.shell_answers.specs.declared.fixed.Fixed.TheVariants as words
-use Rattle.shell_steps.specs.State as state
-use Rattle.shell_steps.specs.State.{Deed, ShellState, answered, next_number, node_of, stepped}
-use Rattle.shell_steps.specs.declared.fate.Fate.{Fate}
+use Rattle.shell_upgrades.specs.State as state
+use Rattle.shell_upgrades.specs.State.{Deed, ShellState, answered, next_number, node_of, stepped}
+use Rattle.shell_upgrades.specs.Fate.{Fate}
 
 -- the command of a deed leads to the journal after it
 abbrev pub IsLed : ShellState → Deed → Type 0
@@ -147,11 +147,7 @@ module _ (s : ShellState) where
   alters kind vsn fate d does = performs s (upgrades.release_event kind (chars vsn)) _ _ fate d refl (altered kind (chars vsn)) does
 
   tells-relup : (from to : List ℕ) (fate : Option Fate) (d : Deed) → relups.TellsRelup s from to fate d → IsLed s d
-  tells-relup from to _ _ (relups.no_source path why is) = refl
-  tells-relup from to _ _ (relups.no_target old path why is faulty) = refl
-  tells-relup from to _ _ (relups.no_relup old new why is also refuses) = refl
-  tells-relup from to _ _ (relups.made old new it is also does) = refl
-  tells-relup from to _ _ relups.no_memory_for_relup = refl
+  tells-relup from to fate d does = subst (λ e. IsLed s e) (sym does.2) refl
 
   obeys : (fate : Option Fate) (request : Request) (d : Deed) → deeds.Obeys fate s request d → IsLed s d
   obeys fate (ask question) d does = asks-nothing question fate d does

@@ -3,14 +3,14 @@ use Rattle.std.proofs.Common.{◌≡◌, ℕ, List, Bool, true, false, Option, N
 use Rattle.code_server.specs.Modules.{delete_refusal}
 use Rattle.code_server.specs.declared.error.CodeError.{CodeError}
 use Rattle.undo_journal.specs.Reversible.{Accepted}
-use Rattle.node_rules.specs.Node.{NodeState}
-use Rattle.node_rules.specs.Step.{MayRunOut, Step, deletes, purges, soft_purge_refusal, soft_purges, unless}
+use Rattle.shell_upgrades.specs.Node.{NodeState}
+use Rattle.shell_upgrades.specs.Step.{MayRunOut, Step, deletes, purges, soft_purge_refusal, soft_purges, unless}
 use Rattle.node_types.specs.Note.{Note}
 use Rattle.node_types.specs.declared.event.Answer.{Answer}
 use Rattle.node_types.specs.declared.event.Refusal.TheVariants.{Installing, OfModules}
 use Rattle.shell_requests.specs.declared.request.Change.{Change}
 use Rattle.shell_requests.specs.declared.request.Change.TheVariants as changes
-use Rattle.shell_holdings.proofs.Performing.{judged_otherwise, no_script, refused_meanwhile}
+use Rattle.shell_upgrades.proofs.Performing.{judged_otherwise, no_script, refused_meanwhile}
 use Rattle.shell_deeds.specs.Deeds.{change_event}
 use Rattle.shell_deeds.specs.Done.{refusal_of_change}
 

@@ -13,7 +13,7 @@ use Rattle.erl_term.specs.declared.term.Term.TheVariants.{Atom}
 use Rattle.process_store.specs.Table.{pid_of}
 use Rattle.process_table.specs.declared.body.Body.{Body}
 use Rattle.process_table.specs.declared.body.Body.TheVariants as body
-use Rattle.node_rules.specs.Node.{NodeState}
+use Rattle.shell_upgrades.specs.Node.{NodeState}
 use Rattle.node_types.specs.declared.event.Event.{Event}
 use Rattle.node_types.specs.declared.event.Event.TheVariants as event
 use Rattle.release_files.specs.Files.{file_of}
@@ -27,10 +27,10 @@ use Rattle.shell_requests.specs.declared.request.Arrival.{Arrival}
 use Rattle.shell_requests.specs.declared.request.Arrival.TheVariants as arrivals
 use Rattle.shell_requests.specs.declared.request.Change.{Change}
 use Rattle.shell_requests.specs.declared.request.Change.TheVariants as changes
-use Rattle.shell_holdings.specs.Performing.{Misses, Performs, done_by}
-use Rattle.shell_holdings.specs.Serving.{Asks, CommitsKept, Forgets, ServesAs, Undoes, kept_job}
-use Rattle.shell_steps.specs.State.{Deed, ShellState, answered, next_number, node_of, with_call}
-use Rattle.shell_steps.specs.declared.fate.Fate.{Fate}
+use Rattle.shell_upgrades.specs.Performing.{Misses, Performs, done_by}
+use Rattle.shell_upgrades.specs.Serving.{Asks, CommitsKept, Forgets, ServesAs, Undoes, kept_job}
+use Rattle.shell_upgrades.specs.State.{Deed, ShellState, answered, next_number, node_of, with_call}
+use Rattle.shell_upgrades.specs.Fate.{Fate}
 use Rattle.shell_relups.specs.Relups.{TellsRelup}
 use Rattle.shell_upgrades.specs.Upgrades.{AdvancesScript, AltersReleases, Sweeps, Unpacks}
 use Rattle.shell_deeds.specs.Terms.{IsRead, one, not_one, faulty}

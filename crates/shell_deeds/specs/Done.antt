@@ -12,16 +12,16 @@ use Rattle.app_table.specs.Applications.{has_id}
 use Rattle.app_table.specs.declared.child.Child.{Child}
 use Rattle.code_server.specs.Modules.{delete_refusal}
 use Rattle.code_server.specs.declared.error.CodeError.{CodeError}
-use Rattle.node_rules.specs.Node.{NodeState}
-use Rattle.node_rules.specs.Step.{soft_purge_refusal}
-use Rattle.release_files.specs.Files.{file_of}
+use Rattle.shell_upgrades.specs.Node.{NodeState}
+use Rattle.shell_upgrades.specs.Step.{soft_purge_refusal}
+use Rattle.release_files.specs.Files.{Contents, file_of}
 use Rattle.release_files.specs.declared.fault.FileFault.TheVariants as file
 use Rattle.shell_requests.specs.declared.request.Arrival.{Arrival}
 use Rattle.shell_requests.specs.declared.request.Change.{Change}
 use Rattle.shell_requests.specs.declared.request.Change.TheVariants as changes
-use Rattle.shell_steps.specs.State.{ShellState}
-use Rattle.shell_steps.specs.declared.stepping.Halt.{Halt}
-use Rattle.shell_steps.specs.declared.stepping.Halt.TheVariants.{Full, Refused, Memory}
+use Rattle.shell_upgrades.specs.State.{ShellState}
+use Rattle.shell_upgrades.specs.Halt.{Halt}
+use Rattle.shell_upgrades.specs.Halt.TheVariants.{Full, Refused, Memory}
 use Rattle.shell_deeds.specs.Deeds.{tried}
 use Rattle.shell_deeds.specs.Terms.{IsRead, faulty, not_one}
 use Rattle.shell_deeds.specs.declared.loading.Unloaded.{Unloaded}
@@ -46,22 +46,22 @@ Misreads text NoMemory = Unit {0}
 
 -- A module of this name was read, or it is told why none was.
 
-pub record IsSourced (s : ShellState) (name path : List ℕ) (m : Forms) : Type 0 where
+pub record IsSourced (files : Contents) (name path : List ℕ) (m : Forms) : Type 0 where
   pub bytes : List ℕ
-  pub stands : file_of path s.files ≡ Some bytes
+  pub stands : file_of path files ≡ Some bytes
   pub source : IsSource bytes m
   pub named : m.name ≡ name
 
-abbrev pub Unsourced : ShellState → List ℕ → List ℕ → Unloaded → Type 0
-Unsourced s name path (Faulted file.Missing) = file_of path s.files ≡ None
-Unsourced s name path (Faulted (file.File e)) = ⊥
-Unsourced s name path (Faulted file.DuplicateModule) = ⊥
-Unsourced s name path (Faulted file.Memory) = ⊥
-Unsourced s name path (Faulted file.WrongModule) =
-    (bytes : List ℕ) × (m : Forms) × (file_of path s.files ≡ Some bytes) × IsSource bytes m × (m.name ≢ name)
-Unsourced s name path (Faulted (file.Lang why)) =
-    (bytes : List ℕ) × (file_of path s.files ≡ Some bytes) × Says bytes why × IsNoSource bytes
-Unsourced s name path Unread = (bytes : List ℕ) × (file_of path s.files ≡ Some bytes)
+abbrev pub Unsourced : Contents → List ℕ → List ℕ → Unloaded → Type 0
+Unsourced files name path (Faulted file.Missing) = file_of path files ≡ None
+Unsourced files name path (Faulted (file.File e)) = ⊥
+Unsourced files name path (Faulted file.DuplicateModule) = ⊥
+Unsourced files name path (Faulted file.Memory) = ⊥
+Unsourced files name path (Faulted file.WrongModule) =
+    (bytes : List ℕ) × (m : Forms) × (file_of path files ≡ Some bytes) × IsSource bytes m × (m.name ≢ name)
+Unsourced files name path (Faulted (file.Lang why)) =
+    (bytes : List ℕ) × (file_of path files ≡ Some bytes) × Says bytes why × IsNoSource bytes
+Unsourced files name path Unread = (bytes : List ℕ) × (file_of path files ≡ Some bytes)
 
 -- by what is told of its source
 abbrev pub not_loaded : Failure LangError → Unloaded

@@ -7,12 +7,12 @@ ghost use Rattle.process_table.specs.Steps.{arrive_refusal, kind_of};
 ghost use Rattle.shell_answers.specs.Answers.{line_of};
 ghost use Rattle.shell_answers.specs.Refusals.{naming_nothing};
 ghost use Rattle.shell_deeds.specs.Deeds.{Arrives, arrival_answer, arrival_event, body_of, event_of_arrival, tried};
-ghost use Rattle.shell_holdings.specs.Performing.{Performs, done_by};
-ghost use Rattle.shell_holdings.specs.Done.{IsDone};
+ghost use Rattle.shell_upgrades.specs.Performing.{Performs, done_by};
+ghost use Rattle.shell_upgrades.specs.Done.{IsDone};
 ghost use Rattle.shell_deeds.specs.Done.{after_missed};
-ghost use Rattle.shell_steps.specs.Halts.{HaltsBy, MayAllRunOut, RefusesAll, halt_answer, halt_fate, missed_fate};
-ghost use Rattle.shell_steps.specs.declared.stepping.Halt.{Halt};
-ghost use Rattle.shell_steps.specs.State.{carried, next_number, node_of, stepped};
+ghost use Rattle.shell_upgrades.specs.Halts.{HaltsBy, MayAllRunOut, RefusesAll, halt_answer, halt_fate, missed_fate};
+ghost use Rattle.shell_upgrades.specs.Halt.{Halt};
+ghost use Rattle.shell_upgrades.specs.State.{carried, next_number, node_of, stepped};
 ghost use Rattle.shell_deeds.specs.Terms.{IsRead, one};
 
 use crate::reading::{Misread, term_of};
@@ -20,9 +20,8 @@ use erl_term::{Atom, Term};
 use node_types::{Event, Refusal};
 use process_table::{Body, BodyKind, ProcError};
 use shell_answers::{Fixed, write_called};
-use shell_holdings::Holdings;
 use shell_requests::{Arrival, Name};
-use shell_steps::{Halt, Said, say, say_term_fault, tell_halt, tell_missed};
+use shell_upgrades::{Halt, Holdings, Said, say, say_term_fault, tell_halt, tell_missed};
 
 /// Has the term of a text arrive for the process of a name.
 pub(crate) fn arrive(

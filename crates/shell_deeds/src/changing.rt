@@ -3,9 +3,9 @@ ghost use Rattle.std.specs.Prelude.{◌≡◌, ◌++◌, IfOk, None};
 ghost use Rattle.std.specs.Str.{chars};
 ghost use Rattle.shell_answers.specs.Answers.{line_of};
 ghost use Rattle.shell_deeds.specs.Deeds.{Changes, change_event};
-ghost use Rattle.shell_holdings.specs.Performing.{truth_in};
-ghost use Rattle.shell_holdings.specs.Done.{IsDone};
-ghost use Rattle.shell_steps.specs.Halts.{Halts};
+ghost use Rattle.shell_upgrades.specs.Performing.{truth_in};
+ghost use Rattle.shell_upgrades.specs.Done.{IsDone};
+ghost use Rattle.shell_upgrades.specs.Halts.{Halts};
 ghost use Rattle.shell_deeds.specs.Done.{refusal_of_change};
 
 use code_loading::is_lingered_in;
@@ -13,9 +13,8 @@ use code_server::CodeError;
 use erl_term::Atom;
 use node_types::{Answer, Event, Refusal};
 use shell_answers::Fixed;
-use shell_holdings::Holdings;
 use shell_requests::{Change, Name};
-use shell_steps::{Halt, Node, Said, say, tell_halt};
+use shell_upgrades::{Halt, Holdings, Node, Said, say, tell_halt};
 
 /// Deletes or purges a module's code.
 pub(crate) fn change(held: &mut Holdings, kind: Change, name: Name<'_>, out: &mut Vec<u8>) -> Said
@@ -47,7 +46,7 @@ fn halt_of_change(held: &Holdings, kind: Change, name: Name<'_>) -> Halt
 }
 
 /// The event of a change.
-fn change_event(kind: Change, name: Atom) -> Event
+pub fn change_event(kind: Change, name: Atom) -> Event
     ensures { result ≡ change_event kind name }
 {
     match kind {
@@ -78,7 +77,7 @@ fn change_refusal(node: &Node, kind: Change, name: Name<'_>) -> Option<CodeError
 }
 
 /// Tells whether processes were killed, and else `true`.
-fn tell_truth(answer: &Answer, out: &mut Vec<u8>) -> Said
+pub fn tell_truth(answer: &Answer, out: &mut Vec<u8>) -> Said
     ensures { IfOk result (λ fate. (fate ≡ None) × (out.new.items ≡ out.old.items ++ line_of (truth_in answer.now))) }
 {
     match answer {

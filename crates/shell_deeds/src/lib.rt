@@ -24,4 +24,13 @@ mod naming;
 mod reading;
 mod reviving;
 
+pub use changing::{change_event, tell_truth};
 pub use lines::obey;
+pub use loading::{Unloaded, source_in, tell_loaded};
+pub use reading::{Misread, term_of};
+pub use reviving::{revive_event, tell_revived};
+pub use shell_relups::{tell_relup_in, tell_unread};
+pub use shell_upgrades::{
+    Fate, Holdings, Node, Said, refuse, say, say_file_fault, say_term_fault, tell_stopped,
+    tell_swept, tell_unpacked,
+};

@@ -2,9 +2,9 @@
 ghost use Rattle.std.specs.Prelude.{◌≡◌, IfOk};
 ghost use Rattle.std.specs.Option.{option_copied};
 ghost use Rattle.shell_deeds.specs.Deeds.{Does, Obeys, pid_meant};
-ghost use Rattle.shell_holdings.specs.Serving.{ServesAs};
-ghost use Rattle.shell_holdings.specs.Done.{IsDone};
-ghost use Rattle.shell_steps.specs.State.{node_of};
+ghost use Rattle.shell_upgrades.specs.Serving.{ServesAs};
+ghost use Rattle.shell_upgrades.specs.Done.{IsDone};
+ghost use Rattle.shell_upgrades.specs.State.{node_of};
 ghost use Rattle.shell_requests.specs.Reading.{meant, who_is};
 ghost use Rattle.shell_requests.specs.Request.{spoken};
 
@@ -14,11 +14,9 @@ use crate::loading::load;
 use crate::naming::pid_meant;
 use crate::reviving::revive;
 use shell_answers::Fixed;
-use shell_holdings::Holdings;
 use shell_relups::tell_relup;
 use shell_requests::{Line, Proc, Request, Service, read_line};
-use shell_steps::{Fate, Said, say};
-use shell_upgrades::{advance, alter_releases, sweep, unpack};
+use shell_upgrades::{Fate, Holdings, Said, advance, alter_releases, say, sweep, unpack};
 use std::alloc::AllocError;
 
 /// Does what a line says, and appends its answer. `None` is a line of too many bytes. What became of it for want of memory is handed

@@ -5,27 +5,28 @@ ghost use Rattle.node_types.specs.declared.event.Event.TheVariants.{Load};
 ghost use Rattle.shell_answers.specs.Answers.{line_of, loaded};
 ghost use Rattle.shell_answers.specs.Refusals.{naming_nothing};
 ghost use Rattle.shell_deeds.specs.Deeds.{Loads};
-ghost use Rattle.shell_holdings.specs.Performing.{Performs};
-ghost use Rattle.shell_holdings.specs.Done.{IsDone};
+ghost use Rattle.shell_upgrades.specs.Performing.{Performs};
+ghost use Rattle.shell_upgrades.specs.Done.{IsDone};
 ghost use Rattle.shell_deeds.specs.Done.{IsSourced, Unsourced, not_loaded};
-ghost use Rattle.shell_steps.specs.Halts.{HaltsBy, MayAllRunOut, RefusesAll};
-ghost use Rattle.shell_steps.specs.State.{carried, stepped};
+ghost use Rattle.shell_upgrades.specs.Halts.{HaltsBy, MayAllRunOut, RefusesAll};
+ghost use Rattle.shell_upgrades.specs.State.{carried, stepped};
 
 use crate::naming::spells;
 use erl_forms::Module;
 use erl_parse::{LangError, read_module};
 use erl_term::Atom;
 use node_types::{Event, Refusal};
-use release_files::FileFault;
+use release_files::{FileFault, Files};
 use shell_answers::write_loaded;
-use shell_holdings::Holdings;
 use shell_requests::Name;
-use shell_steps::{Halt, Said, say_file_fault, tell_halt, tell_missed};
+use shell_upgrades::{Halt, Holdings, Said, say_file_fault, tell_halt, tell_missed};
+use std::alloc::Global;
+use std::hash::RandomState;
 use values::{Duplicate, Failure};
 
 /// Why no module was read.
 #[derive(Clone, Copy)]
-pub(crate) enum Unloaded {
+pub enum Unloaded {
     /// This stands against the file.
     Faulted(FileFault),
     /// There was no memory to read its source.
@@ -36,21 +37,31 @@ pub(crate) enum Unloaded {
 pub(crate) fn load(held: &mut Holdings, name: Name<'_>, path: &str, out: &mut Vec<u8>) -> Said
     ensures { IfOk result (λ fate. IsDone (Loads held.old (chars name.entry.text.now) path.now fate) held.new out.old.items out.new.items) }
 {
-    match source_of(held, name, path) {
+    match source_in(held.alloc(), held.hashing(), held.files(), name, path) {
         Ok(code) => load_module(held, code, out),
         Err(Unloaded::Faulted(fault)) => say_file_fault(path, fault, out),
         Err(Unloaded::Unread) => tell_missed(halt_of_load(held), out),
     }
 }
 
-/// The module of a name in the file at a path.
-fn source_of(held: &Holdings, name: Name<'_>, path: &str) -> Result<Module, Unloaded>
-    ensures { MatchResult result (IsSourced held.now (chars name.entry.text.now) path.now) (Unsourced held.now (chars name.entry.text.now) path.now) }
+/// The module of a name in the file at a path. The names in it are hashed by `hashing`.
+///
+/// # Errors
+///
+/// `Faulted` with what stands against the file; `Unread` where there is no memory to read it.
+pub fn source_in(
+    alloc: Global,
+    hashing: RandomState,
+    files: &Files,
+    name: Name<'_>,
+    path: &str,
+) -> Result<Module, Unloaded>
+    ensures { MatchResult result (IsSourced files.now (chars name.entry.text.now) path.now) (Unsourced files.now (chars name.entry.text.now) path.now) }
 {
-    let Some(bytes) = held.files().get(path) else {
+    let Some(bytes) = files.get(path) else {
         return Err(Unloaded::Faulted(FileFault::Missing));
     };
-    match read_module(held.alloc(), held.hashing(), bytes) {
+    match read_module(alloc, hashing, bytes) {
         Ok(code) if spells(code.name(), name.as_str()) => Ok(code),
         Ok(_) => Err(Unloaded::Faulted(FileFault::WrongModule)),
         Err(failure) => Err(not_loaded(failure)),
@@ -98,7 +109,7 @@ fn not_loaded(failure: Failure<LangError>) -> Unloaded
 }
 
 /// Tells that a module is loaded.
-fn tell_loaded(name: &Atom, out: &mut Vec<u8>) -> Said
+pub fn tell_loaded(name: &Atom, out: &mut Vec<u8>) -> Said
     ensures { IfOk result (λ fate. (fate ≡ None) × (out.new.items ≡ out.old.items ++ line_of (loaded name.now))) }
 {
     write_loaded(name, out)?;

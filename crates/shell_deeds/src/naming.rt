@@ -3,12 +3,12 @@ ghost use Rattle.std.specs.Prelude.{◌≡◌};
 ghost use Rattle.std.specs.Str.{bytes_eq, chars};
 ghost use Rattle.process_store.specs.Table.{pid_of};
 ghost use Rattle.shell_deeds.specs.Deeds.{pid_meant};
-ghost use Rattle.shell_steps.specs.State.{node_of};
+ghost use Rattle.shell_upgrades.specs.State.{node_of};
 ghost use Rattle.shell_requests.specs.Reading.{who_is};
 
 use erl_term::Atom;
-use shell_holdings::Holdings;
 use shell_requests::{Name, Proc};
+use shell_upgrades::Holdings;
 
 /// The process that is registered under a name, found by key. Takes no memory.
 fn pid_of(held: &Holdings, name: Name<'_>) -> Option<u64>

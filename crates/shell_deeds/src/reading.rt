@@ -12,7 +12,7 @@ use std::alloc::{AllocError, Global};
 
 /// Why no term was read.
 #[derive(Clone, Copy)]
-pub(crate) enum Misread {
+pub enum Misread {
     /// There is none, or there are several.
     NotOne,
     /// The text is faulty.
@@ -22,7 +22,7 @@ pub(crate) enum Misread {
 }
 
 /// The term that a text is, which has no dot.
-pub(crate) fn term_of(alloc: Global, text: &str) -> Result<Term, Misread>
+pub fn term_of(alloc: Global, text: &str) -> Result<Term, Misread>
     ensures { MatchResult result (λ t. IsRead text.now (one (tree t))) (Misreads text.now) }
 {
     let Ok(ended) = with_dot(alloc, text) else {

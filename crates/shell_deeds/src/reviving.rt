@@ -7,19 +7,18 @@ ghost use Rattle.erl_term.specs.declared.term.Term.TheVariants as term;
 ghost use Rattle.node_types.specs.declared.event.Event.TheVariants.{Revive};
 ghost use Rattle.shell_answers.specs.Answers.{line_of};
 ghost use Rattle.shell_deeds.specs.Deeds.{RevivesChild};
-ghost use Rattle.shell_holdings.specs.Performing.{revived_in};
-ghost use Rattle.shell_holdings.specs.Done.{IsDone};
+ghost use Rattle.shell_upgrades.specs.Performing.{revived_in};
+ghost use Rattle.shell_upgrades.specs.Done.{IsDone};
 ghost use Rattle.shell_deeds.specs.Done.{child_called, is_id};
-ghost use Rattle.shell_steps.specs.Halts.{Halts};
+ghost use Rattle.shell_upgrades.specs.Halts.{Halts};
 ghost use Rattle.sys_protocol.specs.Refusals.{IsDue, IsNotDue};
 
 use crate::naming::spells;
 use erl_term::Term;
 use node_types::{Answer, Event, Refusal};
 use shell_answers::{Fixed, write_revived};
-use shell_holdings::Holdings;
 use shell_requests::Name;
-use shell_steps::{Halt, Said, say, tell_halt};
+use shell_upgrades::{Halt, Holdings, Said, say, tell_halt};
 use std::alloc::{AllocError, Global};
 use sys_protocol::{App, AppTable, Child, SysError};
 
@@ -50,7 +49,7 @@ fn halt_of_revival(held: &Holdings, app: Name<'_>, id: Name<'_>) -> Halt
 }
 
 /// The event of a revival.
-fn revive_event(alloc: Global, app: Name<'_>, id: Name<'_>) -> Result<Event, AllocError>
+pub fn revive_event(alloc: Global, app: Name<'_>, id: Name<'_>) -> Result<Event, AllocError>
     ensures { IfOk result (λ it. it ≡ Revive (chars app.entry.text.now) (term.Atom (chars id.entry.text.now))) }
 {
     let app = app.atom(alloc)?;
@@ -59,7 +58,7 @@ fn revive_event(alloc: Global, app: Name<'_>, id: Name<'_>) -> Result<Event, All
 }
 
 /// Tells which process a child runs as.
-fn tell_revived(answer: &Answer, out: &mut Vec<u8>) -> Said
+pub fn tell_revived(answer: &Answer, out: &mut Vec<u8>) -> Said
     ensures { IfOk result (λ fate. (fate ≡ None) × (out.new.items ≡ out.old.items ++ line_of (revived_in answer.now))) }
 {
     match answer {

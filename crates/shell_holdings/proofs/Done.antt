@@ -9,7 +9,7 @@ use Rattle.erl_term.specs.Rows.{append_trees}
 use Rattle.erl_term.specs.Tree.{more}
 use Rattle.process_effects.specs.declared.told.Reply.{Reply}
 use Rattle.shell_answers.specs.Answers.{line_of, replied, replies_in, rows_of, stopped_undo, undone_steps}
-use Rattle.node_rules.specs.Node.{NodeState}
+use Rattle.shell_steps.specs.Node.{NodeState}
 use Rattle.node_types.specs.Note.{Note}
 use Rattle.node_types.specs.declared.event.Refusal.{Refusal}
 use Rattle.shell_requests.specs.declared.request.Question.{Question}

@@ -14,14 +14,14 @@ use Rattle.process_table.specs.declared.error.ProcError.TheVariants as proc
 use Rattle.shell_answers.specs.Answers.{fixed, job_of, line_of}
 use Rattle.shell_answers.specs.Refusals.{Subject, naming_nothing, proc_refusal}
 use Rattle.shell_answers.specs.declared.fixed.Fixed.TheVariants as words
-use Rattle.node_rules.specs.Node.{NodeState}
+use Rattle.shell_steps.specs.Node.{NodeState}
 use Rattle.node_types.specs.declared.event.Answer.{Answer}
 use Rattle.node_types.specs.declared.event.Answer.TheVariants as tells
 use Rattle.node_types.specs.declared.event.Event.{Event}
 use Rattle.node_types.specs.declared.event.Event.TheVariants as event
 use Rattle.node_types.specs.Note.{Note}
-use Rattle.node_rules.specs.Scripts.{Outcome, UnlessInstalling}
-use Rattle.node_rules.specs.Step.{MayRunOut, Step}
+use Rattle.shell_steps.specs.Scripts.{Outcome, UnlessInstalling}
+use Rattle.shell_steps.specs.Step.{MayRunOut, Step}
 use Rattle.node_types.specs.declared.event.Refusal.{Refusal}
 use Rattle.node_types.specs.declared.event.Refusal.TheVariants.{Installing}
 use Rattle.script_state.specs.Runner.{RunnerState}

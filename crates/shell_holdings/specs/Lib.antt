@@ -1,3 +1,12 @@
 pub mod Done
 pub mod Performing
 pub mod Serving
+pub use Rattle.shell_steps.specs.Halts
+pub use Rattle.shell_steps.specs.Node
+pub use Rattle.shell_steps.specs.Scripts
+pub use Rattle.shell_steps.specs.State
+pub use Rattle.shell_steps.specs.Step
+pub use Rattle.shell_steps.specs.Stepping
+pub use Rattle.shell_steps.specs.Undone
+pub use Rattle.shell_steps.specs.declared.fate.Fate
+pub use Rattle.shell_steps.specs.declared.stepping.Halt

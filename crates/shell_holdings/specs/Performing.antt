@@ -5,8 +5,8 @@ use Rattle.low_instructions.specs.Forms.{low_tree}
 use Rattle.process_table.specs.declared.body.Body.{Body}
 use Rattle.process_table.specs.declared.body.Body.TheVariants as body
 use Rattle.undo_journal.specs.Reversible.{Accepted}
-use Rattle.node_rules.specs.Node.{NodeState}
-use Rattle.node_rules.specs.Step.{MayRunOut, Step}
+use Rattle.shell_steps.specs.Node.{NodeState}
+use Rattle.shell_steps.specs.Step.{MayRunOut, Step}
 use Rattle.node_types.specs.declared.event.Answer.{Answer}
 use Rattle.node_types.specs.declared.event.Answer.TheVariants as tells
 use Rattle.node_types.specs.declared.event.Event.{Event}

@@ -6,6 +6,7 @@ use Rattle.erl_term.specs.declared.term.Term.{Term}
 use Rattle.otp_files.specs.declared.upgrade.Upgrades.{Upgrades}
 use Rattle.otp_files.specs.Upgrades.{relup_tree}
 use Rattle.release_files.specs.Faults.{IsFirstFault}
+use Rattle.release_files.specs.Files.{Contents}
 use Rattle.release_files.specs.Releases.{IsRelease}
 use Rattle.release_files.specs.declared.fault.FileFault.{FileFault}
 use Rattle.release_files.specs.declared.fault.FileFault.TheVariants as fault
@@ -18,22 +19,30 @@ use Rattle.shell_answers.specs.Answers.{fixed, line_of}
 use Rattle.shell_answers.specs.Faults.{file_fault}
 use Rattle.shell_answers.specs.Relups.{unmade}
 use Rattle.shell_answers.specs.declared.fixed.Fixed.TheVariants as words
-use Rattle.shell_steps.specs.State.{Deed, ShellState, answered}
-use Rattle.shell_steps.specs.declared.fate.Fate.{Fate}
-use Rattle.shell_steps.specs.declared.fate.Fate.TheVariants.{Refused, Unread, StoppedAt}
+use Rattle.shell_holdings.specs.State.{Deed, ShellState, answered}
+use Rattle.shell_holdings.specs.Fate.{Fate}
+use Rattle.shell_holdings.specs.Fate.TheVariants.{Refused, Unread, StoppedAt}
 
--- `relup FROM TO`: what stands against the files of the one release is told first, then what stands against those of the other, then
--- what stands against a relup of the two.
-pub data TellsRelup (s : ShellState) (from to : List ℕ) : Option Fate → Deed → Type 0 where
-  no_source : (path : List ℕ) (why : FileFault) → IsFirstFault s.files from path why →
-      TellsRelup s from to None (answered s (file_fault path why))
-  no_target : (old : Release) (path : List ℕ) (why : FileFault) → IsRelease s.files from old → IsFirstFault s.files to path why →
-      TellsRelup s from to None (answered s (file_fault path why))
-  no_relup : (old new : Release) (why : MakeError) → IsRelease s.files from old → IsRelease s.files to new →
-      IsRefusal (rel_apps old) (rel_apps new) (appups_of new) why → TellsRelup s from to None (answered s (unmade why))
-  made : (old new : Release) (relup : Upgrades Term Low) → IsRelease s.files from old → IsRelease s.files to new →
-      IsTranslation (rel_apps old) (rel_apps new) (appups_of new) relup → TellsRelup s from to None (answered s (relup_tree relup))
-  no_memory_for_relup : TellsRelup s from to (Some Refused) (answered s (fixed words.Memory))
+-- `relup FROM TO`, by the files: what stands against those of the one release is told first, then what stands against those
+-- of the other, then what stands against a relup of the two.
+pub data RelupTold (files : Contents) (from to : List ℕ) : Option Fate → Tree → Type 0 where
+  no_source : (path : List ℕ) (why : FileFault) → IsFirstFault files from path why → RelupTold files from to None (file_fault path why)
+  no_target : (old : Release) (path : List ℕ) (why : FileFault) → IsRelease files from old → IsFirstFault files to path why →
+      RelupTold files from to None (file_fault path why)
+  no_relup : (old new : Release) (why : MakeError) → IsRelease files from old → IsRelease files to new →
+      IsRefusal (rel_apps old) (rel_apps new) (appups_of new) why → RelupTold files from to None (unmade why)
+  made : (old new : Release) (relup : Upgrades Term Low) → IsRelease files from old → IsRelease files to new →
+      IsTranslation (rel_apps old) (rel_apps new) (appups_of new) relup → RelupTold files from to None (relup_tree relup)
+  no_memory_for_relup : RelupTold files from to (Some Refused) (fixed words.Memory)
+
+-- it was told
+abbrev pub IsRelupTold : Contents → List ℕ → List ℕ → Option Fate → List ℕ → List ℕ → Type 0
+IsRelupTold files from to fate text appended =
+    (answer : Tree) × RelupTold files from to fate answer × (appended ≡ text ++ line_of answer)
+
+-- which is all that the shell does
+abbrev pub TellsRelup : ShellState → List ℕ → List ℕ → Option Fate → Deed → Type 0
+TellsRelup s from to fate d = (answer : Tree) × RelupTold s.files from to fate answer × (d ≡ answered s answer)
 
 -- What is told of files that could not be read, by why; want of memory is one reason.
 

@@ -15,4 +15,4 @@
 
 mod telling;
 
-pub use telling::tell_relup;
+pub use telling::{tell_relup, tell_relup_in, tell_unread};

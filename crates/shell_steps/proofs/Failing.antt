@@ -3,7 +3,7 @@ use Rattle.std.proofs.Common.{◌≡◌, Result, Err}
 use Rattle.undo_journal.specs.Journal.{PerformFails}
 use Rattle.undo_journal.specs.declared.error.JournalError.{JournalError}
 use Rattle.undo_journal.specs.declared.error.JournalError.TheVariants as error
-use Rattle.node_rules.specs.Step.{MayRunOut, Step}
+use Rattle.node_core.specs.Step.{MayRunOut, Step}
 use Rattle.node_types.specs.declared.event.Event.{Event}
 use Rattle.node_types.specs.Note.{Note}
 use Rattle.node_types.specs.declared.event.Refusal.{Refusal}

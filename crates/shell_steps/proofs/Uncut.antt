@@ -6,7 +6,7 @@ use Rattle.undo_journal.specs.declared.report.Report.{Report}
 use Rattle.undo_journal.specs.Journal.{UndoFails, stopped_reports}
 use Rattle.undo_journal.specs.Timeline.{IsFront, Station, cut_stations}
 use Rattle.std.proofs.lemmas.List.{append-nil}
-use Rattle.node_rules.specs.Node.{NodeState}
+use Rattle.node_core.specs.Node.{NodeState}
 use Rattle.node_types.specs.Note.{Note}
 use Rattle.node_types.specs.declared.event.Refusal.{Refusal}
 use Rattle.shell_steps.specs.State.{NodeTimeline}

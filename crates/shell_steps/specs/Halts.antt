@@ -6,7 +6,7 @@ use Rattle.process_table.specs.Commit.{CanCommit, RefusesCommit}
 use Rattle.process_table.specs.declared.error.ProcError.{ProcError}
 use Rattle.undo_journal.specs.declared.error.JournalError.{JournalError}
 use Rattle.undo_journal.specs.declared.error.JournalError.TheVariants as error
-use Rattle.node_rules.specs.Step.{MayRunOut, Step}
+use Rattle.node_core.specs.Step.{MayRunOut, Step}
 use Rattle.node_types.specs.declared.event.Event.{Event}
 use Rattle.node_types.specs.Note.{Note}
 use Rattle.node_types.specs.declared.event.Refusal.{Refusal}

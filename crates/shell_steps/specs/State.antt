@@ -7,7 +7,7 @@ use Rattle.undo_journal.specs.declared.history.Command.{Command}
 use Rattle.undo_journal.specs.declared.history.Command.TheVariants.{Perform}
 use Rattle.undo_journal.specs.Reversible.{Accepted}
 use Rattle.undo_journal.specs.Timeline.{Timeline, appended, here, opened}
-use Rattle.node_rules.specs.Node.{NodeState}
+use Rattle.node_core.specs.Node.{NodeState}
 use Rattle.node_types.specs.declared.event.Answer.{Answer}
 use Rattle.node_types.specs.declared.event.Event.{Event}
 use Rattle.node_types.specs.Note.{Note}

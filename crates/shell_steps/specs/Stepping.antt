@@ -3,8 +3,8 @@ use Rattle.std.specs.Prelude.{◌≡◌, Ok}
 use Rattle.undo_journal.specs.Reversible.{Accepted, told_of}
 use Rattle.undo_journal.specs.Timeline.{appended}
 use Rattle.undo_journal.specs.declared.reversible.Told.{Told}
-use Rattle.node_rules.specs.Node.{NodeState}
-use Rattle.node_rules.specs.Step.{Step}
+use Rattle.node_core.specs.Node.{NodeState}
+use Rattle.node_core.specs.Step.{Step}
 use Rattle.node_types.specs.declared.event.Answer.{Answer}
 use Rattle.node_types.specs.declared.event.Event.{Event}
 use Rattle.node_types.specs.Note.{Note}

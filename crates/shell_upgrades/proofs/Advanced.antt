@@ -8,9 +8,9 @@ use Rattle.low_instructions.specs.declared.low.Low.{Low}
 use Rattle.release_table.specs.declared.table.Release.{Release}
 use Rattle.script_state.specs.Runner.{RunnerState}
 use Rattle.undo_journal.specs.Reversible.{Accepted}
-use Rattle.node_rules.specs.Node.{NodeState}
-use Rattle.node_rules.specs.Scripts.{Advances, GivesUp, finished_as, GoesOn, GoesOnBy, HasFailed, IsCarriedOut, is_past, next_in, target_in}
-use Rattle.node_rules.specs.Step.{Step}
+use Rattle.shell_holdings.specs.Node.{NodeState}
+use Rattle.shell_holdings.specs.Scripts.{Advances, GivesUp, finished_as, GoesOn, GoesOnBy, HasFailed, IsCarriedOut, is_past, next_in, target_in}
+use Rattle.shell_holdings.specs.Step.{Step}
 use Rattle.node_types.specs.Note.{Note}
 use Rattle.node_types.specs.declared.event.Answer.{Answer}
 use Rattle.node_types.specs.declared.event.Answer.TheVariants as tells

@@ -6,9 +6,9 @@ use Rattle.install_checks.specs.Installing.{install_refusal}
 use Rattle.release_statuses.specs.Statuses.{permanent_refusal, remove_refusal}
 use Rattle.release_statuses.specs.declared.error.RelError.{RelError}
 use Rattle.undo_journal.specs.Reversible.{Accepted}
-use Rattle.node_rules.specs.Node.{NodeState}
-use Rattle.node_rules.specs.Scripts.{Installs, MakesPermanent, RebootsOld}
-use Rattle.node_rules.specs.Step.{MayRunOut, Step, release_removed, unless}
+use Rattle.shell_holdings.specs.Node.{NodeState}
+use Rattle.shell_holdings.specs.Scripts.{Installs, MakesPermanent, RebootsOld}
+use Rattle.shell_holdings.specs.Step.{MayRunOut, Step, release_removed, unless}
 use Rattle.node_types.specs.Note.{Note}
 use Rattle.node_types.specs.declared.event.Answer.{Answer}
 use Rattle.node_types.specs.declared.event.Refusal.{Refusal}
@@ -17,7 +17,7 @@ use Rattle.shell_requests.specs.declared.request.ReleaseChange.{ReleaseChange}
 use Rattle.shell_requests.specs.declared.request.ReleaseChange.TheVariants as releases
 use Rattle.shell_holdings.proofs.Performing.{judged_otherwise, no_script, refused_meanwhile}
 use Rattle.shell_holdings.specs.Performing.{done_by}
-use Rattle.shell_steps.specs.State.{Deed, ShellState, carried, stepped}
+use Rattle.shell_holdings.specs.State.{Deed, ShellState, carried, stepped}
 use Rattle.shell_upgrades.specs.Upgrades.{refusal_of_alteration, release_answer, release_event}
 
 -- what is made of a refusal, if there is one

@@ -3,8 +3,8 @@ use Rattle.std.specs.Prelude.{Option, None, Some, option_and_then}
 use Rattle.erl_term.specs.Tree.{Tree}
 use Rattle.low_instructions.specs.declared.low.Low.{Low}
 use Rattle.script_state.specs.Runner.{RunnerState}
-use Rattle.node_rules.specs.Node.{NodeState}
-use Rattle.node_rules.specs.Scripts.{next_in}
+use Rattle.shell_holdings.specs.Node.{NodeState}
+use Rattle.shell_holdings.specs.Scripts.{next_in}
 use Rattle.node_types.specs.declared.event.Answer.{Answer}
 use Rattle.node_types.specs.declared.event.Answer.TheVariants as tells
 use Rattle.shell_answers.specs.Answers.{carried_out, fixed}

@@ -1,2 +1,13 @@
 pub mod Advancing
 pub mod Upgrades
+pub use Rattle.shell_holdings.specs.Done
+pub use Rattle.shell_holdings.specs.Fate
+pub use Rattle.shell_holdings.specs.Halt
+pub use Rattle.shell_holdings.specs.Halts
+pub use Rattle.shell_holdings.specs.Node
+pub use Rattle.shell_holdings.specs.Performing
+pub use Rattle.shell_holdings.specs.Serving
+pub use Rattle.shell_holdings.specs.State
+pub use Rattle.shell_holdings.specs.Step
+pub use Rattle.shell_holdings.specs.Stepping
+pub use Rattle.shell_holdings.specs.Undone

@@ -7,8 +7,8 @@ use Rattle.erl_term.specs.declared.term.Term.{Term}
 use Rattle.install_checks.specs.Installing.{install_refusal, script_to}
 use Rattle.low_instructions.specs.declared.low.Low.{Low}
 use Rattle.otp_files.specs.declared.upgrade.Entry.{Entry}
-use Rattle.node_rules.specs.Node.{NodeState}
-use Rattle.node_rules.specs.Scripts.{reboot_refused}
+use Rattle.shell_holdings.specs.Node.{NodeState}
+use Rattle.shell_holdings.specs.Scripts.{reboot_refused}
 use Rattle.node_types.specs.declared.event.Answer.{Answer}
 use Rattle.node_types.specs.declared.event.Event.{Event}
 use Rattle.node_types.specs.declared.event.Event.TheVariants as event
@@ -29,8 +29,8 @@ use Rattle.shell_answers.specs.declared.fixed.Fixed.TheVariants as words
 use Rattle.shell_requests.specs.declared.request.ReleaseChange.{ReleaseChange}
 use Rattle.shell_requests.specs.declared.request.ReleaseChange.TheVariants as releases
 use Rattle.shell_holdings.specs.Performing.{Misses, Performs, begun_in, done_by}
-use Rattle.shell_steps.specs.State.{Deed, ShellState, answered, node_of}
-use Rattle.shell_steps.specs.declared.fate.Fate.{Fate}
+use Rattle.shell_holdings.specs.State.{Deed, ShellState, answered, node_of}
+use Rattle.shell_holdings.specs.Fate.{Fate}
 
 -- `unpack VSN`: what stands against the files of the release is told first.
 

@@ -5,7 +5,7 @@ ghost use Rattle.erl_term.specs.Term.{tree};
 ghost use Rattle.low_instructions.specs.Forms.{low_tree};
 ghost use Rattle.shell_answers.specs.Answers.{line_of};
 ghost use Rattle.shell_holdings.specs.Done.{IsDone};
-ghost use Rattle.shell_steps.specs.State.{node_of};
+ghost use Rattle.shell_holdings.specs.State.{node_of};
 ghost use Rattle.shell_upgrades.specs.Advancing.{advanced_by, carried_out_if, next_of};
 ghost use Rattle.shell_upgrades.specs.Upgrades.{AdvancesScript};
 
@@ -14,8 +14,7 @@ use low_instructions::{Low, low_term};
 use node_types::{Answer, Event};
 use script_state::instruction_at;
 use shell_answers::{Fixed, write_carried_out, write_finished, write_recovered, write_restarted};
-use shell_holdings::Holdings;
-use shell_steps::{Node, Said, say, tell_halt};
+use shell_holdings::{Holdings, Node, Said, say, tell_halt};
 use std::alloc::{AllocError, Global};
 
 /// Has the script that runs go on by its next instruction, or end. The term that its answer tells is made before.

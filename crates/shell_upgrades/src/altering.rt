@@ -2,15 +2,15 @@
 ghost use Rattle.std.specs.Prelude.{◌≡◌, ◌++◌, IfOk, None, option_map};
 ghost use Rattle.std.specs.Str.{chars};
 ghost use Rattle.install_checks.specs.Installing.{script_to};
-ghost use Rattle.node_rules.specs.Scripts.{reboot_refused, reboot_wants};
+ghost use Rattle.shell_holdings.specs.Scripts.{reboot_refused, reboot_wants};
 ghost use Rattle.node_types.specs.declared.event.Refusal.TheVariants.{OfInstall, OfReleases};
 ghost use Rattle.release_statuses.specs.Statuses.{listed};
 ghost use Rattle.shell_answers.specs.Answers.{line_of};
 ghost use Rattle.shell_answers.specs.Refusals.{subject_of};
 ghost use Rattle.shell_holdings.specs.Done.{IsDone};
-ghost use Rattle.shell_steps.specs.Halts.{Halts, halt_answer, halt_fate};
+ghost use Rattle.shell_holdings.specs.Halts.{Halts, halt_answer, halt_fate};
 ghost use Rattle.shell_holdings.specs.Performing.{begun_in};
-ghost use Rattle.shell_steps.specs.State.{node_of};
+ghost use Rattle.shell_holdings.specs.State.{node_of};
 ghost use Rattle.shell_upgrades.specs.Upgrades.{AltersReleases, refusal_of_alteration, release_answer, release_event, script_in, subject_in};
 
 use code_server::CodeError;
@@ -20,9 +20,8 @@ use node_restart::restart_refusal;
 use node_types::{Answer, Event, Refusal};
 use release_statuses::{RelError, Releases, Vsn};
 use shell_answers::{Fixed, Subject, write_installing};
-use shell_holdings::Holdings;
+use shell_holdings::{Halt, Holdings, Node, Said, say, tell_halt_of};
 use shell_requests::ReleaseChange;
-use shell_steps::{Halt, Node, Said, say, tell_halt_of};
 
 /// Removes, installs or makes permanent the release of a version, or restarts the node with it.
 pub fn alter_releases(

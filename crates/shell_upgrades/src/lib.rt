@@ -23,5 +23,9 @@ mod unpacking;
 
 pub use advancing::advance;
 pub use altering::{alter_releases, release_event};
+pub use shell_holdings::{
+    Fate, Halt, Holdings, Node, Said, refuse, say, say_file_fault, say_term_fault, tell_halt,
+    tell_missed, tell_stopped,
+};
 pub use sweeping::{sweep, tell_swept};
 pub use unpacking::{tell_unpacked, unpack};

@@ -7,8 +7,7 @@ ghost use Rattle.shell_upgrades.specs.Upgrades.{Sweeps};
 
 use node_types::{Answer, Event};
 use shell_answers::{Fixed, write_swept};
-use shell_holdings::Holdings;
-use shell_steps::{Said, say, tell_halt};
+use shell_holdings::{Holdings, Said, say, tell_halt};
 
 /// Purges old code that scripts have left to be purged softly, where nobody lingers in it.
 pub fn sweep(held: &mut Holdings, out: &mut Vec<u8>) -> Said

@@ -5,7 +5,7 @@ ghost use Rattle.node_types.specs.declared.event.Event.TheVariants.{SetUnpacked}
 ghost use Rattle.shell_answers.specs.Answers.{line_of, set_unpacked};
 ghost use Rattle.shell_answers.specs.Refusals.{naming};
 ghost use Rattle.shell_holdings.specs.Done.{IsDone};
-ghost use Rattle.shell_steps.specs.Halts.{HaltsBy, MayAllRunOut, RefusesAll};
+ghost use Rattle.shell_holdings.specs.Halts.{HaltsBy, MayAllRunOut, RefusesAll};
 ghost use Rattle.shell_holdings.specs.Performing.{Performs, done_by};
 ghost use Rattle.shell_upgrades.specs.Upgrades.{IsUnreadRelease, Unpacks, unpack_event};
 
@@ -13,8 +13,7 @@ use node_types::{Event, Refusal};
 use release_files::{FileFault, ReleaseFault, read_release};
 use release_table::Release;
 use shell_answers::{Subject, write_unpacked};
-use shell_holdings::Holdings;
-use shell_steps::{Halt, Said, say_file_fault, tell_halt_of, tell_missed_of};
+use shell_holdings::{Halt, Holdings, Said, say_file_fault, tell_halt_of, tell_missed_of};
 
 /// Reads the release of a version from the files, and has the node know it.
 pub fn unpack(held: &mut Holdings, vsn: &str, out: &mut Vec<u8>) -> Said

@@ -1,4 +1,8 @@
-mod Behind
+pub mod Behind
+pub mod Growth
+pub mod Halted
 mod MoreAdvances
 mod MoreReads
 mod MoreTurns
+pub mod Passed
+pub mod Unanswered

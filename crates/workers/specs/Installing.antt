@@ -11,10 +11,16 @@ use Rattle.node_history.specs.declared.command.Said.{Said}
 use Rattle.node_history.specs.declared.command.Said.TheVariants.{Performed}
 use Rattle.node_history.specs.declared.entry.Line.{Line}
 use Rattle.node_lock.specs.Core.{SeatState}
+use Rattle.node_lock.specs.Seats.{Lists}
 use Rattle.node_lock.specs.declared.error.LockError.{LockError}
 use Rattle.node_lock.specs.declared.error.LockError.TheVariants.{Journal}
+use Rattle.node_types.specs.Note.{Note}
+use Rattle.node_types.specs.declared.event.Refusal.{Refusal}
+use Rattle.undo_journal.specs.declared.error.JournalError.{JournalError}
 use Rattle.undo_journal.specs.declared.error.JournalError.TheVariants.{Step}
 use Rattle.workers.specs.Lines.{line, with_lines}
+use Rattle.workers.specs.declared.error.WorkError.{WorkError}
+use Rattle.workers.specs.declared.error.WorkError.TheVariants as work
 use Rattle.workers.specs.declared.installing.Advanced.{Advanced}
 use Rattle.workers.specs.declared.installing.Advanced.TheVariants as advanced
 use Rattle.workers.specs.declared.installing.InstallEnd.{InstallEnd}
@@ -107,3 +113,35 @@ pub record HasAdvanced (patience left : ℕ) (old now : SeatState) : Type 0 wher
   pub on : All GoesOn strides
   pub still : left ≡ left_after_all patience strides
   pub lines : now ≡ with_lines old (lines_of_strides patience strides)
+
+-- An advance is refused, and not since a process runs that is to be suspended.
+abbrev pub IsHalted : ℕ → JournalError Refusal Note → SeatState → SeatState → Type 0
+IsHalted left e old new = (IsBusy (Journal e) → ⊥) × Lists (Perform (Advance (nat_eq left 0))) (Err (Journal e)) old new
+
+-- why an advance is not done
+pub data AdvanceFails (left : ℕ) (old new : SeatState) : WorkError → Type 0 where
+  halts : (e : JournalError Refusal Note) → IsHalted left e old new → AdvanceFails left old new (work.Lock (Journal e))
+  not_advanced : new ≡ old → AdvanceFails left old new work.Memory
+
+-- why an install that has begun does not come to its end: an advance was refused otherwise than as busy, or not asked for
+pub data DriveFails (patience : ℕ) (begun new : SeatState) : WorkError → Type 0 where
+  stops : (now : SeatState) (left : ℕ) (e : JournalError Refusal Note) → HasAdvanced patience left begun now →
+      IsHalted left e now new → DriveFails patience begun new (work.Lock (Journal e))
+  rests : (left : ℕ) → HasAdvanced patience left begun new → DriveFails patience begun new work.Memory
+
+-- why an install is not begun
+pub data BeginFails (vsn : List ℕ) (old new : SeatState) : WorkError → Type 0 where
+  not_accepted : (e : JournalError Refusal Note) → Lists (Perform (Install vsn)) (Err (Journal e)) old new →
+      BeginFails vsn old new (work.Lock (Journal e))
+  not_begun : new ≡ old → BeginFails vsn old new work.Memory
+
+-- Why an install has not come to its end, and what the list has more. It's refused; or it has begun, and was advanced until an
+-- advance was refused otherwise than as busy, or memory for one was refused; or memory was refused before it began.
+pub data InstallFails (vsn : List ℕ) (patience : ℕ) (old new : SeatState) : WorkError → Type 0 where
+  refused : (e : JournalError Refusal Note) → Lists (Perform (Install vsn)) (Err (Journal e)) old new →
+      InstallFails vsn patience old new (work.Lock (Journal e))
+  halted : (begun now : SeatState) (left : ℕ) (e : JournalError Refusal Note) → Begins vsn old begun →
+      HasAdvanced patience left begun now → IsHalted left e now new → InstallFails vsn patience old new (work.Lock (Journal e))
+  stands : (begun : SeatState) (left : ℕ) → Begins vsn old begun → HasAdvanced patience left begun new →
+      InstallFails vsn patience old new work.Memory
+  not_asked : new ≡ old → InstallFails vsn patience old new work.Memory

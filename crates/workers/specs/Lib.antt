@@ -3,3 +3,10 @@ pub mod Errors
 pub mod Installing
 pub mod Lines
 pub mod Serving
+pub use Rattle.node_lock.specs.Closing
+pub use Rattle.node_lock.specs.Core
+pub use Rattle.node_lock.specs.Opening
+pub use Rattle.node_lock.specs.Seats
+pub use Rattle.node_lock.specs.Unclosed
+pub use Rattle.node_lock.specs.declared.error.LockError
+pub use Rattle.node_lock.specs.declared.opening.OpenError

@@ -1,6 +1,6 @@
 // A client: it calls, and waits for its reply.
-ghost use Rattle.std.specs.Prelude.{◌≡◌, IfOk};
-ghost use Rattle.workers.specs.Calling.{Awaits, Calls, Looks};
+ghost use Rattle.std.specs.Prelude.{◌≡◌, IfErr, IfOk};
+ghost use Rattle.workers.specs.Calling.{Awaits, CallFails, Calls, LookFails, Looks, WaitFails, is_followed};
 
 use crate::error::WorkError;
 use crate::reading::{end_of_reads, reply_to};
@@ -32,7 +32,9 @@ fn pause<R: Clock>(rt: &R, turn: u64) {
 }
 
 /// Whether a turn, counted from 1, is followed by a read.
-fn reads(turn: u64) -> bool {
+fn reads(turn: u64) -> bool
+    ensures { result ≡ is_followed turn }
+{
     turn <= QUICK_TURNS || turn % TURNS_A_READ == 0
 }
 
@@ -42,6 +44,7 @@ fn reads(turn: u64) -> bool {
 /// # Errors
 ///
 /// `Memory`, also where replies can't be counted further.
+#[tactic(auto, using(crate::proofs::Unanswered::look_fails))]
 fn look<N: Naming, R: Wait>(
     rt: &R,
     alloc: Global,
@@ -50,7 +53,8 @@ fn look<N: Naming, R: Wait>(
     number: u64,
     from: &mut usize,
 ) -> Result<Option<Reply>, WorkError>
-    ensures { IfOk result (λ found. Looks number from.old from.new found seat.old seat.new) }
+    ensures looked { IfOk result (λ found. Looks number from.old from.new found seat.old seat.new) }
+    ensures fails { IfErr result (λ why. LookFails number from.old seat.old seat.new why) }
 {
     let replies = shared.replies(rt, seat, *from)?;
     let replies = replies.get().as_slice();
@@ -66,7 +70,7 @@ fn look<N: Naming, R: Wait>(
 /// # Errors
 ///
 /// As [`call`].
-#[tactic(auto, using(crate::proofs::MoreReads::reads_laws))]
+#[tactic(auto, using(crate::proofs::MoreReads::reads_laws, crate::proofs::Unanswered::wait_fails))]
 fn wait_for<N: Naming, R: Wait + Clock>(
     rt: &R,
     alloc: Global,
@@ -76,7 +80,8 @@ fn wait_for<N: Naming, R: Wait + Clock>(
     first: usize,
     turns: u64,
 ) -> Result<Reply, WorkError>
-    ensures { IfOk result (λ reply. Awaits number first seat.old seat.new reply) }
+    ensures came { IfOk result (λ reply. Awaits number first seat.old seat.new reply) }
+    ensures fails { IfErr result (λ why. WaitFails number first turns seat.old seat.new why) }
 {
     let mut from = first;
     for turn in 0..turns {
@@ -101,7 +106,7 @@ fn wait_for<N: Naming, R: Wait + Clock>(
 ///
 /// `Lock` where the node refuses the call. `NoReply` where no reply has come in all turns, also where another seat has
 /// undone the call's arrival. `Memory` where memory is refused, or replies can't be counted further; the call stands.
-#[tactic(auto, using(crate::proofs::MoreReads::calls))]
+#[tactic(auto, using(crate::proofs::MoreReads::calls, crate::proofs::Unanswered::call_fails))]
 pub fn call<N: Naming, R: Wait + Clock>(
     rt: &R,
     alloc: Global,
@@ -111,7 +116,8 @@ pub fn call<N: Naming, R: Wait + Clock>(
     term: Term,
     turns: u64,
 ) -> Result<Reply, WorkError>
-    ensures { IfOk result (λ reply. Calls name term seat.old seat.new reply) }
+    ensures called { IfOk result (λ reply. Calls name term seat.old seat.new reply) }
+    ensures fails { IfErr result (λ why. CallFails name term turns seat.old seat.new why) }
 {
     let from = end_of_reads(seat.lines());
     let number = shared.call(rt, alloc, seat, name, term)?;

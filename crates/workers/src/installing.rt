@@ -1,6 +1,7 @@
 // A driver: it carries an install to its end.
-ghost use Rattle.std.specs.Prelude.{◌≡◌, ◌↔◌, IfOk, IsTrue, OnOk};
-ghost use Rattle.workers.specs.Installing.{Advances, Begins, Drives, IsBusy, MeetsEnd, advanced_by};
+ghost use Rattle.std.specs.Prelude.{◌≡◌, ◌↔◌, IfErr, IfOk, IsTrue, OnOk};
+ghost use Rattle.workers.specs.Installing.{AdvanceFails, Advances, BeginFails, Begins, DriveFails, Drives, InstallFails};
+ghost use Rattle.workers.specs.Installing.{IsBusy, MeetsEnd, advanced_by};
 
 use crate::error::WorkError;
 use erl_term::Term;
@@ -74,6 +75,7 @@ fn is_busy(error: &LockError) -> bool
 /// # Errors
 ///
 /// `Lock` where the node refuses it otherwise than as busy; `Memory`.
+#[tactic(auto, using(crate::proofs::Halted::advance_fails))]
 fn advance<N: Naming, R: Wait>(
     rt: &R,
     alloc: Global,
@@ -81,7 +83,8 @@ fn advance<N: Naming, R: Wait>(
     seat: &mut Seat<N>,
     left: u64,
 ) -> Result<Advanced, WorkError>
-    ensures { IfOk result (λ it. Advances left it seat.old seat.new) }
+    ensures advanced { IfOk result (λ it. Advances left it seat.old seat.new) }
+    ensures fails { IfErr result (λ why. AdvanceFails left seat.old seat.new why) }
 {
     let event = Event::Advance { give_up: left == 0 };
     match shared.perform(rt, alloc, seat, event) {
@@ -100,7 +103,7 @@ fn advance<N: Naming, R: Wait>(
 /// # Errors
 ///
 /// As [`drive_install`].
-#[tactic(auto, using(crate::proofs::MoreAdvances::advances_laws))]
+#[tactic(auto, using(crate::proofs::MoreAdvances::advances_laws, crate::proofs::Halted::drive_fails))]
 fn drive<N: Naming, R: Wait + Clock>(
     rt: &R,
     alloc: Global,
@@ -108,7 +111,8 @@ fn drive<N: Naming, R: Wait + Clock>(
     seat: &mut Seat<N>,
     patience: u64,
 ) -> Result<InstallEnd, WorkError>
-    ensures { IfOk result (λ end. MeetsEnd patience seat.old seat.new end) }
+    ensures met { IfOk result (λ end. MeetsEnd patience seat.old seat.new end) }
+    ensures fails { IfErr result (λ why. DriveFails patience seat.old seat.new why) }
 {
     let mut left = patience;
     for _ in rt.forever() {
@@ -129,6 +133,7 @@ fn drive<N: Naming, R: Wait + Clock>(
 /// # Errors
 ///
 /// `Lock` where the node refuses it; `Memory`.
+#[tactic(auto, using(crate::proofs::Halted::begin_fails))]
 fn begin<N: Naming, R: Wait>(
     rt: &R,
     alloc: Global,
@@ -136,7 +141,8 @@ fn begin<N: Naming, R: Wait>(
     seat: &mut Seat<N>,
     vsn: Vsn,
 ) -> Result<(), WorkError>
-    ensures { OnOk result (Begins vsn seat.old seat.new) }
+    ensures begun { OnOk result (Begins vsn seat.old seat.new) }
+    ensures fails { IfErr result (λ why. BeginFails vsn seat.old seat.new why) }
 {
     let answer = shared.perform(rt, alloc, seat, Event::Install(vsn))?;
     drop(answer);
@@ -153,7 +159,7 @@ fn begin<N: Naming, R: Wait>(
 ///
 /// `Lock` where the node refuses the install, or an advance otherwise than as busy, and `Memory` where memory is
 /// refused. An install that has begun then stands where it is.
-#[tactic(auto, using(crate::proofs::MoreAdvances::drives))]
+#[tactic(auto, using(crate::proofs::MoreAdvances::drives, crate::proofs::Halted::install_fails))]
 pub fn drive_install<N: Naming, R: Wait + Clock>(
     rt: &R,
     alloc: Global,
@@ -162,7 +168,8 @@ pub fn drive_install<N: Naming, R: Wait + Clock>(
     vsn: Vsn,
     patience: u64,
 ) -> Result<InstallEnd, WorkError>
-    ensures { IfOk result (λ end. Drives vsn patience seat.old seat.new end) }
+    ensures driven { IfOk result (λ end. Drives vsn patience seat.old seat.new end) }
+    ensures fails { IfErr result (λ why. InstallFails vsn patience seat.old seat.new why) }
 {
     begin(rt, alloc, shared, seat, vsn)?;
     drive(rt, alloc, shared, seat, patience)

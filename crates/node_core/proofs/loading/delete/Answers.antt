@@ -1,9 +1,9 @@
 -- Current code is old.
 use Rattle.std.proofs.Common.{◌≡◌, [], None, Ok, refl, sym, ap, subst}
 use Rattle.undo_journal.specs.Reversible.{Accepted}
-use Rattle.node_parts.specs.Changes.{state_of}
-use Rattle.node_rules.specs.Node.{NodeState, with_modules}
-use Rattle.node_rules.specs.Scripts.{Outcome, reporting}
+use Rattle.script_events.specs.Changes.{state_of}
+use Rattle.script_events.specs.Node.{NodeState, with_modules}
+use Rattle.script_events.specs.Scripts.{Outcome, reporting}
 use Rattle.node_types.specs.declared.event.Answer.{Answer}
 use Rattle.node_types.specs.declared.event.Answer.TheVariants as answer
 use Rattle.node_types.specs.Note.{Note}
@@ -11,8 +11,8 @@ use Rattle.code_server.specs.Modules.{delete_refusal, deleted}
 use Rattle.code_server.specs.Undo.{Fits, held, undone}
 use Rattle.code_server.specs.declared.undo.Undo.{Undo}
 use Rattle.erl_forms.specs.Module.{Forms}
-use Rattle.node_parts.proofs.Accepting.{unless_none, while_idle}
-use Rattle.node_rules.specs.Step.{deletes}
+use Rattle.script_events.proofs.Accepting.{unless_none, while_idle}
+use Rattle.script_events.specs.Step.{deletes}
 use Rattle.node_types.specs.declared.event.Refusal.TheVariants.{OfModules}
 use Rattle.node_core.proofs.loading.delete.Goals as goal
 

@@ -1,9 +1,9 @@
 -- The module is current, and those who lingered in its old code are gone.
 use Rattle.std.proofs.Common.{◌≡◌, ◌∙◌, ℕ, List, replicate, Ok, refl, sym, ap, subst}
 use Rattle.undo_journal.specs.Reversible.{Accepted}
-use Rattle.node_parts.specs.Changes.{state_of}
-use Rattle.node_rules.specs.Node.{NodeState}
-use Rattle.node_rules.specs.Scripts.{Outcome, reporting, running_in, with_running}
+use Rattle.script_events.specs.Changes.{state_of}
+use Rattle.script_events.specs.Node.{NodeState}
+use Rattle.script_events.specs.Scripts.{Outcome, reporting, running_in, with_running}
 use Rattle.node_types.specs.declared.event.Answer.{Answer}
 use Rattle.node_types.specs.declared.event.Answer.TheVariants as answer
 use Rattle.node_types.specs.Note.{Note}
@@ -12,8 +12,8 @@ use Rattle.code_replacement.specs.Replacing.{code_loaded, running}
 use Rattle.code_replacement.specs.Undo.{TakesBack}
 use Rattle.code_replacement.specs.declared.undo.Undo.{Undo}
 use Rattle.erl_forms.specs.Module.{Forms}
-use Rattle.node_parts.proofs.Accepting.{unless_none, while_idle}
-use Rattle.node_rules.specs.Step.{load_refused, loaded_as, loads}
+use Rattle.script_events.proofs.Accepting.{unless_none, while_idle}
+use Rattle.script_events.specs.Step.{load_refused, loaded_as, loads}
 use Rattle.node_types.specs.declared.event.Refusal.TheVariants.{OfModules}
 use Rattle.node_core.proofs.loading.load.Goals as goal
 

@@ -1,9 +1,9 @@
 -- Those who lingered in the old code are gone, and so is that.
 use Rattle.std.proofs.Common.{◌≡◌, ◌∙◌, Bool, replicate, Ok, refl, sym, ap, subst}
 use Rattle.undo_journal.specs.Reversible.{Accepted}
-use Rattle.node_parts.specs.Changes.{state_of}
-use Rattle.node_rules.specs.Node.{NodeState}
-use Rattle.node_rules.specs.Scripts.{Outcome, reporting, running_in, with_running}
+use Rattle.script_events.specs.Changes.{state_of}
+use Rattle.script_events.specs.Node.{NodeState}
+use Rattle.script_events.specs.Scripts.{Outcome, reporting, running_in, with_running}
 use Rattle.node_types.specs.declared.event.Answer.{Answer}
 use Rattle.node_types.specs.declared.event.Answer.TheVariants as answer
 use Rattle.node_types.specs.Note.{Note}
@@ -11,8 +11,8 @@ use Rattle.code_loading.specs.Loading.{is_lingered_in, purge_told}
 use Rattle.code_replacement.specs.Replacing.{running, without_lingering}
 use Rattle.code_replacement.specs.Undo.{TakesBack}
 use Rattle.code_replacement.specs.declared.undo.Undo.{Undo}
-use Rattle.node_parts.proofs.Accepting.{while_idle}
-use Rattle.node_rules.specs.Step.{purges}
+use Rattle.script_events.proofs.Accepting.{while_idle}
+use Rattle.script_events.specs.Step.{purges}
 use Rattle.node_core.proofs.loading.purge.Goals as goal
 
 pub returns-in-Ok-purge_code : goal.returns-in-Ok-purge_code

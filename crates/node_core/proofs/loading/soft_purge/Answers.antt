@@ -1,9 +1,9 @@
 -- The old code is gone, in which nobody lingered.
 use Rattle.std.proofs.Common.{◌≡◌, [], None, Ok, refl, sym, ap, subst}
 use Rattle.undo_journal.specs.Reversible.{Accepted}
-use Rattle.node_parts.specs.Changes.{state_of}
-use Rattle.node_rules.specs.Node.{NodeState, with_modules}
-use Rattle.node_rules.specs.Scripts.{Outcome, reporting, running_in}
+use Rattle.script_events.specs.Changes.{state_of}
+use Rattle.script_events.specs.Node.{NodeState, with_modules}
+use Rattle.script_events.specs.Scripts.{Outcome, reporting, running_in}
 use Rattle.node_types.specs.declared.event.Answer.{Answer}
 use Rattle.node_types.specs.declared.event.Answer.TheVariants as answer
 use Rattle.node_types.specs.Note.{Note}
@@ -11,8 +11,8 @@ use Rattle.code_replacement.specs.Replacing.{running}
 use Rattle.code_replacement.specs.Undo.{TakesBack}
 use Rattle.code_replacement.specs.declared.undo.Undo.{Undo}
 use Rattle.code_server.specs.Modules.{purged}
-use Rattle.node_parts.proofs.Accepting.{unless_none, while_idle}
-use Rattle.node_rules.specs.Step.{soft_purge_refusal, soft_purges}
+use Rattle.script_events.proofs.Accepting.{unless_none, while_idle}
+use Rattle.script_events.specs.Step.{soft_purge_refusal, soft_purges}
 use Rattle.node_types.specs.declared.event.Refusal.TheVariants.{OfModules}
 use Rattle.node_core.proofs.loading.soft_purge.Goals as goal
 

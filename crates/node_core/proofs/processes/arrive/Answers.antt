@@ -1,8 +1,8 @@
 -- The message arrives.
 use Rattle.std.proofs.Common.{◌∙◌, ℕ, List, [], Option, refl, sym, ap}
 use Rattle.undo_journal.specs.Reversible.{Accepted}
-use Rattle.node_parts.specs.Changes.{state_of}
-use Rattle.node_rules.specs.Node.{NodeState, with_processes}
+use Rattle.script_events.specs.Changes.{state_of}
+use Rattle.script_events.specs.Node.{NodeState, with_processes}
 use Rattle.node_types.specs.declared.event.Answer.{Answer}
 use Rattle.node_types.specs.declared.event.Answer.TheVariants as answer
 use Rattle.node_types.specs.Note.{Note}
@@ -10,7 +10,7 @@ use Rattle.erl_term.specs.declared.term.Term.{Term}
 use Rattle.process_table.specs.Messages.{arrival_of, message_of}
 use Rattle.process_table.specs.Steps.{after_arrival, arrive_refusal, kind_of}
 use Rattle.undo_journal.specs.declared.reversible.Told.{Told}
-use Rattle.node_parts.proofs.Accepting.{all_told, ends_back, unless_none}
+use Rattle.script_events.proofs.Accepting.{all_told, ends_back, unless_none}
 use Rattle.node_types.specs.declared.event.Refusal.TheVariants.{OfProcesses}
 use Rattle.node_core.proofs.processes.arrive.Goals as goal
 

@@ -1,17 +1,17 @@
 -- What the job has done is done.
 use Rattle.std.proofs.Common.{◌≡◌, ◌∙◌, List, map, None, refl, sym, ap}
 use Rattle.undo_journal.specs.Reversible.{Accepted}
-use Rattle.node_parts.specs.Changes.{state_of}
-use Rattle.node_rules.specs.Node.{NodeState}
-use Rattle.node_rules.specs.Scripts.{reporting}
+use Rattle.script_events.specs.Changes.{state_of}
+use Rattle.script_events.specs.Node.{NodeState}
+use Rattle.script_events.specs.Scripts.{reporting}
 use Rattle.node_types.specs.declared.event.Answer.{Answer}
 use Rattle.node_types.specs.declared.event.Answer.TheVariants as answer
 use Rattle.node_types.specs.Note.{Note}
 use Rattle.process_effects.specs.declared.told.Reply.{Reply}
 use Rattle.process_table.specs.Commit.{commit_told, committed}
 use Rattle.undo_journal.specs.declared.reversible.Told.{Told}
-use Rattle.node_parts.proofs.Accepting.{each_of}
-use Rattle.node_rules.specs.Step.{ended_by}
+use Rattle.script_events.proofs.Accepting.{each_of}
+use Rattle.script_events.specs.Step.{ended_by}
 use Rattle.node_core.proofs.processes.commit.Goals as goal
 
 pub returns-in-Ok-commit : goal.returns-in-Ok-commit

@@ -1,9 +1,9 @@
 -- The process runs its next message.
 use Rattle.std.proofs.Common.{◌∙◌, [], map, None, refl, sym, ap}
 use Rattle.undo_journal.specs.Reversible.{Accepted}
-use Rattle.node_parts.specs.Changes.{state_of}
-use Rattle.node_rules.specs.Node.{NodeState, with_processes}
-use Rattle.node_rules.specs.Scripts.{reporting}
+use Rattle.script_events.specs.Changes.{state_of}
+use Rattle.script_events.specs.Node.{NodeState, with_processes}
+use Rattle.script_events.specs.Scripts.{reporting}
 use Rattle.node_types.specs.declared.event.Answer.{Answer}
 use Rattle.node_types.specs.declared.event.Answer.TheVariants as answer
 use Rattle.node_types.specs.Note.{Note}
@@ -11,8 +11,8 @@ use Rattle.erl_semantics.specs.declared.jobs.Job.{Job}
 use Rattle.process_effects.specs.Commits.{job_at}
 use Rattle.process_store.specs.Table.{Table, living}
 use Rattle.undo_journal.specs.declared.reversible.Told.{Told}
-use Rattle.node_parts.proofs.Accepting.{each_of, ends_back}
-use Rattle.node_rules.specs.Step.{run_taken}
+use Rattle.script_events.proofs.Accepting.{each_of, ends_back}
+use Rattle.script_events.specs.Step.{run_taken}
 use Rattle.node_core.proofs.processes.take.Goals as goal
 
 pub returns : goal.returns

@@ -6,12 +6,12 @@ use Rattle.process_table.specs.Messages.{arrival_of, message_of}
 use Rattle.process_table.specs.Steps.{after_arrival, arrive_refusal, kind_of}
 use Rattle.release_statuses.specs.Statuses.{permanent_refusal, remove_refusal, removed}
 use Rattle.undo_journal.specs.Reversible.{Accepted}
-use Rattle.node_parts.proofs.Accepting.{told_or_not}
+use Rattle.script_events.proofs.Accepting.{told_or_not}
 use Rattle.node_core.proofs.Refusals.{advance_told, idle_told, itself, one_of, only_idle, told_as}
-use Rattle.node_parts.specs.Changes.{state_of}
-use Rattle.node_rules.specs.Node.{NodeState, with_modules, with_processes, with_releases}
-use Rattle.node_rules.specs.Scripts.{Installs, MakesPermanent, Outcome, RebootsOld, UnlessInstalling, reboot_refused, reporting, unless_installing}
-use Rattle.node_rules.specs.Step.{MayRunOut, Step, arrived, deletes, load_refused, loaded_as, loads, purges, release_removed, soft_purge_refusal, soft_purges}
+use Rattle.script_events.specs.Changes.{state_of}
+use Rattle.script_events.specs.Node.{NodeState, with_modules, with_processes, with_releases}
+use Rattle.script_events.specs.Scripts.{Installs, MakesPermanent, Outcome, RebootsOld, UnlessInstalling, reboot_refused, reporting, unless_installing}
+use Rattle.script_events.specs.Step.{MayRunOut, Step, arrived, deletes, load_refused, loaded_as, loads, purges, release_removed, soft_purge_refusal, soft_purges}
 use Rattle.node_types.specs.declared.event.Answer.{Answer}
 use Rattle.node_types.specs.declared.event.Answer.TheVariants as answer
 use Rattle.node_types.specs.declared.event.Event.{Event}

@@ -1,17 +1,17 @@
 -- The release leaves.
 use Rattle.std.proofs.Common.{◌≡◌, ◌∙◌, ℕ, List, [], Ok, refl, sym, ap, subst}
 use Rattle.undo_journal.specs.Reversible.{Accepted}
-use Rattle.node_parts.specs.Changes.{state_of}
-use Rattle.node_rules.specs.Node.{NodeState, with_releases}
-use Rattle.node_rules.specs.Scripts.{Outcome, reporting}
+use Rattle.script_events.specs.Changes.{state_of}
+use Rattle.script_events.specs.Node.{NodeState, with_releases}
+use Rattle.script_events.specs.Scripts.{Outcome, reporting}
 use Rattle.node_types.specs.declared.event.Answer.{Answer}
 use Rattle.node_types.specs.declared.event.Answer.TheVariants as answer
 use Rattle.node_types.specs.Note.{Note}
 use Rattle.release_statuses.specs.Statuses.{remove_refusal, removed}
 use Rattle.release_statuses.specs.Undo.{TakesBack}
 use Rattle.release_statuses.specs.declared.undo.Undo.{Undo}
-use Rattle.node_parts.proofs.Accepting.{unless_none, while_idle}
-use Rattle.node_rules.specs.Step.{release_removed}
+use Rattle.script_events.proofs.Accepting.{unless_none, while_idle}
+use Rattle.script_events.specs.Step.{release_removed}
 use Rattle.node_types.specs.declared.event.Refusal.TheVariants.{OfReleases}
 use Rattle.node_core.proofs.releasing.remove.Goals as goal
 

@@ -1,9 +1,9 @@
 -- The release goes last.
 use Rattle.std.proofs.Common.{◌∙◌, [], refl, sym, ap, subst}
 use Rattle.undo_journal.specs.Reversible.{Accepted}
-use Rattle.node_parts.specs.Changes.{state_of}
-use Rattle.node_rules.specs.Node.{NodeState, with_releases}
-use Rattle.node_rules.specs.Scripts.{reporting}
+use Rattle.script_events.specs.Changes.{state_of}
+use Rattle.script_events.specs.Node.{NodeState, with_releases}
+use Rattle.script_events.specs.Scripts.{reporting}
 use Rattle.node_types.specs.declared.event.Answer.{Answer}
 use Rattle.node_types.specs.declared.event.Answer.TheVariants as answer
 use Rattle.node_types.specs.Note.{Note}
@@ -11,7 +11,7 @@ use Rattle.release_statuses.specs.Statuses.{unpack_refusal, unpacked}
 use Rattle.release_statuses.specs.Undo.{TakesBack}
 use Rattle.release_statuses.specs.declared.undo.Undo.{Undo}
 use Rattle.release_table.specs.declared.table.Release.{Release}
-use Rattle.node_parts.proofs.Accepting.{unless_none}
+use Rattle.script_events.proofs.Accepting.{unless_none}
 use Rattle.node_types.specs.declared.event.Refusal.TheVariants.{OfReleases}
 use Rattle.node_core.proofs.releasing.set_unpacked.Goals as goal
 

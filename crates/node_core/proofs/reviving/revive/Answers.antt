@@ -1,8 +1,8 @@
 -- The child runs again.
 use Rattle.std.proofs.Common.{◌≡◌, ◌∙◌, [], List, map, None, refl, sym, ap, subst}
 use Rattle.undo_journal.specs.Reversible.{Accepted}
-use Rattle.node_parts.specs.Changes.{state_of}
-use Rattle.node_rules.specs.Node.{NodeState}
+use Rattle.script_events.specs.Changes.{state_of}
+use Rattle.script_events.specs.Node.{NodeState}
 use Rattle.node_types.specs.declared.event.Answer.{Answer}
 use Rattle.node_types.specs.declared.event.Answer.TheVariants as answer
 use Rattle.node_types.specs.Note.{Note}
@@ -14,8 +14,8 @@ use Rattle.erl_semantics.specs.declared.instance.Instance.{Instance}
 use Rattle.process_effects.specs.declared.told.Reply.{Reply}
 use Rattle.sys_protocol.specs.ChildStarts.{Restarts}
 use Rattle.undo_journal.specs.declared.reversible.Told.{Told}
-use Rattle.node_parts.proofs.Accepting.{each_of, ends_back}
-use Rattle.node_rules.specs.Step.{IsRevived, revived_as}
+use Rattle.script_events.proofs.Accepting.{each_of, ends_back}
+use Rattle.script_events.specs.Step.{IsRevived, revived_as}
 use Rattle.node_core.proofs.reviving.revive.Goals as goal
 
 pub returns-in-Ok-start_again : goal.returns-in-Ok-start_again

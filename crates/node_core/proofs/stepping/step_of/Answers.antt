@@ -1,6 +1,6 @@
 -- An arrival is what the node makes of it.
 use Rattle.std.proofs.Common.{sym, subst}
-use Rattle.node_parts.specs.Changes.{IsStep, state_of}
+use Rattle.script_events.specs.Changes.{IsStep, state_of}
 use Rattle.node_types.specs.declared.event.Event.{Event}
 use Rattle.node_core.proofs.stepping.step_of.Goals as goal
 

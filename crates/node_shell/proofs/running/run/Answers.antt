@@ -1,7 +1,7 @@
 -- The shell over the node that has booted is served the lines, and the headline holds of any.
 use Rattle.std.proofs.Common.{subst}
 use Rattle.line_server.specs.Serving.{Serves, ServesWhole}
-use Rattle.shell_steps.specs.State.{ShellState}
+use Rattle.shell_deeds.specs.State.{ShellState}
 use Rattle.node_shell.specs.Shell.{shell_turn}
 use Rattle.node_shell.proofs.Replays.{Runs-served, RunsWhole-served}
 use Rattle.node_shell.proofs.running.run.Goals as goal

@@ -8,8 +8,8 @@ use Rattle.script_steps.specs.Steps.{Stops, next_of}
 use Rattle.script_events.proofs.Advances.{IsSame, advances, by_rule, can_halt, halts, memory_as, one_on, refused_as, script_in, stays}
 use Rattle.script_events.proofs.Targets.{known_target}
 use Rattle.node_parts.specs.Changes.{IsStepOf, state_of}
-use Rattle.node_rules.specs.Node.{IsInstalling, NodeState, RunsScript}
-use Rattle.node_rules.specs.Scripts.{Advances, CanHalt, HaltsAs, advance_refused, next_in, target_in}
+use Rattle.node_parts.specs.Node.{IsInstalling, NodeState, RunsScript}
+use Rattle.node_parts.specs.Scripts.{Advances, CanHalt, HaltsAs, advance_refused, next_in, target_in}
 use Rattle.script_events.proofs.advancing.advance.Goals as goal
 
 -- the script that runs, as it was taken

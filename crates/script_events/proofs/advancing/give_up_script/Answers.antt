@@ -7,8 +7,8 @@ use Rattle.script_ends.specs.declared.ending.Recovery.{Recovery}
 use Rattle.script_state.specs.Runner.{RunnerState, runner_of}
 use Rattle.undo_journal.specs.Reversible.{Accepted}
 use Rattle.node_parts.specs.Changes.{state_of}
-use Rattle.node_rules.specs.Node.{NodeState}
-use Rattle.node_rules.specs.Scripts.{recovered_as}
+use Rattle.node_parts.specs.Node.{NodeState}
+use Rattle.node_parts.specs.Scripts.{recovered_as}
 use Rattle.node_types.specs.declared.event.Answer.{Answer}
 use Rattle.node_types.specs.declared.event.Answer.TheVariants as answer
 use Rattle.node_types.specs.Note.{Note}

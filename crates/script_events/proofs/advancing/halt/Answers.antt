@@ -8,8 +8,8 @@ use Rattle.undo_journal.specs.declared.reversible.Stepped.{Stepped}
 use Rattle.values.specs.declared.failure.Failure.{Failure}
 use Rattle.node_parts.specs.Changes.{IsStepOf, state_of}
 use Rattle.node_parts.specs.declared.record.Record.{Record}
-use Rattle.node_rules.specs.Node.{NodeState}
-use Rattle.node_rules.specs.Scripts.{CanHalt, HaltsAs}
+use Rattle.node_parts.specs.Node.{NodeState}
+use Rattle.node_parts.specs.Scripts.{CanHalt, HaltsAs}
 use Rattle.node_types.specs.declared.event.Answer.{Answer}
 use Rattle.node_types.specs.Note.{Note}
 use Rattle.node_types.specs.declared.event.Refusal.{Refusal}

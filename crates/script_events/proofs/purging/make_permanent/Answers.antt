@@ -10,8 +10,8 @@ use Rattle.release_statuses.specs.declared.undo.Undo.{Undo}
 use Rattle.undo_journal.specs.Reversible.{Accepted}
 use Rattle.node_parts.proofs.Accepting.{while_idle}
 use Rattle.node_parts.specs.Changes.{state_of}
-use Rattle.node_rules.specs.Node.{NodeState}
-use Rattle.node_rules.specs.Scripts.{MakesPermanent, permanent_as, reporting, running_in, with_running}
+use Rattle.node_parts.specs.Node.{NodeState}
+use Rattle.node_parts.specs.Scripts.{MakesPermanent, permanent_as, reporting, running_in, with_running}
 use Rattle.node_types.specs.declared.event.Answer.{Answer}
 use Rattle.node_types.specs.declared.event.Answer.TheVariants as answer
 use Rattle.node_types.specs.Note.{Note}

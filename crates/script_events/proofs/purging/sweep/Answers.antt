@@ -7,8 +7,8 @@ use Rattle.code_replacement.specs.declared.undo.Purges.{Purges}
 use Rattle.undo_journal.specs.Reversible.{Accepted}
 use Rattle.unpurged_code.specs.Unpurged.{AreSwept}
 use Rattle.node_parts.specs.Changes.{state_of}
-use Rattle.node_rules.specs.Node.{NodeState}
-use Rattle.node_rules.specs.Scripts.{reporting, running_in, swept_as, with_running}
+use Rattle.node_parts.specs.Node.{NodeState}
+use Rattle.node_parts.specs.Scripts.{reporting, running_in, swept_as, with_running}
 use Rattle.node_types.specs.declared.event.Answer.{Answer}
 use Rattle.node_types.specs.declared.event.Answer.TheVariants as answer
 use Rattle.node_types.specs.Note.{Note}

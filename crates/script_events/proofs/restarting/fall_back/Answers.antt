@@ -6,8 +6,8 @@ use Rattle.undo_journal.specs.Reversible.{Accepted}
 use Rattle.undo_journal.specs.declared.reversible.Told.{Told}
 use Rattle.script_events.proofs.Restarts.{is_restarted}
 use Rattle.node_parts.specs.Changes.{state_of}
-use Rattle.node_rules.specs.Node.{NodeState}
-use Rattle.node_rules.specs.Scripts.{FallsBack, reporting}
+use Rattle.node_parts.specs.Node.{NodeState}
+use Rattle.node_parts.specs.Scripts.{FallsBack, reporting}
 use Rattle.node_types.specs.declared.event.Answer.{Answer}
 use Rattle.node_types.specs.declared.event.Answer.TheVariants as answer
 use Rattle.node_types.specs.Note.{Note}

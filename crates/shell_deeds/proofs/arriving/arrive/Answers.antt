@@ -2,10 +2,10 @@
 use Rattle.std.proofs.Common.{[], refl, subst, sym}
 use Rattle.std.specs.Str.{chars}
 use Rattle.shell_answers.specs.Refusals.{naming_nothing}
-use Rattle.shell_holdings.proofs.Done.{IfOk-then}
-use Rattle.shell_holdings.proofs.Performing.{done-as, missed}
+use Rattle.shell_upgrades.proofs.Done.{IfOk-then}
+use Rattle.shell_upgrades.proofs.Performing.{done-as, missed}
 use Rattle.shell_deeds.specs.Deeds.{Arrives, arrival_event, no_text, several, unread}
-use Rattle.shell_holdings.specs.Done.{IsDone}
+use Rattle.shell_upgrades.specs.Done.{IsDone}
 use Rattle.shell_deeds.specs.Done.{Misreads}
 use Rattle.shell_deeds.proofs.arriving.arrive.Goals as goal
 

@@ -1,19 +1,19 @@
 -- It has arrived under the next number, or it is told why it has not.
 use Rattle.std.proofs.Common.{[], ◌≡◌, IfOk, ap, subst, ◌∙◌}
-use Rattle.node_rules.specs.Node.{NodeState}
+use Rattle.shell_upgrades.specs.Node.{NodeState}
 use Rattle.node_types.specs.Note.{Note}
 use Rattle.node_types.specs.declared.event.Answer.{Answer}
 use Rattle.node_types.specs.declared.event.Event.{Event}
 use Rattle.shell_deeds.proofs.Answering.{arrival_done}
 use Rattle.shell_answers.specs.Refusals.{naming_nothing}
-use Rattle.shell_holdings.proofs.Done.{IfOk-then}
+use Rattle.shell_upgrades.proofs.Done.{IfOk-then}
 use Rattle.shell_deeds.proofs.Arrived.{kept_out}
 use Rattle.shell_deeds.proofs.Arrived.{arrived-done}
-use Rattle.shell_holdings.specs.Performing.{Performs}
+use Rattle.shell_upgrades.specs.Performing.{Performs}
 use Rattle.shell_deeds.specs.Deeds.{arrival_answer, event_of_arrival, tried}
-use Rattle.shell_holdings.specs.Done.{IsDone}
+use Rattle.shell_upgrades.specs.Done.{IsDone}
 use Rattle.shell_deeds.specs.Done.{after_missed}
-use Rattle.shell_steps.specs.State.{Deed, ShellState, carried, next_number, stepped}
+use Rattle.shell_upgrades.specs.State.{Deed, ShellState, carried, next_number, stepped}
 use Rattle.undo_journal.specs.Reversible.{Accepted}
 use Rattle.shell_deeds.proofs.arriving.arrive_named.Goals as goal
 

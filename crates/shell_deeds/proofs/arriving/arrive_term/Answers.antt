@@ -3,14 +3,14 @@ use Rattle.std.proofs.Common.{[], ◌≡◌, ap, subst}
 use Rattle.std.specs.Str.{chars}
 use Rattle.node_types.specs.declared.event.Event.{Event}
 use Rattle.shell_answers.specs.Refusals.{naming_nothing}
-use Rattle.shell_holdings.proofs.Done.{IfOk-then}
-use Rattle.shell_holdings.proofs.Performing.{done-as}
+use Rattle.shell_upgrades.proofs.Done.{IfOk-then}
+use Rattle.shell_upgrades.proofs.Performing.{done-as}
 use Rattle.shell_deeds.proofs.Arrived.{kept_out}
-use Rattle.shell_holdings.proofs.Performing.{halts-at}
-use Rattle.shell_holdings.specs.Performing.{Performs, done_by}
+use Rattle.shell_upgrades.proofs.Performing.{halts-at}
+use Rattle.shell_upgrades.specs.Performing.{Performs, done_by}
 use Rattle.shell_deeds.specs.Deeds.{arrival_event, event_of_arrival, read, tried}
-use Rattle.shell_holdings.specs.Done.{IsDone}
-use Rattle.shell_steps.specs.State.{next_number}
+use Rattle.shell_upgrades.specs.Done.{IsDone}
+use Rattle.shell_upgrades.specs.State.{next_number}
 use Rattle.shell_deeds.proofs.arriving.arrive_term.Goals as goal
 
 pub returns-in_default : goal.returns-in_default

@@ -1,5 +1,5 @@
 -- What stands against every arrival is told.
-use Rattle.shell_holdings.proofs.Done.{IfOk-then}
+use Rattle.shell_upgrades.proofs.Done.{IfOk-then}
 use Rattle.shell_deeds.proofs.arriving.tell_unnamed.Goals as goal
 
 pub returns : goal.returns

@@ -1,19 +1,19 @@
 -- The change is told, or why there is none.
 use Rattle.std.proofs.Common.{[], IfOk, ap, refl, subst, sym, ◌∙◌}
 use Rattle.std.specs.Str.{chars}
-use Rattle.node_rules.specs.Node.{NodeState}
+use Rattle.shell_upgrades.specs.Node.{NodeState}
 use Rattle.node_types.specs.Note.{Note}
 use Rattle.node_types.specs.declared.event.Answer.{Answer}
 use Rattle.node_types.specs.declared.event.Event.{Event}
 use Rattle.shell_answers.specs.Answers.{line_of}
 use Rattle.shell_deeds.proofs.Answering.{change_done}
 use Rattle.shell_answers.specs.Refusals.{naming_nothing}
-use Rattle.shell_holdings.proofs.Done.{IfOk-then}
-use Rattle.shell_holdings.proofs.Performing.{halted, performed}
-use Rattle.shell_holdings.specs.Performing.{Performs, truth_in}
+use Rattle.shell_upgrades.proofs.Done.{IfOk-then}
+use Rattle.shell_upgrades.proofs.Performing.{halted, performed}
+use Rattle.shell_upgrades.specs.Performing.{Performs, truth_in}
 use Rattle.shell_deeds.specs.Deeds.{change_event}
-use Rattle.shell_holdings.specs.Done.{IsDone}
-use Rattle.shell_steps.specs.State.{Deed, ShellState, carried, stepped}
+use Rattle.shell_upgrades.specs.Done.{IsDone}
+use Rattle.shell_upgrades.specs.State.{Deed, ShellState, carried, stepped}
 use Rattle.undo_journal.specs.Reversible.{Accepted}
 use Rattle.shell_deeds.proofs.changing.change.Goals as goal
 

@@ -1,9 +1,9 @@
 -- A refusal that is told without memory, or none.
 use Rattle.std.proofs.Common.{◌≡◌, ◌∙◌, false, true, is_some, None, Some, ap}
 use Rattle.std.specs.Str.{chars}
-use Rattle.node_rules.specs.Node.{NodeState}
-use Rattle.shell_holdings.proofs.Performing.{runner_told, unfull}
-use Rattle.shell_steps.specs.State.{node_of}
+use Rattle.shell_upgrades.specs.Node.{NodeState}
+use Rattle.shell_upgrades.proofs.Performing.{runner_told, unfull}
+use Rattle.shell_upgrades.specs.State.{node_of}
 use Rattle.shell_deeds.proofs.Refusing.{change_may, change_meanwhile, change_refused}
 use Rattle.shell_deeds.specs.Done.{refusal_of_change}
 use Rattle.shell_deeds.proofs.changing.halt_of_change.Goals as goal

@@ -1,9 +1,9 @@
 -- What the line says is done.
 use Rattle.std.proofs.Common.{IfOk, None, ap, refl, subst, sym, ◌∙◌}
 use Rattle.std.specs.Option.{option_copied}
-use Rattle.shell_holdings.proofs.Done.{IfOk-then, nothing}
+use Rattle.shell_upgrades.proofs.Done.{IfOk-then, nothing}
 use Rattle.shell_deeds.specs.Deeds.{Does}
-use Rattle.shell_holdings.specs.Done.{IsDone}
+use Rattle.shell_upgrades.specs.Done.{IsDone}
 use Rattle.shell_requests.specs.Request.{Spoken, spoken}
 use Rattle.shell_deeds.proofs.lines.obey.Goals as goal
 

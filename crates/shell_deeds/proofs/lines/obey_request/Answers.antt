@@ -1,7 +1,7 @@
 -- What a request asks for is done.
 use Rattle.std.proofs.Common.{IfOk, subst, sym}
 use Rattle.shell_deeds.specs.Deeds.{Obeys}
-use Rattle.shell_holdings.specs.Done.{IsDone}
+use Rattle.shell_upgrades.specs.Done.{IsDone}
 use Rattle.shell_requests.specs.Reading.{meant}
 use Rattle.shell_requests.specs.declared.request.Request.{Request}
 use Rattle.shell_deeds.proofs.lines.obey_request.Goals as goal

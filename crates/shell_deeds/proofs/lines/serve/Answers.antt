@@ -1,8 +1,8 @@
 -- There is no such process, or it does what is asked.
 use Rattle.std.proofs.Common.{ℕ, IfOk, Option, refl, subst}
-use Rattle.shell_holdings.proofs.Done.{IfOk-then}
-use Rattle.shell_holdings.specs.Serving.{ServesAs}
-use Rattle.shell_holdings.specs.Done.{IsDone}
+use Rattle.shell_upgrades.proofs.Done.{IfOk-then}
+use Rattle.shell_upgrades.specs.Serving.{ServesAs}
+use Rattle.shell_upgrades.specs.Done.{IsDone}
 use Rattle.shell_deeds.proofs.lines.serve.Goals as goal
 
 pub returns-in_default : goal.returns-in_default

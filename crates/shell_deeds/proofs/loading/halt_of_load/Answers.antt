@@ -2,10 +2,10 @@
 use Rattle.std.proofs.Common.{◌≡◌, false, true, None, Some, ap, subst, sym, ◌∙◌}
 use Rattle.code_server.specs.Modules.{Table as Loaded, load_refusal, purged}
 use Rattle.erl_forms.specs.Module.{Forms}
-use Rattle.node_rules.specs.Node.{NodeState}
-use Rattle.node_rules.specs.Step.{loads}
-use Rattle.shell_holdings.proofs.Performing.{judged_otherwise, no_script, refused_meanwhile, runner_told, unfull}
-use Rattle.shell_steps.specs.State.{node_of}
+use Rattle.shell_upgrades.specs.Node.{NodeState}
+use Rattle.shell_upgrades.specs.Step.{loads}
+use Rattle.shell_upgrades.proofs.Performing.{judged_otherwise, no_script, refused_meanwhile, runner_told, unfull}
+use Rattle.shell_upgrades.specs.State.{node_of}
 use Rattle.shell_deeds.proofs.Refusing.{of_modules}
 use Rattle.shell_deeds.proofs.loading.halt_of_load.Goals as goal
 

@@ -3,12 +3,12 @@ use Rattle.std.proofs.Common.{[], ◌++◌, ap, refl, subst, sym, ◌∙◌}
 use Rattle.node_types.specs.declared.event.Event.TheVariants as event
 use Rattle.shell_answers.specs.Answers.{line_of, loaded}
 use Rattle.shell_answers.specs.Refusals.{naming_nothing}
-use Rattle.shell_holdings.proofs.Done.{IfOk-then}
-use Rattle.shell_holdings.proofs.Performing.{halted, performed}
-use Rattle.shell_holdings.proofs.Performing.{halts-at}
-use Rattle.shell_holdings.specs.Performing.{Performs}
-use Rattle.shell_holdings.specs.Done.{IsDone}
-use Rattle.shell_steps.specs.State.{ShellState, carried, stepped}
+use Rattle.shell_upgrades.proofs.Done.{IfOk-then}
+use Rattle.shell_upgrades.proofs.Performing.{halted, performed}
+use Rattle.shell_upgrades.proofs.Performing.{halts-at}
+use Rattle.shell_upgrades.specs.Performing.{Performs}
+use Rattle.shell_upgrades.specs.Done.{IsDone}
+use Rattle.shell_upgrades.specs.State.{ShellState, carried, stepped}
 use Rattle.shell_deeds.proofs.loading.load_module.Goals as goal
 
 pub returns-in_default : goal.returns-in_default

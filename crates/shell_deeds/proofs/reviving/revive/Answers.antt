@@ -6,11 +6,11 @@ use Rattle.node_types.specs.declared.event.Event.{Event}
 use Rattle.node_types.specs.declared.event.Event.TheVariants as event
 use Rattle.shell_answers.specs.Answers.{line_of}
 use Rattle.shell_answers.specs.Refusals.{naming_nothing}
-use Rattle.shell_holdings.proofs.Done.{IfOk-then}
-use Rattle.shell_holdings.proofs.Performing.{halted, performed}
-use Rattle.shell_holdings.specs.Performing.{Performs, revived_in}
-use Rattle.shell_holdings.specs.Done.{IsDone}
-use Rattle.shell_steps.specs.State.{ShellState, carried, stepped}
+use Rattle.shell_upgrades.proofs.Done.{IfOk-then}
+use Rattle.shell_upgrades.proofs.Performing.{halted, performed}
+use Rattle.shell_upgrades.specs.Performing.{Performs, revived_in}
+use Rattle.shell_upgrades.specs.Done.{IsDone}
+use Rattle.shell_upgrades.specs.State.{ShellState, carried, stepped}
 use Rattle.shell_deeds.proofs.reviving.revive.Goals as goal
 
 pub returns-in_default : goal.returns-in_default

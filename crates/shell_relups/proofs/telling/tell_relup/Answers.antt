@@ -1,42 +1,17 @@
--- The first fault of the files of the one release, or else of the other, or what comes of making their relup.
-use Rattle.std.proofs.Common.{◌⊎◌, ◌≡◌, string_bytes, subst}
-use Rattle.release_files.specs.Faults.{IsFirstFault}
+-- What the files say is told, and nothing changes.
+use Rattle.std.proofs.Common.{refl, subst}
 use Rattle.release_files.specs.Files.{Contents}
-use Rattle.release_files.specs.Releases.{IsRelease}
-use Rattle.release_files.specs.declared.fault.FileFault.TheVariants.{Memory}
 use Rattle.shell_holdings.proofs.Done.{IfOk-then}
-use Rattle.shell_relups.specs.Relups.{no_source, no_target}
-use Rattle.shell_relups.proofs.Told.{made-told, unmade-told, unread-told}
+use Rattle.shell_relups.specs.Relups.{RelupTold}
 use Rattle.shell_relups.proofs.telling.tell_relup.Goals as goal
 
-pub returns-in-Err : goal.returns-in-Err
-returns-in-Err c =
-    let it = c.in-Err.fault in
-    let from = c.args.from.now in
-    let is = subst (λ (files : Contents). (it.fault ≡ Memory) ⊎ IsFirstFault files from (string_bytes it.path) it.fault) c.files.ensures c.in-Err.ensures in
-    IfOk-then c.tell_unread.result _ _ c.tell_unread.ensures (λ fate said. unread-told c.args.held.now from c.args.to.now from (λ path why first. no_source path why first) (string_bytes it.path) it.fault fate c.args.out.now.items c.tell_unread.new.out.items is said)
-
-pub returns-in-Err-read_release : goal.returns-in-Err-read_release
-returns-in-Err-read_release c =
-    let it = c.in-Err-read_release.fault in
+pub returns : goal.returns
+returns c =
     let from = c.args.from.now in
     let to = c.args.to.now in
-    let old = subst (λ (files : Contents). IsRelease files from c.in-Ok.release) c.files.ensures c.in-Ok.ensures in
-    let is = subst (λ (files : Contents). (it.fault ≡ Memory) ⊎ IsFirstFault files to (string_bytes it.path) it.fault) c.files-2.ensures c.in-Err-read_release.ensures in
-    IfOk-then c.tell_unread-in-Err-read_release.result _ _ c.tell_unread-in-Err-read_release.ensures (λ fate said. unread-told c.args.held.now from to to (λ path why first. no_target c.in-Ok.release path why old first) (string_bytes it.path) it.fault fate c.args.out.now.items c.tell_unread-in-Err-read_release.new.out.items is said)
-
-pub returns-in-Ok-relup_between : goal.returns-in-Ok-relup_between
-returns-in-Ok-relup_between c =
-    let from = c.args.from.now in
-    let to = c.args.to.now in
-    let old = subst (λ (files : Contents). IsRelease files from c.in-Ok.release) c.files.ensures c.in-Ok.ensures in
-    let new = subst (λ (files : Contents). IsRelease files to c.in-Ok-read_release.release) c.files-2.ensures c.in-Ok-read_release.ensures in
-    IfOk-then c.tell_made.result _ _ c.tell_made.ensures (λ fate told. made-told c.args.held.now from to c.in-Ok.release c.in-Ok-read_release.release old new c.in-Ok-relup_between.relup fate c.args.out.now.items c.tell_made.new.out.items c.in-Ok-relup_between.ensures told)
-
-pub returns-in-Err-relup_between : goal.returns-in-Err-relup_between
-returns-in-Err-relup_between c =
-    let from = c.args.from.now in
-    let to = c.args.to.now in
-    let old = subst (λ (files : Contents). IsRelease files from c.in-Ok.release) c.files.ensures c.in-Ok.ensures in
-    let new = subst (λ (files : Contents). IsRelease files to c.in-Ok-read_release.release) c.files-2.ensures c.in-Ok-read_release.ensures in
-    IfOk-then c.tell_unmade.result _ _ c.tell_unmade.ensures (λ fate told. unmade-told c.args.held.now from to c.in-Ok.release c.in-Ok-read_release.release old new c.in-Err-relup_between.why fate c.args.out.now.items c.tell_unmade.new.out.items c.in-Err-relup_between.ensures told)
+    IfOk-then c.tell_relup_in.result _ _ c.tell_relup_in.ensures (λ fate told. (
+      _,
+      (told.0, subst (λ (files : Contents). RelupTold files from to fate told.0) c.files.ensures told.1, refl),
+      refl,
+      told.2,
+    ))

@@ -1,7 +1,7 @@
 -- The journal performs the event and tells of it once, or it is told why it doesn't.
 use Rattle.std.proofs.Common.{◌≡◌, Ok, ap, subst, sym, ◌∙◌}
 use Rattle.undo_journal.specs.Timeline.{appended, here}
-use Rattle.node_rules.specs.Step.{Step}
+use Rattle.node_core.specs.Step.{Step}
 use Rattle.shell_steps.specs.Halts.{Halts, halt_by}
 use Rattle.shell_steps.specs.State.{NodeTimeline, ShellState, with_timeline}
 use Rattle.shell_steps.specs.declared.stepping.Halt.{Halt}

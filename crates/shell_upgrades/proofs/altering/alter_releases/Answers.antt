@@ -2,7 +2,7 @@
 use Rattle.std.proofs.Common.{◌++◌, IfOk, ap, refl, subst, sym, ◌∙◌}
 use Rattle.std.specs.Str.{chars}
 use Rattle.undo_journal.specs.Reversible.{Accepted}
-use Rattle.node_rules.specs.Node.{NodeState}
+use Rattle.shell_holdings.specs.Node.{NodeState}
 use Rattle.node_types.specs.Note.{Note}
 use Rattle.node_types.specs.declared.event.Answer.{Answer}
 use Rattle.node_types.specs.declared.event.Event.{Event}
@@ -10,9 +10,9 @@ use Rattle.shell_answers.specs.Answers.{line_of}
 use Rattle.shell_holdings.proofs.Done.{IfOk-then}
 use Rattle.shell_holdings.proofs.Performing.{halted, performed}
 use Rattle.shell_holdings.specs.Done.{IsDone}
-use Rattle.shell_steps.specs.Halts.{halt_answer}
+use Rattle.shell_holdings.specs.Halts.{halt_answer}
 use Rattle.shell_holdings.specs.Performing.{Performs, done_by}
-use Rattle.shell_steps.specs.State.{Deed, ShellState, carried, node_of, stepped}
+use Rattle.shell_holdings.specs.State.{Deed, ShellState, carried, node_of, stepped}
 use Rattle.shell_upgrades.proofs.Altered.{alteration_done}
 use Rattle.shell_upgrades.specs.Upgrades.{release_answer, release_event, subject_in}
 use Rattle.shell_upgrades.proofs.altering.alter_releases.Goals as goal

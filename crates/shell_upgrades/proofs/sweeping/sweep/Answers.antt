@@ -7,7 +7,7 @@ use Rattle.shell_holdings.proofs.Done.{IfOk-then}
 use Rattle.shell_holdings.proofs.Performing.{halted, performed}
 use Rattle.shell_holdings.specs.Done.{IsDone}
 use Rattle.shell_holdings.specs.Performing.{Performs, done_by, swept_in}
-use Rattle.shell_steps.specs.State.{ShellState}
+use Rattle.shell_holdings.specs.State.{ShellState}
 use Rattle.shell_upgrades.proofs.sweeping.sweep.Goals as goal
 
 pub returns-in-Ok : goal.returns-in-Ok

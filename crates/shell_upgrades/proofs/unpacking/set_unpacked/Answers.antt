@@ -7,9 +7,9 @@ use Rattle.shell_answers.specs.Refusals.{naming}
 use Rattle.shell_holdings.proofs.Done.{IfOk-then}
 use Rattle.shell_holdings.proofs.Performing.{halted, performed}
 use Rattle.shell_holdings.specs.Done.{IsDone}
-use Rattle.shell_steps.specs.Halts.{halt_answer}
+use Rattle.shell_holdings.specs.Halts.{halt_answer}
 use Rattle.shell_holdings.specs.Performing.{Performs, done_by}
-use Rattle.shell_steps.specs.State.{ShellState}
+use Rattle.shell_holdings.specs.State.{ShellState}
 use Rattle.shell_upgrades.proofs.unpacking.set_unpacked.Goals as goal
 
 pub returns-in-Ok : goal.returns-in-Ok

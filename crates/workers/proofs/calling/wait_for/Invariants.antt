@@ -1,6 +1,6 @@
 -- Replies were read, and none was the one that is waited for.
-use Rattle.workers.specs.Calling.{HasRead}
+use Rattle.workers.specs.Calling.{HasRead, reads_of}
 use Rattle.workers.proofs.calling.wait_for.Given as goal
 
 abbrev pub invariant-loop-turn : goal.invariant-loop-turn
-invariant-loop-turn g l = HasRead l.number l.first l.from l.initial.seat l.seat
+invariant-loop-turn g l = HasRead l.number l.first l.from (reads_of l.turn) l.initial.seat l.seat

@@ -1,8 +1,8 @@
 -- What boots keeps what every node keeps.
 use Rattle.std.proofs.Common.{List, None, sym, subst}
 use Rattle.script_state.specs.declared.unpurged.Unpurged.{Unpurged}
-use Rattle.node_rules.proofs.Booting.{booted_is_kept}
-use Rattle.node_rules.specs.Node.{IsKept}
+use Rattle.script_events.proofs.Booting.{booted_is_kept}
+use Rattle.script_events.specs.Node.{IsKept}
 use Rattle.node_core.proofs.node.Node.boot.Goals as goal
 
 pub invariant_of-result : goal.invariant_of-result

@@ -1,9 +1,9 @@
 -- The parts take the step back.
 use Rattle.std.proofs.Common.{sym, subst}
 use Rattle.node_core.proofs.Stepped.{back_by, given_by, kept_back, same_by}
-use Rattle.node_parts.specs.Changes.{state_of}
-use Rattle.node_parts.specs.Record.{Undoes}
-use Rattle.node_rules.specs.Node.{NodeState}
+use Rattle.script_events.specs.Changes.{state_of}
+use Rattle.script_events.specs.Record.{Undoes}
+use Rattle.script_events.specs.Node.{NodeState}
 use Rattle.node_core.proofs.stepping.NodeReversible.revert.Goals as goal
 
 pub revert-requires : goal.revert-requires

@@ -1,6 +1,6 @@
 -- The parts make the step.
 use Rattle.node_core.proofs.Stepped.{accepted_by, kept_after, refused_by, reversible_by, stays_by, told_refusal}
-use Rattle.node_parts.specs.Changes.{state_of}
+use Rattle.script_events.specs.Changes.{state_of}
 use Rattle.node_core.proofs.stepping.NodeReversible.step.Goals as goal
 
 pub refusal_of-requires : goal.refusal_of-requires

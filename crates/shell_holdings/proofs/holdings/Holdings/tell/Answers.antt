@@ -4,7 +4,7 @@ use Rattle.code_server.specs.Modules.{Table as Loaded}
 use Rattle.erl_forms.specs.Module.{Forms}
 use Rattle.erl_term.specs.Tree.{list}
 use Rattle.app_table.specs.Applications.{Application}
-use Rattle.node_rules.specs.Node.{NodeState}
+use Rattle.shell_steps.specs.Node.{NodeState}
 use Rattle.shell_answers.specs.Answers.{apps_of, line_of, mark_at, modules_of}
 use Rattle.undo_journal.specs.Timeline.{here}
 use Rattle.shell_holdings.proofs.Done.{told-done}

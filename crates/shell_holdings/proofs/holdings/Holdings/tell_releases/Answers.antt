@@ -1,6 +1,6 @@
 -- The releases are told, or that there is no memory for what is written.
 use Rattle.std.proofs.Common.{◌++◌, ap, refl, subst, sym, ◌∙◌}
-use Rattle.node_rules.specs.Node.{NodeState}
+use Rattle.shell_steps.specs.Node.{NodeState}
 use Rattle.shell_answers.specs.Answers.{line_of, releases_of}
 use Rattle.shell_holdings.proofs.Done.{IfOk-then}
 use Rattle.shell_holdings.specs.Serving.{Asks, is_told, no_memory_to_tell}

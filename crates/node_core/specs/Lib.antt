@@ -1,0 +1,3 @@
+pub use Rattle.script_events.specs.Node
+pub use Rattle.script_events.specs.Scripts
+pub use Rattle.script_events.specs.Step
