@@ -1,10 +1,10 @@
-//! A table of processes as it is written in plain Rust, for figures to compare with: the processes in a `BTreeMap` by pid, the pids of
-//! those that could take a message in a `BTreeSet`, names and open calls in hash maps, mailboxes in `VecDeque`s, and a step's undo in an
-//! enum. Terms, places and instances share.
-//!
-//! `plain_table MEASURE PROCESSES SIZE TURNS` does as `main.rattle` does, by the same steps with the same refusals. What the
-//! callbacks do is written by hand: a counter that counts one on and replies.
-//! Build it by `rustc -O --edition 2021 bench/processes/plain_table.rs`.
+// A table of processes as it is written in plain Rust, for figures to compare with: the processes in a `BTreeMap` by pid, the pids of
+// those that could take a message in a `BTreeSet`, names and open calls in hash maps, mailboxes in `VecDeque`s, and a step's undo in an
+// enum. Terms, places and instances share.
+//
+// `plain_table MEASURE PROCESSES SIZE TURNS` does as `main.rattle` does, by the same steps with the same refusals. What the
+// callbacks do is written by hand: a counter that counts one on and replies.
+// Build it by `rustc -O --edition 2021 bench/processes/plain_table.rs`.
 
 use std::collections::{BTreeMap, BTreeSet, HashMap, VecDeque};
 use std::env;

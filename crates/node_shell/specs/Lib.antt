@@ -1,12 +1,3 @@
 pub mod Replay
 pub mod Run
 pub mod Shell
-pub use Rattle.shell_deeds.specs.Deeds
-pub use Rattle.shell_deeds.specs.Done
-pub use Rattle.shell_deeds.specs.Fate
-pub use Rattle.shell_deeds.specs.Performing
-pub use Rattle.shell_deeds.specs.Relups
-pub use Rattle.shell_deeds.specs.Terms
-pub use Rattle.shell_deeds.specs.Undone
-pub use Rattle.shell_deeds.specs.Upgrades
-pub use Rattle.shell_deeds.specs.declared.loading.Unloaded

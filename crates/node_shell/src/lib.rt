@@ -25,8 +25,3 @@ mod shell;
 pub use fault::StartFault;
 pub use release_files::Files;
 pub use running::run;
-pub use shell_deeds::{
-    Fate, Misread, Said, Unloaded, change_event, refuse, revive_event, say, say_file_fault,
-    say_term_fault, source_in, tell_loaded, tell_relup_in, tell_revived, tell_stopped, tell_swept,
-    tell_truth, tell_unpacked, tell_unread, term_of,
-};

@@ -3,12 +3,15 @@ use Rattle.std.specs.Prelude.{◌≡◌, ℕ, List, Option, None, Some, Result, 
 use Rattle.line_server.specs.declared.ended.Ended.{Ended}
 use Rattle.line_server.specs.declared.ended.Fault.{Fault as CommandsFault}
 use Rattle.relnode.specs.declared.ending.Fault.{Fault}
-use Rattle.relnode.specs.declared.ending.Fault.TheVariants.{CommandLine, NoRandomBytes, Files, Start, Commands, Output}
+use Rattle.relnode.specs.declared.ending.Fault.TheVariants.{CommandLine, NoRandomBytes, Files, Start, Commands, Workers, Output}
 use Rattle.relnode_options.specs.declared.OptionsError.{OptionsError}
 use Rattle.relnode_options.specs.declared.OptionsError.TheVariants.{Words, NotUtf8, Unread, Memory}
 use Rattle.release_files.specs.Files.{Contents}
 use Rattle.node_shell.specs.Run.{Runs, StartFails}
 use Rattle.node_shell.specs.declared.fault.StartFault.{StartFault}
+use Rattle.worker_shell.specs.Run.{RunsWorkers, WorkersFail}
+use Rattle.worker_shell.specs.declared.fault.WorkersFault.{WorkersFault}
+use Rattle.worker_shell.specs.declared.fault.WorkersFault.TheVariants as workers
 
 -- the end of the program that the end of its run is
 abbrev pub end_by : Option CommandsFault → Result (Unit {0}) Fault
@@ -20,6 +23,21 @@ pub data EndsSo (files : Contents) (vsn : List ℕ) (left rest held holds : Opti
   ran : (ended : Ended) → Runs files vsn left rest held holds ended → end ≡ end_by ended.fault → EndsSo files vsn left rest held holds end
   not_started : (fault : StartFault) → StartFails fault files vsn → rest ≡ left → holds ≡ held → end ≡ Err (Start fault) →
       EndsSo files vsn left rest held holds end
+
+-- the end of the program where there is no run with workers
+abbrev pub end_without : WorkersFault → Result (Unit {0}) Fault
+end_without (workers.NotStarted fault) = Err (Start fault)
+end_without workers.WorkerCount = Err (Workers workers.WorkerCount)
+end_without workers.Foreign = Err (Workers workers.Foreign)
+end_without workers.SeatsLost = Err (Workers workers.SeatsLost)
+
+-- A run over files that so many workers served ended the program so; or the program ends for why there is no such run.
+pub data EndsServing (files : Contents) (vsn : List ℕ) (count : ℕ) (left rest held holds : Option (List ℕ)) (end : Result (Unit {0}) Fault)
+    : Type 0 where
+  served : (ended : Ended) → RunsWorkers files vsn count left rest held holds ended → end ≡ end_by ended.fault →
+      EndsServing files vsn count left rest held holds end
+  not_served : (fault : WorkersFault) → WorkersFail fault files vsn count left rest held holds → end ≡ end_without fault →
+      EndsServing files vsn count left rest held holds end
 
 -- the status of a command line that is bad, or that could not be read
 abbrev pub status_of_words : OptionsError → ℕ
@@ -36,4 +54,5 @@ status_of (Err (NoRandomBytes error)) = 1
 status_of (Err (Files error)) = 1
 status_of (Err (Start fault)) = 1
 status_of (Err (Commands fault)) = 1
+status_of (Err (Workers fault)) = 1
 status_of (Err (Output error)) = 1

@@ -1,7 +1,7 @@
 // How the program ends.
 ghost use Rattle.std.specs.Prelude.{◌≡◌};
 ghost use Rattle.std.specs.Process.{exit_status};
-ghost use Rattle.relnode.specs.Ending.{EndsSo, end_by, status_of, status_of_words};
+ghost use Rattle.relnode.specs.Ending.{EndsServing, EndsSo, end_by, end_without, status_of, status_of_words};
 
 use file_tree::TreeError;
 use node_shell::{Files, StartFault, run};
@@ -11,7 +11,11 @@ use std::hash::RandomState;
 use std::io;
 use std::io::{Read, Write};
 use std::process::ExitCode;
+use std::sync::Wait;
+use std::thread::Threads;
+use std::time::Clock;
 use thiserror::Error;
+use worker_shell::{WorkersFault, run_workers};
 
 /// Why the program ends with a status other than 0.
 #[derive(Debug, Drop, Error)]
@@ -31,6 +35,9 @@ pub enum Fault {
     /// The commands could not all be read, or their answers not all be written.
     #[error(transparent)]
     Commands(#[from] line_server::Fault),
+    /// The node that workers serve has come to no good end.
+    #[error("{0}")]
+    Workers(WorkersFault),
     /// The text of `--help` or `--version` cannot be written.
     #[error("cannot write the output: {0}")]
     Output(#[from] io::Error),
@@ -55,6 +62,40 @@ pub fn run_to_end<R: Read, W: Write>(
     match run(alloc, hashing, files, vsn, reader, writer) {
         Ok(ended) => end_by(ended.fault),
         Err(fault) => Err(Fault::Start(fault)),
+    }
+}
+
+/// Runs the commands of a reader over a release of files, which so many workers serve meanwhile, and ends as the run ended.
+///
+/// # Errors
+///
+/// As [`run_to_end`]; `Workers` where there can't be so many workers, or the node is not closed with all of its seats.
+pub fn serve_to_end<C: Threads + Wait + Clock + Sync, R: Read, W: Write>(
+    rt: &C,
+    alloc: Global,
+    hashing: RandomState,
+    files: Files,
+    vsn: &str,
+    workers: u64,
+    reader: &mut R,
+    writer: &mut W,
+) -> Result<(), Fault>
+    ensures { EndsServing files vsn.now workers (R.remaining reader.old) (R.remaining reader.new)
+        (W.contents writer.old) (W.contents writer.new) result }
+{
+    match run_workers(rt, alloc, hashing, files, vsn, workers, reader, writer) {
+        Ok(ended) => end_by(ended.fault),
+        Err(fault) => end_without(fault),
+    }
+}
+
+/// The end of the program where there is no run with workers.
+fn end_without(fault: WorkersFault) -> Result<(), Fault>
+    ensures { result ≡ end_without fault }
+{
+    match fault {
+        WorkersFault::NotStarted(fault) => Err(Fault::Start(fault)),
+        fault => Err(Fault::Workers(fault)),
     }
 }
 
@@ -87,6 +128,7 @@ fn status(end: &Result<(), Fault>) -> u8
             | Fault::Files(_)
             | Fault::Start(_)
             | Fault::Commands(_)
+            | Fault::Workers(_)
             | Fault::Output(_),
         ) => 1,
     }

@@ -12,7 +12,7 @@ mod ending;
 mod telling;
 
 use diagnostics::hidden_rel;
-use ending::{Fault, exit_code, run_to_end};
+use ending::{Fault, exit_code, run_to_end, serve_to_end};
 use file_tree::read_tree;
 use release_files::Files;
 use relnode_options::{Invocation, Options, read_invocation};
@@ -22,32 +22,45 @@ use std::io::IsTerminal;
 use std::process::ExitCode;
 use std::random::RandomSource;
 use std::rt::Runtime;
+use std::sync::Wait;
+use std::thread::Threads;
 use telling::{describe, warning};
 
 /// Does what the command line asks for, and finds faults in this order: the command line, the files, the
 /// boot, the commands.
-fn start<R: Runtime + RandomSource + AllocGlobal>(rt: &R) -> Result<(), Fault> {
+fn start<R: Runtime + RandomSource + AllocGlobal + Threads + Wait + Sync>(
+    rt: &R,
+) -> Result<(), Fault> {
     match read_invocation(rt)? {
         Invocation::Show(text) => Ok(rt.print(text)?),
         Invocation::Run(options) => obey(rt, &options),
     }
 }
 
-/// Boots the release, and runs the commands of the standard input.
-fn obey<R: Runtime + RandomSource + AllocGlobal>(rt: &R, options: &Options) -> Result<(), Fault> {
+/// Boots the release, and runs the commands of the standard input, with workers where they are asked for.
+fn obey<R: Runtime + RandomSource + AllocGlobal + Threads + Wait + Sync>(
+    rt: &R,
+    options: &Options,
+) -> Result<(), Fault> {
     let hashing = RandomState::new(rt).map_err(Fault::NoRandomBytes)?;
     let files = read_tree(rt, hashing, options.root.as_str())?;
     warn(rt, &files, options.vsn.as_str());
     let mut reader = rt.reader();
     let mut writer = io::writer(rt);
-    run_to_end(
-        rt.alloc(),
-        hashing,
-        files,
-        options.vsn.as_str(),
-        &mut reader,
-        &mut writer,
-    )
+    let vsn = options.vsn.as_str();
+    match options.workers {
+        None => run_to_end(rt.alloc(), hashing, files, vsn, &mut reader, &mut writer),
+        Some(workers) => serve_to_end(
+            rt,
+            rt.alloc(),
+            hashing,
+            files,
+            vsn,
+            workers,
+            &mut reader,
+            &mut writer,
+        ),
+    }
 }
 
 /// Says so where a file with a hidden name counts as the release. Where standard error cannot be written, or there is no memory for the

@@ -1,13 +1,16 @@
-//! The command line of the program `relnode`: `relnode ROOT VSN`, `--help` and `--version`.
+//! The command line of the program `relnode`: `relnode [--workers N] ROOT VSN`, `--help` and `--version`.
 //!
 //! [`read_invocation`] reads the words that the program was started with. No contract says which words are good: that is
-//! [`clap`]'s, and is tried by hand. Of words that were read it is proved which is told not to be UTF-8: the first such.
+//! [`clap`]'s, and is tried by hand. It is proved that there are 1 to 15 workers, where there are any, and which word of N
+//! asks for them; and of words that were read which is told not to be UTF-8: the first such.
 #![tactic(auto)]
 
-ghost use Rattle.std.specs.Prelude.{◌≡◌, not};
+ghost use Rattle.std.specs.Prelude.{◌≡◌, ◌≤◌, not, IfNone, IfOk, IfSome};
 ghost use Rattle.std.specs.List.{position};
-ghost use Rattle.std.specs.Option.{option_map};
+ghost use Rattle.std.specs.Option.{ForSome, option_map};
 ghost use Rattle.std.specs.Str.{is_utf8};
+ghost use Rattle.std.specs.Str.Parse.{digits_value, without_leading_plus};
+ghost use Rattle.clap.specs.Words.{IsUnsignedIn};
 ghost use Rattle.relnode_options.specs.declared.OptionsError.TheVariants.{NotUtf8 as not_utf8};
 
 use clap::error::ErrorKind;
@@ -29,6 +32,9 @@ const ROOT_HELP: &str = "The folder of the node's files; all files below it are 
 
 const VSN_HELP: &str = "The version of the release that the node boots";
 
+const WORKERS_HELP: &str =
+    "Serve the processes by N threads, 1 to 15, and have calls and installs come to their end";
+
 const AFTER_HELP: &str =
     "A session (< is a command, > its answer), on the tree data/tree of the sources:
   $ relnode data/tree A
@@ -49,6 +55,9 @@ The program reads a command a line from its standard input, and docs/COMMANDS.md
 the commands. Its status is 0 at the end of the input, 1 after a fault of the files, of the
 boot, of the input or of the output, and 2 after a bad command line.";
 
+/// The greatest number of workers.
+const MOST_WORKERS: u64 = 15;
+
 /// The longest word that is looked at when a word that is not UTF-8 is sought; the system passes none
 /// that is longer.
 const LONGEST_WORD: usize = 1 << 18;
@@ -60,6 +69,9 @@ pub struct Options {
     pub root: String,
     /// The version of the release, as the word stands.
     pub vsn: String,
+    /// How many threads serve the processes, 1 to 15; none where commands do.
+    pub workers: Option<u64>,
+    ghost few: { ForSome workers (λ n. (1 ≤ n) × (n ≤ 15)) },
 }
 
 /// What a good command line asks for.
@@ -92,8 +104,8 @@ pub enum OptionsError {
 ///
 /// # Errors
 ///
-/// `Words` where the words are not ROOT and VSN, `NotUtf8` where one is not UTF-8, `Unread` where the
-/// system does not give them, `Memory` where memory is refused.
+/// `Words` where the words are not ROOT and VSN, or N is no number from 1 to 15, `NotUtf8` where one is not UTF-8, `Unread`
+/// where the system does not give them, `Memory` where memory is refused.
 pub fn read_invocation<R: Env + AllocGlobal>(rt: &R) -> Result<Invocation, OptionsError> {
     let words: Vec<String> = match env::args(rt) {
         Ok(words) => words.collect(rt.alloc())?,
@@ -108,7 +120,8 @@ fn invocation_of(alloc: Global, words: &[String]) -> Result<Invocation, OptionsE
         Ok(matches) => {
             let root = owned(alloc, matches.get_str("ROOT"))?;
             let vsn = owned(alloc, matches.get_str("VSN"))?;
-            return Ok(Invocation::Run(Options { root, vsn }));
+            let workers = workers_asked(alloc, matches.get_str("workers"))?;
+            return Ok(Invocation::Run(asked_options(root, vsn, workers)));
         }
         Err(error) => error,
     };
@@ -121,6 +134,44 @@ fn invocation_of(alloc: Global, words: &[String]) -> Result<Invocation, OptionsE
     }
 }
 
+/// What the program is asked to work on.
+fn asked_options(root: String, vsn: String, workers: Option<u64>) -> Options
+    requires { ForSome workers (λ n. (1 ≤ n) × (n ≤ 15)) }
+    ensures { result.workers ≡ workers }
+{
+    Options { root, vsn, workers }
+}
+
+/// How many workers the word behind `--workers` asks for; none where it does not stand there.
+fn workers_asked(alloc: Global, word: Option<&str>) -> Result<Option<u64>, OptionsError>
+    ensures { IfOk result (λ workers. ForSome workers (λ n. (1 ≤ n) × (n ≤ 15))) }
+{
+    let Some(word) = word else {
+        return Ok(None);
+    };
+    match worker_count(word) {
+        Some(count) => Ok(Some(count)),
+        None => Err(OptionsError::Words(no_count(alloc, word)?)),
+    }
+}
+
+/// The number of workers that a word writes, where there may be so many.
+fn worker_count(word: &str) -> Option<u64>
+    ensures some { IfSome result (λ n. IsUnsignedIn 1 15 word.now × (n ≡ digits_value 10 (without_leading_plus word.now))) }
+    ensures none { IfNone result (IsUnsignedIn 1 15 word.now → ⊥) }
+{
+    match word.parse::<u64>() {
+        Ok(count) if 1 <= count && count <= MOST_WORKERS => Some(count),
+        _ => None,
+    }
+}
+
+/// That a word is no number of workers, in one line.
+fn no_count(alloc: Global, word: &str) -> Result<String, AllocError> {
+    let shown = shown_word(alloc, word)?;
+    format!(in alloc; "invalid value '{shown}' for '--workers <N>': it is no number from 1 to 15")
+}
+
 /// The command line as clap reads it.
 fn command<'a>(alloc: Global) -> Result<Command<'a>, AllocError> {
     let root = Arg::new(alloc, "ROOT")
@@ -131,11 +182,17 @@ fn command<'a>(alloc: Global) -> Result<Command<'a>, AllocError> {
         .required(true)
         .action(ArgAction::Set)
         .help(VSN_HELP);
+    let workers = Arg::new(alloc, "workers")
+        .long("workers")
+        .value_name("N")
+        .action(ArgAction::Set)
+        .help(WORKERS_HELP);
     Command::new(alloc, NAME)
         .bin_name(NAME)?
         .version(VERSION)
         .about(ABOUT)
         .after_help(AFTER_HELP)
+        .arg(workers)?
         .arg(root)?
         .arg(vsn)
 }

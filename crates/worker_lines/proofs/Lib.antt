@@ -1,0 +1,4 @@
+mod Asked
+mod Files
+mod Heard
+mod Waiting

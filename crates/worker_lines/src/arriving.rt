@@ -1,0 +1,123 @@
+// What arrives for processes.
+ghost use Rattle.std.specs.Prelude.{◌≡◌, ◌++◌, IfOk, None};
+ghost use Rattle.std.specs.Str.{chars};
+ghost use Rattle.node_types.specs.declared.event.Event.TheVariants.{Arrive};
+ghost use Rattle.shell_answers.specs.Answers.{line_of, replied};
+ghost use Rattle.shell_answers.specs.Refusals.{naming_nothing};
+ghost use Rattle.worker_lines.specs.Asking.{IsTold, done};
+ghost use Rattle.worker_lines.specs.Deeds.{Arrives, Performs, Sends, Waits};
+
+use crate::office::Office;
+use crate::telling::{tell_error, tell_unworked};
+use erl_term::{Atom, Term};
+use node_types::Event;
+use process_effects::Reply;
+use process_table::Body;
+use shell_answers::{Fixed, Subject, write_reply};
+use shell_deeds::{Misread, Said, refuse, say, say_term_fault, term_of};
+use shell_requests::{Arrival, Name};
+use std::sync::Wait;
+use std::time::Clock;
+use workers::{Naming, Seat, call};
+
+/// How many turns a call waits for its reply.
+const TURNS: u64 = 1_000_000;
+
+/// Has the term of a text arrive for the process of a name; of a call the reply is waited for, and told.
+pub(crate) fn arrive<N: Naming, R: Wait + Clock>(
+    office: &Office<'_, '_, '_, N, R>,
+    seat: &mut Seat<N>,
+    kind: Arrival,
+    name: Name<'_>,
+    text: &str,
+    out: &mut Vec<u8>,
+) -> Said
+    ensures { IfOk result (λ fate. IsTold (Arrives seat.old kind (chars name.entry.text.now) text.now fate)
+        seat.old seat.new out.old.items out.new.items) }
+{
+    match term_of(office.alloc, text) {
+        Ok(term) => arrive_term(office, seat, kind, name, term, out),
+        Err(Misread::NotOne) => say(Fixed::BadCommand, out),
+        Err(Misread::Faulty(error)) => say_term_fault(error, out),
+        Err(Misread::NoMemory) => refuse(out),
+    }
+}
+
+/// Has a term arrive.
+fn arrive_term<N: Naming, R: Wait + Clock>(
+    office: &Office<'_, '_, '_, N, R>,
+    seat: &mut Seat<N>,
+    kind: Arrival,
+    name: Name<'_>,
+    term: Term,
+    out: &mut Vec<u8>,
+) -> Said
+    ensures { IfOk result (λ fate. IsTold (Sends seat.old kind (chars name.entry.text.now) term fate)
+        seat.old seat.new out.old.items out.new.items) }
+{
+    let Ok(name) = name.atom(office.alloc) else {
+        return refuse(out);
+    };
+    match kind {
+        Arrival::Call => tell_call(office, seat, name, term, out),
+        Arrival::Cast => send(office, seat, name, Body::Cast(term), out),
+        Arrival::Info => send(office, seat, name, Body::Info(term), out),
+    }
+}
+
+/// Calls a process, and tells its reply.
+fn tell_call<N: Naming, R: Wait + Clock>(
+    office: &Office<'_, '_, '_, N, R>,
+    seat: &mut Seat<N>,
+    name: Atom,
+    term: Term,
+    out: &mut Vec<u8>,
+) -> Said
+    ensures { IfOk result (λ fate. IsTold (Waits seat.old name term fate) seat.old seat.new out.old.items out.new.items) }
+{
+    match call(
+        office.rt,
+        office.alloc,
+        office.shared,
+        seat,
+        name,
+        term,
+        TURNS,
+    ) {
+        Ok(reply) => say_reply(&reply, out),
+        Err(error) => {
+            let about = Subject::naming("");
+            tell_unworked(office.alloc, &about, error, out)
+        }
+    }
+}
+
+/// Appends a reply.
+fn say_reply(reply: &Reply, out: &mut Vec<u8>) -> Said
+    ensures { IfOk result (λ fate. (fate ≡ None) × (out.new.items ≡ out.old.items ++ line_of (replied reply.now))) }
+{
+    write_reply(reply, out)?;
+    Ok(None)
+}
+
+/// Sends a process what is no call. It comes from the client that the seat is.
+fn send<N: Naming, R: Wait>(
+    office: &Office<'_, '_, '_, N, R>,
+    seat: &mut Seat<N>,
+    name: Atom,
+    body: Body,
+    out: &mut Vec<u8>,
+) -> Said
+    ensures { IfOk result (λ fate. IsTold (Performs (Arrive seat.old.number name body) naming_nothing done fate)
+        seat.old seat.new out.old.items out.new.items) }
+{
+    let event = Event::Arrive {
+        client: seat.number(),
+        name,
+        body,
+    };
+    match office.shared.perform(office.rt, office.alloc, seat, event) {
+        Ok(_) => say(Fixed::Done, out),
+        Err(error) => tell_error(office.alloc, error, out),
+    }
+}
