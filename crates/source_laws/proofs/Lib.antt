@@ -1,0 +1,5 @@
+pub mod Evaluating
+pub mod Forming
+pub mod Matching
+pub mod Outcomes
+pub mod Ruling
