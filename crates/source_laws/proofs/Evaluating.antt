@@ -123,12 +123,14 @@ Formed m f = IsFormedFunction m f.1.definition
 same_arity : (a b : Key) → IsTrue (key_eq a b) → a.1 ≡ b.1
 same_arity a b is = search rules
 
-found_if : (b : Bool) (arity : ℕ) (m : Forms) (f : Function) (other : Option Function) → (IsTrue b → FunctionIsSound arity m f.definition) →
+found_if : (b : Bool) (arity : ℕ) (m : Forms) (f : Function) (other : Option Function) →
+    (IsTrue b → FunctionIsSound arity m f.definition) →
     IfSound arity m other → IfSound arity m (cond b (Some f) other)
 found_if true arity m f other here later = here refl
 found_if false arity m f other here later = later
 
-found_sound : (name : List ℕ) (arity : ℕ) (m : Forms) (fs : List (Key × Function)) → All Scoped fs → All Counted fs → All (Formed m) fs →
+found_sound : (name : List ℕ) (arity : ℕ) (m : Forms) (fs : List (Key × Function)) → All Scoped fs → All Counted fs →
+    All (Formed m) fs →
     IfSound arity m (lookup (key_eq (name, arity)) fs)
 found_sound name arity m [] scopes arities formed = tt
 found_sound name arity m (f ∷ fs) scopes arities formed =
@@ -138,7 +140,8 @@ found_sound name arity m (f ∷ fs) scopes arities formed =
       patterns = subst (λ n. HasArity n f.1.definition) (sym (same_arity (name, arity) f.0 is)) (All-head Counted f fs arities);
       formed = All-head (Formed m) f fs formed;
     })
-    (found_sound name arity m fs (All-tail Scoped f fs scopes) (All-tail Counted f fs arities) (All-tail (Formed m) f fs formed))
+    (found_sound name arity m fs (All-tail Scoped f fs scopes) (All-tail Counted f fs arities)
+    (All-tail (Formed m) f fs formed))
 
 pub function_sound : (name : List ℕ) (arity : ℕ) (m : Forms) → IsSound m → IfSound arity m (function_of name arity m)
 function_sound name arity m sound = found_sound name arity m m.functions sound.scopes sound.arities sound.formed
@@ -153,7 +156,8 @@ exported_if : (b : Bool) (arity : ℕ) (m : Forms) (f : Function) → FunctionIs
 exported_if true arity m f found = found
 exported_if false arity m f found = tt
 
-exported_some : (arity : ℕ) (m : Forms) (f : Option Function) → IfSound arity m f → IfSound arity m (option_and_then if_exported f)
+exported_some : (arity : ℕ) (m : Forms) (f : Option Function) → IfSound arity m f →
+    IfSound arity m (option_and_then if_exported f)
 exported_some arity m None found = tt
 exported_some arity m (Some f) found = exported_if f.exported arity m f found
 
@@ -170,13 +174,15 @@ callee_function a true i arity f sound = sound
 callee_function a false i arity f sound = sound
 
 -- a call of the same module finds its function
-found_there : (i : Instance) (f : Option Function) → is_some f ≡ true → is_some {T = Instance × Function} (option_map (λ g. (i, g)) f) ≡ true
+found_there : (i : Instance) (f : Option Function) → is_some f ≡ true →
+    is_some {T = Instance × Function} (option_map (λ g. (i, g)) f) ≡ true
 found_there i None is = is
 found_there i (Some f) is = refl
 
 module _ (w : World) (sound : (i : Instance) → Contains w.code i → IsSound i.forms) where
   current_if : (b : Bool) (i : Instance) (other : Option Instance) → IsSound i.forms →
-      ((j : Instance) → other ≡ Some j → IsSound j.forms) → (j : Instance) → (if b then Some i else other) ≡ Some j → IsSound j.forms
+      ((j : Instance) → other ≡ Some j → IsSound j.forms) → (j : Instance) → (if b then Some i else other) ≡ Some j →
+      IsSound j.forms
   current_if true i other here later j is = subst (λ x. IsSound x.forms) (some_injective is) here
   current_if false i other here later j is = later j is
 
@@ -207,7 +213,8 @@ module _ (w : World) (sound : (i : Instance) → Contains w.code i → IsSound i
   begin_sound registered name args None found = tt
   begin_sound registered name args (Some p) found = found
 
-  first_sound : (startup : Option Startup) (request : Request) → RequestIsSound request → RequestIsSound (first_start startup request)
+  first_sound : (startup : Option Startup) (request : Request) → RequestIsSound request →
+      RequestIsSound (first_start startup request)
   first_sound None request is = is
   first_sound (Some u) request is = tt
 
@@ -225,7 +232,8 @@ module _ (w : World) (sound : (i : Instance) → Contains w.code i → IsSound i
   init_sound : (startup : Option Startup) (registered : Option (List ℕ)) (m args options : Tree) →
       RequestIsSound (init_asked w startup registered m args options)
   init_sound startup registered (term.atom m) args (term.list options) =
-      first_sound startup (begin_or_undef registered (codes "init") (term.more args term.none) (remote_function w m (codes "init") 1))
+      first_sound startup (begin_or_undef registered (codes "init") (term.more args term.none)
+      (remote_function w m (codes "init") 1))
       (begin_sound registered (codes "init") (term.more args term.none) (remote_function w m (codes "init") 1)
       (remote_sound m (codes "init") 1))
   init_sound startup registered _ args _ = tt
@@ -304,7 +312,8 @@ module _ (w : World) (sound : (i : Instance) → Contains w.code i → IsSound i
 
   mutual
     eval_regular : {a : Activation} {tail : Bool} {e : Expr} {s : State} {r : Result} {x : State} {n m : ℕ} →
-        IsSound a.instance.forms → ExprBinds n e m → IsFormed a.instance.forms e → length s.bindings ≡ n → (d : Eval w a tail e s r x) →
+        IsSound a.instance.forms → ExprBinds n e m → IsFormed a.instance.forms e → length s.bindings ≡ n →
+        (d : Eval w a tail e s r x) →
         EvalIsRegular w d × Leaves m r x
     eval_regular code scoped.literal formed at (literal g) = (tt, stays g at)
     eval_regular code (scoped.variable {n = n} {place = place} below) formed at (variable {s = s} g) =
@@ -324,7 +333,8 @@ module _ (w : World) (sound : (i : Instance) → Contains w.code i → IsSound i
         let p = decided_regular code es formed.2 formed.3 b.1 f in ((b.0, p.0), p.1)
 
     operands_regular : {a : Activation} {es : Exprs} {s : State} {v : Values} {x : State} {n m : ℕ} →
-        IsSound a.instance.forms → ExprsBind n es m → AreFormed a.instance.forms es → length s.bindings ≡ n → (d : Operands w a es s v x) →
+        IsSound a.instance.forms → ExprsBind n es m → AreFormed a.instance.forms es → length s.bindings ≡ n →
+        (d : Operands w a es s v x) →
         OperandsAreRegular w d × ValuesLeave m (expr_count es) v x
     operands_regular {v = v} {x = x} {m = m} code scoped.no_expression formed at (no_operands is state_is) = (
       tt,
@@ -335,7 +345,8 @@ module _ (w : World) (sound : (i : Instance) → Contains w.code i → IsSound i
         let p = others_regular code es formed.1 b.1 f in ((b.0, p.0), p.1)
 
     others_regular : {a : Activation} {es : Exprs} {q : Result} {s : State} {v : Values} {x : State} {n m : ℕ} →
-        IsSound a.instance.forms → ExprsBind n es m → AreFormed a.instance.forms es → Leaves n q s → (d : Others w a es q s v x) →
+        IsSound a.instance.forms → ExprsBind n es m → AreFormed a.instance.forms es → Leaves n q s →
+        (d : Others w a es q s v x) →
         OthersAreRegular w d × ValuesLeave m (1 + expr_count es) v x
     others_regular {es = es} {x = x} {m = m} code ds formed left (others {t = t} {u = u} d is) =
         let o = operands_regular code ds formed left d in (o.0, first_leaves m (expr_count es) x t u is o.1)
@@ -343,7 +354,8 @@ module _ (w : World) (sound : (i : Instance) → Contains w.code i → IsSound i
         (tt, subst (λ y. ValuesLeave m (1 + expr_count es) y x) (sym is) end)
 
     pub body_regular : {a : Activation} {tail : Bool} {es : Exprs} {s : State} {r : Result} {x : State} {n m : ℕ} →
-        IsSound a.instance.forms → ExprsBind n es m → 1 ≤ expr_count es → AreFormed a.instance.forms es → length s.bindings ≡ n →
+        IsSound a.instance.forms → ExprsBind n es m → 1 ≤ expr_count es → AreFormed a.instance.forms es →
+        length s.bindings ≡ n →
         (d : Body w a tail es s r x) → BodyIsRegular w d × Leaves m r x
     body_regular code es has_one formed at (empty g) = absurd (omega (arith, has_one))
     body_regular code (scoped.next_expression e scoped.no_expression) has_one formed at (last d) =
@@ -360,7 +372,8 @@ module _ (w : World) (sound : (i : Instance) → Contains w.code i → IsSound i
 
     decided_regular : {a : Activation} {tail : Bool} {c : Connective} {right : Exprs} {q : Result} {s : State} {r : Result}
         {x : State} {m k : ℕ} →
-        IsSound a.instance.forms → ExprsBind m right k → 1 ≤ expr_count right → AreFormed a.instance.forms right → Leaves m q s →
+        IsSound a.instance.forms → ExprsBind m right k → 1 ≤ expr_count right → AreFormed a.instance.forms right →
+        Leaves m q s →
         (d : Decided w a tail c right q s r x) → DecisionIsRegular w d × Leaves m r x
     decided_regular code es has_one formed left (decided is g) = (tt, stays g left)
     decided_regular code es has_one formed left (undecided {s = s} {s1 = s1} {r = r} is other d state_is) =
@@ -372,20 +385,24 @@ module _ (w : World) (sound : (i : Instance) → Contains w.code i → IsSound i
         IsSound a.instance.forms → ClausesSee m cs → AreFormedClauses a.instance.forms cs → HavePatterns 1 cs → Leaves m q s →
         (d : Cased w a tail cs q s r x) → CaseIsRegular w d × Leaves m r x
     cased_regular {a = a} code see formed have left (cased {t = t} {s = s} d) =
-        let b = taken_regular code (selected_ready a.instance.forms see w.pid s.bindings (term.more t term.none) s.calls formed left) left d in
+        let b = taken_regular code (selected_ready a.instance.forms see w.pid s.bindings (term.more t term.none) s.calls
+        formed left) left d in
         ((may_try a.instance.forms see s.bindings (term.more t term.none) formed have left, b.0), b.1)
     cased_regular code see formed have left (subject_ended end g) = (tt, ended _ g end)
 
     taken_regular : {a : Activation} {tail : Bool} {failure : Result} {found : Option (List Tree × Exprs)} {s : State}
         {r : Result} {x : State} {m : ℕ} →
-        IsSound a.instance.forms → FoundIsReady a.instance.forms found → length s.bindings ≡ m → (d : Taken w a tail failure found s r x) →
+        IsSound a.instance.forms → FoundIsReady a.instance.forms found → length s.bindings ≡ m →
+        (d : Taken w a tail failure found s r x) →
         BranchIsRegular w d × Leaves m r x
     taken_regular code found at (no_clause g) = (tt, stays g at)
     taken_regular code found at (taken {s = s} {s1 = s1} {r = r} d is) =
         ((body_regular code found.scopes found.has_one found.formed refl d).0, returns s s1 r is at)
 
-    applied_regular : (m k : ℕ) {a : Activation} {tail : Bool} {op : Operation} {v : Values} {s : State} {r : Result} {x : State} →
-        IsSound a.instance.forms → IsTrue (is_of op k) → IsTrue (is_defined a.instance.forms op k) → ValuesLeave m k v s → (d : Applied w a tail op v s r x) →
+    applied_regular : (m k : ℕ) {a : Activation} {tail : Bool} {op : Operation} {v : Values} {s : State} {r : Result}
+        {x : State} →
+        IsSound a.instance.forms → IsTrue (is_of op k) → IsTrue (is_defined a.instance.forms op k) → ValuesLeave m k v s →
+        (d : Applied w a tail op v s r x) →
         ApplicationIsRegular w d × Leaves m r x
     applied_regular m k code fits defined left (operands_ended g) = (tt, ended m g left)
     applied_regular m k code fits defined left (tuple g) = (tt, stays g left.0)
@@ -413,8 +430,10 @@ module _ (w : World) (sound : (i : Instance) → Contains w.code i → IsSound i
         CallIsRegular w d × Leaves m r x
     called_regular found at (too_many g) = (tt, stays g at)
     called_regular found at (undefined g) = (tt, stays g at)
-    called_regular found at (called {a = a} {tail = tail} {i = i} {f = f} {ts = ts} {s = s} {s1 = s1} {r = r} d is) =
-        (entered_regular (callee_sound a tail i found.0) (callee_function a tail i (count ts) f.definition found.1) refl d, returns s s1 r is at)
+    called_regular found at (called {a = a} {tail = tail} {i = i} {f = f} {ts = ts} {s = s} {s1 = s1} {r = r} d is) = (
+      entered_regular (callee_sound a tail i found.0) (callee_function a tail i (count ts) f.definition found.1) refl d,
+      returns s s1 r is at,
+    )
 
     pub entered_regular : {a : Activation} {nests : Bool} {name : List ℕ} {f : Definition} {ts : Trees} {s : State} {r : Result}
         {x : State} →

@@ -78,7 +78,8 @@ abbrev TakeAll : ℕ → Named → Type 0
 TakeAll n [] = Unit {0}
 TakeAll n (f ∷ fs) = IsTrue (takes f.1 n) × TakeAll n fs
 
-either : (b : Bool) (one other : Option BuiltIn) (n : ℕ) → TakesIf n one → TakesIf n other → TakesIf n (if b then one else other)
+either : (b : Bool) (one other : Option BuiltIn) (n : ℕ) → TakesIf n one → TakesIf n other →
+    TakesIf n (if b then one else other)
 either true one other n takes takes_too = takes
 either false one other n takes takes_too = takes_too
 
@@ -133,7 +134,8 @@ plainly_of : (o : Option BuiltIn) (name : List ℕ) (n : ℕ) → TakesIf n o �
 plainly_of None name n takes = refl
 plainly_of (Some f) name n takes = takes
 
-with_module_of : (o : Option BuiltIn) (called name : List ℕ) (n : ℕ) → TakesIf n o → IsTrue (is_of (with_module o called name) n)
+with_module_of : (o : Option BuiltIn) (called name : List ℕ) (n : ℕ) → TakesIf n o →
+    IsTrue (is_of (with_module o called name) n)
 with_module_of None called name n takes = refl
 with_module_of (Some f) called name n takes = takes
 
@@ -143,8 +145,10 @@ abbrev is_guard_call : Option BuiltIn → ℕ → Bool
 is_guard_call None n = false
 is_guard_call (Some f) n = is_guard_bif f && takes f n
 
-call_if : (known : Option BuiltIn → ℕ → Bool) (b : Bool) (first name : List ℕ) (arity n : ℕ) (others : Option ℕ) → bytes_eq name first ≡ b →
-    IsTrue (known (erlang_function first arity) arity) → (IsTrue (is_arity others n) → IsTrue (known (erlang_function name n) n)) →
+call_if : (known : Option BuiltIn → ℕ → Bool) (b : Bool) (first name : List ℕ) (arity n : ℕ) (others : Option ℕ) →
+    bytes_eq name first ≡ b →
+    IsTrue (known (erlang_function first arity) arity) →
+    (IsTrue (is_arity others n) → IsTrue (known (erlang_function name n) n)) →
     IsTrue (is_arity (if b then Some arity else others) n) → IsTrue (known (erlang_function name n) n)
 call_if known true first name arity n others is here later has_arity =
     subst (λ x. IsTrue (known (erlang_function x n) n)) (sym ((bytes_eq-Decides name first).0 is))
@@ -238,9 +242,11 @@ local_defined : (functions : List keys.Key) (m : Forms) → HasAll functions m �
     IsTrue (is_defined m (local_call name n) n)
 local_defined functions m has name n at e =
     local_by functions m has name n (erlang_function name n) refl
-    (one_of (is_among functions (name, n)) (is_built_in (name, n)) (no_call_fault (is_among functions (name, n) || is_built_in (name, n)) at e))
+    (one_of (is_among functions (name, n)) (is_built_in (name, n))
+    (no_call_fault (is_among functions (name, n) || is_built_in (name, n)) at e))
 
-remote_defined : (m : Forms) (o : Option BuiltIn) (called name : List ℕ) (n : ℕ) → IsTrue (is_defined m (with_module o called name) n)
+remote_defined : (m : Forms) (o : Option BuiltIn) (called name : List ℕ) (n : ℕ) →
+    IsTrue (is_defined m (with_module o called name) n)
 remote_defined m None called name n = refl
 remote_defined m (Some f) called name n = refl
 
@@ -298,7 +304,8 @@ module _ (own : List ℕ) (functions : List keys.Key) (m : Forms) (has_all : Has
       (faults_apart functions seen ts ≡ [] → AreFormed m (row_of own bound ts)) →
       (faults_in_turn functions seen ts ≡ [] → AreFormed m (row_of own bound ts)) →
       (faults_behind functions seen ts ≡ [] → tree_count ts ≡ 2 → IsFormed m (match_of own bound ts)) →
-      ((c : Connective) → faults_in_turn functions seen ts ≡ [] → tree_count ts ≡ 2 → IsFormed m (connected_of own bound c ts)) →
+      ((c : Connective) → faults_in_turn functions seen ts ≡ [] → tree_count ts ≡ 2 →
+      IsFormed m (connected_of own bound c ts)) →
       faults_in functions seen (tree.node shape ts) ≡ [] → IsFormed m (expression_of own bound (tree.node shape ts))
   node_formed seen bound shapes.Tuple ts is apart turn matching connecting e = (refl, refl, apart e)
   node_formed seen bound shapes.List ts is apart turn matching connecting e = (refl, refl, apart e)
@@ -351,7 +358,8 @@ node_tests own bound shapes.Parenthesized ts is row connecting =
     alone_tests (row_of own bound ts) (row_counted own bound ts ∙ same (tree_count ts) 1 is) row
 node_tests own bound shapes.Block ts is row connecting = absurd (true≢false (sym is))
 node_tests own bound (shapes.Local f) ts is row connecting =
-    let tests = plainly_tests (erlang_function f.name (tree_count ts)) f.name (tree_count ts) (guard_call f.name (tree_count ts) is) in
+    let tests = plainly_tests (erlang_function f.name (tree_count ts)) f.name (tree_count ts)
+    (guard_call f.name (tree_count ts) is) in
     (tests.0, counted (local_call f.name (tree_count ts)) (row_counted own bound ts) tests.1, row)
 node_tests own bound (shapes.Remote m f) ts is row connecting =
     let tests = remote_tests own m f.name (tree_count ts) is in
@@ -435,7 +443,8 @@ module _ (own : List ℕ) (functions : List keys.Key) (m : Forms) (has_all : Has
         let tried = faults_in_clauses functions (with_names seen (binds_in subject)) cs in (
           one_or_more (row_counted own bound subject ∙ well.1),
           row_apart seen bound subject matches matches well.2 (left_empty asked tried e),
-          clauses_formed (with_names seen (binds_in subject)) (with_names bound (binds_in subject)) cs well.4 (right_empty asked tried e),
+          clauses_formed (with_names seen (binds_in subject)) (with_names bound (binds_in subject)) cs well.4
+              (right_empty asked tried e),
           case_counted own (with_names bound (binds_in subject)) cs well.4,
         )
 
@@ -456,7 +465,8 @@ module _ (own : List ℕ) (functions : List keys.Key) (m : Forms) (has_all : Has
         let here = faults_in functions seen t in
         let later = faults_in_turn functions (with_names seen (binds t)) ts in (
           formed seen bound t well.1 (left_empty here later e),
-          row_in_turn (with_names seen (binds t)) (with_names bound (binds t)) ts others others well.2 (right_empty here later e),
+          row_in_turn (with_names seen (binds t)) (with_names bound (binds t)) ts others others well.2
+              (right_empty here later e),
         )
 
     match_formed : (seen bound : Names) (ts : Trees) (first others : ℕ) → AreWell Expression first others ts →
@@ -465,7 +475,8 @@ module _ (own : List ℕ) (functions : List keys.Key) (m : Forms) (has_all : Has
     match_formed seen bound (tree.more p ts) first others well e two =
         (one_or_more (second_counted own bound ts two), row_apart seen bound ts others others well.2 e)
 
-    connected_formed : (seen bound : Names) (c : Connective) (ts : Trees) (first others : ℕ) → AreWell Expression first others ts →
+    connected_formed : (seen bound : Names) (c : Connective) (ts : Trees) (first others : ℕ) →
+        AreWell Expression first others ts →
         faults_in_turn functions seen ts ≡ [] → tree_count ts ≡ 2 → IsFormed m (connected_of own bound c ts)
     connected_formed seen bound c tree.none first others well e two = absurd (omega (arith, two))
     connected_formed seen bound c (tree.more t ts) first others well e two =
@@ -474,7 +485,8 @@ module _ (own : List ℕ) (functions : List keys.Key) (m : Forms) (has_all : Has
           omega arith,
           (formed seen bound t well.1 (left_empty here later e), tt),
           one_or_more (second_counted own (with_names bound (binds t)) ts two),
-          row_in_turn (with_names seen (binds t)) (with_names bound (binds t)) ts others others well.2 (right_empty here later e),
+          row_in_turn (with_names seen (binds t)) (with_names bound (binds t)) ts others others well.2
+              (right_empty here later e),
         )
 
     clauses_formed : (seen bound : Names) (cs : tree.Clauses) → AreWellClauses cs → faults_in_clauses functions seen cs ≡ [] →
@@ -513,7 +525,8 @@ module _ (own : List ℕ) (functions : List keys.Key) (m : Forms) (has_all : Has
   abbrev Formed : Key × Function → Type 0
   Formed f = IsFormedFunction m f.1.definition
 
-  form_formed : (exports : List Key) (f : FormTree) (ts rest : List Terminal) → BeginsForm f ts rest → faults_in_form functions f ≡ [] →
+  form_formed : (exports : List Key) (f : FormTree) (ts rest : List Terminal) → BeginsForm f ts rest →
+      faults_in_form functions f ≡ [] →
       All Formed (option_to_list (lowered.function_of own exports f))
   form_formed exports (forms.Function f) ts rest (function_form is written) e =
       All-cons Formed _ [] (function_formed is.0 f.clauses is.2 e) (All-nil Formed)
@@ -527,21 +540,24 @@ module _ (own : List ℕ) (functions : List keys.Key) (m : Forms) (has_all : Has
       ) (All-nil Formed)
   form_formed exports f ts rest begins e = All-nil Formed
 
-  forms_formed : (exports : List Key) (fs : List FormTree) (ts : List Terminal) → AreForms fs ts → faults_in_forms functions fs ≡ [] →
+  forms_formed : (exports : List Key) (fs : List FormTree) (ts : List Terminal) → AreForms fs ts →
+      faults_in_forms functions fs ≡ [] →
       All Formed (functions_in own exports fs)
   forms_formed exports [] ts are e = All-nil Formed
   forms_formed exports (f ∷ fs) ts are e =
       let here = faults_in_form functions f in
       let later = faults_in_forms functions fs in
       All-append Formed (option_to_list (lowered.function_of own exports f)) (functions_in own exports fs)
-      (form_formed exports f ts are.0 are.1 (left_empty here later e)) (forms_formed exports fs are.0 are.2 (right_empty here later e))
+      (form_formed exports f ts are.0 are.1 (left_empty here later e))
+      (forms_formed exports fs are.0 are.2 (right_empty here later e))
 
 -- The functions that a module defines are those that it has.
 
 abbrev any_of : Key → List (Key × Function) → Bool
 any_of k es = list_any (λ e. key_eq k e.0) es
 
-found_by : (b : Bool) (f : Function) (other : Option Function) (any : Bool) → (b || any) ≡ true → (any ≡ true → is_some other ≡ true) →
+found_by : (b : Bool) (f : Function) (other : Option Function) (any : Bool) → (b || any) ≡ true →
+    (any ≡ true → is_some other ≡ true) →
     is_some (cond b (Some f) other) ≡ true
 found_by true f other any is later = refl
 found_by false f other any is later = later is
@@ -558,7 +574,8 @@ inserted_by false acc key k is =
 
 module _ (own : List ℕ) (exports : List Key) where
   function_adds : (name : List ℕ) (cs : List FunctionClause) (acc : List Key) (k : Key) →
-      is_among (with_heading acc (heading_among name cs)) k ≡ true → (is_among acc k ≡ true) ⊎ ((key_eq k (key_of name cs) || false) ≡ true)
+      is_among (with_heading acc (heading_among name cs)) k ≡ true → (is_among acc k ≡ true) ⊎
+      ((key_eq k (key_of name cs) || false) ≡ true)
   function_adds name [] acc k is = inl is
   function_adds name (c ∷ cs) acc k is =
       inserted_by (is_among acc (name, tree_count c.clause.patterns)) acc (name, tree_count c.clause.patterns) k is
@@ -589,7 +606,8 @@ module _ (own : List ℕ) (exports : List Key) where
       by : (is_among acc k ≡ true) ⊎ (any_of k (option_to_list (lowered.function_of own exports f)) ≡ true) →
           (is_among acc k ≡ true) ⊎ (any_of k (functions_in own exports (f ∷ fs)) ≡ true)
       by (inl there) = inl there
-      by (inr there) = inr (joined k (option_to_list (lowered.function_of own exports f)) (functions_in own exports fs) (inl there))
+      by (inr there) = inr (joined k (option_to_list (lowered.function_of own exports f)) (functions_in own exports fs)
+          (inl there))
 
   all_added : (fs : List FormTree) (acc : List Key) (k : Key) → is_among (with_forms acc fs) k ≡ true →
       (is_among acc k ≡ true) ⊎ (any_of k (functions_in own exports fs) ≡ true)

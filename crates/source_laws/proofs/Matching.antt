@@ -1,5 +1,5 @@
--- What a pattern binds by its scopes is what a match of it binds; so what may be matched and tested by the scopes may be where so many
--- variables are bound.
+-- What a pattern binds by its scopes is what a match of it binds; so what may be matched and tested by the scopes may be where
+-- so many variables are bound.
 use Rattle.std.specs.Prelude.{◌≡◌, ℕ, ◌+◌, ◌<◌, ◌≤◌, ◌==◌, Bool, true, false, if◌then◌else◌, List, [], ◌∷◌, ◌++◌, length, slice_get, refl}
 use Rattle.std.specs.Prelude.{Option, None, Some, option_and_then}
 use Rattle.std.proofs.Common.{arith, ap, sym, subst, ◌∙◌}
@@ -52,7 +52,8 @@ added_leaves true t n env behind at is =
     ap (λ x. length x) (sym (some_injective is)) ∙ length-append env (t ∷ []) ∙ ap (λ k. k + 1) at
 added_leaves false t n env behind at is = absurd (some_none (sym is))
 
-fresh_leaves : (o : Option Tree) (place : ℕ) (t : Tree) (env behind : List Tree) → length env ≡ place → slice_get env place ≡ o →
+fresh_leaves : (o : Option Tree) (place : ℕ) (t : Tree) (env behind : List Tree) → length env ≡ place →
+    slice_get env place ≡ o →
     matched_variable o place t env ≡ Some behind → length behind ≡ place + 1
 fresh_leaves None place t env behind at nothing is = added_leaves (length env == place) t place env behind at is
 fresh_leaves (Some u) place t env behind at known is =
@@ -191,19 +192,22 @@ picked_ready : (m : Forms) (p : Bool × ℕ) (env : List Tree) (body : Exprs) (o
 picked_ready m (true, calls) env body others here later = here
 picked_ready m (false, calls) env body others here later = later calls
 
-where_ready : (m : Forms) (self : ℕ) (found : Option (List Tree)) (gs : Guards) (body : Exprs) (others : ℕ → Selection) (calls : ℕ) →
+where_ready : (m : Forms) (self : ℕ) (found : Option (List Tree)) (gs : Guards) (body : Exprs) (others : ℕ → Selection)
+    (calls : ℕ) →
     ((env : List Tree) → found ≡ Some env → IsReady m env body) → ((k : ℕ) → FoundIsReady m (others k).0) →
     FoundIsReady m (picked_where self found gs body others calls).0
 where_ready m self None gs body others calls here later = later calls
 where_ready m self (Some env) gs body others calls here later =
     picked_ready m (guarded self env gs calls) env body others (here env refl) later
 
-ready : {n k : ℕ} {body : Exprs} (m : Forms) (env : List Tree) → length env ≡ n → ExprsBind n body k → 1 ≤ expr_count body → AreFormed m body →
+ready : {n k : ℕ} {body : Exprs} (m : Forms) (env : List Tree) → length env ≡ n → ExprsBind n body k → 1 ≤ expr_count body →
+    AreFormed m body →
     IsReady m env body
 ready {k = k} {body = body} m env at d has_one formed =
     record { behind = k; scopes = subst (λ x. ExprsBind x body k) (sym at) d; has_one = has_one; formed = formed }
 
-pub selected_ready : {n : ℕ} {cs : Clauses} (m : Forms) → ClausesSee n cs → (self : ℕ) (env : List Tree) (ts : Trees) (calls : ℕ) →
+pub selected_ready : {n : ℕ} {cs : Clauses} (m : Forms) → ClausesSee n cs →
+    (self : ℕ) (env : List Tree) (ts : Trees) (calls : ℕ) →
     AreFormedClauses m cs → length env ≡ n → FoundIsReady m (selected self env cs ts calls).0
 selected_ready m scoped.no_clause self env ts calls formed at = tt
 selected_ready m (scoped.next_clause {ps = ps} {gs = gs} {body = body} {cs = cs} d e f others) self env ts calls formed at =

@@ -58,11 +58,13 @@ reached_in_code (suc serial) (j ∷ code) i there = contains_more i j code there
 
 module _ (j : Job) (sound : (i : Instance) → Contains (world_of j).code i → IsSound i.forms) where
   callback_regular : {m : List ℕ} {s : Tree} {callback : Callback} {f : Option Function} {i : Instance} {o : Outcome} →
-      IsSound i.forms → IfSound (count (arguments_of callback s)) i.forms f → (d : Handles j m s callback f i o) → CallbackIsRegular d
+      IsSound i.forms → IfSound (count (arguments_of callback s)) i.forms f → (d : Handles j m s callback f i o) →
+      CallbackIsRegular d
   callback_regular code found (not_exported is) = tt
   callback_regular code found (handled d is) = entered_regular (world_of j) sound code found refl d
 
-  loop_regular : (message : Tree) (args : Trees) (m : Forms) (f : Definition) → FunctionIsSound (count args) m f → LoopIsRegular message args f
+  loop_regular : (message : Tree) (args : Trees) (m : Forms) (f : Definition) → FunctionIsSound (count args) m f →
+      LoopIsRegular message args f
   loop_regular message args m (definition.Clauses cs) found = tt
   loop_regular message args m (definition.Loop ps gs cs) found = (
     may_match_each found.scopes.1 args [] refl,
@@ -105,7 +107,8 @@ module _ (j : Job) (sound : (i : Instance) → Contains (world_of j).code i → 
   job_regular (server m s) None o code d = tt
   job_regular (server m s) (Some i) o code d =
       callback_regular (code i refl)
-      (exported_sound (name_of (callback_of j.message)) (count (arguments_of (callback_of j.message) s)) i.forms (code i refl)) d
+      (exported_sound (name_of (callback_of j.message)) (count (arguments_of (callback_of j.message) s)) i.forms
+      (code i refl)) d
   job_regular (looping m serial name args) None o code d = tt
   job_regular (looping m serial name args) (Some i) o code d =
       let found = function_sound name (count args) i.forms (code i refl) in (
@@ -116,5 +119,6 @@ module _ (j : Job) (sound : (i : Instance) → Contains (world_of j).code i → 
 pub jobs_are_regular : JobsAreRegular
 jobs_are_regular j o comes d =
     let sound = instances_sound j.code comes in
-    job_regular j (λ i there. sound i (reached_in_code j.entry_serial j.code i there)) j.place (entered_in j.entry_serial j.code) o
+    job_regular j (λ i there. sound i (reached_in_code j.entry_serial j.code i there)) j.place
+    (entered_in j.entry_serial j.code) o
     (λ i is. sound i (entered_in_code j.entry_serial j.code i is)) d

@@ -43,7 +43,8 @@ of_integer_known f known (Some n) = known n
 
 arithmetic_known : (f : ℤ → ℤ → Result) → ((m n : ℤ) → Known (f m n)) → (x y : Tree) → Known (arithmetic f x y)
 arithmetic_known f known x y =
-    of_integer_known (λ m. of_integer (λ n. f m n) (int_of y)) (λ m. of_integer_known (λ n. f m n) (known m) (int_of y)) (int_of x)
+    of_integer_known (λ m. of_integer (λ n. f m n) (int_of y)) (λ m. of_integer_known (λ n. f m n) (known m) (int_of y))
+    (int_of x)
 
 divided_known : (f : ℤ → ℤ → ℤ) (m n : ℤ) → Known (divided f m n)
 divided_known f m n = either (is_zero n) (exit_by (codes "badarith")) (integer (f m n)) refl (integer_known (f m n))
@@ -233,7 +234,8 @@ past_both n k m small small_too is =
   where
     by_first : (b : Bool) → (1 + (1 + (1 + (1 + n))) == k) ≡ b → ⊥
     by_first true first = past n k small first
-    by_first false first = past n m small_too (let none : (false || (1 + (1 + (1 + (1 + n))) == m)) ≡ true = Prim.rw first at is in none)
+    by_first false first = past n m small_too (let none : (false || (1 + (1 + (1 + (1 + n))) == m)) ≡ true =
+        Prim.rw first at is in none)
 
 no_more : (f : BuiltIn) (n : ℕ) → way_of f ≡ at_once → IsTrue (takes f (1 + (1 + (1 + (1 + n))))) → ⊥
 no_more built_in.SelfPid n way is = past n 0 (omega arith) is
@@ -264,7 +266,8 @@ pair_known : (b : Bool) (one other : Result × State) → Known one.0 → Known 
 pair_known true one other known known_too = known
 pair_known false one other known known_too = known_too
 
-register_in_known : (name : List ℕ) (is_own : Bool) (startup : Option Startup) (s : State) → Known (register_in name is_own startup s).0
+register_in_known : (name : List ℕ) (is_own : Bool) (startup : Option Startup) (s : State) →
+    Known (register_in name is_own startup s).0
 register_in_known name is_own None s = refl
 register_in_known name true (Some u) s =
     pair_known (is_some u.registered) (not_in_profile, s)

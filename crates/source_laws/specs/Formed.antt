@@ -1,7 +1,7 @@
 -- Modules that are well formed: where expressions stand, and how many (Erlang Reference Manual, Expressions; Guard Sequences).
 --
--- Each body has an expression, and each clause of a `case` one pattern. An operation has as many operands as it is of, and a call of the
--- same module is of a function that it has. In a guard stand guard expressions alone.
+-- Each body has an expression, and each clause of a `case` one pattern. An operation has as many operands as it is of, and a
+-- call of the same module is of a function that it has. In a guard stand guard expressions alone.
 use Rattle.std.specs.Prelude.{◌≡◌, ◌≤◌, ℕ, ◌==◌, Bool, true, ◌||◌, nat_le, All, IsTrue, is_some}
 use Rattle.erl_forms.specs.declared.operation.BuiltIn.{BuiltIn}
 use Rattle.erl_forms.specs.declared.operation.BuiltIn.TheVariants as built_in
@@ -54,7 +54,8 @@ abbrev pub is_defined : Forms → Operation → ℕ → Bool
 is_defined m (operation.Local name) n = is_some (function_of name n m)
 is_defined m _ n = true
 
--- A test of a guard is a variable, a literal, an operation that guards may have, or a connective, each side of which is one test.
+-- A test of a guard is a variable, a literal, an operation that guards may have, or a connective, each side of which is one
+-- test.
 abbrev mutual
   pub IsTest : Expr → Type 0
   IsTest (form.literal t) = Unit {0}

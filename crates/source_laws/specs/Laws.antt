@@ -9,8 +9,8 @@ use Rattle.erl_semantics.specs.Jobs.{Evaluates, GivesJob, Job, Outcome, entered_
 use Rattle.source_laws.specs.Formed.{IsWellFormed}
 use Rattle.source_laws.specs.Regular.{JobIsRegular, OutsideIsRegular}
 
--- What is proved of each module of a source: variables are read where they are bound, clauses have as many patterns as their function
--- has arguments, and what stands in it is formed as the language asks.
+-- What is proved of each module of a source: variables are read where they are bound, clauses have as many patterns as their
+-- function has arguments, and what stands in it is formed as the language asks.
 pub record IsSound (m : Forms) : Type 0 where
   pub scopes : IsWellScoped m
   pub arities : HasArities m

@@ -1,9 +1,10 @@
 -- Evaluation that is regular: at each place that it comes to stands what a source can say there.
 --
--- The rules of evaluation are total: they say something also of what no source says. Of that are a variable that is not bound (`bound_to`
--- nothing), a body without expressions (`Body.empty`), an operator (`no_operator`), a list with a tail (`consed_row`) and a function
--- that is built in (`no_function`) of another number of operands, what is no test where a guard has one (`no_guard`), and clauses with
--- more or fewer patterns than there are terms; and a call of the same module that is of none of its functions (`Called.undefined`). No regular evaluation comes to one of these.
+-- The rules of evaluation are total: they say something also of what no source says. Of that are a variable that is not bound
+-- (`bound_to` nothing), a body without expressions (`Body.empty`), an operator (`no_operator`), a list with a tail
+-- (`consed_row`) and a function that is built in (`no_function`) of another number of operands, what is no test where a guard
+-- has one (`no_guard`), and clauses with more or fewer patterns than there are terms; and a call of the same module that is of
+-- none of its functions (`Called.undefined`). No regular evaluation comes to one of these.
 use Rattle.std.specs.Prelude.{◌≡◌, ◌≤◌, ℕ, List, [], Bool, Option, None, Some, is_some, IsTrue}
 use Rattle.erl_term.specs.Tree as term
 use Rattle.erl_term.specs.Tree.{Tree, Trees, count}
@@ -73,7 +74,8 @@ module _ (w : World) where
     RestIsRegular (onward d) = BodyIsRegular d
     RestIsRegular (body_ended end g) = Unit {0}
 
-    pub DecisionIsRegular : {a : Activation} {tail : Bool} {c : Connective} {right : Exprs} {q : Result} {s : State} {r : Result}
+    pub DecisionIsRegular : {a : Activation} {tail : Bool} {c : Connective} {right : Exprs} {q : Result} {s : State}
+        {r : Result}
         {x : State} → Decided w a tail c right q s r x → Type 0
     DecisionIsRegular (decided is g) = Unit {0}
     DecisionIsRegular (undecided is other d state_is) = BodyIsRegular d
@@ -92,7 +94,8 @@ module _ (w : World) where
     BranchIsRegular (taken d is) = BodyIsRegular d
 
     -- An operation has as many operands as it is of.
-    pub ApplicationIsRegular : {a : Activation} {tail : Bool} {op : Operation} {v : Values} {s : State} {r : Result} {x : State} →
+    pub ApplicationIsRegular : {a : Activation} {tail : Bool} {op : Operation} {v : Values} {s : State} {r : Result}
+        {x : State} →
         Applied w a tail op v s r x → Type 0
     ApplicationIsRegular (operands_ended g) = Unit {0}
     ApplicationIsRegular (tuple g) = Unit {0}
@@ -104,7 +107,8 @@ module _ (w : World) where
         IsTrue (is_some (local_function a.instance name (count ts))) × CallIsRegular d
     ApplicationIsRegular (remote d) = CallIsRegular d
 
-    pub CallIsRegular : {a : Activation} {tail may : Bool} {name : List ℕ} {function : Option (Instance × Function)} {ts : Trees}
+    pub CallIsRegular : {a : Activation} {tail may : Bool} {name : List ℕ} {function : Option (Instance × Function)}
+        {ts : Trees}
         {s : State} {r : Result} {x : State} → Called w a tail may name function ts s r x → Type 0
     CallIsRegular (too_many g) = Unit {0}
     CallIsRegular (undefined g) = Unit {0}
@@ -151,7 +155,8 @@ CallbackIsRegular (handled {j = j} d is) = EntryIsRegular (world_of j) d
 abbrev pub LoopIsRegular : Tree → Trees → Definition → Type 0
 LoopIsRegular message args (definition.Clauses cs) = Unit {0}
 LoopIsRegular message args (definition.Loop ps gs cs) =
-    MayMatchEach ps args [] × ((env : List Tree) → matched_each ps args [] ≡ Some env → MayTry env (term.more message term.none) cs)
+    MayMatchEach ps args [] × ((env : List Tree) → matched_each ps args [] ≡ Some env →
+    MayTry env (term.more message term.none) cs)
 
 abbrev pub ReceivingIsRegular : Tree → Trees → Option Function → Type 0
 ReceivingIsRegular message args None = Unit {0}

@@ -1,4 +1,5 @@
--- Each operation has a rule of its own: what it gives of as many operands as it is of is never the `undef` of what no source says.
+-- Each operation has a rule of its own: what it gives of as many operands as it is of is never the `undef` of what no source
+-- says.
 use Rattle.std.specs.Prelude.{◌≡◌, ◌≤◌, ℕ, Bool, true, false, IsTrue, codes}
 use Rattle.std.specs.Str.{bytes_eq}
 use Rattle.erl_term.specs.Tree.{Tree, Trees, int, atom, pid, tuple, list, count}

@@ -1,0 +1,12 @@
+pub mod Applying
+pub mod Changing
+pub mod Deciding
+pub mod Evaluated
+pub mod Events
+pub mod Instructions
+pub mod PermanentKept
+pub mod Purging
+pub mod Reaching
+pub mod Restarting
+pub mod Starting
+pub mod Taking

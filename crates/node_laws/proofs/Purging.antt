@@ -1,0 +1,48 @@
+-- There is a list of the modules whose old code is noted to be purged, and of those that a sweep purges.
+use Rattle.std.specs.Prelude.{◌≡◌, ◌+◌, ℕ, zero, suc, Bool, true, false, List, [], length, slice_get, take, refl}
+use Rattle.std.proofs.Common.{arith, subst}
+use Rattle.std.proofs.lemmas.List.{take_all}
+use Rattle.std.specs.List.{filter}
+use Rattle.code_server.specs.Modules.{Entry, IsSound, Table as Loaded}
+use Rattle.erl_forms.specs.Module.{Forms}
+use Rattle.node_rules.specs.Node.{NodeState}
+use Rattle.node_rules.specs.Scripts.{ArePurged}
+use Rattle.process_store.specs.Table.{Table}
+use Rattle.release_words.specs.declared.purge.Purge.{Purge}
+use Rattle.release_words.specs.declared.purge.Purge.TheVariants.{Brutal, Soft}
+use Rattle.script_state.specs.declared.unpurged.Unpurged.{Unpurged}
+use Rattle.unpurged_code.proofs.Gathering.{Gathered, all_gathered, gathered_next, left_alone, none_gathered}
+use Rattle.unpurged_code.specs.Unpurged.{AreNoted, AreSwept, is_left_alone, with_entry}
+
+gathered : (kind : Purge) (unpurged : List Unpurged) (es : List (Entry Forms)) (place : ℕ) →
+    (names : List (List ℕ)) × Gathered kind unpurged (take place es) names
+gathered kind unpurged es zero = ([], none_gathered kind unpurged [] refl)
+gathered kind unpurged es (suc place) =
+    let before = gathered kind unpurged es place in
+    let more = with_entry kind unpurged (slice_get es place) before.0 in
+    let one : place + 1 ≡ suc place = omega arith in (
+      more,
+      subst (λ n. Gathered kind unpurged (take n es) more) one
+          (gathered_next kind unpurged es place before.0 more refl before.1),
+    )
+
+pub noted : (kind : Purge) (modules : Loaded Forms) (unpurged : List Unpurged) → IsSound modules →
+    (names : List (List ℕ)) × AreNoted kind modules unpurged names
+noted kind modules unpurged sound =
+    let es = modules.entries in
+    let all = gathered kind unpurged es (length es) in (
+      all.0,
+      all_gathered kind unpurged modules all.0 sound
+          (subst (λ l. Gathered kind unpurged l all.0) (take_all (length es) es (omega arith)) all.1),
+    )
+
+pub swept : (modules : Loaded Forms) (t : Table) (unpurged : List Unpurged) → IsSound modules →
+    (names : List (List ℕ)) × AreSwept modules t unpurged names
+swept modules t unpurged sound =
+    let soft = noted Soft modules unpurged sound in
+    let left = filter (is_left_alone modules t) soft.0 in
+    (left, left_alone modules t unpurged soft.0 left soft.1 refl)
+
+pub purged_names : (b : Bool) (n : NodeState) → IsSound n.modules → (names : List (List ℕ)) × ArePurged b n names
+purged_names true n sound = ([], refl)
+purged_names false n sound = noted Brutal n.modules n.unpurged sound
