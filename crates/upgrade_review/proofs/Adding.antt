@@ -1,0 +1,105 @@
+-- What has come to some findings, step by step.
+use Rattle.std.proofs.Common.{◌≡◌, ◌≢◌, ℕ, ◌+◌, ◌<◌, ◌≤◌, List, [], ◌∷◌, ◌++◌, Contains, ◌⊎◌, inl, inr, Some, length, get_or}
+use Rattle.std.proofs.Common.{refl, sym, subst, arith}
+use Rattle.std.proofs.lemmas.Bool.{cases_lt}
+use Rattle.std.proofs.lemmas.List.Elements.{Contains-append_left, Contains-get_or, Contains-push, Contains-push_cases}
+use Rattle.std.proofs.lemmas.List.Quantifiers.{all_pairs_push}
+use Rattle.std.proofs.lemmas.Option.{slice_get_read, slice_get_within}
+use Rattle.std.specs.List.{slice_get}
+use Rattle.upgrade_review.specs.Gathering.{Adds, FromEach}
+use Rattle.upgrade_review.specs.declared.finding.Finding.{Finding}
+
+-- nothing comes where there is nothing of a kind
+pub adds_nothing : (P : Finding → Type 0) (found : List Finding) → ((f : Finding) → P f → ⊥) → Adds P found found
+adds_nothing P found never = record {
+  all = λ f. ((λ there. inl there), (λ both. elim both [ inl there ↦ there | inr p ↦ absurd (never f p) ]));
+  once = λ different. different;
+}
+
+-- what comes of a kind comes of each kind that is the same
+pub adds_alike : (P Q : Finding → Type 0) (old new : List Finding) → ((f : Finding) → P f → Q f) → ((f : Finding) → Q f → P f) →
+    Adds P old new → Adds Q old new
+adds_alike P Q old new to from adds = record {
+  all = λ f. (
+    (λ there. elim ((adds.all f).0 there) [ inl before ↦ inl before | inr p ↦ inr (to f p) ]),
+    (λ both. elim both [ inl before ↦ (adds.all f).1 (inl before) | inr q ↦ (adds.all f).1 (inr (from f q)) ]),
+  );
+  once = adds.once;
+}
+
+-- first one kind, and then another
+pub adds_both : (P Q : Finding → Type 0) (old between new : List Finding) → Adds P old between → Adds Q between new →
+    Adds (λ f. P f ⊎ Q f) old new
+adds_both P Q old between new first second = record {
+  all = λ f. (
+    (λ there. elim ((second.all f).0 there) [
+      | inl before ↦ elim ((first.all f).0 before) [ inl there ↦ inl there | inr p ↦ inr (inl p) ]
+      | inr q ↦ inr (inr q)
+    ]),
+    (λ both. elim both [
+      | inl before ↦ (second.all f).1 (inl ((first.all f).1 (inl before)))
+      | inr either ↦ elim either [ inl p ↦ (second.all f).1 (inl ((first.all f).1 (inr p))) | inr q ↦ (second.all f).1 (inr q) ]
+    ]),
+  );
+  once = λ different. second.once (first.once different);
+}
+
+-- a finding that isn't there is put behind
+pub adds_new : (finding : Finding) (found : List Finding) → (Contains found finding → ⊥) →
+    Adds (λ f. f ≡ finding) found (found ++ finding ∷ [])
+adds_new finding found absent = record {
+  all = λ f. (
+    (λ there. elim (Contains-push_cases found finding f there) [ inl before ↦ inl before | inr same ↦ inr (sym same) ]),
+    (λ both. elim both [
+      | inl before ↦ Contains-append_left found (finding ∷ []) f before
+      | inr same ↦ subst (Contains (found ++ finding ∷ [])) (sym same) (Contains-push found finding)
+    ]),
+  );
+  once = λ different. all_pairs_push (λ one another. one ≢ another) found finding different
+      (λ k d within same. absent (subst (Contains found) same (Contains-get_or found k d within)));
+}
+
+-- a finding that is there stays
+pub adds_known : (finding : Finding) (found : List Finding) → Contains found finding → Adds (λ f. f ≡ finding) found found
+adds_known finding found there = record {
+  all = λ f. (
+    (λ before. inl before),
+    (λ both. elim both [ inl before ↦ before | inr same ↦ subst (Contains found) (sym same) there ]),
+  );
+  once = λ different. different;
+}
+
+-- a finding about one of the first items of a list
+abbrev pub UpTo : {X : Type 0} → (ℕ → X → Finding → Type 0) → List X → ℕ → Finding → Type 0
+UpTo {X} R xs n f = (i : ℕ) × (x : X) × (i < n) × (slice_get xs i ≡ Some x) × R i x f
+
+module _ {X : Type 0} (R : ℕ → X → Finding → Type 0) (xs : List X) where
+  -- before the first item nothing has come
+  pub begins : (found : List Finding) → Adds (UpTo R xs 0) found found
+  begins found = adds_nothing (UpTo R xs 0) found (λ f none. omega (arith, none.2))
+
+  more : (n : ℕ) (x : X) (f : Finding) → slice_get xs n ≡ Some x → UpTo R xs n f ⊎ R n x f → UpTo R xs (n + 1) f
+  more n x f is both = elim both [ inl w ↦ (w.0, w.1, omega (arith, w.2), w.3, w.4) | inr here ↦ (n, x, omega arith, is, here) ]
+
+  less : (n : ℕ) (x : X) (f : Finding) → slice_get xs n ≡ Some x → UpTo R xs (n + 1) f → UpTo R xs n f ⊎ R n x f
+  less n x f is w = elim (cases_lt w.0 n) [
+    | inl below ↦ inl (w.0, w.1, below, w.3, w.4)
+    | inr above ↦ let at : w.0 ≡ n = omega (arith, w.2) in
+        let there : slice_get xs n ≡ Some w.1 = subst (λ i. slice_get xs i ≡ Some w.1) at w.3 in
+        let item : w.1 ≡ x = cc in
+        inr (subst (λ y. R n y f) item (subst (λ i. R i w.1 f) at w.4))
+  ]
+
+  -- the next item has its turn
+  pub goes_on : (n : ℕ) (x : X) (old between new : List Finding) → n < length xs → x ≡ get_or xs n x →
+      Adds (UpTo R xs n) old between → Adds (R n x) between new → Adds (UpTo R xs (n + 1)) old new
+  goes_on n x old between new within item before here =
+      let is : slice_get xs n ≡ Some x = slice_get_read xs (length xs) n x refl within item in
+      adds_alike (λ f. UpTo R xs n f ⊎ R n x f) (UpTo R xs (n + 1)) old new (λ f both. more n x f is both)
+      (λ f w. less n x f is w) (adds_both (UpTo R xs n) (R n x) old between new before here)
+
+  -- behind the last item all have had their turn
+  pub ends : (n : ℕ) (old new : List Finding) → length xs ≤ n → Adds (UpTo R xs n) old new → Adds (FromEach R xs) old new
+  ends n old new all = adds_alike (UpTo R xs n) (FromEach R xs) old new
+      (λ f w. (w.0, w.1, w.3, w.4))
+      (λ f w. (w.0, w.1, (let within : w.0 < length xs = slice_get_within xs w.0 w.1 w.2 in omega arith), w.2, w.3))

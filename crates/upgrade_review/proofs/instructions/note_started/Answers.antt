@@ -1,0 +1,11 @@
+-- There is one.
+use Rattle.std.proofs.Common.{ap}
+use Rattle.std.specs.Option.{option_copied}
+use Rattle.upgrade_review.proofs.Noting.{noted_of}
+use Rattle.upgrade_review.specs.Gathering.{IsStart}
+use Rattle.upgrade_review.proofs.instructions.note_started.Goals as goal
+
+pub returns-in-Some : goal.returns-in-Some
+returns-in-Some c =
+    let app = option_copied c.args.app in
+    noted_of _ (IsStart c.args.script.now c.args.index) app _ _ _ (ap option_copied c.in-Some.is) c.note_start.ensures

@@ -1,0 +1,4 @@
+pub mod Codes
+pub mod Findings
+pub mod Gathering
+pub mod Scripts

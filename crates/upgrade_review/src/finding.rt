@@ -1,0 +1,122 @@
+// Findings, and how they are gathered.
+ghost use Rattle.std.specs.Prelude.{◌≡◌, ◌↔◌, Contains, IsTrue, OnOk};
+ghost use Rattle.upgrade_review.specs.Gathering.{Adds};
+
+use erl_term::Atom;
+use release_words::{copied_variants, same_variants};
+use std::alloc::{AllocError, Global};
+use values::{Duplicate, Same};
+
+/// What is likely wrong with an upgrade, and where. An index is that of an instruction of the script, from 0.
+#[derive(Drop)]
+pub enum Finding {
+    /// An application of the release that is installed has this module, the release that is left has it not, or not so, and no
+    /// instruction loads it. The node goes on with the code that it has, until it is restarted. Load the module, or see that
+    /// nobody needs the new code before a restart.
+    NotLoaded {
+        /// The application.
+        application: Atom,
+        /// The module.
+        module: Atom,
+    },
+    /// This module is loaded, though both releases have the same code of it, and no application that has it is started. Its old
+    /// code is purged for nothing, with the processes that run it. Take the instruction out, and those that are there for it.
+    LoadedAgain {
+        /// Where it is loaded.
+        index: usize,
+        /// The module.
+        module: Atom,
+    },
+    /// Processes are to change their state by this module, and the code that it has then exports no `code_change/3`. The upgrade
+    /// fails at the first of them that the script has suspended. Write the function, or take the module out of the instruction.
+    /// A callback module of an application isn't told, for the change of its code is that of a supervisor.
+    NoCodeChange {
+        /// Where their state is changed.
+        index: usize,
+        /// The module.
+        module: Atom,
+    },
+    /// This application is started, and no instruction before stops it. That is right for one that the upgrade adds; the start
+    /// of one that runs already fails, and the upgrade with it.
+    Starts {
+        /// Where it is started.
+        index: usize,
+        /// The application.
+        application: Atom,
+    },
+    /// This application is started, and an instruction before stops it. It serves nobody in between, and its processes lose
+    /// their state. Upgrade its modules instead, where they are to keep it.
+    Restarts {
+        /// Where it is started again.
+        index: usize,
+        /// The application.
+        application: Atom,
+    },
+    /// This application is stopped, and no instruction behind starts it. That is right for one that the upgrade takes away.
+    Stops {
+        /// Where it is stopped.
+        index: usize,
+        /// The application.
+        application: Atom,
+    },
+    /// No script leads down again: nothing but a restart leads back to the release that is left. Write the instructions for the
+    /// way down, or see that nobody needs it.
+    NoWayDown,
+    /// This module is loaded on the way up, and the script that leads down neither loads nor removes it. After both the node has
+    /// its new code in the old release. Load its old code on the way down, or remove it.
+    NotUndone {
+        /// Where it is loaded on the way up.
+        index: usize,
+        /// The module.
+        module: Atom,
+    },
+}
+
+impl Same for Finding {
+    fn same(&self, other: &Finding) -> bool {
+        same_variants!(
+            self, other, Finding,
+            NotLoaded { application: a, module: m }
+            LoadedAgain { index: i, module: m }
+            NoCodeChange { index: i, module: m }
+            Starts { index: i, application: a }
+            Restarts { index: i, application: a }
+            Stops { index: i, application: a }
+            NoWayDown {}
+            NotUndone { index: i, module: m }
+        )
+    }
+}
+
+impl Duplicate for Finding {
+    fn copy(&self, alloc: Global) -> Result<Finding, AllocError> {
+        copied_variants!(
+            self, alloc, Finding,
+            NotLoaded { application, module }
+            LoadedAgain { index, module }
+            NoCodeChange { index, module }
+            Starts { index, application }
+            Restarts { index, application }
+            Stops { index, application }
+            NoWayDown {}
+            NotUndone { index, module }
+        )
+    }
+}
+
+/// Whether a finding is among others.
+fn is_among(found: &[Finding], finding: &Finding) -> bool
+    ensures { IsTrue result ↔ Contains found.now finding.now }
+{
+    found.iter().any(|one| one.same(finding))
+}
+
+/// Puts a finding behind others, unless it is there.
+pub(crate) fn note(found: &mut Vec<Finding>, finding: Finding) -> Result<(), AllocError>
+    ensures { OnOk result (Adds (λ f. f ≡ finding) found.old.items found.new.items) }
+{
+    if !is_among(found.as_slice(), &finding) {
+        found.push(finding)?;
+    }
+    Ok(())
+}
