@@ -10,8 +10,15 @@ def files():
             for f in fs:
                 if os.path.splitext(f)[1] in EXT: yield os.path.join(d, f)
 TEXT = {}
+ORIGINAL = {}
 def load():
-    for f in files(): TEXT[f] = open(f, encoding='utf-8').read()
+    for f in files(): TEXT[f] = ORIGINAL[f] = open(f, encoding='utf-8').read()
+def target_of(f):
+    """The file that an edit is of."""
+    m = re.match(r"file: (\S+)", ORIGINAL.get(f, ''))
+    return f"crates/{f.split('/')[1]}/{m.group(1)}" if f.endswith('.edit') and m else None
+def is_imported(text, path, old):
+    return any(canon(u.group(1)) == path and u.group(2) is not None and old in [x.strip() for x in u.group(2).split(',')] for u in USE.finditer(text))
 def word(n): return re.compile(r"(?<![A-Za-z0-9_'])" + re.escape(n) + r"(?![A-Za-z0-9_'])")
 # words that are neither joined by '-' (generated names and lemmas) nor behind a dot
 def bare(n): return re.compile(r"(?<![A-Za-z0-9_'.\-:])" + re.escape(n) + r"(?![A-Za-z0-9_'\-])")
@@ -69,6 +76,8 @@ def spec(path, old, new):
         if not word(old).search(s): continue
         scope, mods, out = False, [], s
         if own_path(f) == path: scope = True
+        at = target_of(f)
+        if at and (own_path(at) == path or is_imported(ORIGINAL.get(at, ''), path, old)): scope = True
         for u in USE.finditer(s):
             p = canon(u.group(1))
             if u.group(2) is not None and p == path:
@@ -117,7 +126,8 @@ def type_(crate, module, old, new, carriers=()):
             if here == crate:
                 if f.startswith('edits/'): scope_rust = True
                 if re.search(r"\b(?:struct|enum) " + old + r"\b", s): scope_rust = True
-            for u in RUSE.finditer(s):
+            at = target_of(f)
+            for u in RUSE.finditer(ORIGINAL.get(at, s) if at else s):
                 head = u.group(1).rstrip(':').split('::')
                 names = re.split(r"[,{}\s]+", u.group(2))
                 if old not in names: continue

@@ -128,10 +128,6 @@ exec(open(os.path.join(os.path.dirname(os.path.abspath(__file__)), 'docs.py')).r
 def fix(f, a, b):
     if os.path.exists(f):
         s = open(f).read(); assert a in s, f; open(f, 'w').write(s.replace(a, b))
-fix('edits/children_live/children_that_nobody_started.edit', ' Runs code (module_of', ' RunsStartModule code (module_of')
-fix('edits/script_laws/busy_and_carried_out.edit', 'Does r i p q told', 'RunsInstruction r i p q told')
-fix('edits/shell_exec/cast_told_as_info.edit', 'Body::', 'ClientMessage::')
-fix('edits/worker_lines/casts_are_infos.edit', 'Body::', 'ClientMessage::')
 
 def mvin(c, n): os.makedirs(f"crates/{c}/must-fail", exist_ok=True); mv(f"edits/{c}/{n}.edit", f"crates/{c}/must-fail/{n}.edit")
 def mvout(c, n):
