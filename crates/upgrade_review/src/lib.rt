@@ -30,9 +30,9 @@
 
 mod codes;
 mod finding;
-mod instructions;
 mod looking;
 mod modules;
+mod script_findings;
 mod scripts;
 
 pub use finding::Finding;

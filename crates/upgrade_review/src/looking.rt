@@ -5,8 +5,8 @@ ghost use Rattle.upgrade_review.specs.Findings.{AreDifferent, IsAmiss, IsFound};
 ghost use Rattle.upgrade_review.specs.declared.finding.Finding.{Finding};
 
 use crate::finding::{Finding, note};
-use crate::instructions::{note_instructions, note_not_undone};
 use crate::modules::note_not_loaded;
+use crate::script_findings::{note_instructions, note_not_undone};
 use low_instructions::Low;
 use release_table::Release;
 use std::alloc::{AllocError, Global};

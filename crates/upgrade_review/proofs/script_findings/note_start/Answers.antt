@@ -4,7 +4,7 @@ use Rattle.upgrade_review.proofs.Noting.{noted}
 use Rattle.upgrade_review.specs.Gathering.{IsStart}
 use Rattle.upgrade_review.specs.Scripts.{is_stopped}
 use Rattle.upgrade_review.specs.declared.finding.Finding.TheVariants.{Restarts, Starts}
-use Rattle.upgrade_review.proofs.instructions.note_start.Goals as goal
+use Rattle.upgrade_review.proofs.script_findings.note_start.Goals as goal
 
 pub returns-then-is_stopped : goal.returns-then-is_stopped
 returns-then-is_stopped c =

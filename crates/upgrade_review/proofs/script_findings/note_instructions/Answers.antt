@@ -1,7 +1,7 @@
 -- The next one has its turn, and then none is left.
 use Rattle.upgrade_review.proofs.Adding.{ends, goes_on}
 use Rattle.upgrade_review.specs.Gathering.{IsFoundAt}
-use Rattle.upgrade_review.proofs.instructions.note_instructions.Goals as goal
+use Rattle.upgrade_review.proofs.script_findings.note_instructions.Goals as goal
 
 pub loop-index-preserved : goal.loop-index-preserved
 loop-index-preserved c =

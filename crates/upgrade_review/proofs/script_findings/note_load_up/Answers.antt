@@ -4,7 +4,7 @@ use Rattle.upgrade_review.proofs.Noting.{noted}
 use Rattle.upgrade_review.specs.Gathering.{IsNotUndone}
 use Rattle.upgrade_review.specs.Scripts.{is_loaded, is_removed}
 use Rattle.upgrade_review.specs.declared.finding.Finding.TheVariants.{NotUndone}
-use Rattle.upgrade_review.proofs.instructions.note_load_up.Goals as goal
+use Rattle.upgrade_review.proofs.script_findings.note_load_up.Goals as goal
 
 pub returns : goal.returns
 returns c =

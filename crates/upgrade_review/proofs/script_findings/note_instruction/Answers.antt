@@ -6,7 +6,7 @@ use Rattle.upgrade_review.proofs.Noting.{noted_both}
 use Rattle.upgrade_review.specs.Gathering.{Adds, IsFoundAt, IsStart, IsStop, IsUnchangedOf, OfApp}
 use Rattle.upgrade_review.specs.Scripts.{started_by, stopped_by}
 use Rattle.upgrade_review.specs.declared.finding.Finding.{Finding}
-use Rattle.upgrade_review.proofs.instructions.note_instruction.Goals as goal
+use Rattle.upgrade_review.proofs.script_findings.note_instruction.Goals as goal
 
 pub returns-in-Load : goal.returns-in-Load
 returns-in-Load c =

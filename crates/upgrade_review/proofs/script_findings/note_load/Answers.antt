@@ -4,7 +4,7 @@ use Rattle.upgrade_review.proofs.Noting.{noted}
 use Rattle.upgrade_review.specs.Codes.{is_started_with}
 use Rattle.upgrade_review.specs.Gathering.{IsKept, IsLoadedAgain}
 use Rattle.upgrade_review.specs.declared.finding.Finding.TheVariants.{LoadedAgain}
-use Rattle.upgrade_review.proofs.instructions.note_load.Goals as goal
+use Rattle.upgrade_review.proofs.script_findings.note_load.Goals as goal
 
 pub returns : goal.returns
 returns c =

@@ -2,7 +2,7 @@
 use Rattle.std.proofs.Common.{OnOk, sym, subst}
 use Rattle.low_instructions.specs.declared.low.Low.{Low}
 use Rattle.upgrade_review.specs.Gathering.{Adds, IsNotUndoneAt}
-use Rattle.upgrade_review.proofs.instructions.note_instruction_up.Goals as goal
+use Rattle.upgrade_review.proofs.script_findings.note_instruction_up.Goals as goal
 
 pub returns-in-Load : goal.returns-in-Load
 returns-in-Load c =

@@ -4,7 +4,7 @@ use Rattle.upgrade_review.proofs.Noting.{noted}
 use Rattle.upgrade_review.specs.Codes.{code_behind, is_callback_module}
 use Rattle.upgrade_review.specs.Gathering.{IsUnchanged, LacksCodeChange}
 use Rattle.upgrade_review.specs.declared.finding.Finding.TheVariants.{NoCodeChange}
-use Rattle.upgrade_review.proofs.instructions.note_change.Goals as goal
+use Rattle.upgrade_review.proofs.script_findings.note_change.Goals as goal
 
 pub returns : goal.returns
 returns c =

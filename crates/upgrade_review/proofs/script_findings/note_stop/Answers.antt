@@ -5,7 +5,7 @@ use Rattle.upgrade_review.proofs.Noting.{noted}
 use Rattle.upgrade_review.specs.Gathering.{IsStop}
 use Rattle.upgrade_review.specs.Scripts.{is_started}
 use Rattle.upgrade_review.specs.declared.finding.Finding.TheVariants.{Stops}
-use Rattle.upgrade_review.proofs.instructions.note_stop.Goals as goal
+use Rattle.upgrade_review.proofs.script_findings.note_stop.Goals as goal
 
 pub returns : goal.returns
 returns c =

@@ -4,7 +4,7 @@ use Rattle.low_instructions.specs.declared.modules.ModuleChange.{ModuleChange}
 use Rattle.upgrade_review.proofs.Adding.{ends, goes_on}
 use Rattle.upgrade_review.specs.Gathering.{IsUnchanged}
 use Rattle.upgrade_review.specs.declared.finding.Finding.{Finding}
-use Rattle.upgrade_review.proofs.instructions.note_changes.Goals as goal
+use Rattle.upgrade_review.proofs.script_findings.note_changes.Goals as goal
 
 pub loop-change-preserved : goal.loop-change-preserved
 loop-change-preserved c =

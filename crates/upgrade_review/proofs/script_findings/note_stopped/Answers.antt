@@ -3,7 +3,7 @@ use Rattle.std.proofs.Common.{ap}
 use Rattle.std.specs.Option.{option_copied}
 use Rattle.upgrade_review.proofs.Noting.{noted_of}
 use Rattle.upgrade_review.specs.Gathering.{IsStop}
-use Rattle.upgrade_review.proofs.instructions.note_stopped.Goals as goal
+use Rattle.upgrade_review.proofs.script_findings.note_stopped.Goals as goal
 
 pub returns-in-Some : goal.returns-in-Some
 returns-in-Some c =

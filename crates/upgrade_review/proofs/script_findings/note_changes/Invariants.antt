@@ -3,7 +3,7 @@ use Rattle.std.proofs.Common.{ℕ}
 use Rattle.low_instructions.specs.declared.modules.ModuleChange.{ModuleChange}
 use Rattle.upgrade_review.proofs.Adding.{UpTo}
 use Rattle.upgrade_review.specs.Gathering.{Adds, IsUnchanged}
-use Rattle.upgrade_review.proofs.instructions.note_changes.Given as goal
+use Rattle.upgrade_review.proofs.script_findings.note_changes.Given as goal
 
 abbrev pub invariant-loop-change : goal.invariant-loop-change
 invariant-loop-change l =
