@@ -13,6 +13,7 @@ def run(script):
 
 
 run("table.py")
+run("aliases.py")
 run("wrap.py")
 for _ in range(2):
     for crate in sorted(os.listdir("crates")):
