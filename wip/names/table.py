@@ -129,6 +129,11 @@ def fix(f, a, b):
     if os.path.exists(f):
         s = open(f).read(); assert a in s, f; open(f, 'w').write(s.replace(a, b))
 
+# the folder of the proofs that a shell session is a session of lines
+if os.path.isdir('crates/node_shell/proofs/shell/ShellSession'):
+    mv('crates/node_shell/proofs/shell/ShellSession', 'crates/node_shell/proofs/shell/ShellSessionSession')
+    for x in ('line', 'too_long'):
+        fix(f'crates/node_shell/proofs/shell/ShellSessionSession/{x}/Answers.antt', 'proofs.shell.ShellSession.', 'proofs.shell.ShellSessionSession.')
 def mvin(c, n): os.makedirs(f"crates/{c}/must-fail", exist_ok=True); mv(f"edits/{c}/{n}.edit", f"crates/{c}/must-fail/{n}.edit")
 def mvout(c, n):
     os.makedirs(f"edits/{c}", exist_ok=True); mv(f"crates/{c}/must-fail/{n}.edit", f"edits/{c}/{n}.edit")

@@ -66,6 +66,8 @@ n = 0
 for d, ds, fs in os.walk('crates'):
     ds[:] = [x for x in ds if x not in ('out', 'data')]
     if len(d.split('/')) < 3 or d.split('/')[2] not in ('src', 'specs'): continue
+    # the tables of tests are texts, a case a line
+    if d.split('/')[1].endswith('_tests'): continue
     for f in fs:
         if not f.endswith(('.rt', '.antt')): continue
         p = os.path.join(d, f)
