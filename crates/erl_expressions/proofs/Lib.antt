@@ -1,4 +1,5 @@
 pub mod ByLevels
+pub mod Dots
 pub mod Inversion
 pub mod Lengths
 pub mod Levels

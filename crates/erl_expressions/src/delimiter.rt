@@ -1,7 +1,9 @@
 // What stands between and behind the parts of an expression.
-ghost use Rattle.std.specs.Prelude.{◌≡◌, ℕ};
+ghost use Rattle.std.specs.Prelude.{◌≡◌, ℕ, false, IfSome};
+ghost use Rattle.std.specs.Bool.{OnTrue};
 ghost use Rattle.std.specs.Option.{option_map};
 ghost use Rattle.erl_syntax.specs.Terminal.{terminal_at, terminals};
+ghost use Rattle.erl_expressions.specs.Refusing.{Leaves, ends_form};
 ghost use Rattle.erl_expressions.specs.Delimiters.{is_delimiter as is_delimiter_in, after as after_in};
 
 use erl_scan::{Mark, Spot, Token, Word};
@@ -33,7 +35,8 @@ pub enum Delimiter {
 
 /// The tokens behind a delimiter; none where they don't begin with it. Takes no memory.
 pub fn after<'a>(delimiter: Delimiter, tokens: &'a [Spot]) -> Option<&'a [Spot]>
-    ensures { option_map (λ rest. terminals rest.now) result ≡ after_in delimiter (terminals tokens.now) }
+    ensures is { option_map (λ rest. terminals rest.now) result ≡ after_in delimiter (terminals tokens.now) }
+    ensures leaves { IfSome result (λ rest. Leaves tokens.now rest.now) }
 {
     let (first, rest) = tokens.split_first()?;
     if is_delimiter(delimiter, &first.what) {
@@ -45,7 +48,8 @@ pub fn after<'a>(delimiter: Delimiter, tokens: &'a [Spot]) -> Option<&'a [Spot]>
 
 /// Whether a token is this delimiter.
 fn is_delimiter(delimiter: Delimiter, token: &Token) -> bool
-    ensures { (at : ℕ) → result ≡ is_delimiter_in delimiter (terminal_at token.now at) }
+    ensures is { (at : ℕ) → result ≡ is_delimiter_in delimiter (terminal_at token.now at) }
+    ensures no_dot { OnTrue result (ends_form token.now ≡ false) }
 {
     match delimiter {
         Delimiter::Comma => matches!(token, Token::Mark(Mark::Comma)),

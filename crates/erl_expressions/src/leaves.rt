@@ -1,10 +1,12 @@
 // The leaf that tokens begin with.
-ghost use Rattle.std.specs.Prelude.{◌≡◌, IfOk, MatchOption, Some, None, codes};
+ghost use Rattle.std.specs.Prelude.{◌≡◌, IfOk, IfSome, MatchOption, Some, None, false, codes};
+ghost use Rattle.std.specs.Bool.{OnTrue};
 ghost use Rattle.std.specs.Str.{bytes_eq};
 ghost use Rattle.erl_syntax.specs.Terminal.{terminals};
 ghost use Rattle.erl_expressions.specs.Leaves.{leaf_ahead as leaf_in, leaf_behind as leaf_behind_in, number_ahead as number_in};
 ghost use Rattle.erl_expressions.specs.Leaves.{module_ahead as module_in, call_ahead as call_in, colon_ahead as colon_in, paren_ahead as paren_in, atom_ahead as atom_in};
 ghost use Rattle.erl_expressions.specs.Leaves.{joined_strings as joined_in, string_ahead as string_in};
+ghost use Rattle.erl_expressions.specs.Refusing.{Leaves, begins_with_dot};
 
 use erl_scan::{Mark, Name, SharedText, Spot, Text, Token};
 use erl_syntax::{Leaf, Named, Sign};
@@ -19,8 +21,9 @@ pub(crate) type LeafAhead<'a> = Option<(Leaf, &'a [Spot])>;
 #[inline(always)]
 #[tactic(auto, unfolding(crate::specs::Leaves::leaf_ahead))]
 pub(crate) fn leaf_ahead<'a>(alloc: Global, tokens: &'a [Spot]) -> Result<LeafAhead<'a>, AllocError>
-    ensures { IfOk result (λ found. MatchOption found (leaf_in (terminals tokens.now) ≡ None)
+    ensures is { IfOk result (λ found. MatchOption found (leaf_in (terminals tokens.now) ≡ None)
         (λ f. leaf_in (terminals tokens.now) ≡ Some (f.0, terminals f.1.now))) }
+    ensures leaves { IfOk result (λ found. IfSome found (λ f. Leaves tokens.now f.1.now)) }
 {
     let Some((first, rest)) = tokens.split_first() else {
         return Ok(None);
@@ -37,8 +40,9 @@ pub(crate) fn leaf_ahead<'a>(alloc: Global, tokens: &'a [Spot]) -> Result<LeafAh
 
 /// An atom, where it is no name in a call, with the tokens behind it.
 fn atom_ahead<'a>(name: &Name, at: usize, rest: &'a [Spot]) -> Result<LeafAhead<'a>, AllocError>
-    ensures { IfOk result (λ found. MatchOption found (atom_in name.now at (terminals rest.now) ≡ None)
+    ensures is { IfOk result (λ found. MatchOption found (atom_in name.now at (terminals rest.now) ≡ None)
         (λ f. atom_in name.now at (terminals rest.now) ≡ Some (f.0, terminals f.1.now))) }
+    ensures leaves { IfOk result (λ found. IfSome found (λ f. Leaves rest.now f.1.now)) }
 {
     if call_ahead(rest) {
         return Ok(None);
@@ -54,8 +58,9 @@ fn strings_ahead<'a>(
     first: &Text,
     tokens: &'a [Spot],
 ) -> Result<LeafAhead<'a>, AllocError>
-    ensures { IfOk result (λ found. MatchOption found (joined_in first.now (terminals tokens.now) ≡ None)
+    ensures is { IfOk result (λ found. MatchOption found (joined_in first.now (terminals tokens.now) ≡ None)
         (λ f. joined_in first.now (terminals tokens.now) ≡ Some (f.0, terminals f.1.now))) }
+    ensures leaves { IfOk result (λ found. IfSome found (λ f. Leaves tokens.now f.1.now)) }
 {
     let mut strings = Vec::new(alloc);
     strings.push(copied(alloc, first)?)?;
@@ -69,8 +74,9 @@ fn strings_ahead<'a>(
 
 /// The string that tokens begin with, and the tokens behind it.
 fn string_ahead<'a>(tokens: &'a [Spot]) -> Option<(&'a Text, &'a [Spot])>
-    ensures { MatchOption result (string_in (terminals tokens.now) ≡ None)
+    ensures is { MatchOption result (string_in (terminals tokens.now) ≡ None)
         (λ f. string_in (terminals tokens.now) ≡ Some (f.0.now, terminals f.1.now)) }
+    ensures leaves { IfSome result (λ f. Leaves tokens.now f.1.now) }
 {
     let (first, rest) = tokens.split_first()?;
     match &first.what {
@@ -86,8 +92,9 @@ fn leaf_behind<'a>(
     mark: Mark,
     tokens: &'a [Spot],
 ) -> Result<LeafAhead<'a>, AllocError>
-    ensures { IfOk result (λ found. MatchOption found (leaf_behind_in mark (terminals tokens.now) ≡ None)
+    ensures is { IfOk result (λ found. MatchOption found (leaf_behind_in mark (terminals tokens.now) ≡ None)
         (λ f. leaf_behind_in mark (terminals tokens.now) ≡ Some (f.0, terminals f.1.now))) }
+    ensures leaves { IfOk result (λ found. IfSome found (λ f. Leaves tokens.now f.1.now)) }
 {
     match mark {
         Mark::Plus => Ok(number_ahead(Sign::Plus, tokens)),
@@ -99,8 +106,9 @@ fn leaf_behind<'a>(
 
 /// The integer that tokens begin with, behind a sign.
 fn number_ahead<'a>(sign: Sign, tokens: &'a [Spot]) -> LeafAhead<'a>
-    ensures { MatchOption result (number_in sign (terminals tokens.now) ≡ None)
+    ensures is { MatchOption result (number_in sign (terminals tokens.now) ≡ None)
         (λ f. number_in sign (terminals tokens.now) ≡ Some (f.0, terminals f.1.now)) }
+    ensures leaves { IfSome result (λ f. Leaves tokens.now f.1.now) }
 {
     let (first, rest) = tokens.split_first()?;
     match &first.what {
@@ -111,8 +119,9 @@ fn number_ahead<'a>(sign: Sign, tokens: &'a [Spot]) -> LeafAhead<'a>
 
 /// The word of `?MODULE`, where no call of a function of the module follows.
 fn module_ahead<'a>(tokens: &'a [Spot]) -> LeafAhead<'a>
-    ensures { MatchOption result (module_in (terminals tokens.now) ≡ None)
+    ensures is { MatchOption result (module_in (terminals tokens.now) ≡ None)
         (λ f. module_in (terminals tokens.now) ≡ Some (f.0, terminals f.1.now)) }
+    ensures leaves { IfSome result (λ f. Leaves tokens.now f.1.now) }
 {
     let (first, rest) = tokens.split_first()?;
     match &first.what {
@@ -142,7 +151,8 @@ fn call_ahead(tokens: &[Spot]) -> bool
 
 /// Whether tokens begin with an opening parenthesis.
 pub(crate) fn paren_ahead(tokens: &[Spot]) -> bool
-    ensures { result ≡ paren_in (terminals tokens.now) }
+    ensures is { result ≡ paren_in (terminals tokens.now) }
+    ensures no_dot { OnTrue result (begins_with_dot tokens.now ≡ false) }
 {
     match tokens.first() {
         Some(first) => matches!(first.what, Token::Mark(Mark::OpenParen)),
@@ -152,7 +162,8 @@ pub(crate) fn paren_ahead(tokens: &[Spot]) -> bool
 
 /// Whether tokens begin with a colon.
 pub(crate) fn colon_ahead(tokens: &[Spot]) -> bool
-    ensures { result ≡ colon_in (terminals tokens.now) }
+    ensures is { result ≡ colon_in (terminals tokens.now) }
+    ensures no_dot { OnTrue result (begins_with_dot tokens.now ≡ false) }
 {
     match tokens.first() {
         Some(first) => matches!(first.what, Token::Mark(Mark::Colon)),

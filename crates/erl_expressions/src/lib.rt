@@ -12,6 +12,9 @@
 //!   the tree is one of its role (`IsWell`), and it is nested at most so many levels (`BeginsWith`).
 //! - [`read_tree`], `refused`: where a refusal is told, the tokens begin with no such tree that what follows it doesn't go on
 //!   with (`Stops`). So no text of the grammar is refused.
+//! - [`read_tree`], `told`: a refusal is told of one of the tokens, up to the first dot, or of their end, where there is none
+//!   (`IsToldOf`). What
+//!   is read has no dot either (`Leaves`).
 //! - [`trees_read_one_way`]: tokens begin in one way with such a tree (`OneTree`). So the grammar is unambiguous: operators
 //!   group in one way alone.
 //! - [`after`] gives the tokens behind a delimiter exactly where they begin with it.
@@ -24,9 +27,9 @@
 //! That the tree which is found is the longest: `found` says of the tokens behind it only that they follow it. Where they don't
 //! go on with it (`Stops`), as a delimiter doesn't, [`trees_read_one_way`] says that there is no other such tree.
 //!
-//! Which kind a [`Refusal`] has, and its place: `refusal` and the reader choose them, and the tests of `expressions_tests` see
-//! them. The token at which a text can't go on is told, from left to right; what Erlang has but this profile hasn't is
-//! `Unsupported` at the token that shows it, an operator at itself.
+//! Which reason a [`Refusal`] has, and at which token it is told: `refusal` and the reader choose them, and the tests of
+//! `expressions_tests` see them. The token at which a text can't go on is told, from left to right; what Erlang has but this
+//! profile hasn't is `Unsupported` at the token that shows it, an operator at itself.
 //!
 //! That there is memory, and what a call costs. Reading takes time and memory for each token that it steps over; left of `=`
 //! the whole tree is looked at again, which is right for short patterns, and at most as often as matches are nested. What is
@@ -48,5 +51,5 @@ mod whole;
 pub use delimiter::{Delimiter, after};
 pub use parts::{read_body, read_clauses, read_guard, read_pattern, read_patterns};
 pub use reader::Reading;
-pub use refusal::Refusal;
+pub use refusal::{Reason, Refusal};
 pub use whole::{read_tree, trees_read_one_way};

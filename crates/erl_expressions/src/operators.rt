@@ -1,10 +1,11 @@
 // The operator that tokens begin with.
-ghost use Rattle.std.specs.Prelude.{◌≡◌};
+ghost use Rattle.std.specs.Prelude.{◌≡◌, false, OnSome};
 ghost use Rattle.erl_syntax.specs.Terminal.{terminals};
 ghost use Rattle.erl_syntax.specs.Grammar.{level_of as level_in, left_level as left_in, right_level as right_in};
 ghost use Rattle.erl_syntax.specs.Grammar.{has_operator as has_in};
 ghost use Rattle.erl_expressions.specs.Leaves.{infix_mark as mark_in, infix_word as word_in, infix_ahead as ahead_in};
 ghost use Rattle.erl_expressions.specs.Leaves.{operator_ahead as operator_in};
+ghost use Rattle.erl_expressions.specs.Refusing.{begins_with_dot};
 
 use erl_scan::{Mark, Spot, Token, Word};
 use erl_syntax::{Infix, Role};
@@ -17,7 +18,8 @@ pub(crate) const MATCHES: u32 = 9;
 
 /// The operator that goes on with a tree of a level, where the whole has at most another.
 pub(crate) fn operator_ahead(role: Role, most: u32, left: u32, tokens: &[Spot]) -> Option<Infix>
-    ensures { result ≡ operator_in role most left (terminals tokens.now) }
+    ensures is { result ≡ operator_in role most left (terminals tokens.now) }
+    ensures no_dot { OnSome result (begins_with_dot tokens.now ≡ false) }
 {
     let op = infix_ahead(tokens)?;
     if has_operator(role, op) && level_of(op) <= most && left <= left_level(op) {
@@ -29,7 +31,8 @@ pub(crate) fn operator_ahead(role: Role, most: u32, left: u32, tokens: &[Spot]) 
 
 /// The operator that tokens begin with.
 fn infix_ahead(tokens: &[Spot]) -> Option<Infix>
-    ensures { result ≡ ahead_in (terminals tokens.now) }
+    ensures is { result ≡ ahead_in (terminals tokens.now) }
+    ensures no_dot { OnSome result (begins_with_dot tokens.now ≡ false) }
 {
     match &tokens.first()?.what {
         Token::Mark(mark) => infix_mark(*mark),

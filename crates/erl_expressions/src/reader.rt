@@ -2,6 +2,7 @@
 ghost use Rattle.std.specs.Prelude.{◌≡◌, IfOk, MatchResult, Some, None};
 ghost use Rattle.erl_syntax.specs.Terminal.{terminals};
 ghost use Rattle.erl_expressions.specs.Reading.{read as read_in};
+ghost use Rattle.erl_expressions.specs.Refusing.{Leaves, IsToldOf};
 
 pub(crate) mod brackets;
 pub(crate) mod clauses;
@@ -26,9 +27,10 @@ pub(crate) fn read<'a>(
     most: u32,
     tokens: &'a [Spot],
 ) -> Reading<'a, Deep>
-    ensures { IfOk result (λ answer. MatchResult answer
+    ensures read { IfOk result (λ answer. MatchResult answer
         (λ f. read_in levels role most (terminals tokens.now) ≡ Some (f.0, terminals f.1.now))
         (λ _. read_in levels role most (terminals tokens.now) ≡ None)) }
+    ensures told { IfOk result (λ answer. MatchResult answer (λ f. Leaves tokens.now f.1.now) (λ r. IsToldOf tokens.now r)) }
 {
     if levels == 0 {
         return operands::leaf_alone(alloc, role, most, tokens);

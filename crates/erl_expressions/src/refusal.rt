@@ -1,5 +1,7 @@
-// Why tokens are refused.
-use crate::delimiter::Delimiter;
+// Why tokens are refused, and at which of them.
+ghost use Rattle.std.specs.Prelude.{◌≡◌, ◌≤◌, length};
+ghost use Rattle.erl_expressions.specs.Refusing.{IsToldOf, Leaves};
+
 use erl_scan::{Mark, Spot, Token, Word};
 use erl_syntax::{Infix, Prefix, Role, Shape, SyntaxTree};
 
@@ -12,95 +14,133 @@ pub(crate) enum Choice {
     Receive,
 }
 
-/// Why tokens are no expression, pattern or guard, and the first byte in the source of what is told.
+/// Why tokens are no expression, pattern or guard.
 #[derive(Clone, Copy, Debug, PartialEq, Eq)]
-pub enum Refusal {
+pub enum Reason {
     /// No text goes on so.
-    Syntax(usize),
+    Syntax,
     /// Erlang has this, but it is not read here.
-    Unsupported(usize),
+    Unsupported,
     /// An integer is below -2^63 or above 2^63 - 1.
-    IntegerRange(usize),
+    IntegerRange,
     /// The tree would be nested too deep.
-    TooDeep(usize),
-    /// The tokens end inside a bracket that is opened here.
-    Unclosed(usize),
-    /// The tokens end, inside of no bracket.
-    End,
+    TooDeep,
+}
+
+/// Why tokens are no expression, pattern or guard, and at which of them that is told.
+#[derive(Clone, Copy, Debug, PartialEq, Eq)]
+pub struct Refusal {
+    /// Why. Where the tokens end too soon, it says nothing.
+    pub reason: Reason,
+    /// How many tokens there are from the one on at which it is told; none where the tokens end too soon.
+    pub left: usize,
 }
 
 impl Refusal {
-    /// The refusal of what stands inside a bracket that is opened at a byte.
-    pub fn within(self, opening: usize) -> Refusal {
-        match self {
-            Refusal::End => Refusal::Unclosed(opening),
-            other => other,
+    /// The refusal of the token that these begin with, or of the end where there is none.
+    #[tactic(auto, using(crate::proofs::Dots::from_dot_most))]
+    pub fn at(reason: Reason, tokens: &[Spot]) -> Refusal
+        ensures is { result ≡ record { reason = reason; left = length tokens.now } }
+        ensures told { IsToldOf tokens.now result }
+    {
+        Refusal {
+            reason,
+            left: tokens.len(),
         }
     }
 
-    /// The refusal of what stands before a delimiter and behind an opening at a byte.
-    pub(crate) fn before(self, close: Delimiter, opening: usize) -> Refusal {
-        match close {
-            Delimiter::End => self,
-            _ => self.within(opening),
+    /// The refusal of tokens that end too soon.
+    pub fn end() -> Refusal
+        ensures { result.left ≡ 0 }
+    {
+        Refusal {
+            reason: Reason::Syntax,
+            left: 0,
         }
     }
 
     /// The refusal of a token where an expression should begin.
-    pub(crate) fn at_start(first: &Spot) -> Refusal {
+    pub(crate) fn at_start(tokens: &[Spot]) -> Refusal
+        ensures { IsToldOf tokens.now result }
+    {
+        let Some(first) = tokens.first() else {
+            return Refusal::at(Reason::Syntax, tokens);
+        };
         match &first.what {
-            Token::Float => Refusal::Unsupported(first.at),
+            Token::Float => Refusal::at(Reason::Unsupported, tokens),
             Token::Word(
                 Word::BitNot | Word::Catch | Word::Fun | Word::If | Word::Receive | Word::Try,
-            ) => Refusal::Unsupported(first.at),
+            ) => Refusal::at(Reason::Unsupported, tokens),
             Token::Mark(Mark::OpenBinary | Mark::Hash | Mark::Plus | Mark::Question) => {
-                Refusal::Unsupported(first.at)
+                Refusal::at(Reason::Unsupported, tokens)
             }
-            _ => Refusal::Syntax(first.at),
+            _ => Refusal::at(Reason::Syntax, tokens),
         }
     }
 
     /// The refusal of a sign where an expression should begin, and of the tokens behind it: a float is told at itself.
-    pub(crate) fn at_sign(first: &Spot, rest: &[Spot]) -> Refusal {
-        match (&first.what, rest.first()) {
-            (Token::Mark(Mark::Plus), Some(number)) if matches!(number.what, Token::Float) => {
-                Refusal::Unsupported(number.at)
+    pub(crate) fn at_sign(tokens: &[Spot], rest: &[Spot]) -> Refusal
+        requires { Leaves tokens.now rest.now }
+        ensures { IsToldOf tokens.now result }
+    {
+        match (tokens.first(), rest.first()) {
+            (Some(sign), Some(number))
+                if matches!(sign.what, Token::Mark(Mark::Plus))
+                    && matches!(number.what, Token::Float) => {
+                Refusal::at(Reason::Unsupported, rest)
             }
-            (_, _) => Refusal::at_start(first),
+            (Some(sign), None) if matches!(sign.what, Token::Mark(Mark::Plus)) => {
+                Refusal::at(Reason::Syntax, rest)
+            }
+            (_, _) => Refusal::at_start(tokens),
         }
     }
 
-    /// The refusal of an operator at a byte that stands before what should be a pattern: `-` before a float is its sign.
-    pub(crate) fn before_pattern(op: Prefix, at: usize, tokens: &[Spot]) -> Refusal {
-        match (op, tokens.first()) {
+    /// The refusal of an operator, which tokens begin with, before what should be a pattern: `-` before a float is its sign.
+    pub(crate) fn before_pattern(op: Prefix, tokens: &[Spot], rest: &[Spot]) -> Refusal
+        requires { Leaves tokens.now rest.now }
+        ensures { IsToldOf tokens.now result }
+    {
+        match (op, rest.first()) {
             (Prefix::Negate, Some(first)) if matches!(first.what, Token::Float) => {
-                Refusal::Unsupported(first.at)
+                Refusal::at(Reason::Unsupported, rest)
             }
-            (_, _) => Refusal::Syntax(at),
+            (Prefix::Negate, None) => Refusal::at(Reason::Syntax, rest),
+            (_, _) => Refusal::at(Reason::Syntax, tokens),
         }
     }
 
-    /// The refusal of a call, which a pattern hasn't: there it is told at the sign behind the name.
-    pub(crate) fn of_call(self, role: Role, sign: usize) -> Refusal {
+    /// The refusal of a call, which a pattern hasn't: there it is told at the sign behind the name, which tokens begin with.
+    pub(crate) fn of_call(self, role: Role, sign: &[Spot]) -> Refusal
+        requires { IsToldOf sign.now self }
+        ensures { IsToldOf sign.now result }
+    {
         match role {
-            Role::Pattern => Refusal::Syntax(sign),
+            Role::Pattern => Refusal::at(Reason::Syntax, sign),
             Role::Expression | Role::Test => self,
         }
     }
 
     /// The refusal of a token that can't stand where it stands, whatever Erlang has.
-    pub fn misplaced(tokens: &[Spot]) -> Refusal {
+    pub fn misplaced(tokens: &[Spot]) -> Refusal
+        ensures { IsToldOf tokens.now result }
+    {
         let Some(first) = tokens.first() else {
-            return Refusal::End;
+            return Refusal::at(Reason::Syntax, tokens);
         };
         match &first.what {
-            Token::Integer(n) if *n > 9223372036854775807 => Refusal::IntegerRange(first.at),
-            _ => Refusal::Syntax(first.at),
+            Token::Integer(n) if *n > 9223372036854775807 => {
+                Refusal::at(Reason::IntegerRange, tokens)
+            }
+            Token::Float => Refusal::at(Reason::Unsupported, tokens),
+            _ => Refusal::at(Reason::Syntax, tokens),
         }
     }
 
     /// The refusal of tokens behind whole clauses.
-    pub(crate) fn behind_clauses(choice: Choice, tokens: &[Spot]) -> Refusal {
+    pub(crate) fn behind_clauses(choice: Choice, tokens: &[Spot]) -> Refusal
+        ensures { IsToldOf tokens.now result }
+    {
         match choice {
             Choice::Case => Refusal::behind(tokens),
             Choice::Receive => Refusal::behind(tokens).of_receive(tokens),
@@ -108,19 +148,24 @@ impl Refusal {
     }
 
     /// The refusal of tokens where the clauses of a `receive` begin or end: `after` is not read.
-    pub(crate) fn of_receive(self, tokens: &[Spot]) -> Refusal {
+    pub(crate) fn of_receive(self, tokens: &[Spot]) -> Refusal
+        requires { IsToldOf tokens.now self }
+        ensures { IsToldOf tokens.now result }
+    {
         match tokens.first() {
             Some(first) if matches!(first.what, Token::Word(Word::After)) => {
-                Refusal::Unsupported(first.at)
+                Refusal::at(Reason::Unsupported, tokens)
             }
             _ => self,
         }
     }
 
     /// The refusal of tokens behind a whole expression, where no text goes on so.
-    pub fn behind(tokens: &[Spot]) -> Refusal {
+    pub fn behind(tokens: &[Spot]) -> Refusal
+        ensures { IsToldOf tokens.now result }
+    {
         let Some(first) = tokens.first() else {
-            return Refusal::End;
+            return Refusal::at(Reason::Syntax, tokens);
         };
         match &first.what {
             Token::Word(
@@ -130,7 +175,7 @@ impl Refusal {
                 | Word::ShiftLeft
                 | Word::ShiftRight
                 | Word::Xor,
-            ) => Refusal::Unsupported(first.at),
+            ) => Refusal::at(Reason::Unsupported, tokens),
             Token::Mark(
                 Mark::BarBar
                 | Mark::Colon
@@ -140,69 +185,72 @@ impl Refusal {
                 | Mark::MaybeMatch
                 | Mark::OpenParen
                 | Mark::Subtract,
-            ) => Refusal::Unsupported(first.at),
+            ) => Refusal::at(Reason::Unsupported, tokens),
             _ => Refusal::misplaced(tokens),
         }
     }
 
-    /// The refusal of an integer out of range, which tokens begin with.
-    pub(crate) fn out_of_range(tokens: &[Spot]) -> Refusal {
-        match tokens.first() {
-            Some(first) => Refusal::IntegerRange(first.at),
-            None => Refusal::End,
-        }
-    }
-
-    /// The refusal of an operator that tokens begin with, and that would be nested too deep.
-    pub(crate) fn operator_too_deep(tokens: &[Spot]) -> Refusal {
-        match tokens.first() {
-            Some(first) => Refusal::TooDeep(first.at),
-            None => Refusal::End,
-        }
-    }
-
     /// The refusal of `=`, which tokens begin with, behind what is no pattern: right of `!` Erlang has a match.
-    pub(crate) fn no_pattern(left: &SyntaxTree, tokens: &[Spot]) -> Refusal {
-        match (left, tokens.first()) {
-            (_, None) => Refusal::End,
-            (SyntaxTree::Node(Shape::Infix(Infix::Send), _), Some(first)) => {
-                Refusal::Unsupported(first.at)
+    pub(crate) fn no_pattern(left: &SyntaxTree, tokens: &[Spot]) -> Refusal
+        ensures { IsToldOf tokens.now result }
+    {
+        match left {
+            SyntaxTree::Node(Shape::Infix(Infix::Send), _) => {
+                Refusal::at(Reason::Unsupported, tokens)
             }
-            (_, Some(first)) => Refusal::Syntax(first.at),
+            _ => Refusal::at(Reason::Syntax, tokens),
         }
     }
 
-    /// The refusal of what should be a function's name, and of the tokens behind it.
-    pub(crate) fn no_remote(name: &Spot, rest: &[Spot]) -> Refusal {
+    /// The refusal of what should be a function's name.
+    pub(crate) fn no_remote(tokens: &[Spot]) -> Refusal
+        ensures { IsToldOf tokens.now result }
+    {
+        let Some(name) = tokens.first() else {
+            return Refusal::at(Reason::Syntax, tokens);
+        };
         match &name.what {
-            Token::Atom(_) => Refusal::behind(rest),
-            Token::Integer(n) if *n > 9223372036854775807 => Refusal::IntegerRange(name.at),
-            _ => Refusal::Unsupported(name.at),
+            Token::Integer(n) if *n > 9223372036854775807 => {
+                Refusal::at(Reason::IntegerRange, tokens)
+            }
+            _ => Refusal::at(Reason::Unsupported, tokens),
         }
     }
 
     /// The refusal of tokens that begin with no leaf, where only a leaf could stand.
-    pub(crate) fn too_deep(tokens: &[Spot]) -> Refusal {
+    pub(crate) fn too_deep(tokens: &[Spot]) -> Refusal
+        ensures { IsToldOf tokens.now result }
+    {
         let Some(first) = tokens.first() else {
-            return Refusal::End;
+            return Refusal::at(Reason::Syntax, tokens);
         };
         match &first.what {
             Token::Mark(Mark::OpenBrace | Mark::OpenBracket | Mark::OpenParen | Mark::Minus) => {
-                Refusal::TooDeep(first.at)
+                Refusal::at(Reason::TooDeep, tokens)
             }
-            Token::Word(Word::Not | Word::Begin | Word::Case) => Refusal::TooDeep(first.at),
-            Token::Atom(_) | Token::Mark(Mark::Question) => Refusal::call_too_deep(first, tokens),
-            _ => Refusal::at_start(first),
+            Token::Word(Word::Not | Word::Begin | Word::Case) => {
+                Refusal::at(Reason::TooDeep, tokens)
+            }
+            Token::Atom(_) | Token::Mark(Mark::Question) => Refusal::call_too_deep(tokens),
+            _ => Refusal::at_start(tokens),
         }
     }
 
     /// The refusal of a call, at its bracket.
-    fn call_too_deep(first: &Spot, tokens: &[Spot]) -> Refusal {
-        for token in tokens.iter().take(5) {
-            if matches!(token.what, Token::Mark(Mark::OpenParen)) {
-                return Refusal::TooDeep(token.at);
+    fn call_too_deep(tokens: &[Spot]) -> Refusal
+        ensures { IsToldOf tokens.now result }
+    {
+        let mut left = tokens;
+        for _turn in 0..5 {
+            let Some((first, rest)) = left.split_first() else {
+                return Refusal::at_start(tokens);
+            };
+            match &first.what {
+                Token::Mark(Mark::OpenParen) => return Refusal::at(Reason::TooDeep, left),
+                Token::Dot => return Refusal::at_start(tokens),
+                _ => left = rest,
             }
         }
-        Refusal::at_start(first)
+        Refusal::at_start(tokens)
     }
 }

@@ -3,6 +3,7 @@ ghost use Rattle.std.specs.Prelude.{◌≡◌, ℕ, ⊤, List, IfOk, MatchResult
 ghost use Rattle.erl_syntax.specs.Terminal.{Terminal, terminals};
 ghost use Rattle.erl_syntax.specs.Tree.{Tree};
 ghost use Rattle.erl_syntax.specs.TreeForms.{tree as tree_of};
+ghost use Rattle.erl_expressions.specs.Refusing.{Leaves, IsToldOf};
 ghost use Rattle.erl_expressions.specs.Readings.{BeginsWith, Stops, greatest as greatest_in, OneTree};
 
 use crate::operators::{MATCHES, OPERATIONS};
@@ -33,6 +34,7 @@ pub fn read_tree<'a>(
     ensures refused { IfOk result (λ answer. MatchResult answer (λ _. ⊤)
         (λ _. (t : Tree) → (rest : List Terminal) → Stops (greatest_in role) rest →
         BeginsWith role (greatest_in role) levels (terminals tokens.now) t rest → ⊥)) }
+    ensures told { IfOk result (λ answer. MatchResult answer (λ f. Leaves tokens.now f.1.now) (λ r. IsToldOf tokens.now r)) }
 {
     match read(alloc, levels, role, greatest(role), tokens)? {
         Ok((deep, rest)) => Ok(Ok((deep.into_tree(), rest))),

@@ -9,19 +9,24 @@
 //!
 //! - [`read_module`], `found`: the module that is given is what the bytes mean: they are UTF-8, their tokens up to the end are
 //!   written as a module in the grammar of `erl_syntax`, which has no static fault, and that is its meaning (`IsSource`).
-//! - [`read_module`], `refused`: what each error says of the bytes (`Says`). A static fault is told of bytes that are written as a
-//!   module: it is one of its faults, and none stands at a lesser place. `NotUtf8` is told at the first byte that is none, and
-//!   the fault that a token has by itself at its place. `MissingDot` and the `Unclosed` of a bracket say that the text ends, and
-//!   its tokens are written as no module; all others, that those up to the end or to a faulty one are written as none.
+//! - [`read_module`], `refused`: what each error says of the bytes (`Says`). A static fault is told of bytes that are written as
+//!   a module: it is one of its faults, and none stands at a lesser place. `NotUtf8` is told at the first byte that is none. All
+//!   others say that the tokens up to the end, or to a faulty one, are written as no module:
+//!   - A token that is told stands in the first form that is none, up to its dot: before that form stand `-module` and whole
+//!     forms, if anything (`IsMisplaced`).
+//!   - `Unclosed` and `MissingDot` say that the text ends in that form, and no dot ends it: `Unclosed` stands at the innermost
+//!     bracket that is open there, and `MissingDot` says that there is none (`EndsInForm`, `innermost`).
+//!   - The fault that a token has by itself is told at its place, where all forms before the one that it is in are whole
+//!     (`StopsAt`).
 //! - [`read_module`], `meaningless`: bytes of which an error is told are no source of a module (`IsNoSource`).
 //! - [`sources_mean_one_module`]: bytes mean at most one module, and they mean one where they are written as a module without
 //!   static fault. So no such source is refused, but for want of memory.
 //!
 //! # What no contract says
 //!
-//! That there is memory, and that `Memory` is told only where it was refused. That tokens which are written as no module are told
-//! at the first of them with which none goes on, and whether as `Syntax`, as `Unsupported` or as a fault of the text: that is
-//! for tests to see.
+//! That there is memory, and that `Memory` is told only where it was refused. At which token of the first faulty form that is
+//! told, and whether as `Syntax`, as `Unsupported` or as a fault of the text: it is the first with which no module goes on, or
+//! where the construct begins that is not read, and tests see it.
 //!
 //! What a call costs: each layer goes over the source once, as their crates say. The tokens are let go once their tree is read, so
 //! they don't stand in memory beside the module. Reading recurses as deep as the source is nested, at most 256 levels.

@@ -3,14 +3,16 @@ ghost use Rattle.std.specs.Prelude.{◌≡◌, [], IfErr, IfOk};
 ghost use Rattle.erl_lint.specs.Faults.{faults_of};
 ghost use Rattle.erl_lower.specs.Meaning.{IsMeaning};
 ghost use Rattle.erl_parse.specs.Sources.{IsSource, IsNoSource, OneModule, FaultlessMean};
-ghost use Rattle.erl_parse.specs.Telling.{Says, TellsTree};
+ghost use Rattle.erl_parse.specs.Telling.{Says, TellsTokens, TellsTree};
+ghost use Rattle.erl_syntax.specs.Forms.{IsModule};
+ghost use Rattle.erl_syntax.specs.Terminal.{terminals};
 ghost use Rattle.values.specs.Failure.{Fails};
 
 use crate::error::LangError;
 use crate::telling::{of_refusal, of_static, of_token};
 use erl_forms::Module;
 use erl_lower::{Lowering, lowered};
-use erl_scan::{Fault, ReadError, Scanned, scan};
+use erl_scan::{Fault, ReadError, Scanned, Spot, scan};
 use erl_syntax::ModuleTree;
 use module_forms::read_forms;
 use std::alloc::Global;
@@ -52,14 +54,30 @@ fn read_text(alloc: Global, hashing: RandomState, text: &str) -> Result<Module, 
     ensures refused { IfErr result (Fails (Says text.now) (Unit {0})) }
 {
     let Scanned { tokens, fault } = scan(alloc, text)?;
-    let tree = read_forms(alloc, tokens.as_slice())?;
+    let read = tree_of(alloc, tokens.as_slice(), fault, text.len());
     drop(tokens);
-    match tree {
+    match read {
         Ok(tree) => match fault {
             None => module_of(alloc, hashing, tree),
             Some(fault) => Err(Failure::Refused(of_token(fault))),
         },
-        Err(refusal) => Err(Failure::Refused(of_refusal(refusal, fault, text.len()))),
+        Err(failure) => Err(failure),
+    }
+}
+
+/// The tree that tokens are, of a text of so many bytes, in which something stops them that is faulty by itself, or its end.
+fn tree_of(
+    alloc: Global,
+    tokens: &[Spot],
+    stop: Option<ReadError>,
+    total: usize,
+) -> Result<ModuleTree, Failure<LangError>>
+    ensures found { IfOk result (λ tree. IsModule (terminals tokens.now) tree) }
+    ensures refused { IfErr result (Fails (TellsTokens tokens.now stop total) (Unit {0})) }
+{
+    match read_forms(alloc, tokens)? {
+        Ok(tree) => Ok(tree),
+        Err(refusal) => Err(Failure::Refused(of_refusal(refusal, tokens, stop, total))),
     }
 }
 

@@ -2,7 +2,7 @@
 use crate::tables::{EXPRESSIONS, REFUSALS, ROLES, SHALLOW};
 use crate::told::{DEEPEST, put_tree};
 use erl_expressions::{Refusal, read_tree, trees_read_one_way};
-use erl_scan::scan;
+use erl_scan::{Spot, scan};
 use erl_syntax::Role;
 use std::alloc::Global;
 use std::process::Abort;
@@ -18,17 +18,16 @@ fn role_of(word: &str) -> Result<Role, Fail> {
     }
 }
 
-/// Writes a refusal: its kind, and where it has one its place.
-fn put_refusal(out: &mut String, refusal: Refusal) -> Result<(), Fail> {
-    let (kind, at) = match refusal {
-        Refusal::Syntax(at) => ("Syntax", at),
-        Refusal::Unsupported(at) => ("Unsupported", at),
-        Refusal::IntegerRange(at) => ("IntegerRange", at),
-        Refusal::TooDeep(at) => ("TooDeep", at),
-        Refusal::Unclosed(at) => ("Unclosed", at),
-        Refusal::End => return Ok(out.push_str("✗ End")?),
-    };
-    Ok(write!(out, "✗ {kind} {at}")?)
+/// Writes a refusal of tokens: why, and the place of the token that is told; or that they end.
+fn put_refusal(out: &mut String, refusal: Refusal, tokens: &[Spot]) -> Result<(), Fail> {
+    let i = tokens
+        .len()
+        .checked_sub(refusal.left)
+        .ok_or("too many tokens")?;
+    match tokens.get(i) {
+        Some(token) => Ok(write!(out, "✗ {:?} {}", refusal.reason, token.at)?),
+        None => Ok(out.push_str("✗ End")?),
+    }
 }
 
 /// What a text is read as.
@@ -43,10 +42,10 @@ fn outcome(alloc: Global, levels: u32, role: Role, text: &str) -> Result<String,
             put_tree(&mut out, DEEPEST, &tree)?;
             if !rest.is_empty() {
                 out.push_str(" … ")?;
-                put_refusal(&mut out, Refusal::behind(rest))?;
+                put_refusal(&mut out, Refusal::behind(rest), rest)?;
             }
         }
-        Err(refusal) => put_refusal(&mut out, refusal)?,
+        Err(refusal) => put_refusal(&mut out, refusal, scanned.tokens.as_slice())?,
     }
     Ok(out)
 }

@@ -123,11 +123,11 @@ expression case X of end ⟶ ✗ Syntax 10
 expression case X of Y -> 1; end ⟶ ✗ Syntax 18
 expression case X of Y when -> 1 end ⟶ ✗ Syntax 17
 expression case X of Y, Z -> 1 end ⟶ ✗ Syntax 11
-expression {1, [2 ⟶ ✗ Unclosed 4
-expression f([1], 2 ⟶ ✗ Unclosed 1
-expression (1 ⟶ ✗ Unclosed 0
-expression [1| ⟶ ✗ Unclosed 0
-expression {begin 1 ⟶ ✗ Unclosed 0
+expression {1, [2 ⟶ ✗ End
+expression f([1], 2 ⟶ ✗ End
+expression (1 ⟶ ✗ End
+expression [1| ⟶ ✗ End
+expression {begin 1 ⟶ ✗ End
 expression begin 1 ⟶ ✗ End
 expression case X of Y -> 1 ⟶ ✗ End
 expression 1 + ⟶ ✗ End";

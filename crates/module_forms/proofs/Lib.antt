@@ -3,3 +3,5 @@ pub mod Terms
 pub mod Sound
 pub mod ReadBack
 pub mod Modules
+pub mod FirstFault
+pub mod TokenPlaces

@@ -108,7 +108,7 @@ function_longer : (name : List ℕ) (cs : List FunctionClause) (ts : List Termin
 function_longer name [] ts = omega arith
 function_longer name (c ∷ cs) ts = omega (arith, others_longer name cs ts, clause_longer name c (other_function_written name cs ts))
 
-form_shorter : (f : FormTree) (ts rest : List Terminal) → BeginsForm f ts rest → length rest < length ts
+pub form_shorter : (f : FormTree) (ts rest : List Terminal) → BeginsForm f ts rest → length rest < length ts
 form_shorter (forms.Export es) ts rest (export_form range text) =
     omega (arith, ap length text, all_entries_longer es (mark marks.CloseBracket ∷ mark marks.CloseParen ∷ dot ∷ rest))
 form_shorter (forms.Version _) ts rest (version_form {t = t} well low deep is text) =
@@ -152,7 +152,7 @@ if_module_sound true ts n rest is =
           (same_Some {A = Named × List Terminal} (m.0.0, c.0) (n, rest) c.2),
     )
 
-head_sound : (ts : List Terminal) (n : Named) (rest : List Terminal) → module_head ts ≡ Some (n, rest) →
+pub head_sound : (ts : List Terminal) (n : Named) (rest : List Terminal) → module_head ts ≡ Some (n, rest) →
     (at : ℕ) × (ts ≡ module_written n.name n.at at rest)
 unfolding module_head
 head_sound ts n rest is =
@@ -182,7 +182,7 @@ is_module ts m is =
     subst (λ n. IsModule ts n) (same_Some (module_of h.0.0 fs.0) m fs.2)
     (head.0, h.0.1, head.1, all_sound h.0.1 fs.0 fs.1)
 
-head_whole : (n : Named) (at : ℕ) (rest : List Terminal) → module_head (module_written n.name n.at at rest) ≡ Some (n, rest)
+pub head_whole : (n : Named) (at : ℕ) (rest : List Terminal) → module_head (module_written n.name n.at at rest) ≡ Some (n, rest)
 unfolding module_head
 head_whole n at rest = refl
 

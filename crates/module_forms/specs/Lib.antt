@@ -1,2 +1,4 @@
 pub mod Openings
 pub mod FormReading
+pub mod FirstFault
+pub mod Brackets

@@ -1,16 +1,16 @@
 // Functions of a module.
-ghost use Rattle.std.specs.Prelude.{◌≡◌, IfOk, MatchResult, Some, None};
+ghost use Rattle.std.specs.Prelude.{◌≡◌, ◌≤◌, length, IfOk, MatchResult, Some, None};
 ghost use Rattle.erl_syntax.specs.Terminal.{terminals};
 ghost use Rattle.module_forms.specs.FormReading.{head as head_in, front as front_in, one_clause as one_clause_in};
 ghost use Rattle.module_forms.specs.FormReading.{clause_like as like_in, function_from as from_in, looped as looped_in};
 ghost use Rattle.module_forms.specs.FormReading.{function as function_in, ended as ended_in, clause_of as clause_in};
 ghost use Rattle.erl_syntax.specs.Tree.{tree_count};
+ghost use Rattle.erl_expressions.specs.Refusing.{Leaves, IsToldOf};
 
-use crate::attributes::first_byte;
 use crate::opening::{Opening, behind};
 use crate::tokens::{expected, named_ahead};
 use erl_expressions::{
-    Delimiter, Reading, Refusal, after, read_body, read_clauses, read_guard, read_patterns,
+    Delimiter, Reading, Reason, Refusal, after, read_body, read_clauses, read_guard, read_patterns,
 };
 use erl_scan::{Mark, Spot, Token, Word};
 use erl_syntax::{
@@ -29,14 +29,15 @@ struct ClauseFront {
 
 /// The patterns of a clause, behind its name.
 fn head<'a>(alloc: Global, tokens: &'a [Spot]) -> Reading<'a, SyntaxTrees>
-    ensures { IfOk result (λ answer. MatchResult answer
+    ensures read { IfOk result (λ answer. MatchResult answer
         (λ f. head_in (terminals tokens.now) ≡ Some (f.0, terminals f.1.now))
         (λ _. head_in (terminals tokens.now) ≡ None)) }
+    ensures told { IfOk result (λ answer. MatchResult answer (λ f. Leaves tokens.now f.1.now) (λ r. IsToldOf tokens.now r)) }
 {
     match expected(Opening::OpenParen, tokens) {
         Ok(rest) => match read_patterns(alloc, 256, rest)? {
             Ok(found) => Ok(Ok(found)),
-            Err(refusal) => Ok(Err(refusal.within(first_byte(tokens)))),
+            Err(refusal) => Ok(Err(refusal)),
         },
         Err(refusal) => Ok(Err(refusal)),
     }
@@ -45,9 +46,10 @@ fn head<'a>(alloc: Global, tokens: &'a [Spot]) -> Reading<'a, SyntaxTrees>
 /// The patterns of a clause, its guard sequence and the arrow, behind its name.
 #[tactic(auto, unfolding(crate::specs::FormReading::front))]
 fn front<'a>(alloc: Global, tokens: &'a [Spot]) -> Reading<'a, ClauseFront>
-    ensures { IfOk result (λ answer. MatchResult answer
+    ensures read { IfOk result (λ answer. MatchResult answer
         (λ f. front_in (terminals tokens.now) ≡ Some ((f.0.patterns, f.0.guard), terminals f.1.now))
         (λ _. front_in (terminals tokens.now) ≡ None)) }
+    ensures told { IfOk result (λ answer. MatchResult answer (λ f. Leaves tokens.now f.1.now) (λ r. IsToldOf tokens.now r)) }
 {
     let (patterns, rest) = match head(alloc, tokens)? {
         Ok(found) => found,
@@ -64,7 +66,9 @@ fn front<'a>(alloc: Global, tokens: &'a [Spot]) -> Reading<'a, ClauseFront>
 }
 
 /// The refusal of tokens where an arrow should stand: behind a guard Erlang may have them.
-fn no_arrow(guard: &GuardTrees, tokens: &[Spot]) -> Refusal {
+fn no_arrow(guard: &GuardTrees, tokens: &[Spot]) -> Refusal
+    ensures { IsToldOf tokens.now result }
+{
     if guard.as_slice().is_empty() {
         Refusal::misplaced(tokens)
     } else {
@@ -75,9 +79,10 @@ fn no_arrow(guard: &GuardTrees, tokens: &[Spot]) -> Refusal {
 /// A clause, behind its name, which stands at a byte.
 #[tactic(auto, unfolding(crate::specs::FormReading::one_clause))]
 fn one_clause<'a>(alloc: Global, at: usize, tokens: &'a [Spot]) -> Reading<'a, FunctionClause>
-    ensures { IfOk result (λ answer. MatchResult answer
+    ensures read { IfOk result (λ answer. MatchResult answer
         (λ f. one_clause_in at (terminals tokens.now) ≡ Some (f.0, terminals f.1.now))
         (λ _. one_clause_in at (terminals tokens.now) ≡ None)) }
+    ensures told { IfOk result (λ answer. MatchResult answer (λ f. Leaves tokens.now f.1.now) (λ r. IsToldOf tokens.now r)) }
 {
     let (front, rest) = match front(alloc, tokens)? {
         Ok(found) => found,
@@ -112,23 +117,24 @@ fn clause_like<'a>(
     arity: usize,
     tokens: &'a [Spot],
 ) -> Reading<'a, FunctionClause>
-    ensures { IfOk result (λ answer. MatchResult answer
+    ensures read { IfOk result (λ answer. MatchResult answer
         (λ f. like_in name.now arity (terminals tokens.now) ≡ Some (f.0, terminals f.1.now))
         (λ _. like_in name.now arity (terminals tokens.now) ≡ None)) }
+    ensures told { IfOk result (λ answer. MatchResult answer (λ f. Leaves tokens.now f.1.now) (λ r. IsToldOf tokens.now r)) }
 {
     let (named, rest) = match named_ahead(tokens)? {
         Ok(found) => found,
         Err(refusal) => return Ok(Err(refusal)),
     };
     if named.name != *name {
-        return Ok(Err(Refusal::Syntax(named.at)));
+        return Ok(Err(Refusal::at(Reason::Syntax, tokens)));
     }
     match one_clause(alloc, named.at, rest)? {
         Ok((clause, behind)) => {
             if count(&clause.clause.patterns) == arity {
                 Ok(Ok((clause, behind)))
             } else {
-                Ok(Err(Refusal::Syntax(named.at)))
+                Ok(Err(Refusal::at(Reason::Syntax, tokens)))
             }
         }
         Err(refusal) => Ok(Err(refusal)),
@@ -151,9 +157,12 @@ fn function_from<'a>(
     first: FunctionClause,
     tokens: &'a [Spot],
 ) -> Reading<'a, FormTree>
-    ensures { IfOk result (λ answer. MatchResult answer
+    ensures read { IfOk result (λ answer. MatchResult answer
         (λ f. from_in name first (terminals tokens.now) ≡ Some (f.0, terminals f.1.now))
         (λ _. from_in name first (terminals tokens.now) ≡ None)) }
+    ensures told { IfOk result (λ answer. MatchResult answer
+        (λ f. length f.1.now ≤ length tokens.now)
+        (λ r. IsToldOf tokens.now r)) }
 {
     let Named { name, at: _ } = name;
     let arity = count(&first.clause.patterns);
@@ -172,7 +181,7 @@ fn function_from<'a>(
             Err(refusal) => return Ok(Err(refusal)),
         }
     }
-    Ok(Err(Refusal::End))
+    Ok(Err(Refusal::at(Reason::Syntax, left)))
 }
 
 /// A function of these clauses, where a dot stands behind them.
@@ -181,9 +190,10 @@ fn ended<'a>(
     clauses: Vec<FunctionClause>,
     tokens: &'a [Spot],
 ) -> Result<(FormTree, &'a [Spot]), Refusal>
-    ensures { MatchResult result
+    ensures read { MatchResult result
         (λ f. ended_in name clauses.items (terminals tokens.now) ≡ Some (f.0, terminals f.1.now))
         (λ _. ended_in name clauses.items (terminals tokens.now) ≡ None) }
+    ensures told { MatchResult result (λ f. length f.1.now ≤ length tokens.now) (λ r. IsToldOf tokens.now r) }
 {
     match behind(Opening::Dot, tokens) {
         Some(rest) => {
@@ -194,18 +204,22 @@ fn ended<'a>(
     }
 }
 
-/// A loop function, behind its `receive`, which stands at a byte.
+/// A loop function, behind its `receive`, which is the first of all.
 #[tactic(auto, unfolding(crate::specs::FormReading::looped))]
 fn looped<'a>(
     alloc: Global,
     name: Named,
     front: ClauseFront,
-    at: usize,
+    word: &'a [Spot],
     tokens: &'a [Spot],
 ) -> Reading<'a, FormTree>
-    ensures { IfOk result (λ answer. MatchResult answer
+    requires { Leaves word.now tokens.now }
+    ensures read { IfOk result (λ answer. MatchResult answer
         (λ f. looped_in name front.patterns front.guard (terminals tokens.now) ≡ Some (f.0, terminals f.1.now))
         (λ _. looped_in name front.patterns front.guard (terminals tokens.now) ≡ None)) }
+    ensures told { IfOk result (λ answer. MatchResult answer
+        (λ f. length f.1.now ≤ length tokens.now)
+        (λ r. IsToldOf word.now r)) }
 {
     let (receive, rest) = match read_clauses(alloc, 255, tokens)? {
         Ok(found) => found,
@@ -222,14 +236,18 @@ fn looped<'a>(
             }),
             behind,
         ))),
-        None => Ok(Err(behind_receive(at, rest))),
+        None => Ok(Err(behind_receive(word, rest))),
     }
 }
 
-/// The refusal of tokens behind a `receive` at a byte: what goes on with it, or with its function, is told there.
-fn behind_receive(at: usize, tokens: &[Spot]) -> Refusal {
+/// The refusal of tokens behind a `receive`, whose word some begin with: what goes on with it, or with its function, is told at
+/// the word.
+fn behind_receive(word: &[Spot], tokens: &[Spot]) -> Refusal
+    requires { Leaves word.now tokens.now }
+    ensures { IsToldOf word.now result }
+{
     match tokens.first() {
-        Some(first) if goes_on(&first.what) => Refusal::Unsupported(at),
+        Some(first) if goes_on(&first.what) => Refusal::at(Reason::Unsupported, word),
         _ => Refusal::behind(tokens),
     }
 }
@@ -280,16 +298,19 @@ fn goes_on(token: &Token) -> bool {
 /// A function, behind the name of its first clause.
 #[tactic(auto, unfolding(crate::specs::FormReading::function))]
 pub(crate) fn function<'a>(alloc: Global, name: Named, tokens: &'a [Spot]) -> Reading<'a, FormTree>
-    ensures { IfOk result (λ answer. MatchResult answer
+    ensures read { IfOk result (λ answer. MatchResult answer
         (λ f. function_in name (terminals tokens.now) ≡ Some (f.0, terminals f.1.now))
         (λ _. function_in name (terminals tokens.now) ≡ None)) }
+    ensures told { IfOk result (λ answer. MatchResult answer
+        (λ f. length f.1.now ≤ length tokens.now)
+        (λ r. IsToldOf tokens.now r)) }
 {
     let (front, rest) = match front(alloc, tokens)? {
         Ok(found) => found,
         Err(refusal) => return Ok(Err(refusal)),
     };
     if let Some(behind) = behind(Opening::Receive, rest) {
-        return looped(alloc, name, front, first_byte(rest), behind);
+        return looped(alloc, name, front, rest, behind);
     }
     match read_body(alloc, 256, rest)? {
         Ok((body, behind)) => {

@@ -1,8 +1,10 @@
 // Tokens that open something in a form, or end it.
-ghost use Rattle.std.specs.Prelude.{◌≡◌, ℕ};
+ghost use Rattle.std.specs.Prelude.{◌≡◌, ℕ, IfSome};
+ghost use Rattle.std.specs.Bool.{OnTrue};
 ghost use Rattle.std.specs.Option.{option_map};
 ghost use Rattle.erl_syntax.specs.Terminal.{terminal_at, terminals};
-ghost use Rattle.module_forms.specs.Openings.{is_opening as is_opening_in, behind as behind_in};
+ghost use Rattle.erl_expressions.specs.Refusing.{ends_form};
+ghost use Rattle.module_forms.specs.Openings.{is_opening as is_opening_in, behind as behind_in, is_last, Passes};
 
 use erl_scan::{Mark, Spot, Token, Word};
 
@@ -25,7 +27,8 @@ pub(crate) enum Opening {
 
 /// The tokens behind such a token; none where they don't begin with it.
 pub(crate) fn behind<'a>(opening: Opening, tokens: &'a [Spot]) -> Option<&'a [Spot]>
-    ensures { option_map (λ rest. terminals rest.now) result ≡ behind_in opening (terminals tokens.now) }
+    ensures is { option_map (λ rest. terminals rest.now) result ≡ behind_in opening (terminals tokens.now) }
+    ensures passes { IfSome result (λ rest. Passes opening tokens.now rest.now) }
 {
     let (first, rest) = tokens.split_first()?;
     if is_opening(opening, &first.what) {
@@ -37,7 +40,8 @@ pub(crate) fn behind<'a>(opening: Opening, tokens: &'a [Spot]) -> Option<&'a [Sp
 
 /// Whether a token is this one.
 fn is_opening(opening: Opening, token: &Token) -> bool
-    ensures { (at : ℕ) → result ≡ is_opening_in opening (terminal_at token.now at) }
+    ensures is { (at : ℕ) → result ≡ is_opening_in opening (terminal_at token.now at) }
+    ensures dot { OnTrue result (ends_form token.now ≡ is_last opening) }
 {
     match opening {
         Opening::Minus => matches!(token, Token::Mark(Mark::Minus)),

@@ -1,8 +1,8 @@
 // Sources, and what is told of them: the module's name and its forms, or a cross, the kind of a refusal and its place.
 use erl_expressions::Refusal;
-use erl_scan::scan;
+use erl_scan::{Spot, scan};
 use erl_syntax::{FormTree, ModuleTree};
-use module_forms::{modules_read_one_way, read_forms};
+use module_forms::{modules_read_one_way, open_bracket, read_forms};
 use std::alloc::Global;
 use std::process::Abort;
 use std::test::Fail;
@@ -27,9 +27,9 @@ f() -> a. ⟶ ✗ Syntax 0
 -module(m). f() -> a; g() -> b. ⟶ ✗ Syntax 22
 -module(m). f(a) -> a; f(a,b) -> b. ⟶ ✗ Syntax 23
 -module(m). f() -> a ⟶ ✗ End
--module(m ⟶ ✗ Unclosed 7
--module(m). f(X ⟶ ✗ Unclosed 13
--module(m). -export([f/1 ⟶ ✗ Unclosed 20
+-module(m ⟶ ✗ End 7
+-module(m). f(X ⟶ ✗ End 13
+-module(m). -export([f/1 ⟶ ✗ End 20
 -module(m). f(X) -> {X = 5}. ⟶ ✗ Unsupported 23
 -module(m). f(X) -> X + 1.5. ⟶ ✗ Unsupported 24
 -module(m). f(X) when g(X) -> X. ⟶ ✗ Syntax 22
@@ -65,17 +65,19 @@ fn put_module(out: &mut String, module: &ModuleTree) -> Result<(), Fail> {
     Ok(())
 }
 
-/// Writes a refusal: its kind, and where it has one its place.
-fn put_refusal(out: &mut String, refusal: Refusal) -> Result<(), Fail> {
-    let (kind, at) = match refusal {
-        Refusal::Syntax(at) => ("Syntax", at),
-        Refusal::Unsupported(at) => ("Unsupported", at),
-        Refusal::IntegerRange(at) => ("IntegerRange", at),
-        Refusal::TooDeep(at) => ("TooDeep", at),
-        Refusal::Unclosed(at) => ("Unclosed", at),
-        Refusal::End => return Ok(out.push_str("✗ End")?),
-    };
-    Ok(write!(out, "✗ {kind} {at}")?)
+/// Writes a refusal of tokens: why, and the place of the token that is told; or that they end, and the open bracket.
+fn put_refusal(out: &mut String, refusal: Refusal, tokens: &[Spot]) -> Result<(), Fail> {
+    let i = tokens
+        .len()
+        .checked_sub(refusal.left)
+        .ok_or("too many tokens")?;
+    match tokens.get(i) {
+        Some(token) => Ok(write!(out, "✗ {:?} {}", refusal.reason, token.at)?),
+        None => match open_bracket(tokens) {
+            Some(at) => Ok(write!(out, "✗ End {at}")?),
+            None => Ok(out.push_str("✗ End")?),
+        },
+    }
 }
 
 /// What a source is read as.
@@ -87,7 +89,7 @@ fn outcome(alloc: Global, source: &str) -> Result<String, Fail> {
     let mut out = String::new(alloc);
     match read_forms(alloc, scanned.tokens.as_slice())? {
         Ok(module) => put_module(&mut out, &module)?,
-        Err(refusal) => put_refusal(&mut out, refusal)?,
+        Err(refusal) => put_refusal(&mut out, refusal, scanned.tokens.as_slice())?,
     }
     Ok(out)
 }

@@ -9,12 +9,13 @@ ghost use Rattle.erl_expressions.specs.Reading.{made as made_in, opens as opens_
 ghost use Rattle.erl_expressions.specs.Reading.{parenthesized as parenthesized_in, listed as listed_in, tailed as tailed_in};
 ghost use Rattle.erl_expressions.specs.Reading.{rest_of_trees, with_last};
 ghost use Rattle.erl_syntax.specs.Tree.{none};
+ghost use Rattle.erl_expressions.specs.Refusing.{Leaves, IsToldOf};
 
 use super::{Reading, read};
 use crate::deep::{Deep, DeepRow};
 use crate::delimiter::{Delimiter, after};
 use crate::operators::{MATCHES, OPERATIONS, has_operator, left_level};
-use crate::refusal::Refusal;
+use crate::refusal::{Reason, Refusal};
 use erl_scan::Spot;
 use erl_syntax::{Qualifier, Role, Shape, guard_arity, is_guard_function};
 use std::alloc::Global;
@@ -32,12 +33,13 @@ pub(crate) fn row<'a>(
     most: u32,
     tokens: &'a [Spot],
 ) -> Reading<'a, DeepRow>
-    ensures { IfOk result (λ answer. MatchResult answer
+    ensures read { IfOk result (λ answer. MatchResult answer
         (λ f. row_in (read_in levels role most) (terminals tokens.now) ≡ Some (f.0, terminals f.1.now))
         (λ _. row_in (read_in levels role most) (terminals tokens.now) ≡ None)) }
+    ensures told { IfOk result (λ answer. MatchResult answer (λ f. Leaves tokens.now f.1.now) (λ r. IsToldOf tokens.now r)) }
 {
     if tokens.is_empty() {
-        return Ok(Err(Refusal::End));
+        return Ok(Err(Refusal::at(Reason::Syntax, tokens)));
     }
     match read(alloc, levels, role, most, tokens)? {
         Ok((first, rest)) => match after(Delimiter::Comma, rest) {
@@ -61,12 +63,13 @@ fn row_of_more<'a>(
     first: Deep,
     tokens: &'a [Spot],
 ) -> Reading<'a, DeepRow>
-    ensures { IfOk result (λ answer. MatchResult answer
+    ensures read { IfOk result (λ answer. MatchResult answer
         (λ f. rest_of_trees others (read_in levels role most) (with_last none first) (terminals tokens.now) ≡ Some (f.0, terminals f.1.now))
         (λ _. rest_of_trees others (read_in levels role most) (with_last none first) (terminals tokens.now) ≡ None)) }
+    ensures told { IfOk result (λ answer. MatchResult answer (λ f. Leaves tokens.now f.1.now) (λ r. IsToldOf tokens.now r)) }
 {
     if others == 0 {
-        return Ok(Err(Refusal::End));
+        return Ok(Err(Refusal::at(Reason::Syntax, tokens)));
     }
     match read(alloc, levels, role, most, tokens)? {
         Ok((second, rest)) => match after(Delimiter::Comma, rest) {
@@ -95,9 +98,10 @@ fn row_of_many<'a>(
     before: DeepRow,
     tokens: &'a [Spot],
 ) -> Reading<'a, DeepRow>
-    ensures { IfOk result (λ answer. MatchResult answer
+    ensures read { IfOk result (λ answer. MatchResult answer
         (λ f. rest_of_trees others (read_in levels role most) before (terminals tokens.now) ≡ Some (f.0, terminals f.1.now))
         (λ _. rest_of_trees others (read_in levels role most) before (terminals tokens.now) ≡ None)) }
+    ensures told { IfOk result (λ answer. MatchResult answer (λ f. Leaves tokens.now f.1.now) (λ r. IsToldOf tokens.now r)) }
 {
     let mut items = before;
     let mut left = tokens;
@@ -114,7 +118,7 @@ fn row_of_many<'a>(
             None => return Ok(Ok((items.fitted(alloc)?, rest))),
         }
     }
-    Ok(Err(Refusal::End))
+    Ok(Err(Refusal::at(Reason::Syntax, left)))
 }
 
 /// Parts up to a closing bracket, which may be none.
@@ -129,9 +133,10 @@ pub(crate) fn parts<'a>(
     close: Delimiter,
     tokens: &'a [Spot],
 ) -> Reading<'a, DeepRow>
-    ensures { IfOk result (λ answer. MatchResult answer
+    ensures read { IfOk result (λ answer. MatchResult answer
         (λ f. parts_in (read_in levels role most) close (terminals tokens.now) ≡ Some (f.0, terminals f.1.now))
         (λ _. parts_in (read_in levels role most) close (terminals tokens.now) ≡ None)) }
+    ensures told { IfOk result (λ answer. MatchResult answer (λ f. Leaves tokens.now f.1.now) (λ r. IsToldOf tokens.now r)) }
 {
     if let Some(rest) = after(close, tokens) {
         return Ok(Ok((DeepRow::new(alloc), rest)));
@@ -145,7 +150,7 @@ pub(crate) fn parts<'a>(
     }
 }
 
-/// A node, behind its opening bracket, which stands at a byte.
+/// A node, behind its opening bracket. Where a role hasn't it, that is told at a token before.
 #[cycle(reading)]
 #[tactic(auto, unfolding(crate::specs::Reading::bracketed))]
 pub(super) fn bracketed<'a>(
@@ -153,44 +158,45 @@ pub(super) fn bracketed<'a>(
     levels: u32,
     role: Role,
     shape: Shape,
-    at: usize,
+    told: &[Spot],
     tokens: &'a [Spot],
 ) -> Reading<'a, Deep>
-    ensures { IfOk result (λ answer. MatchResult answer
+    requires { Leaves told.now tokens.now }
+    ensures read { IfOk result (λ answer. MatchResult answer
         (λ f. bracketed_in (read_in levels) role shape (terminals tokens.now) ≡ Some (f.0, terminals f.1.now))
         (λ _. bracketed_in (read_in levels) role shape (terminals tokens.now) ≡ None)) }
+    ensures told { IfOk result (λ answer. MatchResult answer (λ f. Leaves tokens.now f.1.now) (λ r. IsToldOf told.now r)) }
 {
     if !opens(role, &shape) {
-        return Ok(Err(Refusal::Syntax(opening_place(role, &shape, at))));
+        return Ok(Err(Refusal::at(Reason::Syntax, told)));
     }
-    let place = node_place(&shape, at, tokens);
-    let close = closing(&shape);
+    let place = node_place(&shape, told, tokens);
     match parts(
         alloc,
         levels,
         role,
         first_level(role, &shape),
-        close,
+        closing(&shape),
         tokens,
     )? {
         Ok((items, rest)) => Ok(made(role, shape, items, place, rest)),
-        Err(refusal) => Ok(Err(refusal.before(close, at))),
+        Err(refusal) => Ok(Err(refusal)),
     }
 }
 
-/// `(E)`, behind the opening bracket, which stands at a byte.
+/// `(E)`, behind the opening bracket.
 #[cycle(reading)]
 #[tactic(auto, unfolding(crate::specs::Reading::parenthesized))]
 pub(super) fn parenthesized<'a>(
     alloc: Global,
     levels: u32,
     role: Role,
-    at: usize,
     tokens: &'a [Spot],
 ) -> Reading<'a, Deep>
-    ensures { IfOk result (λ answer. MatchResult answer
+    ensures read { IfOk result (λ answer. MatchResult answer
         (λ f. parenthesized_in (read_in levels) role (terminals tokens.now) ≡ Some (f.0, terminals f.1.now))
         (λ _. parenthesized_in (read_in levels) role (terminals tokens.now) ≡ None)) }
+    ensures told { IfOk result (λ answer. MatchResult answer (λ f. Leaves tokens.now f.1.now) (λ r. IsToldOf tokens.now r)) }
 {
     match read(alloc, levels, role, in_brackets(role), tokens)? {
         Ok((tree, rest)) => match after(Delimiter::CloseParen, rest) {
@@ -198,39 +204,39 @@ pub(super) fn parenthesized<'a>(
                 let parts = DeepRow::of(alloc, tree)?;
                 Ok(Ok((Deep::node(Shape::Parenthesized, parts), behind)))
             }
-            None => Ok(Err(Refusal::behind(rest).within(at))),
+            None => Ok(Err(Refusal::behind(rest))),
         },
-        Err(refusal) => Ok(Err(refusal.within(at))),
+        Err(refusal) => Ok(Err(refusal)),
     }
 }
 
-/// A list, behind its opening bracket, which stands at a byte.
+/// A list, behind its opening bracket.
 #[cycle(reading)]
 #[tactic(auto, unfolding(crate::specs::Reading::listed))]
 pub(super) fn listed<'a>(
     alloc: Global,
     levels: u32,
     role: Role,
-    at: usize,
     tokens: &'a [Spot],
 ) -> Reading<'a, Deep>
-    ensures { IfOk result (λ answer. MatchResult answer
+    ensures read { IfOk result (λ answer. MatchResult answer
         (λ f. listed_in (read_in levels) role (terminals tokens.now) ≡ Some (f.0, terminals f.1.now))
         (λ _. listed_in (read_in levels) role (terminals tokens.now) ≡ None)) }
+    ensures told { IfOk result (λ answer. MatchResult answer (λ f. Leaves tokens.now f.1.now) (λ r. IsToldOf tokens.now r)) }
 {
     if let Some(rest) = after(Delimiter::CloseBracket, tokens) {
-        return Ok(made(role, Shape::List, DeepRow::new(alloc), at, rest));
+        return Ok(made(role, Shape::List, DeepRow::new(alloc), tokens, rest));
     }
     let (items, rest) = match row(alloc, levels, role, in_brackets(role), tokens)? {
         Ok(found) => found,
-        Err(refusal) => return Ok(Err(refusal.within(at))),
+        Err(refusal) => return Ok(Err(refusal)),
     };
     if let Some(behind) = after(Delimiter::CloseBracket, rest) {
-        return Ok(made(role, Shape::List, items, at, behind));
+        return Ok(made(role, Shape::List, items, tokens, behind));
     }
     match after(Delimiter::Bar, rest) {
-        Some(behind) => tailed(alloc, levels, role, items, at, behind),
-        None => Ok(Err(Refusal::behind(rest).within(at))),
+        Some(behind) => tailed(alloc, levels, role, items, behind),
+        None => Ok(Err(Refusal::behind(rest))),
     }
 }
 
@@ -241,63 +247,55 @@ fn tailed<'a>(
     levels: u32,
     role: Role,
     items: DeepRow,
-    at: usize,
     tokens: &'a [Spot],
 ) -> Reading<'a, Deep>
-    ensures { IfOk result (λ answer. MatchResult answer
+    ensures read { IfOk result (λ answer. MatchResult answer
         (λ f. tailed_in (read_in levels) role items (terminals tokens.now) ≡ Some (f.0, terminals f.1.now))
         (λ _. tailed_in (read_in levels) role items (terminals tokens.now) ≡ None)) }
+    ensures told { IfOk result (λ answer. MatchResult answer (λ f. Leaves tokens.now f.1.now) (λ r. IsToldOf tokens.now r)) }
 {
     match read(alloc, levels, role, in_brackets(role), tokens)? {
         Ok((tail, rest)) => match after(Delimiter::CloseBracket, rest) {
             Some(behind) => {
                 let mut parts = items;
                 parts.push_tail(tail)?;
-                Ok(made(role, Shape::Cons, parts, at, behind))
+                Ok(made(role, Shape::Cons, parts, tokens, behind))
             }
-            None => Ok(Err(Refusal::behind(rest).within(at))),
+            None => Ok(Err(Refusal::behind(rest))),
         },
-        Err(refusal) => Ok(Err(refusal.within(at))),
+        Err(refusal) => Ok(Err(refusal)),
     }
 }
 
-/// A node of these parts, where there is such a node, with the tokens behind it; what is refused stands at a byte.
+/// A node of these parts, where there is such a node, with the tokens behind it; it is told where there is none.
 #[inline(always)]
 pub(super) fn made<'a>(
     role: Role,
     shape: Shape,
     parts: DeepRow,
-    at: usize,
+    told: &[Spot],
     rest: &'a [Spot],
 ) -> Result<(Deep, &'a [Spot]), Refusal>
-    ensures { MatchResult result
+    ensures read { MatchResult result
         (λ f. made_in role shape parts (terminals rest.now) ≡ Some (f.0, terminals f.1.now))
         (λ _. made_in role shape parts (terminals rest.now) ≡ None) }
+    ensures told { MatchResult result (λ f. f.1.now ≡ rest.now) (λ r. IsToldOf told.now r) }
 {
     if has(role, &shape, parts.len()) && parts.may_begin(&shape) {
         Ok((Deep::node(shape, parts), rest))
     } else {
-        Err(Refusal::Syntax(at))
+        Err(Refusal::at(Reason::Syntax, told))
     }
 }
 
-/// Where a node is told that a role hasn't: a call in a guard at its function's name, all others at the bracket.
-fn opening_place(role: Role, shape: &Shape, at: usize) -> usize {
-    match (role, shape) {
-        (Role::Test, Shape::Local(function)) => function.at,
-        (Role::Test, Shape::Remote(_, function)) => function.get().at,
-        (_, _) => at,
-    }
-}
-
-/// Where a node is told that has not such parts: a call at its function's name, a block of none at its end, all others at the
-/// bracket.
-fn node_place(shape: &Shape, at: usize, tokens: &[Spot]) -> usize {
-    match (shape, tokens.first()) {
-        (Shape::Local(function), _) => function.at,
-        (Shape::Remote(_, function), _) => function.get().at,
-        (Shape::Block, Some(first)) => first.at,
-        (_, _) => at,
+/// Where a node is told that has not such parts: a block of none at its end.
+fn node_place<'a>(shape: &Shape, told: &'a [Spot], tokens: &'a [Spot]) -> &'a [Spot]
+    requires { Leaves told.now tokens.now }
+    ensures { Leaves told.now result.now }
+{
+    match shape {
+        Shape::Block => tokens,
+        _ => told,
     }
 }
 

@@ -1,5 +1,5 @@
 // What operators stand between, and operators.
-ghost use Rattle.std.specs.Prelude.{◌≡◌, ◌≤◌, ◌-◌, IfOk, MatchResult, Some, None};
+ghost use Rattle.std.specs.Prelude.{◌≡◌, ◌≤◌, ◌-◌, IfOk, MatchResult, Some, None, false};
 ghost use Rattle.erl_syntax.specs.Grammar.{level as level_in, is_leaf as is_leaf_in};
 ghost use Rattle.erl_syntax.specs.Terminal.{terminal, terminals};
 ghost use Rattle.erl_syntax.specs.TreeForms.{tree as tree_of};
@@ -9,6 +9,7 @@ ghost use Rattle.erl_expressions.specs.Reading.{own_called as own_in, remote as 
 ghost use Rattle.erl_expressions.specs.Reading.{climbed as climbed_in, joined as joined_in, only_leaf};
 ghost use Rattle.erl_expressions.specs.Reading.{behind_first as behind_first_in};
 ghost use Rattle.erl_expressions.specs.Leaves.{leaf_ahead as leaf_ahead_in};
+ghost use Rattle.erl_expressions.specs.Refusing.{Leaves, IsToldOf, begins_with_dot};
 
 use super::brackets::{bracketed, listed, made, parenthesized};
 use super::clauses::cased;
@@ -17,7 +18,7 @@ use crate::deep::{Deep, DeepRow};
 use crate::leaves::{colon_ahead, is_module, leaf_ahead, named, paren_ahead};
 use crate::operators::{level_of, operator_ahead, right_level};
 use crate::patterns::may_be_left_of;
-use crate::refusal::Refusal;
+use crate::refusal::{Reason, Refusal};
 use erl_scan::{Mark, Spot, Token, Word};
 use erl_syntax::{Infix, Leaf, Named, Prefix, Qualifier, Role, Shape, Sign, SyntaxTree};
 use std::alloc::{AllocError, Global};
@@ -31,15 +32,16 @@ pub(super) fn leaf_alone<'a>(
     most: u32,
     tokens: &'a [Spot],
 ) -> Reading<'a, Deep>
-    ensures { IfOk result (λ answer. MatchResult answer
+    ensures read { IfOk result (λ answer. MatchResult answer
         (λ f. only_leaf (leaf_ahead_in (terminals tokens.now)) role most ≡ Some (f.0, terminals f.1.now))
         (λ _. only_leaf (leaf_ahead_in (terminals tokens.now)) role most ≡ None)) }
+    ensures told { IfOk result (λ answer. MatchResult answer (λ f. Leaves tokens.now f.1.now) (λ r. IsToldOf tokens.now r)) }
 {
     let Some((leaf, rest)) = leaf_ahead(alloc, tokens)? else {
         return Ok(Err(Refusal::too_deep(tokens)));
     };
     if operator_ahead(role, most, 0, rest).is_some() {
-        return Ok(Err(Refusal::operator_too_deep(rest)));
+        return Ok(Err(Refusal::at(Reason::TooDeep, rest)));
     }
     Ok(leaf_read(leaf, tokens, rest))
 }
@@ -51,14 +53,15 @@ fn leaf_read<'a>(
     tokens: &'a [Spot],
     rest: &'a [Spot],
 ) -> Result<(Deep, &'a [Spot]), Refusal>
-    ensures { MatchResult result
+    ensures read { MatchResult result
         (λ f. leaf_in (leaf, terminals rest.now) ≡ Some (f.0, terminals f.1.now))
         (λ _. leaf_in (leaf, terminals rest.now) ≡ None) }
+    ensures told { MatchResult result (λ f. f.1.now ≡ rest.now) (λ r. IsToldOf tokens.now r) }
 {
     if is_leaf(&leaf) {
         Ok((Deep::leaf(leaf), rest))
     } else {
-        Err(Refusal::out_of_range(tokens))
+        Err(Refusal::at(Reason::IntegerRange, tokens))
     }
 }
 
@@ -83,9 +86,10 @@ pub(super) fn begun<'a>(
     role: Role,
     tokens: &'a [Spot],
 ) -> Reading<'a, Deep>
-    ensures { IfOk result (λ answer. MatchResult answer
+    ensures read { IfOk result (λ answer. MatchResult answer
         (λ f. begun_in (read_in levels) role (terminals tokens.now) ≡ Some (f.0, terminals f.1.now))
         (λ _. begun_in (read_in levels) role (terminals tokens.now) ≡ None)) }
+    ensures told { IfOk result (λ answer. MatchResult answer (λ f. Leaves tokens.now f.1.now) (λ r. IsToldOf tokens.now r)) }
 {
     match leaf_ahead(alloc, tokens)? {
         Some((leaf, rest)) => Ok(leaf_read(leaf, tokens, rest)),
@@ -97,21 +101,22 @@ pub(super) fn begun<'a>(
 #[cycle(reading)]
 #[tactic(auto, unfolding(crate::specs::Reading::construct))]
 fn construct<'a>(alloc: Global, levels: u32, role: Role, tokens: &'a [Spot]) -> Reading<'a, Deep>
-    ensures { IfOk result (λ answer. MatchResult answer
+    ensures read { IfOk result (λ answer. MatchResult answer
         (λ f. construct_in (read_in levels) role (terminals tokens.now) ≡ Some (f.0, terminals f.1.now))
         (λ _. construct_in (read_in levels) role (terminals tokens.now) ≡ None)) }
+    ensures told { IfOk result (λ answer. MatchResult answer (λ f. Leaves tokens.now f.1.now) (λ r. IsToldOf tokens.now r)) }
 {
     let Some((first, rest)) = tokens.split_first() else {
-        return Ok(Err(Refusal::End));
+        return Ok(Err(Refusal::at(Reason::Syntax, tokens)));
     };
     match &first.what {
         Token::Atom(name) => {
             let name = named(name, first.at)?;
-            called(alloc, levels, role, name, rest)
+            called(alloc, levels, role, name, tokens, rest)
         }
-        Token::Mark(mark) => begun_by_mark(alloc, levels, role, *mark, first, rest),
-        Token::Word(word) => begun_by_word(alloc, levels, role, *word, first, rest),
-        _ => Ok(Err(Refusal::at_start(first))),
+        Token::Mark(mark) => begun_by_mark(alloc, levels, role, *mark, tokens, rest),
+        Token::Word(word) => begun_by_word(alloc, levels, role, *word, tokens, rest),
+        _ => Ok(Err(Refusal::at_start(tokens))),
     }
 }
 
@@ -122,20 +127,22 @@ fn begun_by_mark<'a>(
     levels: u32,
     role: Role,
     mark: Mark,
-    first: &Spot,
+    tokens: &'a [Spot],
     rest: &'a [Spot],
 ) -> Reading<'a, Deep>
-    ensures { IfOk result (λ answer. MatchResult answer
+    requires { Leaves tokens.now rest.now }
+    ensures read { IfOk result (λ answer. MatchResult answer
         (λ f. by_mark (read_in levels) role mark (terminals rest.now) ≡ Some (f.0, terminals f.1.now))
         (λ _. by_mark (read_in levels) role mark (terminals rest.now) ≡ None)) }
+    ensures told { IfOk result (λ answer. MatchResult answer (λ f. Leaves tokens.now f.1.now) (λ r. IsToldOf tokens.now r)) }
 {
     match mark {
-        Mark::OpenBrace => bracketed(alloc, levels, role, Shape::Tuple, first.at, rest),
-        Mark::OpenBracket => listed(alloc, levels, role, first.at, rest),
-        Mark::OpenParen => parenthesized(alloc, levels, role, first.at, rest),
-        Mark::Minus => prefixed(alloc, levels, role, Prefix::Negate, first.at, rest),
-        Mark::Question => own_called(alloc, levels, role, first, rest),
-        _ => Ok(Err(Refusal::at_sign(first, rest))),
+        Mark::OpenBrace => bracketed(alloc, levels, role, Shape::Tuple, tokens, rest),
+        Mark::OpenBracket => listed(alloc, levels, role, rest),
+        Mark::OpenParen => parenthesized(alloc, levels, role, rest),
+        Mark::Minus => prefixed(alloc, levels, role, Prefix::Negate, tokens, rest),
+        Mark::Question => own_called(alloc, levels, role, tokens, rest),
+        _ => Ok(Err(Refusal::at_sign(tokens, rest))),
     }
 }
 
@@ -146,22 +153,24 @@ fn begun_by_word<'a>(
     levels: u32,
     role: Role,
     word: Word,
-    first: &Spot,
+    tokens: &'a [Spot],
     rest: &'a [Spot],
 ) -> Reading<'a, Deep>
-    ensures { IfOk result (λ answer. MatchResult answer
+    requires { Leaves tokens.now rest.now }
+    ensures read { IfOk result (λ answer. MatchResult answer
         (λ f. by_word (read_in levels) role word (terminals rest.now) ≡ Some (f.0, terminals f.1.now))
         (λ _. by_word (read_in levels) role word (terminals rest.now) ≡ None)) }
+    ensures told { IfOk result (λ answer. MatchResult answer (λ f. Leaves tokens.now f.1.now) (λ r. IsToldOf tokens.now r)) }
 {
     match word {
-        Word::Not => prefixed(alloc, levels, role, Prefix::Not, first.at, rest),
-        Word::Begin => bracketed(alloc, levels, role, Shape::Block, first.at, rest),
-        Word::Case => cased(alloc, levels, role, first.at, rest),
-        _ => Ok(Err(Refusal::at_start(first))),
+        Word::Not => prefixed(alloc, levels, role, Prefix::Not, tokens, rest),
+        Word::Begin => bracketed(alloc, levels, role, Shape::Block, tokens, rest),
+        Word::Case => cased(alloc, levels, role, tokens, rest),
+        _ => Ok(Err(Refusal::at_start(tokens))),
     }
 }
 
-/// A call, behind the name that it begins with.
+/// A call, behind the name that it begins with, which is the first of all.
 #[cycle(reading)]
 #[tactic(auto, unfolding(crate::specs::Reading::called))]
 fn called<'a>(
@@ -169,60 +178,71 @@ fn called<'a>(
     levels: u32,
     role: Role,
     name: Named,
+    call: &'a [Spot],
     tokens: &'a [Spot],
 ) -> Reading<'a, Deep>
-    ensures { IfOk result (λ answer. MatchResult answer
+    requires { Leaves call.now tokens.now }
+    ensures read { IfOk result (λ answer. MatchResult answer
         (λ f. called_in (read_in levels) role name (terminals tokens.now) ≡ Some (f.0, terminals f.1.now))
         (λ _. called_in (read_in levels) role name (terminals tokens.now) ≡ None)) }
+    ensures told { IfOk result (λ answer. MatchResult answer (λ f. Leaves tokens.now f.1.now) (λ r. IsToldOf call.now r)) }
 {
     let Some((first, rest)) = tokens.split_first() else {
-        return Ok(Err(Refusal::End));
+        return Ok(Err(Refusal::at(Reason::Syntax, tokens)));
     };
     match &first.what {
         Token::Mark(Mark::OpenParen) => {
-            bracketed(alloc, levels, role, Shape::Local(name), first.at, rest)
+            let told = call_place(role, call, tokens);
+            bracketed(alloc, levels, role, Shape::Local(name), told, rest)
         }
         Token::Mark(Mark::Colon) => {
-            remote(alloc, levels, role, Qualifier::Module(name), first.at, rest)
+            remote(alloc, levels, role, Qualifier::Module(name), tokens, rest)
         }
-        _ => Ok(Err(Refusal::Syntax(first.at))),
+        _ => Ok(Err(Refusal::at(Reason::Syntax, tokens))),
     }
 }
 
-/// `?MODULE:f(..)`, behind the first sign.
+/// Where a call is told that a role hasn't: in a guard at its function's name, in a pattern behind it.
+fn call_place<'a>(role: Role, name: &'a [Spot], behind: &'a [Spot]) -> &'a [Spot]
+    requires { Leaves name.now behind.now }
+    ensures of_name { Leaves name.now result.now }
+    ensures of_behind { Leaves result.now behind.now }
+{
+    match role {
+        Role::Pattern => behind,
+        Role::Expression | Role::Test => name,
+    }
+}
+
+/// `?MODULE:f(..)`, behind the first sign, which is the first of all.
 #[cycle(reading)]
 #[tactic(auto, unfolding(crate::specs::Reading::own_called))]
 fn own_called<'a>(
     alloc: Global,
     levels: u32,
     role: Role,
-    sign: &Spot,
+    call: &'a [Spot],
     tokens: &'a [Spot],
 ) -> Reading<'a, Deep>
-    ensures { IfOk result (λ answer. MatchResult answer
+    requires { Leaves call.now tokens.now }
+    ensures read { IfOk result (λ answer. MatchResult answer
         (λ f. own_in (read_in levels) role (terminals tokens.now) ≡ Some (f.0, terminals f.1.now))
         (λ _. own_in (read_in levels) role (terminals tokens.now) ≡ None)) }
+    ensures told { IfOk result (λ answer. MatchResult answer (λ f. Leaves tokens.now f.1.now) (λ r. IsToldOf call.now r)) }
 {
     let Some((word, rest)) = tokens.split_first() else {
-        return Ok(Err(Refusal::at_start(sign)));
+        return Ok(Err(Refusal::at(Reason::Syntax, tokens)));
     };
     match &word.what {
         Token::Variable(name) if is_module(name) && colon_ahead(rest) => {
             let owner = Qualifier::ModuleName(word.at);
-            remote(
-                alloc,
-                levels,
-                role,
-                owner,
-                first_byte(rest),
-                behind_first(rest),
-            )
+            remote(alloc, levels, role, owner, rest, behind_first(rest))
         }
-        _ => Ok(Err(Refusal::at_start(sign))),
+        _ => Ok(Err(Refusal::at_start(call))),
     }
 }
 
-/// A call of a function of a module, behind the colon, which stands at a byte.
+/// A call of a function of a module, behind the colon, which is the first of all. A pattern is told to have none at the colon.
 #[cycle(reading)]
 #[tactic(auto, unfolding(crate::specs::Reading::remote))]
 fn remote<'a>(
@@ -230,39 +250,33 @@ fn remote<'a>(
     levels: u32,
     role: Role,
     owner: Qualifier,
-    at: usize,
+    sign: &'a [Spot],
     tokens: &'a [Spot],
 ) -> Reading<'a, Deep>
-    ensures { IfOk result (λ answer. MatchResult answer
+    requires { Leaves sign.now tokens.now }
+    ensures read { IfOk result (λ answer. MatchResult answer
         (λ f. remote_in (read_in levels) role owner (terminals tokens.now) ≡ Some (f.0, terminals f.1.now))
         (λ _. remote_in (read_in levels) role owner (terminals tokens.now) ≡ None)) }
+    ensures told { IfOk result (λ answer. MatchResult answer (λ f. Leaves tokens.now f.1.now) (λ r. IsToldOf sign.now r)) }
 {
     let Some((name, rest)) = tokens.split_first() else {
-        return Ok(Err(Refusal::End));
+        return Ok(Err(Refusal::at(Reason::Syntax, tokens).of_call(role, sign)));
     };
     match &name.what {
         Token::Atom(function) if paren_ahead(rest) => {
             let function = named(function, name.at)?;
             let shape = Shape::Remote(Shared::new(alloc, owner)?, Shared::new(alloc, function)?);
-            let open = first_byte(rest);
-            match bracketed(alloc, levels, role, shape, open, behind_first(rest))? {
+            match bracketed(alloc, levels, role, shape, tokens, behind_first(rest))? {
                 Ok(found) => Ok(Ok(found)),
-                Err(refusal) => Ok(Err(refusal.of_call(role, at))),
+                Err(refusal) => Ok(Err(refusal.of_call(role, sign))),
             }
         }
-        _ => Ok(Err(Refusal::no_remote(name, rest).of_call(role, at))),
+        Token::Atom(_) => Ok(Err(Refusal::behind(rest).of_call(role, sign))),
+        _ => Ok(Err(Refusal::no_remote(tokens).of_call(role, sign))),
     }
 }
 
-/// Where the first of some tokens stands; 0 where there is none.
-fn first_byte(tokens: &[Spot]) -> usize {
-    match tokens.first() {
-        Some(first) => first.at,
-        None => 0,
-    }
-}
-
-/// An operator before its operand, behind the operator.
+/// An operator before its operand, behind the operator, which is the first of all.
 #[cycle(reading)]
 #[tactic(auto, unfolding(crate::specs::Reading::prefixed))]
 fn prefixed<'a>(
@@ -270,20 +284,22 @@ fn prefixed<'a>(
     levels: u32,
     role: Role,
     op: Prefix,
-    at: usize,
+    sign: &[Spot],
     tokens: &'a [Spot],
 ) -> Reading<'a, Deep>
-    ensures { IfOk result (λ answer. MatchResult answer
+    requires { Leaves sign.now tokens.now }
+    ensures read { IfOk result (λ answer. MatchResult answer
         (λ f. prefixed_in (read_in levels) role op (terminals tokens.now) ≡ Some (f.0, terminals f.1.now))
         (λ _. prefixed_in (read_in levels) role op (terminals tokens.now) ≡ None)) }
+    ensures told { IfOk result (λ answer. MatchResult answer (λ f. Leaves tokens.now f.1.now) (λ r. IsToldOf sign.now r)) }
 {
     if matches!(role, Role::Pattern) {
-        return Ok(Err(Refusal::before_pattern(op, at, tokens)));
+        return Ok(Err(Refusal::before_pattern(op, sign, tokens)));
     }
     match read(alloc, levels, role, 1, tokens)? {
         Ok((operand, rest)) => {
             let parts = DeepRow::of(alloc, operand)?;
-            Ok(made(role, Shape::Prefix(op), parts, at, rest))
+            Ok(made(role, Shape::Prefix(op), parts, sign, rest))
         }
         Err(refusal) => Ok(Err(refusal)),
     }
@@ -301,9 +317,10 @@ pub(super) fn climbed<'a>(
     tokens: &'a [Spot],
 ) -> Reading<'a, Deep>
     requires { 1 ≤ levels }
-    ensures { IfOk result (λ answer. MatchResult answer
+    ensures read { IfOk result (λ answer. MatchResult answer
         (λ f. climbed_in levels (read_in (levels - 1)) role most levels first (terminals tokens.now) ≡ Some (f.0, terminals f.1.now))
         (λ _. climbed_in levels (read_in (levels - 1)) role most levels first (terminals tokens.now) ≡ None)) }
+    ensures told { IfOk result (λ answer. MatchResult answer (λ f. Leaves tokens.now f.1.now) (λ r. IsToldOf tokens.now r)) }
 {
     let mut left = first;
     let mut rest = tokens;
@@ -321,7 +338,7 @@ pub(super) fn climbed<'a>(
     }
     match operator_ahead(role, most, level(&left.tree), rest) {
         None => Ok(Ok((left, rest))),
-        Some(_) => Ok(Err(Refusal::operator_too_deep(rest))),
+        Some(_) => Ok(Err(Refusal::at(Reason::TooDeep, rest))),
     }
 }
 
@@ -335,13 +352,15 @@ fn joined<'a>(
     op: Infix,
     tokens: &'a [Spot],
 ) -> Reading<'a, Deep>
-    requires { 1 ≤ levels }
-    ensures { IfOk result (λ answer. MatchResult answer
+    requires levels { 1 ≤ levels }
+    requires no_dot { begins_with_dot tokens.now ≡ false }
+    ensures read { IfOk result (λ answer. MatchResult answer
         (λ f. joined_in (read_in (levels - 1)) role levels left op (terminals tokens.now) ≡ Some (f.0, terminals f.1.now))
         (λ _. joined_in (read_in (levels - 1)) role levels left op (terminals tokens.now) ≡ None)) }
+    ensures told { IfOk result (λ answer. MatchResult answer (λ f. Leaves tokens.now f.1.now) (λ r. IsToldOf tokens.now r)) }
 {
     if !left.is_below(levels) {
-        return Ok(Err(Refusal::operator_too_deep(tokens)));
+        return Ok(Err(Refusal::at(Reason::TooDeep, tokens)));
     }
     if !may_be_left_of(op, &left.tree) {
         return Ok(Err(Refusal::no_pattern(&left.tree, tokens)));
@@ -363,7 +382,8 @@ fn joined<'a>(
 
 /// The tokens behind the first.
 fn behind_first(tokens: &[Spot]) -> &[Spot]
-    ensures { terminals result.now ≡ behind_first_in (terminals tokens.now) }
+    ensures is { terminals result.now ≡ behind_first_in (terminals tokens.now) }
+    ensures leaves { begins_with_dot tokens.now ≡ false → Leaves tokens.now result.now }
 {
     match tokens.split_first() {
         Some((_, rest)) => rest,

@@ -5,6 +5,7 @@ use Rattle.erl_syntax.specs.declared.role.Role.TheVariants.{Test}
 use Rattle.erl_expressions.specs.declared.delimiter.Delimiter.TheVariants.{Comma, Semicolon}
 use Rattle.erl_expressions.specs.Reading.{read, row, one_clause, clauses_to_end, alternatives, separated, and_then, climbed, rest_of_row, rest_of_trees, rest_of_guards, rest_of_clauses}
 use Rattle.erl_syntax.specs.Grammar.{operations}
+use Rattle.erl_expressions.specs.Refusing.{Leaves}
 use Rattle.erl_expressions.proofs.reader.+reading.Given as goal
 
 abbrev pub decreases-brackets::bracketed : goal.decreases-brackets::bracketed
@@ -84,22 +85,23 @@ decreases-read l = 16 * l.levels
 
 abbrev pub invariant-brackets::row_of_many-loop-turn : goal.invariant-brackets::row_of_many-loop-turn
 invariant-brackets::row_of_many-loop-turn l =
-    rest_of_trees l.others (read l.levels l.role l.most) l.fn.before (terminals l.fn.tokens) ≡
-    and_then (separated Comma (l.others - l._turn) (read l.levels l.role l.most) (terminals l.left)) (rest_of_row l.items)
+    (rest_of_trees l.others (read l.levels l.role l.most) l.fn.before (terminals l.fn.tokens) ≡
+    and_then (separated Comma (l.others - l._turn) (read l.levels l.role l.most) (terminals l.left)) (rest_of_row l.items)) ×
+    Leaves l.fn.tokens l.left
 
 abbrev pub invariant-clauses::clauses_to_end-loop-turn : goal.invariant-clauses::clauses_to_end-loop-turn
 invariant-clauses::clauses_to_end-loop-turn l =
-    clauses_to_end (read l.levels) (terminals l.tokens) ≡
+    (clauses_to_end (read l.levels) (terminals l.tokens) ≡
     and_then (separated Semicolon (length l.tokens - l._turn) (one_clause (read l.levels)) (terminals l.left))
-    (rest_of_clauses l.clauses)
+    (rest_of_clauses l.clauses)) × Leaves l.tokens l.left
 
 abbrev pub invariant-clauses::alternatives-loop-turn : goal.invariant-clauses::alternatives-loop-turn
 invariant-clauses::alternatives-loop-turn l =
-    alternatives (read l.levels) (terminals l.tokens) ≡
+    (alternatives (read l.levels) (terminals l.tokens) ≡
     and_then (separated Semicolon (length l.tokens - l._turn) (row (read l.levels Test operations)) (terminals l.left))
-    (rest_of_guards l.guards)
+    (rest_of_guards l.guards)) × Leaves l.tokens l.left
 
 abbrev pub invariant-operands::climbed-loop-turn : goal.invariant-operands::climbed-loop-turn
 invariant-operands::climbed-loop-turn l =
-    climbed l.levels (read (l.levels - 1)) l.role l.most l.levels l.fn.first (terminals l.fn.tokens) ≡
-    climbed (l.levels - l._turn) (read (l.levels - 1)) l.role l.most l.levels l.left (terminals l.rest)
+    (climbed l.levels (read (l.levels - 1)) l.role l.most l.levels l.fn.first (terminals l.fn.tokens) ≡
+    climbed (l.levels - l._turn) (read (l.levels - 1)) l.role l.most l.levels l.left (terminals l.rest)) × Leaves l.fn.tokens l.rest

@@ -1,12 +1,11 @@
--- What stops the tokens is told where they end too soon.
-use Rattle.erl_parse.specs.Telling.{stopped, in_bracket}
+-- The token is told, or what is told of the end.
+use Rattle.std.proofs.Common.{◌≡◌}
+use Rattle.module_forms.specs.FirstFault.{StandsAt}
+use Rattle.erl_parse.specs.Telling.{at_token, of_end}
 use Rattle.erl_parse.proofs.telling.of_refusal.Goals as goal
 
 pub returns-in-Some : goal.returns-in-Some
-returns-in-Some c = stopped {e = c.in-Some.fault} c.in-Some.is c.of_token.ensures
+returns-in-Some c = at_token {spot = c.in-Some.told.now} c.in-Some.ensures c.at_token.ensures
 
 pub returns-in-None : goal.returns-in-None
-returns-in-None c = in_bracket {at = c.in-Unclosed.at} c.in-None.is c.text_error-in-None.ensures
-
-pub returns-in-Some-stop : goal.returns-in-Some-stop
-returns-in-Some-stop c = stopped {e = c.in-Some-stop.fault} c.in-Some-stop.is c.of_token-in-Some-stop.ensures
+returns-in-None c = of_end c.in-None.ensures c.at_end.ensures

@@ -2,8 +2,10 @@
 use Rattle.std.proofs.Common.{◌≡◌, ◌+◌, length}
 use Rattle.erl_syntax.specs.Forms.{after_dot}
 use Rattle.erl_syntax.specs.Terminal.{terminals}
+use Rattle.erl_expressions.specs.Refusing.{Leaves}
 use Rattle.module_forms.proofs.attributes.after_dot.Given as goal
 
 abbrev pub invariant-loop-turn : goal.invariant-loop-turn
 invariant-loop-turn l =
-    (after_dot (terminals l.tokens) ≡ after_dot (terminals l.left)) × (length l.left + l._turn ≡ length l.tokens)
+    (after_dot (terminals l.tokens) ≡ after_dot (terminals l.left)) × (length l.left + l._turn ≡ length l.tokens) ×
+    Leaves l.tokens l.left
