@@ -30,7 +30,7 @@ use Rattle.app_table.specs.Renewing.{AreEdits, IsEdit, child_by_id, child_for, r
 use Rattle.app_table.specs.declared.child.Child.{Child}
 use Rattle.app_table.specs.declared.renewing.ChildEdit.{ChildEdit}
 use Rattle.app_table.specs.declared.renewing.ChildEdit.TheVariants.{Added, Kept}
-use Rattle.app_table.specs.declared.undo.Undo.TheVariants.{Renewed}
+use Rattle.app_table.specs.declared.undo.AppsUndo.TheVariants.{Renewed}
 
 -- Ids
 
@@ -80,7 +80,7 @@ module _ (s : ChildSpec) (ss : List ChildSpec) (fresh : list_any (same_id s.id) 
       ((λ is. another x (ap (λ (z : ChildSpec). z.id) (sym is)) ones.0, apart.0), still_apart new xs ones.1 apart.1)
 
 -- What is held of these specifications, in order, and what is new.
-record Takes (specs held : List ChildSpec) (before after : List Child) : Type 0 where
+record TakesSpecs (specs held : List ChildSpec) (before after : List Child) : Type 0 where
   stay : List ChildSpec
   new : List ChildSpec
   were : IsPermutation (held ++ stay) (specs_in before)
@@ -90,7 +90,7 @@ record Takes (specs held : List ChildSpec) (before after : List Child) : Type 0 
   news : AllByRecursion (IsOne specs) new
 
 module _ (s : ChildSpec) (ss : List ChildSpec) (fresh : list_any (same_id s.id) ss ≡ false) where
-  one_new : (es : List ChildEdit) (before after : List Child) → Takes ss (formers es) before after → Takes (s ∷ ss) (formers es) before (child_for s None ∷ after)
+  one_new : (es : List ChildEdit) (before after : List Child) → TakesSpecs ss (formers es) before after → TakesSpecs (s ∷ ss) (formers es) before (child_for s None ∷ after)
   one_new es before after t = record {
     stay = t.stay;
     new = s ∷ t.new;
@@ -102,7 +102,7 @@ module _ (s : ChildSpec) (ss : List ChildSpec) (fresh : list_any (same_id s.id) 
   }
 
   -- one that is specified as before
-  one_same : (es : List ChildEdit) (c : Child) (cs others after : List Child) → c.spec ≡ s → IsPermutation cs (c ∷ others) → Takes ss (formers es) others after → Takes (s ∷ ss) (formers es) cs (with_spec s c ∷ after)
+  one_same : (es : List ChildEdit) (c : Child) (cs others after : List Child) → c.spec ≡ s → IsPermutation cs (c ∷ others) → TakesSpecs ss (formers es) others after → TakesSpecs (s ∷ ss) (formers es) cs (with_spec s c ∷ after)
   one_same es c cs others after same taken t =
       let held = formers es in
       let back = IsPermutation-sym (specs_in cs) (specs_in (c ∷ others)) (IsPermutation-map (λ (d : Child). d.spec) cs (c ∷ others) taken) in
@@ -120,7 +120,7 @@ module _ (s : ChildSpec) (ss : List ChildSpec) (fresh : list_any (same_id s.id) 
       }
 
   -- one that is specified otherwise
-  one_lost : (es : List ChildEdit) (c : Child) (it : ChildSpec) (cs others after : List Child) → it ≡ c.spec → (c.spec ≡ s → ⊥) → has_id s.id c ≡ true → IsPermutation cs (c ∷ others) → Takes ss (formers es) others after → Takes (s ∷ ss) (it ∷ formers es) cs (with_spec s c ∷ after)
+  one_lost : (es : List ChildEdit) (c : Child) (it : ChildSpec) (cs others after : List Child) → it ≡ c.spec → (c.spec ≡ s → ⊥) → has_id s.id c ≡ true → IsPermutation cs (c ∷ others) → TakesSpecs ss (formers es) others after → TakesSpecs (s ∷ ss) (it ∷ formers es) cs (with_spec s c ∷ after)
   one_lost es c it cs others after is other has taken t =
       let held = formers es in
       let id : it.id ≡ s.id = ap (λ (x : ChildSpec). x.id) is ∙ id_is s.id c.spec has in
@@ -136,22 +136,22 @@ module _ (s : ChildSpec) (ss : List ChildSpec) (fresh : list_any (same_id s.id) 
         news = (first_one s ss s refl, ones_more s ss t.new t.news);
       }
 
-  one_kept : (e : ChildEdit) (es : List ChildEdit) (c : Child) (cs others after : List Child) → IsEdit s (Some c) e → has_id s.id c ≡ true → IsPermutation cs (c ∷ others) → Takes ss (formers es) others after → Takes (s ∷ ss) (formers (e ∷ es)) cs (with_spec s c ∷ after)
+  one_kept : (e : ChildEdit) (es : List ChildEdit) (c : Child) (cs others after : List Child) → IsEdit s (Some c) e → has_id s.id c ≡ true → IsPermutation cs (c ∷ others) → TakesSpecs ss (formers es) others after → TakesSpecs (s ∷ ss) (formers (e ∷ es)) cs (with_spec s c ∷ after)
   one_kept Added es c cs others after is has taken t = absurd is
   one_kept (Kept from None) es c cs others after is has taken t = one_same es c cs others after is taken t
   one_kept (Kept from (Some it)) es c cs others after is has taken t = one_lost es c it cs others after is.0 is.1 has taken t
 
-  one_added : (e : ChildEdit) (es : List ChildEdit) (cs after : List Child) → IsEdit s None e → Takes ss (formers es) cs after → Takes (s ∷ ss) (formers (e ∷ es)) cs (child_for s None ∷ after)
+  one_added : (e : ChildEdit) (es : List ChildEdit) (cs after : List Child) → IsEdit s None e → TakesSpecs ss (formers es) cs after → TakesSpecs (s ∷ ss) (formers (e ∷ es)) cs (child_for s None ∷ after)
   one_added Added es cs after is t = one_new es cs after t
   one_added (Kept from former) es cs after is t = absurd is
 
-  one_taken : (e : ChildEdit) (es : List ChildEdit) (cs after : List Child) (o : Option ℕ) → position (has_id s.id) cs ≡ o → IsEdit s (option_and_then (slice_get cs) o) e → Takes ss (formers es) (without_at o cs) after → Takes (s ∷ ss) (formers (e ∷ es)) cs (child_for s (option_and_then (slice_get cs) o) ∷ after)
+  one_taken : (e : ChildEdit) (es : List ChildEdit) (cs after : List Child) (o : Option ℕ) → position (has_id s.id) cs ≡ o → IsEdit s (option_and_then (slice_get cs) o) e → TakesSpecs ss (formers es) (without_at o cs) after → TakesSpecs (s ∷ ss) (formers (e ∷ es)) cs (child_for s (option_and_then (slice_get cs) o) ∷ after)
   one_taken e es cs after None at is t = one_added e es cs after is t
   one_taken e es cs after (Some k) at is t =
       let (c, here, has) = found (has_id s.id) cs k at in
       let place = position-Some (has_id s.id) cs k c at in
       let taken : IsPermutation cs (c ∷ remove cs k) = IsPermutation-remove cs k c place.0 (got_is cs k c here) in
-      subst (λ (x : Option Child). Takes (s ∷ ss) (formers (e ∷ es)) cs (child_for s x ∷ after)) (sym here)
+      subst (λ (x : Option Child). TakesSpecs (s ∷ ss) (formers (e ∷ es)) cs (child_for s x ∷ after)) (sym here)
       (one_kept e es c cs (remove cs k) after (subst (λ (x : Option Child). IsEdit s x e) here is) has taken t)
     where
       got_is : (xs : List Child) (n : ℕ) (x : Child) → slice_get xs n ≡ Some x → x ≡ get_or xs n x
@@ -159,7 +159,7 @@ module _ (s : ChildSpec) (ss : List ChildSpec) (fresh : list_any (same_id s.id) 
       got_is (y ∷ xs) zero x there = sym (some_is there)
       got_is (y ∷ xs) (suc n) x there = got_is xs n x there
 
-taken : (specs : List ChildSpec) (cs : List Child) (edits : List ChildEdit) → are_distinct specs ≡ true → AreEdits specs cs edits → Takes specs (formers edits) cs (renewed specs cs)
+taken : (specs : List ChildSpec) (cs : List Child) (edits : List ChildEdit) → are_distinct specs ≡ true → AreEdits specs cs edits → TakesSpecs specs (formers edits) cs (renewed specs cs)
 taken [] cs [] distinct are = record { stay = specs_in cs; new = []; were = IsPermutation-refl (specs_in cs); are = IsPermutation-refl (specs_in cs); lost = tt; ids = tt; news = tt }
 taken [] cs (e ∷ es) distinct are = absurd are
 taken (s ∷ ss) cs [] distinct are = absurd are

@@ -70,7 +70,8 @@ set_child state spot apps = changed_child (λ is_started c. in_state state c) sp
 -- the first child that is so, in the application of a place
 
 abbrev pub spot_in : (Child → Bool) → ℕ → List Application → Option Spot
-spot_in is app apps = option_map (λ child. record { app = app; child = child }) (option_and_then (λ a. position is a.children) (slice_get apps app))
+spot_in is app apps = option_map (λ child. record { app = app; child = child })
+    (option_and_then (λ a. position is a.children) (slice_get apps app))
 
 -- The child of an Id, in the application of a name.
 

@@ -27,7 +27,8 @@ is_shutdown_pair None = false
 is_shutdown_pair (Some it) = is_word (codes "shutdown") it.0
 
 abbrev pub is_clean : Tree → Bool
-is_clean reason = is_word (codes "normal") reason || is_word (codes "shutdown") reason || is_shutdown_pair (given (tuple_of reason) two_of)
+is_clean reason = is_word (codes "normal") reason || is_word (codes "shutdown") reason ||
+    is_shutdown_pair (given (tuple_of reason) two_of)
 
 -- whether a child that has ended for a reason is to be started again
 abbrev pub is_due_after : Term → Restart → Bool

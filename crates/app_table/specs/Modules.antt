@@ -69,7 +69,8 @@ idle_for names before m a spot c = if is_startable names before m a c then spot 
 
 abbrev pub startable_for : List ChildName → List (List ℕ) → List (List ℕ) → List Application → List Spot
 startable_for names before [] apps = []
-startable_for names before (m ∷ ms) apps = each_of (idle_for names before m) 0 apps ++ startable_for names (before ++ m ∷ []) ms apps
+startable_for names before (m ∷ ms) apps = each_of (idle_for names before m) 0 apps ++
+    startable_for names (before ++ m ∷ []) ms apps
 
 abbrev pub startable : List ChildName → List (List ℕ) → List Application → List Spot
 startable names modules apps = startable_for names [] modules apps

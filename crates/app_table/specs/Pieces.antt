@@ -10,8 +10,8 @@ use Rattle.app_table.specs.declared.renewing.ChildEdit.{ChildEdit}
 use Rattle.app_table.specs.declared.renewing.ChildEdit.TheVariants.{Added, Kept}
 use Rattle.app_table.specs.declared.specs.FormerSpecs.{FormerSpecs}
 use Rattle.app_table.specs.declared.undo.PutBack.{PutBack}
-use Rattle.app_table.specs.declared.undo.Undo.{Undo}
-use Rattle.app_table.specs.declared.undo.Undo.TheVariants.{Started, Revived, AllEnded, AllRun, AppStopped, Renewed}
+use Rattle.app_table.specs.declared.undo.AppsUndo.{AppsUndo}
+use Rattle.app_table.specs.declared.undo.AppsUndo.TheVariants.{Started, Revived, AllEnded, AllRun, AppStopped, Renewed}
 use Rattle.app_table.specs.declared.undo.Unloaded.{Unloaded}
 
 -- A piece of an application.
@@ -30,7 +30,8 @@ app_pieces a = of_app a.spec ∷ child_pieces a.spec.name a.children
 abbrev pub pieces : List Application → List Piece
 pieces apps = flat_map app_pieces apps
 
--- The pieces of children of the application at a place. Where no application stands they count too, as those of one without a name.
+-- The pieces of children of the application at a place. Where no application stands they count too, as those of one without
+-- a name.
 abbrev pub child_pieces_at : Option Application → List Child → List Piece
 child_pieces_at None children = child_pieces [] children
 child_pieces_at (Some a) children = child_pieces a.spec.name children
@@ -49,9 +50,9 @@ abbrev pub renewal_pieces : Option Application → List ChildEdit → List Piece
 renewal_pieces None edits = flat_map (edit_pieces []) edits
 renewal_pieces (Some a) edits = flat_map (edit_pieces a.spec.name) edits
 
--- What an undo holds, by the applications after its step: where an application was started, the children that it had before; where
--- its children were specified anew, their former specifications that are other ones; else none.
-abbrev pub held : Undo → List Application → List Piece
+-- What an undo holds, by the applications after its step: where an application was started, the children that it had
+-- before; where its children were specified anew, their former specifications that are other ones; else none.
+abbrev pub held : AppsUndo → List Application → List Piece
 held (Started app children) apps = child_pieces_at (slice_get apps app) children
 held (Revived spot) apps = []
 held (AllEnded cs) apps = []
@@ -93,11 +94,11 @@ abbrev pub formers : List ChildEdit → List ChildSpec
 formers edits = flat_map former_in edits
 
 -- what takes back that the children of the application at a place were specified anew
-abbrev pub IsRenewal : ℕ → Undo → Type 0
+abbrev pub IsRenewal : ℕ → AppsUndo → Type 0
 IsRenewal place u = (edits : List ChildEdit) × (u ≡ Renewed place edits)
 
 -- the former specifications that it holds of the application at a place
-abbrev pub formers_at : ℕ → Undo → List ChildSpec
+abbrev pub formers_at : ℕ → AppsUndo → List ChildSpec
 formers_at place (Started app children) = []
 formers_at place (Revived spot) = []
 formers_at place (AllEnded cs) = []

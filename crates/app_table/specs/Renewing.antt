@@ -1,5 +1,5 @@
--- The children of a supervisor are specified anew (appup(4), {update,Mod,supervisor}; supervisor(3), init/1): which they are then,
--- and what takes it back. Nothing starts or stops.
+-- The children of a supervisor are specified anew (appup(4), {update,Mod,supervisor}; supervisor(3), init/1): which they
+-- are then, and what takes it back. Nothing starts or stops.
 use Rattle.std.specs.Prelude.{◌≡◌, ◌+◌, ℕ, List, [], ◌∷◌, insert, position, remove, Option, None, Some, option_and_then, slice_get}
 use Rattle.values.specs.Edits.{changed_at}
 use Rattle.erl_term.specs.declared.term.Term.{Term}
@@ -32,8 +32,8 @@ abbrev pub child_for : ChildSpec → Option Child → Child
 child_for s None = record { spec = s; state = Stopped }
 child_for s (Some c) = with_spec s c
 
--- The new specifications in their order, each with the child of its Id. The children that are nobody's are as they were, behind the
--- others.
+-- The new specifications in their order, each with the child of its Id. The children that are nobody's are as they were,
+-- behind the others.
 abbrev pub renewed : List ChildSpec → List Child → List Child
 renewed [] children = children
 renewed (s ∷ specs) children = child_for s (child_by_id s.id children) ∷ renewed specs (without s.id children)
@@ -44,8 +44,8 @@ with_renewed specs a = record a { children = renewed specs a.children }
 abbrev pub children_renewed : ℕ → List ChildSpec → List Application → List Application
 children_renewed place specs apps = changed_at (with_renewed specs) apps place
 
--- What takes it back, from the last specification to the first: a child that is new goes; one that was there stands where it stood,
--- with its former specification, where that is another one.
+-- What takes it back, from the last specification to the first: a child that is new goes; one that was there stands where
+-- it stood, with its former specification, where that is another one.
 
 abbrev pub moved_if : Option Child → Option Child → ℕ → ℕ → List Child → List Child
 moved_if None there from to children = children

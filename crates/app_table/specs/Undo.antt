@@ -7,8 +7,8 @@ use Rattle.app_table.specs.Children.{in_state}
 use Rattle.app_table.specs.Renewing.{with_unrenewed}
 use Rattle.app_table.specs.declared.child.ChildState.TheVariants.{Running, Due, Stopped}
 use Rattle.app_table.specs.declared.undo.ChildProcess.{ChildProcess}
-use Rattle.app_table.specs.declared.undo.Undo.{Undo}
-use Rattle.app_table.specs.declared.undo.Undo.TheVariants.{Started, Revived, AllEnded, AllRun, AppStopped, Renewed}
+use Rattle.app_table.specs.declared.undo.AppsUndo.{AppsUndo}
+use Rattle.app_table.specs.declared.undo.AppsUndo.TheVariants.{Started, Revived, AllEnded, AllRun, AppStopped, Renewed}
 use Rattle.app_table.specs.declared.undo.Rerun.{Rerun}
 use Rattle.app_table.specs.declared.specs.FormerSpecs.{FormerSpecs}
 use Rattle.app_table.specs.declared.specs.Replaced.{Replaced}
@@ -46,7 +46,7 @@ abbrev pub unstopped : List ChildState → Application → Application
 unstopped states a = with_children true (in_states states a.children) a
 
 -- the applications before the step
-abbrev pub undone : Undo → List Application → List Application
+abbrev pub undone : AppsUndo → List Application → List Application
 undone (Started app children) apps = changed_at (with_children false children) apps app
 undone (Revived spot) apps = set_child Due spot apps
 undone (AllEnded es) apps = all_unended es apps

@@ -222,7 +222,8 @@ impl App {
         found: &mut Vec<Spot>,
     ) -> Result<(), AllocError>
         ensures { OnOk result
-            (found.new.items ≡ found.old.items ++ each_child (idle_for names.now before.now name.now) self.now app 0 self.now.children) }
+            (found.new.items ≡ found.old.items ++ each_child (idle_for names.now before.now name.now) self.now app 0
+            self.now.children) }
     {
         let children = self.children();
         for (child, each) in children.iter().enumerate() {

@@ -27,7 +27,7 @@
 //! - What a record holds of specifications is told (`pieces`): of a start those of the children that there were, of an
 //!   application that was unloaded and of specifications that were put back those that the applications have no more, of children
 //!   that were specified anew, no two by one Id, the former ones that are lost (`AreSpecsLost`): each stands there more often
-//!   before than after, by as many as are held; and of the other steps of an [`Undo`] none.
+//!   before than after, by as many as are held; and of the other steps of an [`AppsUndo`] none.
 //!
 //! The record of an end, or of a stop, has of each child its spot and its pid alone, for it ran: so an undo finds it without
 //! looking. One of children that run has of each whether it was due.
@@ -61,4 +61,4 @@ pub use renewing::ChildEdit;
 pub use specs::{FormerSpecs, Replaced};
 pub use spot::Spot;
 pub use table::AppTable;
-pub use undo::{ChildProcess, PutBack, Rerun, Undo, Unloaded};
+pub use undo::{AppsUndo, ChildProcess, PutBack, Rerun, Unloaded};

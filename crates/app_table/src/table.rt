@@ -18,7 +18,7 @@ use crate::app::App;
 use crate::child::{Child, ChildState};
 use crate::children::Children;
 use crate::spot::Spot;
-use crate::undo::{ChildProcess, Undo};
+use crate::undo::{AppsUndo, ChildProcess};
 use erl_term::{Atom, Term};
 use otp_files::AppSpec;
 use std::alloc::{AllocError, Global};
@@ -179,24 +179,24 @@ impl AppTable {
     }
 
     /// The application at a place, counted from 0, is started, and has these children. Takes no memory.
-    pub fn start(&mut self, app: usize, children: Children) -> Undo
+    pub fn start(&mut self, app: usize, children: Children) -> AppsUndo
         requires { (a : Application) × (slice_get self.old app ≡ Some a) × (a.is_started ≡ false) }
         ensures started { self.new ≡ changed_at (with_children true children) self.old app }
         ensures inverse { undone result self.new ≡ self.old }
         ensures pieces { IfSome (slice_get self.old app) (λ a. held result self.new ≡ child_pieces a.spec.name a.children) }
     {
-        Undo::Started(app, self.set_children(app, true, children))
+        AppsUndo::Started(app, self.set_children(app, true, children))
     }
 
     /// The child at a spot, which is due, runs as the process of a pid. Takes no memory.
-    pub fn revive(&mut self, spot: Spot, pid: u64) -> Undo
+    pub fn revive(&mut self, spot: Spot, pid: u64) -> AppsUndo
         requires { (c : OneChild) × (child_at spot self.old ≡ Some c) × (is_due c ≡ true) }
         ensures revived { self.new ≡ set_child (Running pid) spot self.old }
         ensures inverse { undone result self.new ≡ self.old }
         ensures pieces { held result self.new ≡ [] }
     {
         self.set_child(spot, ChildState::Running(pid));
-        Undo::Revived(spot)
+        AppsUndo::Revived(spot)
     }
 
     /// The process of a pid has ended for a reason: if it was a child's, the child is due now, or stopped. There is room for
@@ -220,7 +220,7 @@ impl AppTable {
     /// # Errors
     ///
     /// `AllocError` where memory is refused. All is then as it was.
-    pub fn ended(&mut self, pids: &[u64], reason: &Term) -> Result<Undo, AllocError>
+    pub fn ended(&mut self, pids: &[u64], reason: &Term) -> Result<AppsUndo, AllocError>
         ensures ended { OnOk result (self.new ≡ all_ended reason.now pids.now self.old) }
         ensures inverse { IfOk result (λ undo. undone undo self.new ≡ self.old) }
         ensures pieces { IfOk result (λ undo. held undo self.new ≡ []) }
@@ -230,7 +230,7 @@ impl AppTable {
         for pid in pids {
             self.end(*pid, reason, &mut undo);
         }
-        Ok(Undo::AllEnded(Row::new(undo)))
+        Ok(AppsUndo::AllEnded(Row::new(undo)))
     }
 
     /// Children run again as the processes that have ended, the last first.
@@ -244,18 +244,18 @@ impl AppTable {
     }
 
     /// Takes the newest step back. Takes no memory.
-    pub fn revert(&mut self, undo: Undo)
+    pub fn revert(&mut self, undo: AppsUndo)
         ensures { self.new ≡ undone undo self.old }
     {
         match undo {
-            Undo::Started(app, children) => {
+            AppsUndo::Started(app, children) => {
                 self.set_children(app, false, children);
             }
-            Undo::Revived(spot) => self.set_child(spot, ChildState::Due),
-            Undo::AllEnded(ended) => self.unend(ended.as_slice()),
-            Undo::AllRun(reruns) => self.unrun(reruns.as_slice()),
-            Undo::AppStopped(app, states) => self.unstop_app(app, states.as_slice()),
-            Undo::Renewed(app, edits) => self.unrenew(app, edits),
+            AppsUndo::Revived(spot) => self.set_child(spot, ChildState::Due),
+            AppsUndo::AllEnded(ended) => self.unend(ended.as_slice()),
+            AppsUndo::AllRun(reruns) => self.unrun(reruns.as_slice()),
+            AppsUndo::AppStopped(app, states) => self.unstop_app(app, states.as_slice()),
+            AppsUndo::Renewed(app, edits) => self.unrenew(app, edits),
         }
     }
 }

@@ -27,7 +27,7 @@ pub struct Rerun {
 
 /// What takes a step of applications back.
 #[derive(Drop)]
-pub enum Undo {
+pub enum AppsUndo {
     /// The application at a place, counted from 0, was started, and had these children before.
     Started(usize, Children),
     /// The child at a spot was due, and runs.

@@ -3,8 +3,8 @@ use Rattle.std.specs.Prelude.{◌≡◌, ◌<◌, ℕ, zero, suc, true, false, L
 use Rattle.std.proofs.Common.{arith, ap, sym, subst, ◌∙◌}
 use Rattle.std.proofs.lemmas.List.{append-nil, append_assoc}
 use Rattle.erl_term.specs.Tree.{Tree, Trees}
-use Rattle.erl_forms.specs.Expression.{Exprs}
-use Rattle.erl_forms.specs.declared.function.Function.{Function}
+use Rattle.erl_ir.specs.Expression.{Exprs}
+use Rattle.erl_ir.specs.declared.function.Function.{Function}
 use Rattle.erl_semantics.specs.declared.acts.Act.{Act}
 use Rattle.erl_semantics.specs.declared.acts.Act.TheVariants as acts_of
 use Rattle.erl_semantics.specs.declared.acts.Place.{Place}

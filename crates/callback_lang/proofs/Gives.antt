@@ -2,9 +2,9 @@
 use Rattle.std.specs.Prelude.{◌≡◌, ℕ, zero, suc, true, false, List, [], ◌∷◌, refl, Option, None, Some}
 use Rattle.std.proofs.Common.{ap, sym, subst, ◌∙◌}
 use Rattle.erl_term.specs.Tree.{Tree, Trees, count}
-use Rattle.erl_forms.specs.declared.function.Function.{Function}
-use Rattle.erl_forms.specs.Expression.{Exprs}
-use Rattle.erl_forms.specs.Module.{exported_of}
+use Rattle.erl_ir.specs.declared.function.Function.{Function}
+use Rattle.erl_ir.specs.Expression.{Exprs}
+use Rattle.erl_ir.specs.Module.{exported_of}
 use Rattle.erl_semantics.specs.State.{Act, Startup, Result, Instance, World, Place, server, loop}
 use Rattle.erl_semantics.specs.Evaluation.{Entered}
 use Rattle.erl_semantics.specs.Guards.{Selection}

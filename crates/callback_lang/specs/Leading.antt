@@ -1,8 +1,8 @@
 -- What comes of functions and bodies in the outermost call.
 use Rattle.std.specs.Prelude.{◌≡◌, ℕ, true, false, List, [], Option}
 use Rattle.erl_term.specs.Tree.{Tree, Trees}
-use Rattle.erl_forms.specs.declared.function.Function.{Function}
-use Rattle.erl_forms.specs.Expression.{Exprs}
+use Rattle.erl_ir.specs.declared.function.Function.{Function}
+use Rattle.erl_ir.specs.Expression.{Exprs}
 use Rattle.erl_semantics.specs.State.{Instance, Act, Startup, all_acts, Result, World, State, with_bindings, with_calls}
 use Rattle.erl_semantics.specs.Jobs.{Outcome, fresh, looped, outermost}
 use Rattle.erl_semantics.specs.Evaluation.{Entered, Body}

@@ -17,6 +17,8 @@ callback (callbacks.Info t) = jobs.handle_info (tree t.now)
 
 -- what is answered for a process in this callback module by a value, where it means this
 abbrev pub answer_view : List ℕ → Tree → Answer → jobs.Answer
-answer_view m v (answers.Rests answered state) = record { answered = option_map tree (option_copied answered); ended = rest (server m (tree state.now)) }
-answer_view m v (answers.Stops answered reason) = record { answered = option_map tree (option_copied answered); ended = exit (tree reason.now) }
+answer_view m v (answers.Rests answered state) = record
+    { answered = option_map tree (option_copied answered); ended = rest (server m (tree state.now)) }
+answer_view m v (answers.Stops answered reason) = record
+    { answered = option_map tree (option_copied answered); ended = exit (tree reason.now) }
 answer_view m v answers.Bad = jobs.bad_return_value v

@@ -144,7 +144,8 @@ impl Callback<'_> {
         acts: Row<Act>,
         answered: Option<&Term>,
     ) -> Result<Row<Act>, AllocError>
-        ensures { IfOk result (λ it. map act_of it ≡ map act_of acts ++ replied (callback self.now) (option_map tree (option_copied answered.entry))) }
+        ensures { IfOk result (λ it. map act_of it ≡ map act_of acts ++
+            replied (callback self.now) (option_map tree (option_copied answered.entry))) }
     {
         match (self, answered) {
             (Callback::Call { from, .. }, Some(term)) => {
@@ -163,7 +164,8 @@ impl Callback<'_> {
         acts: Row<Act>,
         value: &Term,
     ) -> Result<Outcome, AllocError>
-        ensures { IfOk result (λ it. outcome_of it ≡ served module_name.now (callback self.now) (map act_of acts) (results.value (tree value.now))) }
+        ensures { IfOk result (λ it. outcome_of it ≡ served module_name.now (callback self.now) (map act_of acts)
+            (results.value (tree value.now))) }
     {
         match self.answer(value) {
             Answer::Rests { answered, state } => {

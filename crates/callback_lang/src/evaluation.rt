@@ -10,7 +10,7 @@ ghost use Rattle.erl_steps.specs.Leading.{Comes};
 ghost use Rattle.erl_semantics.specs.Views.{mode_of, outcome_of, end_of, instance};
 ghost use Rattle.erl_steps.specs.Views.{control_of, machine_of, startup_of, world_of};
 
-use erl_forms::Expressions;
+use erl_ir::Expressions;
 use erl_semantics::{Act, End, Instance, Mode, Outcome, Place, arity_of};
 use erl_steps::{Callee, Control, Machine, Startup, World, remote_function};
 use erl_term::{Atom, Predefined, Term};
@@ -19,7 +19,7 @@ use values::Row;
 
 /// What evaluating left behind.
 #[derive(Drop)]
-pub struct Ended {
+pub struct Evaluated {
     /// What was done, in order.
     pub acts: Vec<Act>,
     /// The process that was started, if one was.
@@ -34,7 +34,16 @@ fn finish<'a>(
     world: &World<'a>,
     control: Control<'a>,
 ) -> Result<End, AllocError>
-    ensures { IfOk result (λ it. (calls : ℕ) × Comes (world_of world.now) (control_of control.entry) (machine_of machine.old) (end_of it, record { bindings = []; calls = calls; acts = map act_of machine.new.acts.items; startup = option_map startup_of machine.new.startup })) }
+    ensures { IfOk result (λ it. (calls : ℕ) × Comes (world_of world.now) (control_of control.entry) (machine_of machine.old) (
+      end_of it,
+      record {
+        bindings = [];
+        calls = calls;
+        acts = map act_of machine.new.acts.items;
+        startup = option_map
+            startup_of machine.new.startup;
+      },
+    )) }
 {
     let mut next = control;
     loop {
@@ -45,8 +54,8 @@ fn finish<'a>(
     }
 }
 
-/// Calls a function of an instance in the outermost call, in a machine that does nothing yet, and evaluates it to its end. What was
-/// done stands in the machine then.
+/// Calls a function of an instance in the outermost call, in a machine that does nothing yet, and evaluates it to its end.
+/// What was done stands in the machine then.
 pub fn call_in<'a>(
     machine: &mut Machine<'a>,
     world: &World<'a>,
@@ -54,7 +63,9 @@ pub fn call_in<'a>(
     callee: &Callee<'a>,
     arguments: Vec<Term>,
 ) -> Result<End, AllocError>
-    ensures { IfOk result (λ it. machine_of machine.old ≡ unused (instance callee.now.instance.now) → ComesOf (world_of world.now) (instance callee.now.instance.now) name.now callee.now.function.now (trees arguments.items) (map act_of machine.new.acts.items) (option_map startup_of machine.new.startup) (end_of it)) }
+    ensures { IfOk result (λ it. machine_of machine.old ≡ unused (instance callee.now.instance.now) →
+        ComesOf (world_of world.now) (instance callee.now.instance.now) name.now callee.now.function.now
+        (trees arguments.items) (map act_of machine.new.acts.items) (option_map startup_of machine.new.startup) (end_of it)) }
 {
     let next = machine.enter(world, name, &callee.function.definition, arguments)?;
     finish(machine, world, next)
@@ -66,12 +77,14 @@ fn call_outermost<'a>(
     name: &Atom,
     callee: &Callee<'a>,
     arguments: Vec<Term>,
-) -> Result<Ended, AllocError>
-    ensures { IfOk result (λ it. ComesOf (world_of world.now) (instance callee.now.instance.now) name.now callee.now.function.now (trees arguments.items) (map act_of it.acts.items) (option_map startup_of it.startup) (end_of it.end)) }
+) -> Result<Evaluated, AllocError>
+    ensures { IfOk result (λ it. ComesOf (world_of world.now) (instance callee.now.instance.now) name.now
+        callee.now.function.now (trees arguments.items) (map act_of it.acts.items) (option_map startup_of it.startup)
+        (end_of it.end)) }
 {
     let mut machine = Machine::new(world.setting.alloc, callee.instance, false);
     let end = call_in(&mut machine, world, name, callee, arguments)?;
-    Ok(Ended {
+    Ok(Evaluated {
         acts: machine.acts,
         startup: machine.startup,
         end,
@@ -85,14 +98,15 @@ pub fn run_outermost<'a>(
     bindings: Vec<Term>,
     calls: u32,
     body: &'a Expressions,
-) -> Result<Ended, AllocError>
-    ensures { IfOk result (λ it. BodyComes (world_of world.now) (instance item.now) (map tree bindings.items) calls body.now (map act_of it.acts.items) (end_of it.end)) }
+) -> Result<Evaluated, AllocError>
+    ensures { IfOk result (λ it. BodyComes (world_of world.now) (instance item.now) (map tree bindings.items) calls body.now
+        (map act_of it.acts.items) (end_of it.end)) }
 {
     let mut machine = Machine::new(world.setting.alloc, item, true);
     machine.bindings = bindings;
     machine.calls = calls;
     let end = finish(&mut machine, world, Control::Run(body.as_slice()))?;
-    Ok(Ended {
+    Ok(Evaluated {
         acts: machine.acts,
         startup: machine.startup,
         end,
@@ -106,7 +120,9 @@ fn with_start(
     place: Place,
     registered: Option<(Atom, bool)>,
 ) -> Result<Vec<Act>, AllocError>
-    ensures { IfOk result (λ it. map act_of it.items ≡ all_acts (Some (record { before = before; registered = registered; place = Some (told_as.place place) })) (map act_of acts.items)) }
+    ensures { IfOk result (λ it. map act_of it.items ≡ all_acts
+        (Some (record { before = before; registered = registered; place = Some (told_as.place place) }))
+        (map act_of acts.items)) }
 {
     let mut all = acts;
     let count = all.len().min(before);
@@ -150,10 +166,11 @@ fn all_acts(acts: Vec<Act>, startup: Option<Startup>) -> Result<Vec<Act>, AllocE
 }
 
 /// What is told of what was left behind.
-fn told(ended: Ended) -> Result<Outcome, AllocError>
-    ensures { IfOk result (λ it. outcome_of it ≡ record { acts = all_acts (option_map startup_of ended.startup) (map act_of ended.acts.items); ended = end_of ended.end }) }
+fn told(ended: Evaluated) -> Result<Outcome, AllocError>
+    ensures { IfOk result (λ it. outcome_of it ≡ record
+        { acts = all_acts (option_map startup_of ended.startup) (map act_of ended.acts.items); ended = end_of ended.end }) }
 {
-    let Ended { acts, startup, end } = ended;
+    let Evaluated { acts, startup, end } = ended;
     let acts = all_acts(acts, startup)?;
     Ok(Outcome {
         acts: Row::new(acts),
@@ -168,21 +185,23 @@ fn call<'a>(
     callee: &Callee<'a>,
     arguments: Vec<Term>,
 ) -> Result<Outcome, AllocError>
-    ensures { IfOk result (λ it. CallComes (world_of world.now) (instance callee.now.instance.now) name.now callee.now.function.now (trees arguments.items) (outcome_of it)) }
+    ensures { IfOk result (λ it. CallComes (world_of world.now) (instance callee.now.instance.now) name.now
+        callee.now.function.now (trees arguments.items) (outcome_of it)) }
 {
     let ended = call_outermost(world, name, callee, arguments)?;
     told(ended)
 }
 
-/// What the call `module_name:name(arguments)` gives, from outside of all modules: the function has to be exported by the module's
-/// current code.
+/// What the call `module_name:name(arguments)` gives, from outside of all modules: the function has to be exported by the
+/// module's current code.
 fn evaluate_in(
     world: &World<'_>,
     module_name: &Atom,
     name: &Atom,
     arguments: Vec<Term>,
 ) -> Result<Outcome, AllocError>
-    ensures { IfOk result (λ it. Evaluates (world_of world.now) module_name.now name.now (trees arguments.items) (outcome_of it)) }
+    ensures { IfOk result (λ it. Evaluates (world_of world.now) module_name.now name.now (trees arguments.items)
+        (outcome_of it)) }
 {
     let arity = arity_of(arguments.as_slice())?;
     match remote_function(world, module_name, name, arity) {
@@ -191,9 +210,9 @@ fn evaluate_in(
     }
 }
 
-/// What the call `called:function(arguments)` gives, from outside of all modules, where this is the current code: a start function
-/// in [`Mode::Start`], and `init`, `code_change` or `apply` in [`Mode::Plain`]. In mode `Start` the process identifier is the one
-/// that the started process is to have, and `self/0` is it.
+/// What the call `called:function(arguments)` gives, from outside of all modules, where this is the current code: a start
+/// function in [`Mode::Start`], and `init`, `code_change` or `apply` in [`Mode::Plain`]. In mode `Start` the process
+/// identifier is the one that the started process is to have, and `self/0` is it.
 ///
 /// # Errors
 ///
@@ -207,7 +226,8 @@ pub fn evaluate(
     function: &Atom,
     arguments: Vec<Term>,
 ) -> Result<Outcome, AllocError>
-    ensures { IfOk result (λ it. Evaluates (record { code = map instance code.now; pid = pid; mode = mode_of mode }) called.now function.now (trees arguments.items) (outcome_of it)) }
+    ensures { IfOk result (λ it. Evaluates (record { code = map instance code.now; pid = pid; mode = mode_of mode }) called.now
+        function.now (trees arguments.items) (outcome_of it)) }
 {
     let world = World::new(alloc, pid, mode, code);
     evaluate_in(&world, called, function, arguments)

@@ -3,7 +3,7 @@ ghost use Rattle.std.specs.Prelude.{◌≡◌, IfOk, Some, map};
 ghost use Rattle.std.specs.Option.{option_copied};
 ghost use Rattle.erl_term.specs.Term.{tree};
 ghost use Rattle.erl_term.specs.Tree.{count};
-ghost use Rattle.erl_forms.specs.Module.{exported_of, function_of};
+ghost use Rattle.erl_ir.specs.Module.{exported_of, function_of};
 ghost use Rattle.erl_semantics.specs.Acts.{place};
 ghost use Rattle.erl_semantics.specs.Jobs as jobs;
 ghost use Rattle.erl_semantics.specs.Jobs.{GivesAt, GivesJob, Handles, Receives, arguments_of, callback_of, heard, looped, name_of};
@@ -13,7 +13,7 @@ ghost use Rattle.callback_lang.specs.Leading.{LoopComes};
 
 use crate::callbacks::callback_of;
 use crate::evaluation::{call_in, run_outermost, undefined};
-use erl_forms::Function;
+use erl_ir::Function;
 use erl_semantics::{Done, End, Heard, Instance, Job, Mode, Outcome, Place, arity_of, hear};
 use erl_steps::{Callee, Machine, World};
 use erl_term::{Atom, Predefined, Term, Terms};
@@ -52,7 +52,8 @@ fn receive<'a>(
     item: &'a Instance,
     heard: Heard<'a>,
 ) -> Result<Outcome, AllocError>
-    ensures { IfOk result (λ it. LoopComes (world_of world.now) (instance item.now) (map tree heard.entry.bindings.items) heard.entry.calls heard.entry.body.now (outcome_of it)) }
+    ensures { IfOk result (λ it. LoopComes (world_of world.now) (instance item.now) (map tree heard.entry.bindings.items)
+        heard.entry.calls heard.entry.body.now (outcome_of it)) }
 {
     let ended = run_outermost(world, item, heard.bindings, heard.calls, heard.body)?;
     let outcome = Outcome {
@@ -72,7 +73,9 @@ fn hear_in<'a>(
     args: &Terms,
 ) -> Result<Outcome, AllocError>
     requires { world_of world.now ≡ jobs.world_of (job_of job.now) }
-    ensures { IfOk result (λ it. Receives (job_of job.now) (instance item.now) (heard job.now.pid (tree job.now.message) args.now (function_of name.now (count args.now) (instance item.now).forms)) (outcome_of it)) }
+    ensures { IfOk result (λ it. Receives (job_of job.now) (instance item.now)
+        (heard job.now.pid (tree job.now.message) args.now (function_of name.now (count args.now) (instance item.now).forms))
+        (outcome_of it)) }
 {
     let Some(function) = function_of(item, name, args)? else {
         return undefined(world.setting.alloc);
@@ -92,7 +95,10 @@ fn handle<'a>(
     state: &Term,
 ) -> Result<Outcome, AllocError>
     requires { world_of world.now ≡ jobs.world_of (job_of job.now) }
-    ensures { IfOk result (λ it. Handles (job_of job.now) module_name.now (tree state.now) (callback_of (tree job.now.message)) (exported_of (name_of (callback_of (tree job.now.message))) (count (arguments_of (callback_of (tree job.now.message)) (tree state.now))) (instance item.now).forms) (instance item.now) (outcome_of it)) }
+    ensures { IfOk result (λ it. Handles (job_of job.now) module_name.now (tree state.now) (callback_of (tree job.now.message))
+        (exported_of (name_of (callback_of (tree job.now.message)))
+        (count (arguments_of (callback_of (tree job.now.message)) (tree state.now))) (instance item.now).forms)
+        (instance item.now) (outcome_of it)) }
 {
     let alloc = world.setting.alloc;
     let callback = callback_of(&job.message);

@@ -6,7 +6,7 @@ use Rattle.children_live.proofs.Lives.{LiveOn, others_on, spared_on, vacated_on}
 use Rattle.children_live.specs.Children.{ChildrenLive}
 use Rattle.code_loading.specs.Loading.{lingering, spared}
 use Rattle.code_server.specs.Modules.{Table as Loaded}
-use Rattle.erl_forms.specs.Module.{Forms}
+use Rattle.erl_ir.specs.Module.{Forms}
 use Rattle.erl_semantics.specs.declared.acts.Act.{Act}
 use Rattle.erl_term.specs.declared.term.Term.{Term}
 use Rattle.process_effects.specs.Ends.{all_vacated}

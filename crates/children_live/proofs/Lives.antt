@@ -9,7 +9,7 @@ use Rattle.std.specs.List.{filter, range_with_len}
 use Rattle.code_loading.specs.Loading.{lingering, lingering_in, spared, spared_by}
 use Rattle.code_server.specs.Modules.{Table as Loaded, old_of}
 use Rattle.code_server.specs.declared.modules.Instance as loaded
-use Rattle.erl_forms.specs.Module.{Forms}
+use Rattle.erl_ir.specs.Module.{Forms}
 use Rattle.erl_semantics.specs.declared.acts.Act.{Act}
 use Rattle.erl_semantics.specs.declared.acts.Act.TheVariants as act
 use Rattle.erl_semantics.specs.declared.acts.Place.{Place}
@@ -34,11 +34,11 @@ use Rattle.process_store.specs.Changes.{closed_living, owner_of, rest_living, re
 use Rattle.process_store.specs.Changes.{suspended_as}
 use Rattle.process_store.specs.Living.{arrived, run, takes_next}
 use Rattle.process_store.specs.Table.{Table, added, changed, living, living_at, next_pid, pid_of}
-use Rattle.process_store.specs.declared.living.Living.{Living}
+use Rattle.process_store.specs.declared.living.ProcessEntry.{ProcessEntry}
 use Rattle.process_table.specs.Messages.{message_of}
 use Rattle.process_table.specs.States.{all_resumed, all_suspended, all_unresumed}
 use Rattle.process_table.specs.Steps.{after_arrival, arrived_at, call_of, taken, taken_at}
-use Rattle.process_table.specs.declared.body.Body.{Body}
+use Rattle.process_table.specs.declared.body.ClientMessage.{ClientMessage}
 use Rattle.process_table.specs.declared.states.Resumed.{Resumed}
 use Rattle.sys_protocol.specs.StartResults.{end_fault, first_of, starts}
 use Rattle.upgrade_calls.specs.Applying.{Applies}
@@ -59,7 +59,7 @@ given pid t lives =
 
 -- A process is changed: a message comes to it, it takes one, a call of it is closed.
 
-changed_on : (f : Living → Living) (pid : ℕ) (t : Table) → LiveOn t (changed f pid t)
+changed_on : (f : ProcessEntry → ProcessEntry) (pid : ℕ) (t : Table) → LiveOn t (changed f pid t)
 changed_on f pid t q lives = kept (λ o. is_some o) f (λ l. refl) t.slots pid q ∙ lives
 
 sent_on : (message : Term) (o : Option ℕ) (t : Table) → LiveOn t (sent message o t)
@@ -73,7 +73,7 @@ closed_on number t =
       | Some it ↦ changed_on (closed_living it.1) it.0 t
     ]
 
-pub arrival_on : (client : ℕ) (name : List ℕ) (body : Body) (t : Table) → LiveOn t (after_arrival client name body t)
+pub arrival_on : (client : ℕ) (name : List ℕ) (body : ClientMessage) (t : Table) → LiveOn t (after_arrival client name body t)
 arrival_on client name body t =
     elim (pid_of name t) as (λ o. LiveOn t (arrived_at o (message_of body) (call_of client body) t)) [
       | None ↦ λ q lives. lives
@@ -208,7 +208,7 @@ vacated_on (pid ∷ pids) t p others lives =
 
 -- Those who linger are killed, and the others live on.
 
-living_unless : (serial : ℕ) (slots : List (Option Living)) (pid : ℕ) →
+living_unless : (serial : ℕ) (slots : List (Option ProcessEntry)) (pid : ℕ) →
     living_at (map (unless_uses serial) slots) pid ≡ unless_uses serial (living_at slots pid)
 living_unless serial [] pid = refl
 living_unless serial (s ∷ ss) zero = refl

@@ -18,8 +18,8 @@ use Rattle.otp_files.specs.declared.app.StartModule.{StartModule}
 use Rattle.process_effects.specs.declared.told.Reply.{Reply}
 use Rattle.process_store.specs.Table.{Table, living, next_pid}
 use Rattle.sys_protocol.specs.AppStarts.{initialized}
-use Rattle.sys_protocol.specs.ChildStarts.{AllStart, Restarts, Starts, after_start, named_by}
-use Rattle.sys_protocol.specs.Refusals.{Runs}
+use Rattle.sys_protocol.specs.ChildStarts.{AllStart, Restarts, StartsChild, after_start, named_by}
+use Rattle.sys_protocol.specs.Refusals.{RunsStartModule}
 use Rattle.sys_protocol.specs.RunningChildren.{all_running}
 use Rattle.sys_protocol.specs.StartResults.{name_fault, name_in, starts}
 use Rattle.sys_protocol.specs.Stopping.{StartAgain, to_start}
@@ -64,7 +64,7 @@ first_differs pid pids above differ (suc j) zero q is also =
     absurd (omega (arith, same, below))
 first_differs pid pids above differ (suc j) (suc k) q is also = ap suc (differ j k q is also)
 
-start_lives : (code : List Instance) (c : ChildSpec) (t : Table) (o : Outcome) → Starts code c t o →
+start_lives : (code : List Instance) (c : ChildSpec) (t : Table) (o : Outcome) → StartsChild code c t o →
     IsSome (living (next_pid t) (after_start code o t))
 start_lives code c t o does =
     let does_start = faultless_starts (next_pid t) (starts o.acts) o.end (name_fault (name_in o.acts) t) does.faultless in
@@ -102,7 +102,7 @@ abbrev pub pids_of : List Child → ℕ → Option ℕ
 pids_of children k = runs_of (slice_get children k)
 
 pub app_runs : (code : List Instance) (o : Option StartModule) (t : Table) (children : List Child) (after : Table) →
-    (told : List Reply) → Runs code o t children after told → HaveStarted t (pids_of children) after
+    (told : List Reply) → RunsStartModule code o t children after told → HaveStarted t (pids_of children) after
 app_runs code None t children after told (none, same, tells) =
     let nothing = λ (k : ℕ). ap (λ cs. pids_of cs k) none in
     subst (λ u. HaveStarted t (pids_of children) u) (sym same) (nobody_started t (pids_of children) nothing)

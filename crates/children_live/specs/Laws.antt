@@ -10,7 +10,7 @@ use Rattle.child_specs.specs.declared.child.ChildSpec.{ChildSpec}
 use Rattle.children_live.specs.Children.{AreRenewed, ChildrenLive}
 use Rattle.code_loading.specs.Loading.{lingering, spared}
 use Rattle.code_server.specs.Modules.{Table as Loaded}
-use Rattle.erl_forms.specs.Module.{Forms}
+use Rattle.erl_ir.specs.Module.{Forms}
 use Rattle.erl_semantics.specs.declared.acts.Act.{Act}
 use Rattle.erl_semantics.specs.declared.acts.Place.{Place}
 use Rattle.erl_semantics.specs.declared.instance.Instance.{Instance}
@@ -27,10 +27,10 @@ use Rattle.process_effects.specs.declared.told.Reply.{Reply}
 use Rattle.process_store.specs.Table.{Table}
 use Rattle.process_table.specs.States.{all_resumed, all_suspended, all_unresumed}
 use Rattle.process_table.specs.Steps.{after_arrival, taken}
-use Rattle.process_table.specs.declared.body.Body.{Body}
+use Rattle.process_table.specs.declared.body.ClientMessage.{ClientMessage}
 use Rattle.process_table.specs.declared.states.Resumed.{Resumed}
 use Rattle.sys_protocol.specs.ChildStarts.{Restarts}
-use Rattle.sys_protocol.specs.Refusals.{Runs, module_of}
+use Rattle.sys_protocol.specs.Refusals.{RunsStartModule, module_of}
 use Rattle.sys_protocol.specs.Stopping.{StartAgain, app_pids, stopped_app, to_stop, unloaded_app}
 use Rattle.upgrade_calls.specs.Applying.{Applies}
 use Rattle.upgrade_calls.specs.Changing.{AllChange}
@@ -40,7 +40,7 @@ use Rattle.upgrade_calls.specs.declared.changing.Change.{Change}
 -- as they were, or change their states, where a function is applied, and where what evaluating has asked for is done, nobody
 -- ends: each child that runs goes on as the process that it is.
 pub record ProcessStepsKeepChildren : Type 0 where
-  pub arrives : (client : ℕ) (name : List ℕ) (body : Body) (apps : List Application) (t : Table) →
+  pub arrives : (client : ℕ) (name : List ℕ) (body : ClientMessage) (apps : List Application) (t : Table) →
       ChildrenLive apps t → ChildrenLive apps (after_arrival client name body t)
   pub takes : (pid entry_serial : ℕ) (code : List Instance) (apps : List Application) (t : Table) →
       ChildrenLive apps t → ChildrenLive apps (taken pid entry_serial code t)
@@ -61,8 +61,8 @@ pub record ProcessStepsKeepChildren : Type 0 where
       ChildrenLive apps t → ChildrenLive apps (acts_begun name code acts t)
 
 -- Where children are stopped, are started again, or one is revived, where an application starts, stops or is unloaded, where
--- specifications are put in place of others or put back, and where supervisors specify their children anew, each child that runs then is
--- a process of its own: one that ran and wasn't stopped goes on, and one that starts is a new process.
+-- specifications are put in place of others or put back, and where supervisors specify their children anew, each child that
+-- runs then is a process of its own: one that ran and wasn't stopped goes on, and one that starts is a new process.
 pub record ApplicationStepsKeepChildren : Type 0 where
   pub stops : (modules : List (List ℕ)) (apps : List Application) (t : Table) →
       ChildrenLive apps t → ChildrenLive (all_stopped (running_with modules apps) apps) (all_vacated (to_stop modules apps) t)
@@ -74,7 +74,7 @@ pub record ApplicationStepsKeepChildren : Type 0 where
       Restarts code c t pid after told → ChildrenLive apps t → ChildrenLive (revived name id pid apps) after
   pub starts_app : (code : List Instance) (name : List ℕ) (apps : List Application) (t : Table) →
       (children : List Child) (after : Table) (told : List Reply) →
-      Runs code (module_of name apps) t children after told →
+      RunsStartModule code (module_of name apps) t children after told →
       ChildrenLive apps t → ChildrenLive (started name children apps) after
   pub stops_app : (name : List ℕ) (apps : List Application) (t : Table) →
       ChildrenLive apps t → ChildrenLive (stopped_app name apps) (all_vacated (app_pids name apps) t)

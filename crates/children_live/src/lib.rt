@@ -12,8 +12,8 @@
 //! - Where children are stopped, none of them runs, their processes leave, and each other child goes on. Where children are
 //!   started again, or one is revived, each is a new process, which lives, and no other child is that process. The same is kept
 //!   where an application starts, stops or is unloaded, where specifications of applications are put in place of others, or put
-//!   back, and where supervisors specify their children anew ([`application_steps_keep_children`]). Nothing else has to hold of the applications: the modules, names and
-//!   specifications may be any.
+//!   back, and where supervisors specify their children anew ([`application_steps_keep_children`]). Nothing else has to
+//!   hold of the applications: the modules, names and specifications may be any.
 //! - Where a process ends with its job, several leave, or those who linger in old code are killed, the child that each was runs
 //!   no more, and each other child that runs goes on ([`ends_keep_children`]).
 #![tactic(auto)]

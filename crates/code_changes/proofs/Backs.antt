@@ -15,8 +15,8 @@ use Rattle.app_table.specs.Pieces.{AreNotAmong, AreSpecsLost, IsRenewal, childre
 use Rattle.app_table.specs.Renewing.{children_renewed, renewed, with_renewed}
 use Rattle.app_table.specs.Undo.{undone}
 use Rattle.app_table.specs.declared.child.Child.{Child}
-use Rattle.app_table.specs.declared.undo.Undo.{Undo}
-use Rattle.app_table.specs.declared.undo.Undo.TheVariants.{Renewed}
+use Rattle.app_table.specs.declared.undo.AppsUndo.{AppsUndo}
+use Rattle.app_table.specs.declared.undo.AppsUndo.TheVariants.{Renewed}
 use Rattle.child_specs.proofs.Forms.{table}
 use Rattle.child_specs.specs.Forms.{AreDistinct}
 use Rattle.child_specs.specs.declared.child.ChildSpec.{ChildSpec}
@@ -32,20 +32,20 @@ use Rattle.otp_files.specs.declared.app.StartModule.{StartModule}
 use Rattle.sys_protocol.specs.AppStarts as starts
 use Rattle.values.proofs.Edits.{slice_get-changed_at}
 
-pub undone_more : (us : List Undo) (u : Undo) (apps : List Application) → all_undone (us ++ u ∷ []) apps ≡ all_undone us (undone u apps)
+pub undone_more : (us : List AppsUndo) (u : AppsUndo) (apps : List Application) → all_undone (us ++ u ∷ []) apps ≡ all_undone us (undone u apps)
 undone_more [] u apps = refl
 undone_more (first ∷ us) u apps = ap (undone first) (undone_more us u apps)
 
-formers_more : (place : ℕ) (us : List Undo) (u : Undo) → all_formers_at place (us ++ u ∷ []) ≡ all_formers_at place us ++ formers_at place u
+formers_more : (place : ℕ) (us : List AppsUndo) (u : AppsUndo) → all_formers_at place (us ++ u ∷ []) ≡ all_formers_at place us ++ formers_at place u
 formers_more place us u =
     flat_map-append (formers_at place) us (u ∷ []) ∙ ap (λ (ss : List ChildSpec). all_formers_at place us ++ ss) (append-nil (formers_at place u))
 
-formers_same : (place : ℕ) (us : List Undo) (u : Undo) → formers_at place u ≡ [] → all_formers_at place (us ++ u ∷ []) ≡ all_formers_at place us
+formers_same : (place : ℕ) (us : List AppsUndo) (u : AppsUndo) → formers_at place u ≡ [] → all_formers_at place (us ++ u ∷ []) ≡ all_formers_at place us
 formers_same place us u none =
     formers_more place us u ∙ ap (λ (ss : List ChildSpec). all_formers_at place us ++ ss) none ∙ append-nil (all_formers_at place us)
 
 -- of another application than the one whose children were specified anew
-none_elsewhere : (place other : ℕ) (u : Undo) → IsRenewal place u → (other ≡ place → ⊥) → formers_at other u ≡ []
+none_elsewhere : (place other : ℕ) (u : AppsUndo) → IsRenewal place u → (other ≡ place → ⊥) → formers_at other u ≡ []
 none_elsewhere place other u (edits, is) differs =
     ap (formers_at other) is ∙ by_test (place == other) refl
   where
@@ -93,7 +93,7 @@ nothing_lost held before after none same = record {
 pub no_renewals : (code : List Instance) (apps : List Application) → AreRenewalsIn code [] apps apps
 no_renewals code apps = record {
   back = refl;
-  only = let P : Undo → Type 0 = λ v. (at : ℕ) × IsRenewal at v in All-nil P;
+  only = let P : AppsUndo → Type 0 = λ v. (at : ℕ) × IsRenewal at v in All-nil P;
   places = λ place. as_before refl refl;
 }
 
@@ -102,7 +102,7 @@ same_still code held now o p q holds stays x =
     subst (λ (r : Option Application). IsRenewedOrNot code now o r) (sym stays) (subst (λ (ss : List ChildSpec). IsRenewedOrNot code ss o p) (sym holds) x)
 
 -- The application at a place has its children specified anew: the first time, or once more.
-module _ (code : List Instance) (us : List Undo) (u : Undo) (before apps after : List Application) (place : ℕ) (a : Application) (s : StartModule) (specs : List ChildSpec) (acts : List Act) (stands : slice_get apps place ≡ Some a) (its : a.spec.start ≡ Some s) (given : starts.GivesSupervision code s specs acts) (is : after ≡ children_renewed place specs apps) (lost : AreSpecsLost (formers_at place u) (children_at place apps) (children_at place after)) where
+module _ (code : List Instance) (us : List AppsUndo) (u : AppsUndo) (before apps after : List Application) (place : ℕ) (a : Application) (s : StartModule) (specs : List ChildSpec) (acts : List Act) (stands : slice_get apps place ≡ Some a) (its : a.spec.start ≡ Some s) (given : starts.GivesSupervision code s specs acts) (is : after ≡ children_renewed place specs apps) (lost : AreSpecsLost (formers_at place u) (children_at place apps) (children_at place after)) where
   stands_then : slice_get after place ≡ Some (with_renewed specs a)
   stands_then = ap (λ (xs : List Application). slice_get xs place) is ∙ slice_get-changed_at (with_renewed specs) apps place a stands
 
@@ -162,13 +162,13 @@ module _ (code : List Instance) (us : List Undo) (u : Undo) (before apps after :
   everywhere only other false same x =
       there only other (λ is_it. false_true (sym same ∙ eq-eqb other place is_it)) x
 
-pub renewals_more : (code : List Instance) (us : List Undo) (u : Undo) (before apps after : List Application) (place : ℕ) (a : Application) →
+pub renewals_more : (code : List Instance) (us : List AppsUndo) (u : AppsUndo) (before apps after : List Application) (place : ℕ) (a : Application) →
     (s : StartModule) (specs : List ChildSpec) (acts : List Act) → slice_get apps place ≡ Some a → a.spec.start ≡ Some s →
     starts.GivesSupervision code s specs acts → after ≡ children_renewed place specs apps → undone u after ≡ apps → IsRenewal place u →
     (AreDistinct specs → AreSpecsLost (formers_at place u) (children_at place apps) (children_at place after)) →
     AreRenewalsIn code us before apps → AreRenewalsIn code (us ++ u ∷ []) before after
 renewals_more code us u before apps after place a s specs acts stands its given is back only lost so_far =
-    let P : Undo → Type 0 = λ v. (at : ℕ) × IsRenewal at v in
+    let P : AppsUndo → Type 0 = λ v. (at : ℕ) × IsRenewal at v in
     record {
       back = undone_more us u after ∙ ap (all_undone us) back ∙ so_far.back;
       only = All-push P us u so_far.only (place, only);
@@ -185,7 +185,7 @@ place_lost code held o p (anew a b first stood r) =
     subst (λ (x : Option Application). AreSpecsLost held (children_in x) (children_in p)) (sym first)
     (subst (λ (x : Option Application). AreSpecsLost held a.children (children_in x)) (sym stood) r.lost)
 
-pub are_renewals : (code : List Instance) (us : List Undo) (before after : List Application) → AreRenewalsIn code us before after → AreRenewals us before after
+pub are_renewals : (code : List Instance) (us : List AppsUndo) (before after : List Application) → AreRenewalsIn code us before after → AreRenewals us before after
 are_renewals code us before after all = record {
   back = all.back;
   only = all.only;

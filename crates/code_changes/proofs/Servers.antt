@@ -16,7 +16,7 @@ use Rattle.erl_term.specs.declared.term.Term.{Term}
 use Rattle.low_instructions.specs.declared.modules.ModuleChange.{ModuleChange}
 use Rattle.process.specs.Process.{is_server_at, with_state}
 use Rattle.process_store.specs.Table.{Table, living}
-use Rattle.process_store.specs.declared.living.Living.{Living}
+use Rattle.process_store.specs.declared.living.ProcessEntry.{ProcessEntry}
 use Rattle.process_table.specs.States.{all_restated}
 use Rattle.process_table.specs.declared.states.StateChange.{StateChange}
 use Rattle.suspensions.specs.Suspending.{is_server}
@@ -27,7 +27,7 @@ use Rattle.upgrade_calls.specs.Evaluated.{AreEvaluated, Evaluated, processes_aft
 use Rattle.upgrade_calls.specs.NewStates.{change_of}
 use Rattle.upgrade_calls.specs.declared.changing.Change.{Change}
 
-same_by_seen : (l m : Option Living) → seen l ≡ seen m → is_server l ≡ is_server m
+same_by_seen : (l m : Option ProcessEntry) → seen l ≡ seen m → is_server l ≡ is_server m
 same_by_seen None None same = refl
 same_by_seen None (Some m) same = absurd (none-some (m.process.place, m.process.turn) same)
 same_by_seen (Some l) None same = absurd (none-some (l.process.place, l.process.turn) (sym same))
@@ -39,7 +39,7 @@ server_with : (state : Term) (at : Place) → is_server_at (with_state state at)
 server_with state (Server m s) = refl
 server_with state (Loop m serial f args) = refl
 
-server_restated : (o : Option StateChange) (l : Option Living) → is_server (option_map (restated_by o) l) ≡ is_server l
+server_restated : (o : Option StateChange) (l : Option ProcessEntry) → is_server (option_map (restated_by o) l) ≡ is_server l
 server_restated None None = refl
 server_restated None (Some l) = refl
 server_restated (Some c) None = refl

@@ -1,5 +1,6 @@
--- What an upgrade's `code_change` does (appup(4), code_change; gen_server(3), code_change/3; supervisor(3)): for each module in turn the
--- suspended processes of its children change their states, and then its supervisors specify their children anew.
+-- What an upgrade's `code_change` does (appup(4), code_change; gen_server(3), code_change/3; supervisor(3)): for each
+-- module in turn the suspended processes of its children change their states, and then its supervisors specify their
+-- children anew.
 use Rattle.std.specs.Prelude.{◌≡◌, ◌⊎◌, ℕ, List, [], ◌∷◌, ◌++◌, replicate}
 use Rattle.app_table.specs.Applications.{Application}
 use Rattle.code_changes.specs.Renewing.{AllRenew, FirstBadInit}
@@ -16,8 +17,8 @@ use Rattle.upgrade_calls.specs.Changing.{AllChange, AreCounted, FirstUnchanged}
 use Rattle.upgrade_calls.specs.Evaluated.{Evaluated, processes_after, told_after}
 use Rattle.upgrade_calls.specs.declared.changing.Change.{Change}
 
--- What is known of the script: its direction; what is noted of the modules whose object code it has read; and the processes that it has
--- suspended, in order.
+-- What is known of the script: its direction; what is noted of the modules whose object code it has read; and the processes
+-- that it has suspended, in order.
 pub record Script : Type 0 where
   pub direction : Direction
   pub versions : List NotedVersion
@@ -38,7 +39,8 @@ pub record Upgraded : Type 0 where
 abbrev pub changes_in : Script → ModuleChange → List Application → Table → List Change
 changes_in s m apps t = changes_for s.direction s.versions s.suspended apps t m
 
-pub record Upgrades (code : List Instance) (s : Script) (m : ModuleChange) (apps : List Application) (t : Table) (u : Upgraded) : Type 0 where
+pub record Upgrades (code : List Instance) (s : Script) (m : ModuleChange) (apps : List Application) (t : Table) (u : Upgraded)
+    : Type 0 where
   pub between : Table
   pub said : List Reply
   pub rest : List Reply
@@ -57,8 +59,8 @@ AllUpgrade code s [] apps t u = u ≡ record { apps = apps; processes = t; told 
 AllUpgrade code s (m ∷ ms) apps t u = (one all : Upgraded) × Upgrades code s m apps t one ×
     AllUpgrade code s ms one.apps one.processes all × (u ≡ behind one all)
 
--- Why they don't, in order: a process of the module fails to change, or a supervisor of it gives no supervision; or those of a later
--- module fail.
+-- Why they don't, in order: a process of the module fails to change, or a supervisor of it gives no supervision; or those
+-- of a later module fail.
 
 abbrev pub Stops : CodeChangeError → List Instance → Script → ModuleChange → List Application → Table → Type 0
 Stops (Unchanged failed) code s m apps t = FirstUnchanged code (changes_in s m apps t) t failed

@@ -10,7 +10,8 @@ use Rattle.upgrade_calls.specs.Changing.{AreCounted}
 
 -- What is done is one thing; where it isn't, it is for one reason; and never both. A table of a node counts each turn.
 pub record CodeChangesOneWay : Type 0 where
-  pub upgrades : (code : List Instance) (s : Script) (ms : List ModuleChange) (apps : List Application) (t : Table) (u v : Upgraded) →
+  pub upgrades : (code : List Instance) (s : Script) (ms : List ModuleChange) (apps : List Application) (t : Table)
+      (u v : Upgraded) →
       AllUpgrade code s ms apps t u → AllUpgrade code s ms apps t v → u ≡ v
   pub refuses : (code : List Instance) (s : Script) (ms : List ModuleChange) (apps : List Application) (t : Table) →
       (e f : CodeChangeError) → RefusesCodeChange e code s ms apps t → RefusesCodeChange f code s ms apps t → e ≡ f

@@ -1,5 +1,5 @@
--- The supervisors of a module specify their children anew (appup(4), {update,Mod,supervisor}; supervisor(3), init/1). Nothing starts
--- or stops.
+-- The supervisors of a module specify their children anew (appup(4), {update,Mod,supervisor}; supervisor(3), init/1).
+-- Nothing starts or stops.
 use Rattle.std.specs.Prelude.{◌≡◌, ◌⊎◌, ℕ, List, [], ◌∷◌, ◌++◌, if◌then◌else◌, Option, None, Some, option_and_then}
 use Rattle.std.specs.Str.{bytes_eq}
 use Rattle.app_table.specs.Applications.{Application}
@@ -24,9 +24,11 @@ if_named name s = if bytes_eq s.name name then Some s else None
 abbrev pub supervisor_in : List ℕ → Application → Option StartModule
 supervisor_in name a = if a.is_started then option_and_then (if_named name) a.spec.start else None
 
--- An application whose supervisor it is has the children that `init(Args)` gives; what it asks for is done. Any other is as it was.
+-- An application whose supervisor it is has the children that `init(Args)` gives; what it asks for is done. Any other is as
+-- it was.
 
-pub record Renews (code : List Instance) (s : StartModule) (a b : Application) (t after : Table) (told : List Reply) : Type 0 where
+pub record Renews (code : List Instance) (s : StartModule) (a b : Application) (t after : Table) (told : List Reply)
+    : Type 0 where
   pub specs : List ChildSpec
   pub acts : List Act
   pub gives : GivesSupervision code s specs acts
@@ -43,7 +45,8 @@ abbrev pub AllRenew : List Instance → List ℕ → List Application → Table 
 AllRenew code name [] t apps after told = (apps ≡ []) × (after ≡ t) × (told ≡ [])
 AllRenew code name (a ∷ others) t [] after told = ⊥
 AllRenew code name (a ∷ others) t (b ∷ apps) after told = (between : Table) × (said rest : List Reply) ×
-    RenewsIf code (supervisor_in name a) a b t between said × AllRenew code name others between apps after rest × (told ≡ said ++ rest)
+    RenewsIf code (supervisor_in name a) a b t between said × AllRenew code name others between apps after rest ×
+    (told ≡ said ++ rest)
 
 -- The first that gives no supervision, and why.
 
@@ -62,7 +65,8 @@ FirstBadInit code name (a ∷ apps) reason = GivesNone code (supervisor_in name 
 
 -- What comes of one application, behind what was evaluated before.
 
-pub record RenewsOne (code : List Instance) (name : List ℕ) (place : ℕ) (before after : List Application) (t : Table) (e f : Evaluated)
+pub record RenewsOne (code : List Instance) (name : List ℕ) (place : ℕ) (before after : List Application) (t : Table)
+    (e f : Evaluated)
     (a : Application) : Type 0 where
   pub now : Application
   pub said : List Reply
@@ -73,7 +77,8 @@ pub record RenewsOne (code : List Instance) (name : List ℕ) (place : ℕ) (bef
   pub changes : f.changes ≡ e.changes
 
 -- And of all.
-pub record RenewsAll (code : List Instance) (name : List ℕ) (before after : List Application) (t : Table) (e f : Evaluated) : Type 0 where
+pub record RenewsAll (code : List Instance) (name : List ℕ) (before after : List Application) (t : Table) (e f : Evaluated)
+    : Type 0 where
   pub said : List Reply
   pub renew : AllRenew code name before (processes_after code e t) after (processes_after code f t) said
   pub tells : told_after code f t ≡ told_after code e t ++ said

@@ -5,7 +5,7 @@ use Rattle.app_table.specs.Applications.{Application}
 use Rattle.app_table.specs.Pieces.{AreSpecsLost, IsRenewal, children_at, formers_at}
 use Rattle.app_table.specs.Renewing.{with_renewed}
 use Rattle.app_table.specs.Undo.{undone}
-use Rattle.app_table.specs.declared.undo.Undo as apps_undo
+use Rattle.app_table.specs.declared.undo.AppsUndo as apps_undo
 use Rattle.child_specs.specs.declared.child.ChildSpec.{ChildSpec}
 use Rattle.code_changes.specs.declared.changing.CodeChangeUndo.{CodeChangeUndo}
 use Rattle.erl_semantics.specs.declared.acts.Act.{Act}
@@ -16,16 +16,16 @@ use Rattle.sys_protocol.specs.AppStarts.{GivesSupervision}
 use Rattle.upgrade_calls.specs.Changing.{ChangesBack}
 
 -- Several steps of applications are taken back, the last first.
-abbrev pub all_undone : List apps_undo.Undo → List Application → List Application
+abbrev pub all_undone : List apps_undo.AppsUndo → List Application → List Application
 all_undone [] apps = apps
 all_undone (u ∷ us) apps = undone u (all_undone us apps)
 
 -- the former specifications of children that they hold of the application at a place, counted from 0
-abbrev pub all_formers_at : ℕ → List apps_undo.Undo → List ChildSpec
+abbrev pub all_formers_at : ℕ → List apps_undo.AppsUndo → List ChildSpec
 all_formers_at place us = flat_map (formers_at place) us
 
 -- Supervisors have specified their children anew. What is held of the children of an application is lost over all these steps.
-pub record AreRenewals (us : List apps_undo.Undo) (before after : List Application) : Type 0 where
+pub record AreRenewals (us : List apps_undo.AppsUndo) (before after : List Application) : Type 0 where
   pub back : all_undone us after ≡ before
   pub only : All (λ u. (place : ℕ) × IsRenewal place u) us
   pub pieces : (place : ℕ) → AreSpecsLost (all_formers_at place us) (children_at place before) (children_at place after)
@@ -46,11 +46,12 @@ pub data IsRenewedOrNot (code : List Instance) (held : List ChildSpec) (before a
   as_before : held ≡ [] → after ≡ before → IsRenewedOrNot code held before after
   anew : (a b : Application) → before ≡ Some a → after ≡ Some b → IsRenewed code held a b → IsRenewedOrNot code held before after
 
-pub record AreRenewalsIn (code : List Instance) (us : List apps_undo.Undo) (before after : List Application) : Type 0 where
+pub record AreRenewalsIn (code : List Instance) (us : List apps_undo.AppsUndo) (before after : List Application) : Type 0 where
   pub back : all_undone us after ≡ before
   pub only : All (λ u. (place : ℕ) × IsRenewal place u) us
   pub places : (place : ℕ) → IsRenewedOrNot code (all_formers_at place us) (slice_get before place) (slice_get after place)
 
-pub record TakesBack (u : CodeChangeUndo) (before : List Application) (t : Table) (now : List Application) (after : Table) : Type 0 where
+pub record TakesBack (u : CodeChangeUndo) (before : List Application) (t : Table) (now : List Application) (after : Table)
+    : Type 0 where
   pub processes : ChangesBack u.processes t after
   pub renewals : AreRenewals u.renewals before now

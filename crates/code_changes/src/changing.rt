@@ -12,9 +12,9 @@ ghost use Rattle.upgrade_calls.specs.Evaluated.{AreEvaluated, nothing_evaluated,
 ghost use Rattle.values.specs.Failure.{Fails};
 
 use crate::renewing::{renew_apps, undo_renewals};
-use app_table::{AppTable, Undo};
+use app_table::{AppTable, AppsUndo};
 use code_server::Modules;
-use erl_forms::Module;
+use erl_ir::Module;
 use erl_semantics::Instance;
 use erl_term::Term;
 use low_instructions::{Direction, ModuleChange};
@@ -43,7 +43,7 @@ pub struct CodeChangeUndo {
     /// What takes back that processes have changed their states.
     pub processes: ChangeUndo,
     /// What takes back that supervisors have specified their children anew, in order.
-    pub renewals: Row<Undo>,
+    pub renewals: Row<AppsUndo>,
 }
 
 /// What a `code_change` has come to.
@@ -67,7 +67,7 @@ fn evaluate_module(
     module: &ModuleChange,
     versions: &[NotedVersion],
     suspended: &[u64],
-    renewals: &mut Vec<Undo>,
+    renewals: &mut Vec<AppsUndo>,
 ) -> Result<Evaluation, Failure<CodeChangeError>>
     requires { AreEvaluated processes.now evaluation }
     ensures evaluated { IfOk result (AreEvaluated processes.now) }
@@ -108,7 +108,7 @@ fn evaluate_all(
     modules: &[ModuleChange],
     versions: &[NotedVersion],
     suspended: &[u64],
-    renewals: &mut Vec<Undo>,
+    renewals: &mut Vec<AppsUndo>,
 ) -> Result<Evaluation, Failure<CodeChangeError>>
     ensures evaluated { IfOk result (AreEvaluated processes.now) }
     ensures upgrades { IfOk result (λ it. (u : Upgraded) ×
@@ -142,7 +142,7 @@ fn upgrade(
     modules: &[ModuleChange],
     versions: &[NotedVersion],
     suspended: &[u64],
-    renewals: &mut Vec<Undo>,
+    renewals: &mut Vec<AppsUndo>,
     n: usize,
 ) -> Result<Changed, Failure<CodeChangeError>>
     ensures made { IfOk result (λ it. IsMade code.now (script direction versions.now suspended.now)

@@ -8,7 +8,7 @@ ghost use Rattle.process_store.specs.Table.{Table};
 ghost use Rattle.upgrade_calls.specs.Evaluated.{AreEvaluated};
 ghost use Rattle.values.specs.Failure.{Fails};
 
-use app_table::{App, AppTable, Undo};
+use app_table::{App, AppTable, AppsUndo};
 use erl_semantics::Instance;
 use erl_term::{Atom, Term};
 use otp_files::StartModule;
@@ -40,7 +40,7 @@ fn renew_app(
     code: &[Instance],
     name: &Atom,
     place: usize,
-    renewals: &mut Vec<Undo>,
+    renewals: &mut Vec<AppsUndo>,
 ) -> Result<Evaluation, Failure<Term>>
     requires { place < length apps.old }
     ensures renews { IfOk result (λ it. (t : Table) → AreEvaluated t evaluation → IfSome (slice_get apps.old place)
@@ -69,7 +69,7 @@ pub(crate) fn renew_apps(
     alloc: Global,
     code: &[Instance],
     name: &Atom,
-    renewals: &mut Vec<Undo>,
+    renewals: &mut Vec<AppsUndo>,
 ) -> Result<Evaluation, Failure<Term>>
     ensures renews { IfOk result (λ it. (t : Table) → AreEvaluated t evaluation →
         RenewsAll code.now name.now apps.old apps.new t evaluation it) }
@@ -88,7 +88,7 @@ pub(crate) fn renew_apps(
 }
 
 /// The supervisors have their former children again, the last first. Takes no memory.
-pub(crate) fn undo_renewals(apps: &mut AppTable, renewals: Vec<Undo>)
+pub(crate) fn undo_renewals(apps: &mut AppTable, renewals: Vec<AppsUndo>)
     ensures { apps.new ≡ all_undone renewals.items apps.old }
 {
     let mut left = renewals;

@@ -3,31 +3,31 @@ use Rattle.std.proofs.Common.{◌≡◌, ℕ, suc, Bool, true, false, cond, ◌|
 use Rattle.std.proofs.lemmas.List.{append-nil, append_assoc}
 use Rattle.std.proofs.lemmas.Option.{none-some, same_Some}
 use Rattle.std.specs.List.{filter, list_any}
-use Rattle.erl_forms.specs.Module.{Forms}
-use Rattle.code_server.specs.Modules.{IsSound, Table as Loaded, old_of}
+use Rattle.erl_ir.specs.Module.{Forms}
+use Rattle.code_server.specs.Modules.{IsModuleTable, Table as Loaded, old_of}
 use Rattle.code_server.specs.declared.modules.Instance as loaded
 use Rattle.process_effects.proofs.Alive.{passing, users_alive}
 use Rattle.process_effects.specs.Kills.{unless_uses, without_users}
 use Rattle.process_effects.specs.Uses.{users, uses, uses_by}
 use Rattle.process_index.specs.Standing.{alive, alive_from}
-use Rattle.process_store.specs.declared.living.Living.{Living}
+use Rattle.process_store.specs.declared.living.ProcessEntry.{ProcessEntry}
 use Rattle.process_store.specs.Table.{Table}
 use Rattle.code_loading.proofs.ModuleByModule.{all_left_lingering, left_lingering}
 use Rattle.code_loading.specs.Loading.{lingering_in, spared_by}
 use Rattle.code_loading.specs.Purging.{all_lingering}
 use Rattle.code_loading.specs.Several.{unless_uses_any, uses_any, without_all_users}
 
-abbrev pub uses_alone : ℕ → List ℕ → Option Living → Bool
+abbrev pub uses_alone : ℕ → List ℕ → Option ProcessEntry → Bool
 uses_alone serial others o = cond (uses_any others o) false (uses serial o)
 
-pub passing_head : (test : Option Living → Bool) (pid : ℕ) (l : Living) (es : List (ℕ × Living)) (b : Bool) → test (Some l) ≡ b → passing test ((pid, l) ∷ es) ≡ cond b (pid ∷ passing test es) (passing test es)
+pub passing_head : (test : Option ProcessEntry → Bool) (pid : ℕ) (l : ProcessEntry) (es : List (ℕ × ProcessEntry)) (b : Bool) → test (Some l) ≡ b → passing test ((pid, l) ∷ es) ≡ cond b (pid ∷ passing test es) (passing test es)
 passing_head test pid l es true is =
-    ap (λ b. map (λ (e : ℕ × Living). e.0) (cond b ((pid, l) ∷ filter (λ e. test (Some e.1)) es) (filter (λ e. test (Some e.1)) es))) is
+    ap (λ b. map (λ (e : ℕ × ProcessEntry). e.0) (cond b ((pid, l) ∷ filter (λ e. test (Some e.1)) es) (filter (λ e. test (Some e.1)) es))) is
 passing_head test pid l es false is =
-    ap (λ b. map (λ (e : ℕ × Living). e.0) (cond b ((pid, l) ∷ filter (λ e. test (Some e.1)) es) (filter (λ e. test (Some e.1)) es))) is
+    ap (λ b. map (λ (e : ℕ × ProcessEntry). e.0) (cond b ((pid, l) ∷ filter (λ e. test (Some e.1)) es) (filter (λ e. test (Some e.1)) es))) is
 
 module _ (serial : ℕ) (others : List ℕ) where
-  one_alone : (from : ℕ) (l : Living) (slots : List (Option Living)) (b : Bool) → uses_any others (Some l) ≡ b → passing (uses serial) (alive_from (suc from) (map (unless_uses_any others) slots)) ≡ passing (uses_alone serial others) (alive_from (suc from) slots) → passing (uses serial) (alive_from from (map (unless_uses_any others) (Some l ∷ slots))) ≡ passing (uses_alone serial others) (alive_from from (Some l ∷ slots))
+  one_alone : (from : ℕ) (l : ProcessEntry) (slots : List (Option ProcessEntry)) (b : Bool) → uses_any others (Some l) ≡ b → passing (uses serial) (alive_from (suc from) (map (unless_uses_any others) slots)) ≡ passing (uses_alone serial others) (alive_from (suc from) slots) → passing (uses serial) (alive_from from (map (unless_uses_any others) (Some l ∷ slots))) ≡ passing (uses_alone serial others) (alive_from from (Some l ∷ slots))
   one_alone from l slots true is rest =
       ap (λ b. passing (uses serial) (alive_from from (cond b None (Some l) ∷ map (unless_uses_any others) slots))) is
       ∙ rest
@@ -38,7 +38,7 @@ module _ (serial : ℕ) (others : List ℕ) where
       ∙ ap (λ pids. cond (uses serial (Some l)) (from ∷ pids) pids) rest
       ∙ sym (passing_head (uses_alone serial others) from l (alive_from (suc from) slots) (uses serial (Some l)) (ap (λ b. cond b false (uses serial (Some l))) is))
 
-  all_alone : (from : ℕ) (slots : List (Option Living)) → passing (uses serial) (alive_from from (map (unless_uses_any others) slots)) ≡ passing (uses_alone serial others) (alive_from from slots)
+  all_alone : (from : ℕ) (slots : List (Option ProcessEntry)) → passing (uses serial) (alive_from from (map (unless_uses_any others) slots)) ≡ passing (uses_alone serial others) (alive_from from slots)
   all_alone from [] = refl
   all_alone from (None ∷ slots) = all_alone (suc from) slots
   all_alone from (Some l ∷ slots) = one_alone from l slots (uses_any others (Some l)) refl (all_alone (suc from) slots)
@@ -48,13 +48,13 @@ module _ (serial : ℕ) (others : List ℕ) where
 
   -- of the processes that live, the first, which is such a one or not
 
-  pub is_alone : (pid : ℕ) (l : Living) (es : List (ℕ × Living)) (pids more : List ℕ) → uses serial (Some l) ≡ true → uses_any others (Some l) ≡ false → more ≡ pids ++ pid ∷ [] → more ++ passing (uses_alone serial others) es ≡ pids ++ passing (uses_alone serial others) ((pid, l) ∷ es)
+  pub is_alone : (pid : ℕ) (l : ProcessEntry) (es : List (ℕ × ProcessEntry)) (pids more : List ℕ) → uses serial (Some l) ≡ true → uses_any others (Some l) ≡ false → more ≡ pids ++ pid ∷ [] → more ++ passing (uses_alone serial others) es ≡ pids ++ passing (uses_alone serial others) ((pid, l) ∷ es)
   is_alone pid l es pids more one none is =
       ap (λ x. x ++ passing (uses_alone serial others) es) is
       ∙ append_assoc pids (pid ∷ []) (passing (uses_alone serial others) es)
       ∙ ap (λ x. pids ++ x) (sym (passing_head (uses_alone serial others) pid l es true ((λ j. cond (none j) false (uses serial (Some l))) ∙ one)))
 
-  pub is_no_user : (pid : ℕ) (l : Living) (es : List (ℕ × Living)) → uses serial (Some l) ≡ false → passing (uses_alone serial others) es ≡ passing (uses_alone serial others) ((pid, l) ∷ es)
+  pub is_no_user : (pid : ℕ) (l : ProcessEntry) (es : List (ℕ × ProcessEntry)) → uses serial (Some l) ≡ false → passing (uses_alone serial others) es ≡ passing (uses_alone serial others) ((pid, l) ∷ es)
   is_no_user pid l es none =
       sym (passing_head (uses_alone serial others) pid l es false (by (uses_any others (Some l)) none))
     where
@@ -62,13 +62,13 @@ module _ (serial : ℕ) (others : List ℕ) where
       by true is = refl
       by false is = is
 
-  pub is_other : (pid : ℕ) (l : Living) (es : List (ℕ × Living)) → uses_any others (Some l) ≡ true → passing (uses_alone serial others) es ≡ passing (uses_alone serial others) ((pid, l) ∷ es)
+  pub is_other : (pid : ℕ) (l : ProcessEntry) (es : List (ℕ × ProcessEntry)) → uses_any others (Some l) ≡ true → passing (uses_alone serial others) es ≡ passing (uses_alone serial others) ((pid, l) ∷ es)
   is_other pid l es one =
       sym (passing_head (uses_alone serial others) pid l es false (ap (λ b. cond b false (uses serial (Some l))) one))
 
 -- Those who use none, and one serial more.
 
-nobody_gone : (slots : List (Option Living)) → map (unless_uses_any []) slots ≡ slots
+nobody_gone : (slots : List (Option ProcessEntry)) → map (unless_uses_any []) slots ≡ slots
 nobody_gone [] = refl
 nobody_gone (None ∷ slots) = ap (λ rest. None ∷ rest) (nobody_gone slots)
 nobody_gone (Some l ∷ slots) = ap (λ rest. Some l ∷ rest) (nobody_gone slots)
@@ -84,17 +84,17 @@ any_more : (test : ℕ → Bool) (xs : List ℕ) (x : ℕ) → list_any test (xs
 any_more test [] x = elim (test x) as (λ b. (b || false) ≡ b) [ true ↦ refl | false ↦ refl ]
 any_more test (y ∷ xs) x = any_behind (test y) (test x) (list_any test (xs ++ x ∷ [])) (list_any test xs) (any_more test xs x)
 
-gone_too : (serials : List ℕ) (serial : ℕ) (l : Living) (b : Bool) → cond (cond b true (uses serial (Some l))) None (Some l) ≡ unless_uses serial (cond b None (Some l))
+gone_too : (serials : List ℕ) (serial : ℕ) (l : ProcessEntry) (b : Bool) → cond (cond b true (uses serial (Some l))) None (Some l) ≡ unless_uses serial (cond b None (Some l))
 gone_too serials serial l true = refl
 gone_too serials serial l false = refl
 
-one_gone : (serials : List ℕ) (serial : ℕ) (o : Option Living) → unless_uses_any (serials ++ serial ∷ []) o ≡ unless_uses serial (unless_uses_any serials o)
+one_gone : (serials : List ℕ) (serial : ℕ) (o : Option ProcessEntry) → unless_uses_any (serials ++ serial ∷ []) o ≡ unless_uses serial (unless_uses_any serials o)
 one_gone serials serial None = refl
 one_gone serials serial (Some l) =
     ap (λ b. cond b None (Some l)) (any_more (λ s. uses_by s l.process.rests_in l.process.activity) serials serial)
     ∙ gone_too serials serial l (uses_any serials (Some l))
 
-all_gone : (serials : List ℕ) (serial : ℕ) (slots : List (Option Living)) → map (unless_uses_any (serials ++ serial ∷ [])) slots ≡ map (unless_uses serial) (map (unless_uses_any serials) slots)
+all_gone : (serials : List ℕ) (serial : ℕ) (slots : List (Option ProcessEntry)) → map (unless_uses_any (serials ++ serial ∷ [])) slots ≡ map (unless_uses serial) (map (unless_uses_any serials) slots)
 all_gone serials serial [] = refl
 all_gone serials serial (o ∷ slots) = (λ j. one_gone serials serial o j ∷ all_gone serials serial slots j)
 
@@ -131,5 +131,5 @@ none_purged n ns here m now pids at old =
     ap (λ x. pids ++ x) ((λ j. lingering_in (sym none j) now ++ left_lingering ns m (spared_by (sym none j) now)) ∙ ap (λ x. left_lingering x m now) (sym at))
 
 -- all have had their turn
-pub turns_end : (ns : List (List ℕ)) (m : Loaded Forms) (t now : Table) (pids : List ℕ) → IsSound m → pids ++ left_lingering [] m now ≡ left_lingering ns m t → pids ≡ all_lingering ns m t
+pub turns_end : (ns : List (List ℕ)) (m : Loaded Forms) (t now : Table) (pids : List ℕ) → IsModuleTable m → pids ++ left_lingering [] m now ≡ left_lingering ns m t → pids ≡ all_lingering ns m t
 turns_end ns m t now pids sound is = sym (append-nil pids) ∙ is ∙ all_left_lingering ns m t sound

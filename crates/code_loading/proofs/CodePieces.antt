@@ -5,20 +5,20 @@ use Rattle.std.proofs.lemmas.List.Sums.{sum_by-append, sum_by-cons}
 use Rattle.std.specs.Str.{bytes_eq}
 use Rattle.code_server.specs.declared.modules.Instance.{Instance}
 use Rattle.code_server.specs.declared.modules.Slots.{Slots}
-use Rattle.code_server.specs.Modules.{Entry, IsSound, Table as Loaded, current_of, in_entries, in_entry, in_slot, loaded, loaded_at, old_of, place_of, purged, purged_slots, removed, retired, stacked, with_slots}
+use Rattle.code_server.specs.Modules.{Entry, IsModuleTable, Table as Loaded, current_of, in_entries, in_entry, in_slot, loaded, loaded_at, old_of, place_of, purged, purged_slots, removed, retired, stacked, with_slots}
 use Rattle.code_server.specs.Undo.{Fits, HasPurged, held, undone}
-use Rattle.code_server.specs.declared.undo.Undo.{Undo}
+use Rattle.code_server.specs.declared.undo.ModulesUndo.{ModulesUndo}
 use Rattle.code_server.proofs.Changes.{current_at-slots, current_of-slots, no_current, none_from_test, old_of-slots, purged-absent, purged-gone, purged-kept}
 use Rattle.code_server.proofs.Reloads.{loaded-gone, loaded-kept}
 use Rattle.code_server.proofs.Removing.{removed-absent, removed-gone, removed-kept}
 use Rattle.code_server.proofs.Serials.{in_entries-changed_at, in_entries-given, in_entries-remove, in_found}
 use Rattle.code_server.proofs.Standing.{Stands, Stands-place, absent_from_place}
-use Rattle.erl_forms.specs.Module.{Forms}
+use Rattle.erl_ir.specs.Module.{Forms}
 use Rattle.process_store.specs.Pieces.{HoldsLost, no_pieces}
 use Rattle.process_store.specs.Table.{Table}
-use Rattle.process_table.specs.declared.undo.Undo as kills
+use Rattle.process_table.specs.declared.undo.ProcessesUndo as kills
 use Rattle.code_loading.specs.Pieces.{CodeLost, IsTaken, all_held, among, held_killed}
-use Rattle.code_loading.specs.Undo.{KillsBack, LivesAgain, TakesBack}
+use Rattle.code_loading.specs.Undo.{UndoesKills, LivesAgain, TakesBack}
 
 -- a place of which the instances are known
 at_place : (n : ℕ) (name : List ℕ) (es : List (Entry Forms)) (place : ℕ) (at : Stands name es place) → in_found n (slice_get es place) ≡ in_slot n at.slots.current + in_slot n at.slots.former
@@ -42,10 +42,10 @@ no_old n name t absent = ap (λ o. in_slot n (option_and_then (λ slots. slots.f
 
 -- A purge takes the old code, a removal too, and a load adds an instance of the next serial.
 
-abbrev Takes : ℕ → List ℕ → Loaded Forms → Loaded Forms → Type 0
-Takes n name t after = in_entries n after.entries + in_slot n (old_of name t) ≡ in_entries n t.entries
+abbrev TakesOld : ℕ → List ℕ → Loaded Forms → Loaded Forms → Type 0
+TakesOld n name t after = in_entries n after.entries + in_slot n (old_of name t) ≡ in_entries n t.entries
 
-purged_at_place : (n : ℕ) (name : List ℕ) (t : Loaded Forms) (place : ℕ) (found : place_of name t.entries ≡ Some place) (b : Bool) → is_some (current_of name t) ≡ b → Takes n name t (purged name t)
+purged_at_place : (n : ℕ) (name : List ℕ) (t : Loaded Forms) (place : ℕ) (found : place_of name t.entries ≡ Some place) (b : Bool) → is_some (current_of name t) ≡ b → TakesOld n name t (purged name t)
 purged_at_place n name t place found true there =
     let at = Stands-place name t.entries place found in
     omega (arith, ap (λ (u : Loaded Forms). in_entries n u.entries) (purged-kept name t place found there), with_place n purged_slots name t.entries place at, old_at n name t place at)
@@ -54,14 +54,14 @@ purged_at_place n name t place found false there =
     let none = ap (in_slot n) (none_from_test at.slots.current (ap is_some (sym (current_of-slots name t place at)) ∙ there)) in
     omega (arith, ap (λ (u : Loaded Forms). in_entries n u.entries) (purged-gone name t place found there), without_place n name t.entries place at, old_at n name t place at, none)
 
-purged_by : (n : ℕ) (name : List ℕ) (t : Loaded Forms) (o : Option ℕ) → place_of name t.entries ≡ o → Takes n name t (purged name t)
+purged_by : (n : ℕ) (name : List ℕ) (t : Loaded Forms) (o : Option ℕ) → place_of name t.entries ≡ o → TakesOld n name t (purged name t)
 purged_by n name t None absent = omega (arith, ap (λ (u : Loaded Forms). in_entries n u.entries) (purged-absent name t absent), no_old n name t absent)
 purged_by n name t (Some place) found = purged_at_place n name t place found (is_some (current_of name t)) refl
 
-pub purged-takes : (n : ℕ) (name : List ℕ) (t : Loaded Forms) → Takes n name t (purged name t)
+pub purged-takes : (n : ℕ) (name : List ℕ) (t : Loaded Forms) → TakesOld n name t (purged name t)
 purged-takes n name t = purged_by n name t (place_of name t.entries) refl
 
-removed_at_place : (n : ℕ) (name : List ℕ) (t : Loaded Forms) (place : ℕ) → IsSound t → (found : place_of name t.entries ≡ Some place) (b : Bool) → is_some (current_of name t) ≡ b → Takes n name t (removed name t)
+removed_at_place : (n : ℕ) (name : List ℕ) (t : Loaded Forms) (place : ℕ) → IsModuleTable t → (found : place_of name t.entries ≡ Some place) (b : Bool) → is_some (current_of name t) ≡ b → TakesOld n name t (removed name t)
 removed_at_place n name t place sound found true there =
     let at = Stands-place name t.entries place found in
     omega (arith, ap (λ (u : Loaded Forms). in_entries n u.entries) (removed-kept name t place found there), with_place n retired name t.entries place at, old_at n name t place at)
@@ -70,18 +70,18 @@ removed_at_place n name t place sound found false there =
     let none = ap (in_slot n) (none_from_test at.slots.current (ap is_some (sym (current_of-slots name t place at)) ∙ there)) in
     omega (arith, ap (λ (u : Loaded Forms). in_entries n u.entries) (removed-gone name t place sound found there), without_place n name t.entries place at, old_at n name t place at, none)
 
-removed_by : (n : ℕ) (name : List ℕ) (t : Loaded Forms) → IsSound t → (o : Option ℕ) → place_of name t.entries ≡ o → Takes n name t (removed name t)
+removed_by : (n : ℕ) (name : List ℕ) (t : Loaded Forms) → IsModuleTable t → (o : Option ℕ) → place_of name t.entries ≡ o → TakesOld n name t (removed name t)
 removed_by n name t sound None absent = omega (arith, ap (λ (u : Loaded Forms). in_entries n u.entries) (removed-absent name t absent), no_old n name t absent)
 removed_by n name t sound (Some place) found = removed_at_place n name t place sound found (is_some (current_of name t)) refl
 
-pub removed-takes : (n : ℕ) (name : List ℕ) (t : Loaded Forms) → IsSound t → Takes n name t (removed name t)
+pub removed-takes : (n : ℕ) (name : List ℕ) (t : Loaded Forms) → IsModuleTable t → TakesOld n name t (removed name t)
 removed-takes n name t sound = removed_by n name t sound (place_of name t.entries) refl
 
 -- with an instance of the next serial
 abbrev Reloads : ℕ → List ℕ → Forms → Loaded Forms → Type 0
 Reloads n name code t = in_entries n (loaded name code (purged name t)).entries + in_slot n (old_of name t) ≡ in_entries n t.entries + in_slot n (Some (record { serial = t.next; code = code }))
 
-loaded_at_place : (n : ℕ) (name : List ℕ) (code : Forms) (t : Loaded Forms) (place : ℕ) → IsSound t → (found : place_of name t.entries ≡ Some place) (b : Bool) → is_some (current_of name t) ≡ b → Reloads n name code t
+loaded_at_place : (n : ℕ) (name : List ℕ) (code : Forms) (t : Loaded Forms) (place : ℕ) → IsModuleTable t → (found : place_of name t.entries ≡ Some place) (b : Bool) → is_some (current_of name t) ≡ b → Reloads n name code t
 loaded_at_place n name code t place sound found true there =
     let at = Stands-place name t.entries place found in
     omega (arith, ap (λ (u : Loaded Forms). in_entries n u.entries) (loaded-kept name code t place found there), with_place n (stacked (record { serial = t.next; code = code })) name t.entries place at, old_at n name t place at)
@@ -94,7 +94,7 @@ loaded_at_place n name code t place sound found false there =
 loaded-absent : (name : List ℕ) (code : Forms) (t : Loaded Forms) → place_of name t.entries ≡ None → loaded name code t ≡ record { entries = t.entries ++ (name, record { current = Some (record { serial = t.next; code = code }); former = None }) ∷ []; next = t.next + 1 }
 loaded-absent name code t absent = (λ j. record { entries = loaded_at (absent j) name (record { serial = t.next; code = code }) t.entries; next = t.next + 1 })
 
-loaded_by : (n : ℕ) (name : List ℕ) (code : Forms) (t : Loaded Forms) → IsSound t → (o : Option ℕ) → place_of name t.entries ≡ o → Reloads n name code t
+loaded_by : (n : ℕ) (name : List ℕ) (code : Forms) (t : Loaded Forms) → IsModuleTable t → (o : Option ℕ) → place_of name t.entries ≡ o → Reloads n name code t
 loaded_by n name code t sound None absent =
     let last : Entry Forms = (name, record { current = Some (record { serial = t.next; code = code }); former = None }) in
     let same = purged-absent name t absent in
@@ -102,7 +102,7 @@ loaded_by n name code t sound None absent =
     omega (arith, ap (λ (u : Loaded Forms). in_entries n (loaded name code u).entries) same, ap (λ (u : Loaded Forms). in_entries n u.entries) added, sum_by-append (in_entry n) t.entries (last ∷ []), sum_by-cons (in_entry n) last [], no_old n name t absent)
 loaded_by n name code t sound (Some place) found = loaded_at_place n name code t place sound found (is_some (current_of name t)) refl
 
-pub loaded-takes : (n : ℕ) (name : List ℕ) (code : Forms) (t : Loaded Forms) → IsSound t → Reloads n name code t
+pub loaded-takes : (n : ℕ) (name : List ℕ) (code : Forms) (t : Loaded Forms) → IsModuleTable t → Reloads n name code t
 loaded-takes n name code t sound = loaded_by n name code t sound (place_of name t.entries) refl
 
 -- So what is held is lost, where it is the old code.
@@ -114,15 +114,15 @@ among_one n (Some i) = omega (arith, sum_by-cons (λ (x : Instance Forms). in_sl
 pub purge-lost : (name : List ℕ) (t : Loaded Forms) (held : Option (Instance Forms)) → held ≡ old_of name t → CodeLost (option_to_list held) t (purged name t)
 purge-lost name t held is n some = omega (arith, among_one n held, ap (in_slot n) is, purged-takes n name t)
 
-pub removal-lost : (name : List ℕ) (t : Loaded Forms) (held : Option (Instance Forms)) → IsSound t → held ≡ old_of name t → CodeLost (option_to_list held) t (removed name t)
+pub removal-lost : (name : List ℕ) (t : Loaded Forms) (held : Option (Instance Forms)) → IsModuleTable t → held ≡ old_of name t → CodeLost (option_to_list held) t (removed name t)
 removal-lost name t held sound is n some = omega (arith, among_one n held, ap (in_slot n) is, removed-takes n name t sound)
 
 -- the serial of a load was not given before
-new_slot : (n : ℕ) (code : Forms) (t : Loaded Forms) (b : Bool) → (t.next == n) ≡ b → IsSound t → 1 ≤ in_entries n t.entries → in_slot n (Some (record { serial = t.next; code = code })) ≡ 0
+new_slot : (n : ℕ) (code : Forms) (t : Loaded Forms) (b : Bool) → (t.next == n) ≡ b → IsModuleTable t → 1 ≤ in_entries n t.entries → in_slot n (Some (record { serial = t.next; code = code })) ≡ 0
 new_slot n code t true same sound some = absurd (omega (arith, in_entries-given t.next n t.entries (omega (arith, eqb-true t.next n same)) sound.given, some))
 new_slot n code t false other sound some = ap (λ b. if b then 1 else 0) other
 
-pub load-lost : (name : List ℕ) (code : Forms) (t : Loaded Forms) (held : Option (Instance Forms)) → IsSound t → held ≡ old_of name t → CodeLost (option_to_list held) t (loaded name code (purged name t))
+pub load-lost : (name : List ℕ) (code : Forms) (t : Loaded Forms) (held : Option (Instance Forms)) → IsModuleTable t → held ≡ old_of name t → CodeLost (option_to_list held) t (loaded name code (purged name t))
 load-lost name code t held sound is n some =
     let there : 1 ≤ in_entries n t.entries = omega (arith, among_one n held, ap (in_slot n) is, purged-takes n name t, some) in
     omega (arith, among_one n held, ap (in_slot n) is, loaded-takes n name code t sound, new_slot n code t (t.next == n) refl sound there)
@@ -132,7 +132,7 @@ load-lost name code t held sound is n some =
 among_both : (n : ℕ) (xs ys : List (Instance Forms)) → among n (xs ++ ys) ≡ among n xs + among n ys
 among_both n xs ys = sum_by-append (λ (x : Instance Forms). in_slot n (Some x)) xs ys
 
-held_more : (n : ℕ) (us : List (Undo Forms)) (u : Undo Forms) → among n (all_held (us ++ u ∷ [])) ≡ among n (all_held us) + in_slot n (held u)
+held_more : (n : ℕ) (us : List (ModulesUndo Forms)) (u : ModulesUndo Forms) → among n (all_held (us ++ u ∷ [])) ≡ among n (all_held us) + in_slot n (held u)
 held_more n [] u = omega (arith, among_both n (option_to_list (held u)) [], among_one n (held u))
 held_more n (v ∷ us) u =
     omega (arith, among_both n (option_to_list (held v)) (all_held (us ++ u ∷ [])), among_both n (option_to_list (held v)) (all_held us), held_more n us u)
@@ -140,16 +140,16 @@ held_more n (v ∷ us) u =
 pub none_taken : (m : Loaded Forms) → IsTaken [] m m
 none_taken m n = omega arith
 
-pub one_taken : (name : List ℕ) (us : List (Undo Forms)) (u : Undo Forms) (start now after : Loaded Forms) → after ≡ purged name now → held u ≡ old_of name now → IsTaken us start now → IsTaken (us ++ u ∷ []) start after
+pub one_taken : (name : List ℕ) (us : List (ModulesUndo Forms)) (u : ModulesUndo Forms) (start now after : Loaded Forms) → after ≡ purged name now → held u ≡ old_of name now → IsTaken us start now → IsTaken (us ++ u ∷ []) start after
 one_taken name us u start now after is holds taken n =
     omega (arith, held_more n us u, ap (in_slot n) holds, ap (λ (m : Loaded Forms). in_entries n m.entries) is, purged-takes n name now, taken n)
 
-pub taken_lost : (us : List (Undo Forms)) (m after : Loaded Forms) → IsTaken us m after → CodeLost (all_held us) m after
+pub taken_lost : (us : List (ModulesUndo Forms)) (m after : Loaded Forms) → IsTaken us m after → CodeLost (all_held us) m after
 taken_lost us m after taken n some = omega (arith, taken n)
 
 -- What takes a change back, of the pieces that it holds.
 
-lives_again : (u : Undo Forms) (o : Option (Instance Forms)) (killed : Option kills.Undo) (t after : Table) → KillsBack o killed t after → (IsSome o → HasPurged u) → LivesAgain u killed t after
+lives_again : (u : ModulesUndo Forms) (o : Option (Instance Forms)) (killed : Option kills.ProcessesUndo) (t after : Table) → UndoesKills o killed t after → (IsSome o → HasPurged u) → LivesAgain u killed t after
 lives_again u None None t after back has = back
 lives_again u None (Some kill) t after back has = absurd back
 lives_again u (Some i) None t after back has = absurd back
@@ -158,8 +158,8 @@ lives_again u (Some i) (Some kill) t after back has = (has refl, back)
 nobody_killed : (t : Table) → HoldsLost no_pieces t t
 nobody_killed t pid = ((_, refl), tt)
 
-pub takes_back : (name : List ℕ) (u : Undo Forms) (killed : Option kills.Undo) (m after : Loaded Forms) (t spared : Table) →
-    Fits u after × (undone u after ≡ m) → KillsBack (old_of name m) killed t spared → (IsSome (old_of name m) → HasPurged u) →
+pub takes_back : (name : List ℕ) (u : ModulesUndo Forms) (killed : Option kills.ProcessesUndo) (m after : Loaded Forms) (t spared : Table) →
+    Fits u after × (undone u after ≡ m) → UndoesKills (old_of name m) killed t spared → (IsSome (old_of name m) → HasPurged u) →
     CodeLost (option_to_list (held u)) m after → HoldsLost (held_killed killed spared) t spared →
     TakesBack (record { modules = u; killed = killed }) m t after spared
 takes_back name u killed m after t spared (fits, back) kills purges lost pieces = record {
@@ -170,17 +170,17 @@ takes_back name u killed m after t spared (fits, back) kills purges lost pieces 
   pieces = pieces;
 }
 
-pub takes_back_alone : (u : Undo Forms) (m after : Loaded Forms) (t : Table) → Fits u after × (undone u after ≡ m) →
+pub takes_back_alone : (u : ModulesUndo Forms) (m after : Loaded Forms) (t : Table) → Fits u after × (undone u after ≡ m) →
     CodeLost (option_to_list (held u)) m after → TakesBack (record { modules = u; killed = None }) m t after t
 takes_back_alone u m after t (fits, back) lost = record { fits = fits; code = back; processes = refl; instances = lost; pieces = nobody_killed t }
 
-pub purge_taken : (name : List ℕ) (u : Undo Forms) (m after : Loaded Forms) → after ≡ purged name m → held u ≡ old_of name m → CodeLost (option_to_list (held u)) m after
+pub purge_taken : (name : List ℕ) (u : ModulesUndo Forms) (m after : Loaded Forms) → after ≡ purged name m → held u ≡ old_of name m → CodeLost (option_to_list (held u)) m after
 purge_taken name u m after is holds = subst (λ (x : Loaded Forms). CodeLost (option_to_list (held u)) m x) (sym is) (purge-lost name m (held u) holds)
 
-pub removal_taken : (name : List ℕ) (u : Undo Forms) (m after : Loaded Forms) → Fits u after × (undone u after ≡ m) → after ≡ removed name m → held u ≡ old_of name m → CodeLost (option_to_list (held u)) m after
+pub removal_taken : (name : List ℕ) (u : ModulesUndo Forms) (m after : Loaded Forms) → Fits u after × (undone u after ≡ m) → after ≡ removed name m → held u ≡ old_of name m → CodeLost (option_to_list (held u)) m after
 removal_taken name u m after (fits, back) is holds =
-    subst (λ (x : Loaded Forms). CodeLost (option_to_list (held u)) m x) (sym is) (removal-lost name m (held u) (subst IsSound back fits.sound) holds)
+    subst (λ (x : Loaded Forms). CodeLost (option_to_list (held u)) m x) (sym is) (removal-lost name m (held u) (subst IsModuleTable back fits.sound) holds)
 
-pub load_taken : (name : List ℕ) (code : Forms) (u : Undo Forms) (m after : Loaded Forms) → Fits u after × (undone u after ≡ m) → after ≡ loaded name code (purged name m) → held u ≡ old_of name m → CodeLost (option_to_list (held u)) m after
+pub load_taken : (name : List ℕ) (code : Forms) (u : ModulesUndo Forms) (m after : Loaded Forms) → Fits u after × (undone u after ≡ m) → after ≡ loaded name code (purged name m) → held u ≡ old_of name m → CodeLost (option_to_list (held u)) m after
 load_taken name code u m after (fits, back) is holds =
-    subst (λ (x : Loaded Forms). CodeLost (option_to_list (held u)) m x) (sym is) (load-lost name code m (held u) (subst IsSound back fits.sound) holds)
+    subst (λ (x : Loaded Forms). CodeLost (option_to_list (held u)) m x) (sym is) (load-lost name code m (held u) (subst IsModuleTable back fits.sound) holds)

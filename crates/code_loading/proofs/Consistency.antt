@@ -4,13 +4,13 @@ use Rattle.std.proofs.lemmas.Bool.{eq-eqb, true≢false}
 use Rattle.std.proofs.lemmas.List.Elements.{All-cons, All-head, All-nil, All-tail}
 use Rattle.std.proofs.lemmas.Option.{none-some, same_Some}
 use Rattle.erl_semantics.specs.State.{Instance}
-use Rattle.erl_forms.specs.Module.{Forms}
+use Rattle.erl_ir.specs.Module.{Forms}
 use Rattle.erl_semantics.specs.Views.{instance}
 use Rattle.erl_semantics.specs.declared.instance.Instance as held
 use Rattle.code_server.proofs.Changes.{IsDeletable-unrefused, IsLoadable-unrefused, current_of-slots, current_at-slots, purged-absent, purged-gone, purged-kept}
-use Rattle.code_server.proofs.Sound.{IsSound-added, IsSound-purged_slots, IsSound-removed, IsSound-retired, IsSound-stacked}
+use Rattle.code_server.proofs.Sound.{IsModuleTable-added, IsModuleTable-purged_slots, IsModuleTable-removed, IsModuleTable-retired, IsModuleTable-stacked}
 use Rattle.code_server.proofs.Standing.{Stands-place, absent_from_place}
-use Rattle.code_server.specs.Modules.{IsSound, Table as Loaded, current_of, delete_refusal, deleted, deleted_at, load_refusal, loaded, loaded_at, old_of, place_of, purged}
+use Rattle.code_server.specs.Modules.{IsModuleTable, Table as Loaded, current_of, delete_refusal, deleted, deleted_at, load_refusal, loaded, loaded_at, old_of, place_of, purged}
 use Rattle.code_server.specs.Places.{current_at}
 use Rattle.code_server.specs.declared.modules.Instance as code
 use Rattle.process.specs.Named.{StandsIn}
@@ -21,7 +21,7 @@ use Rattle.process_effects.specs.Ends.{AllStand, Stands}
 use Rattle.process_effects.specs.Kills.{unless_uses, without_users}
 use Rattle.process_effects.specs.Uses.{is_among, is_of, uses, uses_by}
 use Rattle.process_store.specs.Table.{Table, living, living_at}
-use Rattle.process_store.specs.declared.living.Living.{Living}
+use Rattle.process_store.specs.declared.living.ProcessEntry.{ProcessEntry}
 use Rattle.code_loading.proofs.Keeping.{Spared, deleted_keeps, loaded_keeps, purged_keeps}
 use Rattle.code_loading.specs.Consistent.{Enters, EntersAt, EntersBy, IsConsistent}
 use Rattle.code_loading.specs.Laws.{LoadingKeepsCode}
@@ -47,7 +47,7 @@ activity_stays m u stays Idle stands = tt
 activity_stays m u stays Suspended stands = tt
 activity_stays m u stays (Runs r) stands = code_stays m u stays r.code stands
 
-if_stands : (m u : Loaded Forms) → ((x : Instance) → StandsIn m x → StandsIn u x) → (o : Option Living) → IfSome o (λ l. Stands m l.process) → IfSome o (λ l. Stands u l.process)
+if_stands : (m u : Loaded Forms) → ((x : Instance) → StandsIn m x → StandsIn u x) → (o : Option ProcessEntry) → IfSome o (λ l. Stands m l.process) → IfSome o (λ l. Stands u l.process)
 if_stands m u stays None stands = tt
 if_stands m u stays (Some l) stands =
     (place_stays m u stays l.process.rests_in stands.0, activity_stays m u stays l.process.activity stands.1)
@@ -90,45 +90,45 @@ module _ (name : List ℕ) (m : Loaded Forms) (old : code.Instance Forms) (there
 
 -- who is left, of whom something held
 
-left_if : (P Q : Living → Type 0) (l : Living) (b : Bool) → P l → (b ≡ false → P l → Q l) → IfSome (cond b None (Some l)) Q
+left_if : (P Q : ProcessEntry → Type 0) (l : ProcessEntry) (b : Bool) → P l → (b ≡ false → P l → Q l) → IfSome (cond b None (Some l)) Q
 left_if P Q l true holds then = tt
 left_if P Q l false holds then = then refl holds
 
-left_at : (s : ℕ) (P Q : Living → Type 0) → ((l : Living) → uses s (Some l) ≡ false → P l → Q l) → (o : Option Living) → IfSome o P → IfSome (unless_uses s o) Q
+left_at : (s : ℕ) (P Q : ProcessEntry → Type 0) → ((l : ProcessEntry) → uses s (Some l) ≡ false → P l → Q l) → (o : Option ProcessEntry) → IfSome o P → IfSome (unless_uses s o) Q
 left_at s P Q then None holds = tt
 left_at s P Q then (Some l) holds = left_if P Q l (uses s (Some l)) holds (then l)
 
-pub left : (s : ℕ) (P Q : Living → Type 0) → ((l : Living) → uses s (Some l) ≡ false → P l → Q l) → (slots : List (Option Living)) (q : ℕ) → IfSome (living_at slots q) P → IfSome (living_at (map (unless_uses s) slots) q) Q
+pub left : (s : ℕ) (P Q : ProcessEntry → Type 0) → ((l : ProcessEntry) → uses s (Some l) ≡ false → P l → Q l) → (slots : List (Option ProcessEntry)) (q : ℕ) → IfSome (living_at slots q) P → IfSome (living_at (map (unless_uses s) slots) q) Q
 left s P Q then [] q holds = tt
 left s P Q then (o ∷ slots) zero holds = left_at s P Q then o holds
 left s P Q then (o ∷ slots) (suc q) holds = left s P Q then slots q holds
 
 -- What every state of modules and processes keeps, after a purge
 
-sound_purged_at : (name : List ℕ) (m : Loaded Forms) (place : ℕ) (b : Bool) → IsSound m → place_of name m.entries ≡ Some place → is_some (current_of name m) ≡ b → IsSound (purged name m)
+sound_purged_at : (name : List ℕ) (m : Loaded Forms) (place : ℕ) (b : Bool) → IsModuleTable m → place_of name m.entries ≡ Some place → is_some (current_of name m) ≡ b → IsModuleTable (purged name m)
 sound_purged_at name m place true sound at is =
     let there = Stands-place name m.entries place at in
     let here : is_some (current_at m.entries place) ≡ true = ap is_some (current_at-slots name m.entries place there ∙ sym (current_of-slots name m place there)) ∙ is in
-    subst IsSound (sym (purged-kept name m place at is)) (IsSound-purged_slots m place sound here)
+    subst IsModuleTable (sym (purged-kept name m place at is)) (IsModuleTable-purged_slots m place sound here)
 sound_purged_at name m place false sound at is =
-    subst IsSound (sym (purged-gone name m place at is)) (IsSound-removed m place sound)
+    subst IsModuleTable (sym (purged-gone name m place at is)) (IsModuleTable-removed m place sound)
 
-pub sound_purged : (name : List ℕ) (m : Loaded Forms) (o : Option ℕ) → IsSound m → place_of name m.entries ≡ o → IsSound (purged name m)
-sound_purged name m None sound at = subst IsSound (sym (purged-absent name m at)) sound
+pub sound_purged : (name : List ℕ) (m : Loaded Forms) (o : Option ℕ) → IsModuleTable m → place_of name m.entries ≡ o → IsModuleTable (purged name m)
+sound_purged name m None sound at = subst IsModuleTable (sym (purged-absent name m at)) sound
 sound_purged name m (Some place) sound at = sound_purged_at name m place (is_some (current_of name m)) sound at refl
 
-Holds : Loaded Forms → Living → Type 0
+Holds : Loaded Forms → ProcessEntry → Type 0
 Holds m l = Stands m l.process × Enters l.process
 
-pair : (P Q : Living → Type 0) (o : Option Living) → IfSome o P → IfSome o Q → IfSome o (λ l. P l × Q l)
+pair : (P Q : ProcessEntry → Type 0) (o : Option ProcessEntry) → IfSome o P → IfSome o Q → IfSome o (λ l. P l × Q l)
 pair P Q None p q = tt
 pair P Q (Some l) p q = (p, q)
 
-first : (P Q : Living → Type 0) (o : Option Living) → IfSome o (λ l. P l × Q l) → IfSome o P
+first : (P Q : ProcessEntry → Type 0) (o : Option ProcessEntry) → IfSome o (λ l. P l × Q l) → IfSome o P
 first P Q None both = tt
 first P Q (Some l) both = both.0
 
-second : (P Q : Living → Type 0) (o : Option Living) → IfSome o (λ l. P l × Q l) → IfSome o Q
+second : (P Q : ProcessEntry → Type 0) (o : Option ProcessEntry) → IfSome o (λ l. P l × Q l) → IfSome o Q
 second P Q None both = tt
 second P Q (Some l) both = both.1
 
@@ -140,8 +140,8 @@ purged_from name m t None none kept =
       enter = kept.enter;
     }
 purged_from name m t (Some old) there kept =
-    let P = λ (l : Living). Stands m l.process × Enters l.process in
-    let Q = λ (l : Living). Stands (purged name m) l.process × Enters l.process in
+    let P = λ (l : ProcessEntry). Stands m l.process × Enters l.process in
+    let Q = λ (l : ProcessEntry). Stands (purged name m) l.process × Enters l.process in
     let both = λ (pid : ℕ). left old.serial P Q (λ l none holds. (process_spared name m old there l.process.rests_in l.process.activity holds.1.1 none holds.0.0 holds.0.1, holds.1)) t.slots pid (pair (λ l. Stands m l.process) (λ l. Enters l.process) (living pid t) (kept.stand pid) (kept.enter pid)) in
     record {
       sound = sound_purged name m (place_of name m.entries) kept.sound refl;
@@ -154,11 +154,11 @@ purge_keeps name m t kept = purged_from name m t (old_of name m) refl kept
 
 -- a load, and a delete
 
-sound_loaded : (name : List ℕ) (code : Forms) (m : Loaded Forms) (o : Option ℕ) → IsSound m → m.next < 2 ^ 64 → place_of name m.entries ≡ o → IsSound (loaded name code m)
+sound_loaded : (name : List ℕ) (code : Forms) (m : Loaded Forms) (o : Option ℕ) → IsModuleTable m → m.next < 2 ^ 64 → place_of name m.entries ≡ o → IsModuleTable (loaded name code m)
 sound_loaded name code m None sound below at =
-    subst (λ o. IsSound (record { entries = loaded_at o name (record { serial = m.next; code = code }) m.entries; next = m.next + 1 })) (sym at) (IsSound-added m name (record { serial = m.next; code = code }) sound (absent_from_place name m.entries at) refl below)
+    subst (λ o. IsModuleTable (record { entries = loaded_at o name (record { serial = m.next; code = code }) m.entries; next = m.next + 1 })) (sym at) (IsModuleTable-added m name (record { serial = m.next; code = code }) sound (absent_from_place name m.entries at) refl below)
 sound_loaded name code m (Some place) sound below at =
-    subst (λ o. IsSound (record { entries = loaded_at o name (record { serial = m.next; code = code }) m.entries; next = m.next + 1 })) (sym at) (IsSound-stacked m place (record { serial = m.next; code = code }) sound refl below)
+    subst (λ o. IsModuleTable (record { entries = loaded_at o name (record { serial = m.next; code = code }) m.entries; next = m.next + 1 })) (sym at) (IsModuleTable-stacked m place (record { serial = m.next; code = code }) sound refl below)
 
 pub load_keeps : (name : List ℕ) (code : Forms) (m : Loaded Forms) (t : Table) → IsConsistent m t → load_refusal name m ≡ None → IsConsistent (loaded name code m) t
 load_keeps name code m t kept unrefused =
@@ -169,12 +169,12 @@ load_keeps name code m t kept unrefused =
       enter = kept.enter;
     }
 
-sound_deleted : (name : List ℕ) (m : Loaded Forms) (o : Option ℕ) → IsSound m → is_some (current_of name m) ≡ true → place_of name m.entries ≡ o → IsSound (deleted name m)
-sound_deleted name m None sound there at = subst (λ o. IsSound (record { entries = deleted_at o m.entries; next = m.next })) (sym at) sound
+sound_deleted : (name : List ℕ) (m : Loaded Forms) (o : Option ℕ) → IsModuleTable m → is_some (current_of name m) ≡ true → place_of name m.entries ≡ o → IsModuleTable (deleted name m)
+sound_deleted name m None sound there at = subst (λ o. IsModuleTable (record { entries = deleted_at o m.entries; next = m.next })) (sym at) sound
 sound_deleted name m (Some place) sound there at =
     let stands = Stands-place name m.entries place at in
     let here : is_some (current_at m.entries place) ≡ true = ap is_some (current_at-slots name m.entries place stands ∙ sym (current_of-slots name m place stands)) ∙ there in
-    subst (λ o. IsSound (record { entries = deleted_at o m.entries; next = m.next })) (sym at) (IsSound-retired m place sound here)
+    subst (λ o. IsModuleTable (record { entries = deleted_at o m.entries; next = m.next })) (sym at) (IsModuleTable-retired m place sound here)
 
 pub delete_keeps : (name : List ℕ) (m : Loaded Forms) (t : Table) → IsConsistent m t → delete_refusal name m ≡ None → IsConsistent (deleted name m) t
 delete_keeps name m t kept unrefused =

@@ -7,11 +7,11 @@ use Rattle.std.specs.Map.{lookup}
 use Rattle.std.specs.Str.{bytes_eq}
 use Rattle.values.specs.Edits.{changed_at}
 use Rattle.values.proofs.Edits.{changed_at-same, slice_get-changed_at}
-use Rattle.erl_forms.specs.Module.{Forms}
+use Rattle.erl_ir.specs.Module.{Forms}
 use Rattle.code_server.proofs.Changes.{codeless, current_of-slots, none_from_test, old_of-slots, purged-absent, purged-gone, purged-kept, same_slots}
 use Rattle.code_server.proofs.Reloads.{place_of-with_slots}
 use Rattle.code_server.proofs.Standing.{Stands-place, absent_from_place}
-use Rattle.code_server.specs.Modules.{Entry, IsSound, Table as Loaded, current_of, old_of, place_of, purged, purged_slots, slots_of, with_slots}
+use Rattle.code_server.specs.Modules.{Entry, IsModuleTable, Table as Loaded, current_of, old_of, place_of, purged, purged_slots, slots_of, with_slots}
 
 -- what is found by a key where the entry at a place, which has another, is changed or taken out
 
@@ -55,7 +55,7 @@ module _ (n k : List ℕ) (m : Loaded Forms) (other : bytes_eq k n ≡ false) wh
 
 -- it has no old code, and where it had none all is as it was
 
-module _ (n : List ℕ) (m : Loaded Forms) (sound : IsSound m) where
+module _ (n : List ℕ) (m : Loaded Forms) (sound : IsModuleTable m) where
   own_at : (place : ℕ) (b : Bool) → place_of n m.entries ≡ Some place → is_some (current_of n m) ≡ b → old_of n (purged n m) ≡ None
   own_at place true at is =
       let kept : Loaded Forms = record { entries = with_slots purged_slots m.entries place; next = m.next } in
@@ -98,11 +98,11 @@ pub data IsEmptied (n k : List ℕ) (m : Loaded Forms) : Type 0 where
   other : old_of k (purged n m) ≡ old_of k m → IsEmptied n k m
   own : n ≡ k → old_of k (purged n m) ≡ None → IsEmptied n k m
 
-emptied_by : (n k : List ℕ) (m : Loaded Forms) → IsSound m → (b : Bool) → bytes_eq k n ≡ b → IsEmptied n k m
+emptied_by : (n k : List ℕ) (m : Loaded Forms) → IsModuleTable m → (b : Bool) → bytes_eq k n ≡ b → IsEmptied n k m
 emptied_by n k m sound true is =
     let same : k ≡ n = (bytes_eq-Decides k n).0 is in
     own (sym same) (ap (λ x. old_of x (purged n m)) same ∙ own_purged n m sound)
 emptied_by n k m sound false is = other (other_purged n k m is)
 
-pub emptied : (n k : List ℕ) (m : Loaded Forms) → IsSound m → IsEmptied n k m
+pub emptied : (n k : List ℕ) (m : Loaded Forms) → IsModuleTable m → IsEmptied n k m
 emptied n k m sound = emptied_by n k m sound (bytes_eq k n) refl

@@ -5,7 +5,7 @@ use Rattle.std.proofs.lemmas.Option.{none-some, same_Some}
 use Rattle.std.specs.Map.{lookup}
 use Rattle.std.specs.Str.{bytes_eq}
 use Rattle.erl_semantics.specs.State.{Instance}
-use Rattle.erl_forms.specs.Module.{Forms}
+use Rattle.erl_ir.specs.Module.{Forms}
 use Rattle.code_server.proofs.Changes.{IsDeletable-unrefused, current_of-slots, old_of-slots, purged-absent, purged-gone, purged-kept}
 use Rattle.code_server.proofs.Standing.{Stands, Stands-place}
 use Rattle.code_server.specs.Modules.{Entry, Table as Loaded, current_of, delete_refusal, deleted, deleted_at, loaded, loaded_at, old_of, place_of, purged, purged_slots, retired, slots_of, stacked, with_slots}

@@ -3,26 +3,26 @@ use Rattle.std.proofs.Common.{◌≡◌, ℕ, zero, suc, Bool, true, false, cond
 use Rattle.std.proofs.lemmas.Bool.{true≢false}
 use Rattle.std.proofs.lemmas.List.{append_assoc}
 use Rattle.std.specs.List.{filter}
-use Rattle.erl_forms.specs.Module.{Forms}
+use Rattle.erl_ir.specs.Module.{Forms}
 use Rattle.erl_term.specs.declared.term.Term.{Term}
-use Rattle.code_server.specs.Modules.{IsSound, Table as Loaded, old_of, place_of, purged}
+use Rattle.code_server.specs.Modules.{IsModuleTable, Table as Loaded, old_of, place_of, purged}
 use Rattle.code_server.specs.declared.modules.Instance as loaded
 use Rattle.process_effects.proofs.Kills.{users_leave}
 use Rattle.process_effects.specs.Ends.{all_vacated}
-use Rattle.process_effects.specs.Kills.{all_downs, unless_uses}
+use Rattle.process_effects.specs.Kills.{downs_of_each, unless_uses}
 use Rattle.process_effects.specs.Told.{downs, killed}
 use Rattle.process_effects.specs.Uses.{pids, uses}
-use Rattle.process_store.specs.declared.living.Living.{Living}
+use Rattle.process_store.specs.declared.living.ProcessEntry.{ProcessEntry}
 use Rattle.process_store.specs.Table.{Table, living, living_at}
 use Rattle.process_store.specs.Vacating.{vacated, vacated_slots}
 use Rattle.code_loading.proofs.Consistency.{sound_purged}
 use Rattle.code_loading.proofs.Emptied.{IsEmptied, emptied, other, own}
 use Rattle.code_loading.specs.Loading.{lingering, lingering_in, purge_told_by, spared, spared_by}
-use Rattle.code_loading.specs.Purging.{all_lingering, all_purge_told, all_spared}
+use Rattle.code_loading.specs.Purging.{all_lingering, downs_of_purges, all_spared}
 
 -- Processes leave in any order.
 
-swapped_slots : (p q : ℕ) (slots : List (Option Living)) → vacated_slots p (vacated_slots q slots) ≡ vacated_slots q (vacated_slots p slots)
+swapped_slots : (p q : ℕ) (slots : List (Option ProcessEntry)) → vacated_slots p (vacated_slots q slots) ≡ vacated_slots q (vacated_slots p slots)
 swapped_slots p q [] = refl
 swapped_slots zero zero (s ∷ ss) = refl
 swapped_slots zero (suc q) (s ∷ ss) = refl
@@ -62,7 +62,7 @@ there_both : (first others : List ℕ) (t : Table) → AreThere first t → AreT
 there_both [] others t one two = two
 there_both (pid ∷ first) others t one two = (one.0, there_both first others t one.1 two)
 
-user_lives : (serial : ℕ) (o : Option Living) → uses serial o ≡ true → is_some o ≡ true
+user_lives : (serial : ℕ) (o : Option ProcessEntry) → uses serial o ≡ true → is_some o ≡ true
 user_lives serial None is = is
 user_lives serial (Some l) is = refl
 
@@ -81,11 +81,11 @@ lingering_there (Some i) t = some_there i.serial t (pids t)
 
 -- who lives once others were spared is who lived before
 
-unless_gone : (o : Option Living) (b : Bool) → is_some (cond b None o) ≡ true → cond b None o ≡ o
+unless_gone : (o : Option ProcessEntry) (b : Bool) → is_some (cond b None o) ≡ true → cond b None o ≡ o
 unless_gone o true is = absurd (true≢false (sym is))
 unless_gone o false is = refl
 
-same_living : (serial : ℕ) (slots : List (Option Living)) (pid : ℕ) → is_some (living_at (map (unless_uses serial) slots) pid) ≡ true → living_at (map (unless_uses serial) slots) pid ≡ living_at slots pid
+same_living : (serial : ℕ) (slots : List (Option ProcessEntry)) (pid : ℕ) → is_some (living_at (map (unless_uses serial) slots) pid) ≡ true → living_at (map (unless_uses serial) slots) pid ≡ living_at slots pid
 same_living serial [] pid is = refl
 same_living serial (o ∷ slots) zero is = unless_gone o (uses serial o) is
 same_living serial (o ∷ slots) (suc pid) is = same_living serial slots pid is
@@ -105,21 +105,21 @@ all_there (n ∷ ns) m t =
     there_both (lingering n m t) (all_lingering ns (purged n m) (spared n m t)) t (lingering_there (old_of n m) t)
     (there_before (old_of n m) t (all_lingering ns (purged n m) (spared n m t)) (all_there ns (purged n m) (spared n m t)))
 
-told_before : (o : Option (loaded.Instance Forms)) (t : Table) (those : List ℕ) → AreThere those (spared_by o t) → all_downs killed those t ≡ all_downs killed those (spared_by o t)
+told_before : (o : Option (loaded.Instance Forms)) (t : Table) (those : List ℕ) → AreThere those (spared_by o t) → downs_of_each killed those t ≡ downs_of_each killed those (spared_by o t)
 told_before o t [] all = refl
 told_before o t (pid ∷ those) all = (λ j. downs killed (sym (same_spared o t pid all.0) j) ++ told_before o t those all.1 j)
 
-told_both : (reason : Term) (first others : List ℕ) (t : Table) → all_downs reason (first ++ others) t ≡ all_downs reason first t ++ all_downs reason others t
+told_both : (reason : Term) (first others : List ℕ) (t : Table) → downs_of_each reason (first ++ others) t ≡ downs_of_each reason first t ++ downs_of_each reason others t
 told_both reason [] others t = refl
 told_both reason (pid ∷ first) others t =
     ap (λ rest. downs reason (living pid t) ++ rest) (told_both reason first others t)
-    ∙ sym (append_assoc (downs reason (living pid t)) (all_downs reason first t) (all_downs reason others t))
+    ∙ sym (append_assoc (downs reason (living pid t)) (downs_of_each reason first t) (downs_of_each reason others t))
 
-told_here : (o : Option (loaded.Instance Forms)) (t : Table) → all_downs killed (lingering_in o t) t ≡ purge_told_by o t
+told_here : (o : Option (loaded.Instance Forms)) (t : Table) → downs_of_each killed (lingering_in o t) t ≡ purge_told_by o t
 told_here None t = refl
 told_here (Some i) t = refl
 
-pub all_lingering_told : (ns : List (List ℕ)) (m : Loaded Forms) (t : Table) → all_downs killed (all_lingering ns m t) t ≡ all_purge_told ns m t
+pub all_lingering_told : (ns : List (List ℕ)) (m : Loaded Forms) (t : Table) → downs_of_each killed (all_lingering ns m t) t ≡ downs_of_purges ns m t
 all_lingering_told [] m t = refl
 all_lingering_told (n ∷ ns) m t =
     let rest = all_lingering ns (purged n m) (spared n m t) in
@@ -141,7 +141,7 @@ none_pass test [] none = refl
 none_pass test (x ∷ xs) none =
     ap (λ b. cond b (x ∷ filter test xs) (filter test xs)) (none x) ∙ none_pass test xs none
 
-none_go : (serial : ℕ) (slots : List (Option Living)) → ((pid : ℕ) → uses serial (living_at slots pid) ≡ false) → map (unless_uses serial) slots ≡ slots
+none_go : (serial : ℕ) (slots : List (Option ProcessEntry)) → ((pid : ℕ) → uses serial (living_at slots pid) ≡ false) → map (unless_uses serial) slots ≡ slots
 none_go serial [] none = refl
 none_go serial (o ∷ slots) none =
     (λ j. cond (none 0 j) None o ∷ none_go serial slots (λ pid. none (suc pid)) j)
@@ -156,11 +156,11 @@ unused_spared (Some i) t unused = ap (λ slots. record { slots = slots }) (none_
 
 -- and it stays so where others are spared
 
-kept_unused : (serial : ℕ) (o : Option Living) (b : Bool) → uses serial o ≡ false → uses serial (cond b None o) ≡ false
+kept_unused : (serial : ℕ) (o : Option ProcessEntry) (b : Bool) → uses serial o ≡ false → uses serial (cond b None o) ≡ false
 kept_unused serial o true none = refl
 kept_unused serial o false none = none
 
-slots_unused : (serial gone : ℕ) (slots : List (Option Living)) (pid : ℕ) → uses serial (living_at slots pid) ≡ false → uses serial (living_at (map (unless_uses gone) slots) pid) ≡ false
+slots_unused : (serial gone : ℕ) (slots : List (Option ProcessEntry)) (pid : ℕ) → uses serial (living_at slots pid) ≡ false → uses serial (living_at (map (unless_uses gone) slots) pid) ≡ false
 slots_unused serial gone [] pid none = none
 slots_unused serial gone (o ∷ slots) zero none = kept_unused serial o (uses gone o) none
 slots_unused serial gone (o ∷ slots) (suc pid) none = slots_unused serial gone slots pid none
@@ -170,11 +170,11 @@ still_unused None here t unused = tt
 still_unused (Some i) None t unused = unused
 still_unused (Some i) (Some gone) t unused = λ pid. slots_unused i.serial gone.serial t.slots pid (unused pid)
 
-own_unused : (serial : ℕ) (o : Option Living) (b : Bool) → uses serial o ≡ b → uses serial (cond b None o) ≡ false
+own_unused : (serial : ℕ) (o : Option ProcessEntry) (b : Bool) → uses serial o ≡ b → uses serial (cond b None o) ≡ false
 own_unused serial o true is = refl
 own_unused serial o false is = is
 
-slots_emptied : (serial : ℕ) (slots : List (Option Living)) (pid : ℕ) → uses serial (living_at (map (unless_uses serial) slots) pid) ≡ false
+slots_emptied : (serial : ℕ) (slots : List (Option ProcessEntry)) (pid : ℕ) → uses serial (living_at (map (unless_uses serial) slots) pid) ≡ false
 slots_emptied serial [] pid = refl
 slots_emptied serial (o ∷ slots) zero = own_unused serial o (uses serial o) refl
 slots_emptied serial (o ∷ slots) (suc pid) = slots_emptied serial slots pid
@@ -207,11 +207,11 @@ one_more n k m now t (own it none) (same was) =
     gone none (subst (λ x. IsUnused (old_of x m) (spared n m t)) it (spared_unused (old_of n m) t))
 one_more n k m now t (own it none) (gone was unused) = gone none (still_unused (old_of k m) (old_of n m) t unused)
 
-left_same : (ns : List (List ℕ)) (m now : Loaded Forms) (t : Table) → IsSound now → ((k : List ℕ) → IsPurged k m now t) → all_lingering ns now t ≡ left_lingering ns m t
+left_same : (ns : List (List ℕ)) (m now : Loaded Forms) (t : Table) → IsModuleTable now → ((k : List ℕ) → IsPurged k m now t) → all_lingering ns now t ≡ left_lingering ns m t
 left_same [] m now t sound all = refl
 left_same (n ∷ ns) m now t sound all =
     (λ j. lingers_same n m now t (all n) j ++ all_lingering ns (purged n now) (spares_same n m now t (all n) j))
     ∙ ap (λ rest. lingering n m t ++ rest) (left_same ns m (purged n now) (spared n m t) (sound_purged n now (place_of n now.entries) sound refl) (λ k. one_more n k m now t (emptied n k now sound) (all k)))
 
-pub all_left_lingering : (ns : List (List ℕ)) (m : Loaded Forms) (t : Table) → IsSound m → left_lingering ns m t ≡ all_lingering ns m t
+pub all_left_lingering : (ns : List (List ℕ)) (m : Loaded Forms) (t : Table) → IsModuleTable m → left_lingering ns m t ≡ all_lingering ns m t
 all_left_lingering ns m t sound = sym (left_same ns m m t sound (λ k. same refl))

@@ -2,12 +2,12 @@
 use Rattle.std.proofs.Common.{◌≡◌, ℕ, true, false, Bool, cond, List, [], ◌∷◌, is_some, slice_get, Option, None, Some, refl, sym, ap, subst, ◌∙◌}
 use Rattle.std.proofs.lemmas.Option.{same_Some}
 use Rattle.values.proofs.Edits.{slice_get-changed_at}
-use Rattle.erl_forms.specs.Module.{Forms}
+use Rattle.erl_ir.specs.Module.{Forms}
 use Rattle.code_server.proofs.Changes.{current_of-slots, purged-absent, purged-gone, purged-kept}
 use Rattle.code_server.proofs.Removing.{removed-absent, removed-gone}
 use Rattle.code_server.proofs.Reloads.{place_of-with_slots}
 use Rattle.code_server.proofs.Standing.{Stands-place}
-use Rattle.code_server.specs.Modules.{Entry, IsSound, Table as Loaded, current_of, delete_refusal, place_of, purged, purged_slots, removed, with_slots}
+use Rattle.code_server.specs.Modules.{Entry, IsModuleTable, Table as Loaded, current_of, delete_refusal, place_of, purged, purged_slots, removed, with_slots}
 use Rattle.code_server.specs.declared.error.CodeError.TheVariants.{NotLoaded, NotPurged}
 use Rattle.process_store.specs.Table.{Table}
 use Rattle.code_loading.proofs.Consistency.{delete_keeps, purge_keeps}
@@ -28,7 +28,7 @@ current_stays n m place at has =
     let same : (n, there.slots) ≡ (n, purged_slots here.slots) = same_Some (n, there.slots) (n, purged_slots here.slots) (sym there.entry ∙ now) in
     ap (current_of n) (purged-kept n m place at has) ∙ current_of-slots n kept place there ∙ ap (λ (e : Entry Forms). e.1.current) same ∙ sym (current_of-slots n m place here)
 
-can_delete : (n : List ℕ) (m : Loaded Forms) (place : ℕ) → IsSound m → place_of n m.entries ≡ Some place → is_some (current_of n m) ≡ true → delete_refusal n (purged n m) ≡ None
+can_delete : (n : List ℕ) (m : Loaded Forms) (place : ℕ) → IsModuleTable m → place_of n m.entries ≡ Some place → is_some (current_of n m) ≡ true → delete_refusal n (purged n m) ≡ None
 can_delete n m place sound at has =
     let current : is_some (current_of n (purged n m)) ≡ true = ap is_some (current_stays n m place at has) ∙ has in
     (λ j. cond (current j) (cond (is_some (own_purged n m sound j)) (Some NotPurged) None) (Some NotLoaded))

@@ -18,12 +18,12 @@ use Rattle.erl_semantics.specs.declared.acts.Act.{Act}
 use Rattle.erl_semantics.specs.declared.acts.Act.TheVariants as act
 use Rattle.erl_semantics.specs.declared.acts.Place.{Place}
 use Rattle.erl_semantics.specs.declared.acts.Place.TheVariants.{Server, Loop}
-use Rattle.erl_forms.specs.Module.{Forms}
+use Rattle.erl_ir.specs.Module.{Forms}
 use Rattle.erl_semantics.specs.declared.jobs.Job.{Job}
 use Rattle.erl_semantics.specs.declared.outcome.End.{End}
 use Rattle.erl_semantics.specs.declared.outcome.End.TheVariants.{Rest, Value, Exit}
 use Rattle.erl_semantics.specs.declared.instance.Instance.{Instance}
-use Rattle.code_server.specs.Modules.{Entry, IsSound, Table as Loaded, current_of}
+use Rattle.code_server.specs.Modules.{Entry, IsModuleTable, Table as Loaded, current_of}
 use Rattle.code_server.specs.declared.modules.Instance as code
 use Rattle.process.proofs.FoundAgain.{job_code_stands}
 use Rattle.process.proofs.Standing.{current-at_place, place-of_entry}
@@ -44,7 +44,7 @@ use Rattle.process_store.proofs.Slots.{kept_all}
 use Rattle.process_store.specs.Changes.{closed_living, owner_of, rest_living, restate_living, resume_living, suspend_living}
 use Rattle.process_store.specs.Living.{arrived, run, takes_next}
 use Rattle.process_store.specs.Table.{Table, added, changed, changed_slots, living, living_at, next_pid, pid_of}
-use Rattle.process_store.specs.declared.living.Living.{Living}
+use Rattle.process_store.specs.declared.living.ProcessEntry.{ProcessEntry}
 use Rattle.process_table.specs.Commit.{committed, concluded}
 use Rattle.process_table.specs.Messages.{message_of}
 use Rattle.process_table.specs.States.{all_resumed, all_suspended}
@@ -56,14 +56,14 @@ use Rattle.code_loading.specs.Consistent.{Enters, EntersAt, EntersBy, IsConsiste
 
 -- What holds of each process that lives, by the table of modules.
 
-abbrev pub Holds : Loaded Forms → Living → Type 0
+abbrev pub Holds : Loaded Forms → ProcessEntry → Type 0
 Holds m l = Stands m l.process × Enters l.process
 
 abbrev pub AllHold : Loaded Forms → Table → Type 0
 AllHold m t = (pid : ℕ) → IfSome (living pid t) (Holds m)
 
 -- it holds of everybody but one, and of what that one becomes
-kept_but : (P : Living → Type 0) (f : Living → Living) (slots : List (Option Living)) (pid : ℕ) → IfSome (living_at slots pid) (λ l. P (f l)) → (q : ℕ) → IfSome (living_at slots q) P → IfSome (living_at (changed_slots f pid slots) q) P
+kept_but : (P : ProcessEntry → Type 0) (f : ProcessEntry → ProcessEntry) (slots : List (Option ProcessEntry)) (pid : ℕ) → IfSome (living_at slots pid) (λ l. P (f l)) → (q : ℕ) → IfSome (living_at slots q) P → IfSome (living_at (changed_slots f pid slots) q) P
 kept_but P f [] pid one q holds = holds
 kept_but P f (None ∷ ss) zero one zero holds = tt
 kept_but P f (Some l ∷ ss) zero one zero holds = one
@@ -72,7 +72,7 @@ kept_but P f (s ∷ ss) (suc pid) one zero holds = holds
 kept_but P f (s ∷ ss) (suc pid) one (suc q) holds = kept_but P f ss pid one q holds
 
 -- and of one more
-kept_with : (P : Living → Type 0) (slots : List (Option Living)) (l : Living) → P l → (q : ℕ) → IfSome (living_at slots q) P → IfSome (living_at (slots ++ Some l ∷ []) q) P
+kept_with : (P : ProcessEntry → Type 0) (slots : List (Option ProcessEntry)) (l : ProcessEntry) → P l → (q : ℕ) → IfSome (living_at slots q) P → IfSome (living_at (slots ++ Some l ∷ []) q) P
 kept_with P [] l one zero holds = one
 kept_with P [] l one (suc q) holds = tt
 kept_with P (s ∷ ss) l one zero holds = holds
@@ -130,7 +130,7 @@ module _ (m : Loaded Forms) where
   rests_stand (Server name state) code all = tt
   rests_stand (Loop name serial f args) code all = found_stands name serial code all
 
-  rested_holds : (at : Place) (code : List Instance) (l : Living) → All (StandsIn m) (map instance code) → RestsAt at (rests_in at code) → Holds m (rest_living at (rests_in at code) l)
+  rested_holds : (at : Place) (code : List Instance) (l : ProcessEntry) → All (StandsIn m) (map instance code) → RestsAt at (rests_in at code) → Holds m (rest_living at (rests_in at code) l)
   rested_holds at code l all is = ((rests_stand at code all, tt), (is, tt))
 
   -- the code of a job that a process runs
@@ -140,7 +140,7 @@ module _ (m : Loaded Forms) where
   ran_code p Suspended job code is = absurd (none-some job is)
   ran_code p (Runs r) job code is = subst (λ c. All (StandsIn m) (map instance c)) (ap (λ j. j.code) (same_Some _ job is)) code
 
-  job_stands : (o : Option Living) (job : Job) → IfSome o (Holds m) → job_at o ≡ Some job → All (StandsIn m) (map instance job.code)
+  job_stands : (o : Option ProcessEntry) (job : Job) → IfSome o (Holds m) → job_at o ≡ Some job → All (StandsIn m) (map instance job.code)
   job_stands None job holds is = absurd (none-some job is)
   job_stands (Some l) job holds is = ran_code l.process l.process.activity job holds.0.1 is
 
@@ -193,7 +193,7 @@ module _ (m : Loaded Forms) where
   enters_none (Server name state) rests code none is = subst (λ o. EntersAt o code) (sym none) tt
   enters_none (Loop name serial f args) rests code named is = subst (λ o. EntersAt o code) (sym is) tt
 
-  taken_code : (at : Place) (rests o : Option Instance) (entry_serial : ℕ) (code : List Instance) → IsSound m → PlaceStands m rests → RestsAt at rests → entered m at rests ≡ o → IsCode m o entry_serial code → All (StandsIn m) (map instance code) × EntersAt rests code
+  taken_code : (at : Place) (rests o : Option Instance) (entry_serial : ℕ) (code : List Instance) → IsModuleTable m → PlaceStands m rests → RestsAt at rests → entered m at rests ≡ o → IsCode m o entry_serial code → All (StandsIn m) (map instance code) × EntersAt rests code
   taken_code at rests None entry_serial code sound stands rest is it =
       (subst (λ c. All (StandsIn m) (map instance c)) (sym it.1) (All-nil (StandsIn m)), enters_none at rests code rest is)
   taken_code at rests (Some i) entry_serial code sound stands rest is it = (
@@ -201,17 +201,17 @@ module _ (m : Loaded Forms) where
     enters_at at rests i code rest is (code_of i code (map instance code) refl it.1),
   )
 
-  run_holds : (position entry_serial : ℕ) (code : List Instance) (l : Living) (message : Option Term) → Holds m l → All (StandsIn m) (map instance code) → EntersAt l.process.rests_in code → Holds m (record { process = run_by message position entry_serial code l.process; calls = l.calls })
+  run_holds : (position entry_serial : ℕ) (code : List Instance) (l : ProcessEntry) (message : Option Term) → Holds m l → All (StandsIn m) (map instance code) → EntersAt l.process.rests_in code → Holds m (record { process = run_by message position entry_serial code l.process; calls = l.calls })
   run_holds position entry_serial code l None holds stands enters = holds
   run_holds position entry_serial code l (Some message) holds stands enters = ((holds.0.0, stands), (holds.1.0, enters))
 
-  one_takes : (o : Option Living) (job : Job) (position : ℕ) → IsSound m → IfSome o (Holds m) → IsCodeOf m o job → IfSome o (λ l. Holds m (run position job.entry_serial job.code l))
+  one_takes : (o : Option ProcessEntry) (job : Job) (position : ℕ) → IsModuleTable m → IfSome o (Holds m) → IsCodeOf m o job → IfSome o (λ l. Holds m (run position job.entry_serial job.code l))
   one_takes None job position sound holds it = tt
   one_takes (Some l) job position sound holds it =
       let code = taken_code l.process.place l.process.rests_in (entered m l.process.place l.process.rests_in) job.entry_serial job.code sound holds.0.0 holds.1.0 refl it in
       run_holds position job.entry_serial job.code l (slice_get l.process.mailbox position) holds code.0 code.1
 
-  taken_kept : (o : Option ℕ) (pid : ℕ) (job : Job) (t : Table) → IsSound m → AllHold m t → IsCodeOf m (living pid t) job → AllHold m (taken_at o pid job.entry_serial job.code t)
+  taken_kept : (o : Option ℕ) (pid : ℕ) (job : Job) (t : Table) → IsModuleTable m → AllHold m t → IsCodeOf m (living pid t) job → AllHold m (taken_at o pid job.entry_serial job.code t)
   taken_kept None pid job t sound all it = all
   taken_kept (Some position) pid job t sound all it =
       λ q. kept_but (Holds m) (run position job.entry_serial job.code) t.slots pid (one_takes (living pid t) job position sound (all pid) it) q (all q)
@@ -231,22 +231,22 @@ calls_start_in w code m f args o is evaluates = starts_in code o.acts
 
 -- What holds of each process, and of all.
 
-both : (m : Loaded Forms) (o : Option Living) → IfSome o (λ l. Stands m l.process) → IfSome o (λ l. Enters l.process) → IfSome o (Holds m)
+both : (m : Loaded Forms) (o : Option ProcessEntry) → IfSome o (λ l. Stands m l.process) → IfSome o (λ l. Enters l.process) → IfSome o (Holds m)
 both m None p q = tt
 both m (Some l) p q = (p, q)
 
-stand_of : (m : Loaded Forms) (o : Option Living) → IfSome o (Holds m) → IfSome o (λ l. Stands m l.process)
+stand_of : (m : Loaded Forms) (o : Option ProcessEntry) → IfSome o (Holds m) → IfSome o (λ l. Stands m l.process)
 stand_of m None holds = tt
 stand_of m (Some l) holds = holds.0
 
-enter_of : (m : Loaded Forms) (o : Option Living) → IfSome o (Holds m) → IfSome o (λ l. Enters l.process)
+enter_of : (m : Loaded Forms) (o : Option ProcessEntry) → IfSome o (Holds m) → IfSome o (λ l. Enters l.process)
 enter_of m None holds = tt
 enter_of m (Some l) holds = holds.1
 
 all_hold : (m : Loaded Forms) (t : Table) → IsConsistent m t → AllHold m t
 all_hold m t kept pid = both m (living pid t) (kept.stand pid) (kept.enter pid)
 
-consistent : (m : Loaded Forms) (t : Table) → IsSound m → AllHold m t → IsConsistent m t
+consistent : (m : Loaded Forms) (t : Table) → IsModuleTable m → AllHold m t → IsConsistent m t
 consistent m t sound all = record {
   sound = sound;
   stand = λ pid. stand_of m (living pid t) (all pid);
@@ -263,7 +263,7 @@ all_stand : (m : Loaded Forms) (es : List (Entry Forms)) → ((j : ℕ) (entry :
 all_stand m [] current = All-nil (StandsIn m)
 all_stand m (e ∷ es) current = one_stands m e.0 e.1.current (filter_map current_in es) (current 0 e refl) (all_stand m es (λ j. current (suc j)))
 
-currents_stand : (m : Loaded Forms) → IsSound m → All (StandsIn m) (map instance (current_code m))
+currents_stand : (m : Loaded Forms) → IsModuleTable m → All (StandsIn m) (map instance (current_code m))
 currents_stand m sound = all_stand m m.entries current
   where
     current : (j : ℕ) (entry : Entry Forms) → slice_get m.entries j ≡ Some entry → current_of entry.0 m ≡ entry.1.current
@@ -297,17 +297,17 @@ stated_rests state (Server m s) rests is = is
 stated_rests state (Loop m serial f args) rests is = is
 
 module _ (m : Loaded Forms) where
-  suspended_holds : (l : Living) → Holds m l → Holds m (suspend_living l)
+  suspended_holds : (l : ProcessEntry) → Holds m l → Holds m (suspend_living l)
   suspended_holds l holds =
       let p = l.process in
       ((holds.0.0, suspended_stands m p.activity holds.0.1), (holds.1.0, suspended_enters p.rests_in p.activity holds.1.1))
 
-  resumed_holds : (l : Living) → Holds m l → Holds m (resume_living l)
+  resumed_holds : (l : ProcessEntry) → Holds m l → Holds m (resume_living l)
   resumed_holds l holds =
       let p = l.process in
       ((holds.0.0, resumed_stands m p.activity holds.0.1), (holds.1.0, resumed_enters p.rests_in p.activity holds.1.1))
 
-  restated_holds : (state : Term) (turns : ℕ) (l : Living) → Holds m l → Holds m (restate_living state turns l)
+  restated_holds : (state : Term) (turns : ℕ) (l : ProcessEntry) → Holds m l → Holds m (restate_living state turns l)
   restated_holds state turns l holds = (holds.0, (stated_rests state l.process.place l.process.rests_in holds.1.0, holds.1.1))
 
   all_suspended_kept : (pids : List ℕ) (t : Table) → AllHold m t → AllHold m (all_suspended pids t)

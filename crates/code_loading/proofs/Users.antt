@@ -4,13 +4,13 @@ use Rattle.std.specs.List.{cons_option, filter}
 use Rattle.std.specs.Prelude.{drop, filter_map, map, option_and_then, option_to_list, slice_get}
 use Rattle.std.proofs.lemmas.List.{append_assoc}
 use Rattle.code_server.specs.Modules.{Table as Loaded, slots_of}
-use Rattle.values.specs.Failure.{Tells}
+use Rattle.values.specs.Failure.{TellsFailure}
 use Rattle.values.specs.declared.failure.Failure.{Failure}
 use Rattle.values.specs.declared.failure.Failure.TheVariants.{Refused, Memory}
 use Rattle.code_server.specs.declared.error.CodeError.{CodeError}
-use Rattle.erl_forms.specs.Module.{Forms}
+use Rattle.erl_ir.specs.Module.{Forms}
 use Rattle.process_effects.proofs.Alive.{passing}
-use Rattle.process_store.specs.declared.living.Living.{Living}
+use Rattle.process_store.specs.declared.living.ProcessEntry.{ProcessEntry}
 use Rattle.process_store.specs.Table.{Table}
 use Rattle.code_loading.specs.Loading.{is_any, spared, spared_by}
 
@@ -22,15 +22,15 @@ true_false passes fails = let never : ⊥ = cc in never
 
 -- of the processes that live, the first, which uses it or does not
 
-pub fails_first : (test : Option Living → Bool) (pid : ℕ) (l : Living) (es : List (ℕ × Living)) → test (Some l) ≡ false → passing test ((pid, l) ∷ es) ≡ passing test es
-fails_first test pid l es fails = ap (λ b. map (λ (e : ℕ × Living). e.0) (cond b ((pid, l) ∷ filter (λ e. test (Some e.1)) es) (filter (λ e. test (Some e.1)) es))) fails
+pub fails_first : (test : Option ProcessEntry → Bool) (pid : ℕ) (l : ProcessEntry) (es : List (ℕ × ProcessEntry)) → test (Some l) ≡ false → passing test ((pid, l) ∷ es) ≡ passing test es
+fails_first test pid l es fails = ap (λ b. map (λ (e : ℕ × ProcessEntry). e.0) (cond b ((pid, l) ∷ filter (λ e. test (Some e.1)) es) (filter (λ e. test (Some e.1)) es))) fails
 
-pub passes_first : (test : Option Living → Bool) (pid : ℕ) (l : Living) (es : List (ℕ × Living)) → test (Some l) ≡ true → is_any (passing test ((pid, l) ∷ es)) ≡ true
-passes_first test pid l es passes = ap (λ b. is_any (map (λ (e : ℕ × Living). e.0) (cond b ((pid, l) ∷ filter (λ e. test (Some e.1)) es) (filter (λ e. test (Some e.1)) es)))) passes
+pub passes_first : (test : Option ProcessEntry → Bool) (pid : ℕ) (l : ProcessEntry) (es : List (ℕ × ProcessEntry)) → test (Some l) ≡ true → is_any (passing test ((pid, l) ∷ es)) ≡ true
+passes_first test pid l es passes = ap (λ b. is_any (map (λ (e : ℕ × ProcessEntry). e.0) (cond b ((pid, l) ∷ filter (λ e. test (Some e.1)) es) (filter (λ e. test (Some e.1)) es)))) passes
 
--- a load that is refused for want of memory finds no old code, and nobody is killed
+-- a load that is refused for lack of memory finds no old code, and nobody is killed
 
-pub memory_alone : (e : Failure CodeError) (o : Option CodeError) → Tells e o → o ≡ None → e ≡ Memory
+pub memory_alone : (e : Failure CodeError) (o : Option CodeError) → TellsFailure e o → o ≡ None → e ≡ Memory
 memory_alone (Refused why) o tells none = absurd (some_none (sym tells ∙ none))
 memory_alone Memory o tells none = refl
 

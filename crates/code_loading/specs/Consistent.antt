@@ -2,17 +2,17 @@
 use Rattle.std.specs.Prelude.{◌≡◌, ℕ, List, ◌∷◌, Option, None, Some, IfSome}
 use Rattle.erl_semantics.specs.declared.acts.Place.{Place}
 use Rattle.erl_semantics.specs.declared.acts.Place.TheVariants.{Server, Loop}
-use Rattle.erl_forms.specs.Module.{Forms}
+use Rattle.erl_ir.specs.Module.{Forms}
 use Rattle.erl_semantics.specs.declared.instance.Instance.{Instance}
-use Rattle.code_server.specs.Modules.{IsSound, Table as Loaded}
+use Rattle.code_server.specs.Modules.{IsModuleTable, Table as Loaded}
 use Rattle.process.specs.Process.{ProcessState}
 use Rattle.process.specs.declared.activity.Activity.{Activity}
 use Rattle.process.specs.declared.activity.Activity.TheVariants.{Idle, Suspended, Runs}
 use Rattle.process_effects.specs.Ends.{AllStand}
 use Rattle.process_store.specs.Table.{Table, living}
 
--- A process that rests in a loop function uses the instance that its place names, and a gen_server process none; and a process that
--- runs a job of a loop function has entered the instance in which it rested.
+-- A process that rests in a loop function uses the instance that its place names, and a gen_server process none; and a
+-- process that runs a job of a loop function has entered the instance in which it rested.
 
 abbrev pub IsNamedBy : List ℕ → ℕ → Option Instance → Type 0
 IsNamedBy name serial None = ⊥
@@ -34,9 +34,9 @@ EntersBy rests (Runs r) = EntersAt rests r.code
 abbrev pub Enters : ProcessState → Type 0
 Enters p = RestsAt p.place p.rests_in × EntersBy p.rests_in p.activity
 
--- Modules differ in name, each has one or two instances, and the serials of those differ; each instance that a process uses is its
--- module's current or old code.
+-- Modules differ in name, each has one or two instances, and the serials of those differ; each instance that a process uses
+-- is its module's current or old code.
 pub record IsConsistent (modules : Loaded Forms) (t : Table) : Type 0 where
-  pub sound : IsSound modules
+  pub sound : IsModuleTable modules
   pub stand : AllStand modules t
   pub enter : (pid : ℕ) → IfSome (living pid t) (λ l. Enters l.process)

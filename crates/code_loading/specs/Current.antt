@@ -1,6 +1,6 @@
 -- Every module's current code (code(3), all_loaded/0).
 use Rattle.std.specs.Prelude.{ℕ, List, Option, filter_map, option_map}
-use Rattle.erl_forms.specs.Module.{Forms}
+use Rattle.erl_ir.specs.Module.{Forms}
 use Rattle.erl_semantics.specs.declared.instance.Instance.{Instance}
 use Rattle.code_server.specs.Modules.{Entry, Table as Loaded}
 use Rattle.code_server.specs.declared.modules.Instance as loaded

@@ -1,10 +1,10 @@
 -- Several modules are purged, one after the other (code(3), purge; a release handler purges all that an upgrade has replaced).
 use Rattle.std.specs.Prelude.{ℕ, List, [], ◌∷◌, ◌++◌}
-use Rattle.erl_forms.specs.Module.{Forms}
+use Rattle.erl_ir.specs.Module.{Forms}
 use Rattle.code_server.specs.Modules.{Table as Loaded, purged}
 use Rattle.process_effects.specs.declared.told.Reply.{Reply}
 use Rattle.process_store.specs.Table.{Table}
-use Rattle.code_loading.specs.Loading.{lingering, purge_told, spared}
+use Rattle.code_loading.specs.Loading.{lingering, downs_of_purge, spared}
 
 -- the modules after it, and the processes
 
@@ -22,6 +22,6 @@ all_lingering [] m t = []
 all_lingering (n ∷ ns) m t = lingering n m t ++ all_lingering ns (purged n m) (spared n m t)
 
 -- what the clients of their open calls are told
-abbrev pub all_purge_told : List (List ℕ) → Loaded Forms → Table → List Reply
-all_purge_told [] m t = []
-all_purge_told (n ∷ ns) m t = purge_told n m t ++ all_purge_told ns (purged n m) (spared n m t)
+abbrev pub downs_of_purges : List (List ℕ) → Loaded Forms → Table → List Reply
+downs_of_purges [] m t = []
+downs_of_purges (n ∷ ns) m t = downs_of_purge n m t ++ downs_of_purges ns (purged n m) (spared n m t)

@@ -3,7 +3,7 @@ ghost use Rattle.std.specs.Prelude.{◌≡◌, ◌++◌, IfOk, OnOk, option_and_
 ghost use Rattle.code_loading.specs.Current.{current_code, current_in};
 
 use code_server::{Modules, Slots};
-use erl_forms::Module;
+use erl_ir::Module;
 use erl_semantics::Instance;
 use erl_term::Atom;
 use std::alloc::{AllocError, Global};
@@ -35,7 +35,8 @@ fn push_entry(
     modules: &Modules<Module>,
     place: usize,
 ) -> Result<(), AllocError>
-    ensures { OnOk result (code.new.items ≡ code.old.items ++ option_to_list (option_and_then current_in (slice_get modules.now.entries place))) }
+    ensures { OnOk result (code.new.items ≡ code.old.items ++
+        option_to_list (option_and_then current_in (slice_get modules.now.entries place))) }
 {
     match modules.entry(place) {
         Some((name, slots)) => push_current(code, alloc, name, slots),

@@ -6,8 +6,8 @@ pub fn loading_keeps_code()
     ensures { LoadingKeepsCode }
 {}
 
-/// The same where a message arrives, a process takes one, a job is committed, what evaluating in current code has done is done, processes
-/// are suspended, resumed or end, and one gets another state.
+/// The same where a message arrives, a process takes one, a job is committed, what evaluating in current code has done is
+/// done, processes are suspended, resumed or end, and one gets another state.
 pub fn steps_keep_code()
     ensures { StepsKeepCode }
 {}

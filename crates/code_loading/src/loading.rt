@@ -1,16 +1,16 @@
 // Loads and purges.
 ghost use Rattle.std.specs.Prelude.{◌≡◌, IfErr, IfOk, MatchResult, None, OnErr, OnOk, false, option_map, true};
-ghost use Rattle.values.specs.Failure.{Tells};
+ghost use Rattle.values.specs.Failure.{TellsFailure};
 ghost use Rattle.code_server.specs.Modules.{load_refusal, loaded, old_of, purged};
 ghost use Rattle.process_effects.specs.Uses.{users};
-ghost use Rattle.code_loading.specs.Loading.{is_any, is_lingered_in, lingering, purge_told, spared};
+ghost use Rattle.code_loading.specs.Loading.{is_any, is_lingered_in, lingering, downs_of_purge, spared};
 ghost use Rattle.code_loading.specs.Pieces.{held_killed};
-ghost use Rattle.code_loading.specs.Undo.{KillsBack, TakesBack};
+ghost use Rattle.code_loading.specs.Undo.{UndoesKills, TakesBack};
 ghost use Rattle.process_store.specs.Pieces.{HoldsLost};
 
-use crate::undo::Undo;
+use crate::undo::LoadUndo;
 use code_server::{CodeError, Modules};
-use erl_forms::Module;
+use erl_ir::Module;
 use erl_term::Atom;
 use process_effects::{Reply, uses};
 use process_table::Processes;
@@ -68,21 +68,22 @@ pub fn lingering(
     }
 }
 
-/// What clients are told where a module is purged: that the processes of their calls were killed, process after process in order of pid.
+/// What clients are told where a module is purged: that the processes of their calls were killed, process after process in
+/// order of pid.
 ///
 /// # Errors
 ///
 /// `AllocError` where memory is refused.
-pub fn purge_told(
+pub fn downs_of_purge(
     modules: &Modules<Module>,
     processes: &Processes,
     alloc: Global,
     name: &Atom,
 ) -> Result<Vec<Reply>, AllocError>
-    ensures { IfOk result (λ it. it.items ≡ purge_told name.now modules.now processes.now) }
+    ensures { IfOk result (λ it. it.items ≡ downs_of_purge name.now modules.now processes.now) }
 {
     match old_serial(modules, name) {
-        Some(serial) => processes.told_by_kill(serial),
+        Some(serial) => processes.downs_of_users(serial),
         None => Ok(Vec::new(alloc)),
     }
 }
@@ -92,9 +93,9 @@ pub(crate) fn kill_lingering(
     modules: &Modules<Module>,
     processes: &mut Processes,
     name: &Atom,
-) -> Result<Option<process_table::Undo>, AllocError>
+) -> Result<Option<process_table::ProcessesUndo>, AllocError>
     ensures spared { OnOk result (processes.new ≡ spared name.now modules.now processes.old) }
-    ensures inverse { IfOk result (λ it. KillsBack (old_of name.now modules.now) it processes.old processes.new) }
+    ensures inverse { IfOk result (λ it. UndoesKills (old_of name.now modules.now) it processes.old processes.new) }
     ensures pieces { IfOk result (λ it. HoldsLost (held_killed it processes.new) processes.old processes.new) }
     ensures err { OnErr result (processes.new ≡ processes.old) }
 {
@@ -107,8 +108,8 @@ pub(crate) fn kill_lingering(
     }
 }
 
-/// Purges a module: those who linger in it are killed, in order of pid, and its old code is gone, if it has any. What clients are told is
-/// asked of [`purge_told`] before.
+/// Purges a module: those who linger in it are killed, in order of pid, and its old code is gone, if it has any. What
+/// clients are told is asked of [`downs_of_purge`] before.
 ///
 /// # Errors
 ///
@@ -117,21 +118,21 @@ pub fn purge(
     modules: &mut Modules<Module>,
     processes: &mut Processes,
     name: &Atom,
-) -> Result<Undo, AllocError>
+) -> Result<LoadUndo, AllocError>
     ensures modules { OnOk result (modules.new ≡ purged name.now modules.old) }
     ensures processes { OnOk result (processes.new ≡ spared name.now modules.old processes.old) }
     ensures inverse { IfOk result (λ undo. TakesBack undo modules.old processes.old modules.new processes.new) }
     ensures err { OnErr result ((modules.new ≡ modules.old) × (processes.new ≡ processes.old)) }
 {
     let killed = kill_lingering(modules, processes, name)?;
-    Ok(Undo {
+    Ok(LoadUndo {
         modules: modules.purge(name),
         killed,
     })
 }
 
-/// Loads a module: it becomes current under the next serial, and its current code becomes old. Where it has old code, that is purged
-/// first. What clients are told is asked of [`purge_told`] before.
+/// Loads a module: it becomes current under the next serial, and its current code becomes old. Where it has old code, that
+/// is purged first. What clients are told is asked of [`downs_of_purge`] before.
 ///
 /// # Errors
 ///
@@ -141,12 +142,12 @@ pub fn load(
     processes: &mut Processes,
     alloc: Global,
     code: Module,
-) -> Result<Undo, Failure<CodeError>>
+) -> Result<LoadUndo, Failure<CodeError>>
     ensures ok { OnOk result (load_refusal code.name (purged code.name modules.old) ≡ None) }
     ensures modules { OnOk result (modules.new ≡ loaded code.name code (purged code.name modules.old)) }
     ensures processes { OnOk result (processes.new ≡ spared code.name modules.old processes.old) }
     ensures inverse { IfOk result (λ undo. TakesBack undo modules.old processes.old modules.new processes.new) }
-    ensures refused { IfErr result (λ failure. Tells failure (load_refusal code.name (purged code.name modules.old))) }
+    ensures refused { IfErr result (λ failure. TellsFailure failure (load_refusal code.name (purged code.name modules.old))) }
     ensures err { OnErr result ((modules.new ≡ modules.old) × (processes.new ≡ processes.old)) }
 {
     if let Some(refusal) = modules.purge_and_load_refusal() {
@@ -159,7 +160,7 @@ pub fn load(
         return Err(Failure::Memory);
     };
     match modules.purge_and_load(&name, code) {
-        Ok(modules) => Ok(Undo { modules, killed }),
+        Ok(modules) => Ok(LoadUndo { modules, killed }),
         Err(failure) => Err(failure),
     }
 }
@@ -173,7 +174,7 @@ pub fn soft_purge(
     modules: &mut Modules<Module>,
     processes: &Processes,
     name: &Atom,
-) -> Result<Undo, CodeError>
+) -> Result<LoadUndo, CodeError>
     ensures modules { OnOk result (modules.new ≡ purged name.now modules.old) }
     ensures inverse { IfOk result (λ undo. TakesBack undo modules.old processes.now modules.new processes.now) }
     ensures refused { MatchResult result (λ _. is_lingered_in name.now modules.old processes.now ≡ false)
@@ -182,7 +183,7 @@ pub fn soft_purge(
 {
     let in_use = is_lingered_in(modules, processes, name);
     match modules.soft_purge(name, in_use) {
-        Ok(purged) => Ok(Undo {
+        Ok(purged) => Ok(LoadUndo {
             modules: purged,
             killed: None,
         }),

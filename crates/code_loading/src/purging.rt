@@ -5,14 +5,14 @@ ghost use Rattle.code_server.specs.Undo.{Fits, HasPurged, held, undone};
 ghost use Rattle.process_effects.specs.Told.{killed};
 ghost use Rattle.process_effects.specs.Uses.{users};
 ghost use Rattle.code_loading.specs.Pieces.{IsTaken};
-ghost use Rattle.code_loading.specs.Purging.{all_lingering, all_purge_told, all_purged, all_spared};
+ghost use Rattle.code_loading.specs.Purging.{all_lingering, downs_of_purges, all_purged, all_spared};
 ghost use Rattle.code_loading.specs.Several.{uses_any_by, without_all_users};
 ghost use Rattle.code_loading.specs.Unpurging.{AllUnpurge, PurgesBack, all_unpurged};
 
 use crate::loading::old_serial;
 use crate::undo::Purges;
-use code_server::{Modules, Undo};
-use erl_forms::Module;
+use code_server::{Modules, ModulesUndo};
+use erl_ir::Module;
 use erl_term::{Atom, Predefined, Term};
 use process::Process;
 use process_effects::{Reply, uses};
@@ -84,15 +84,15 @@ pub fn purges_told(
     names: &[Atom],
     n: usize,
 ) -> Result<Vec<Row<Reply>>, AllocError>
-    ensures { IfOk result (λ it. it.items ≡ replicate n (all_purge_told names.now modules.now processes.now)) }
+    ensures { IfOk result (λ it. it.items ≡ replicate n (downs_of_purges names.now modules.now processes.now)) }
 {
     let pids = all_lingering(modules, processes, alloc, names)?;
     let killed = Term::Atom(Atom::predefined(Predefined::Killed));
-    processes.all_downs(pids.as_slice(), &killed, n)
+    processes.downs_of_each(pids.as_slice(), &killed, n)
 }
 
 /// Purges a module, if it has old code, and hands out what takes it back. Takes no memory.
-fn purge_old(modules: &mut Modules<Module>, name: &Atom) -> Option<Undo<Module>>
+fn purge_old(modules: &mut Modules<Module>, name: &Atom) -> Option<ModulesUndo<Module>>
     ensures purged { modules.new ≡ purged name.now modules.old }
     ensures inverse { MatchOption result (modules.new ≡ modules.old)
         (λ undo. Fits undo modules.new × HasPurged undo × (undone undo modules.new ≡ modules.old) ×
@@ -111,8 +111,8 @@ fn purge_old(modules: &mut Modules<Module>, name: &Atom) -> Option<Undo<Module>>
 fn purge_each(
     modules: &mut Modules<Module>,
     names: &[Atom],
-    mut undos: Vec<Undo<Module>>,
-) -> Vec<Undo<Module>>
+    mut undos: Vec<ModulesUndo<Module>>,
+) -> Vec<ModulesUndo<Module>>
     requires none { undos.items ≡ [] }
     requires room { length names.now ≤ vec_capacity undos }
     ensures purged { modules.new ≡ all_purged names.now modules.old }

@@ -5,15 +5,16 @@ ghost use Rattle.code_loading.specs.Loading.{spared};
 ghost use Rattle.code_loading.specs.Undo.{TakesBack};
 
 use crate::loading::kill_lingering;
-use crate::undo::Undo;
+use crate::undo::LoadUndo;
 use code_server::Modules;
-use erl_forms::Module;
+use erl_ir::Module;
 use erl_term::Atom;
 use process_table::Processes;
 use std::alloc::AllocError;
 
 /// Removes a module (appup(4), remove): those who linger in it are killed, in order of pid, its old code is gone, if it has any,
-/// and its current code becomes old, if it has any. What clients are told is asked of [`purge_told`](crate::purge_told) before.
+/// and its current code becomes old, if it has any. What clients are told is asked of
+/// [`downs_of_purge`](crate::downs_of_purge) before.
 ///
 /// # Errors
 ///
@@ -22,14 +23,14 @@ pub fn remove(
     modules: &mut Modules<Module>,
     processes: &mut Processes,
     name: &Atom,
-) -> Result<Undo, AllocError>
+) -> Result<LoadUndo, AllocError>
     ensures modules { OnOk result (modules.new ≡ removed name.now modules.old) }
     ensures processes { OnOk result (processes.new ≡ spared name.now modules.old processes.old) }
     ensures inverse { IfOk result (λ undo. TakesBack undo modules.old processes.old modules.new processes.new) }
     ensures err { OnErr result ((modules.new ≡ modules.old) × (processes.new ≡ processes.old)) }
 {
     let killed = kill_lingering(modules, processes, name)?;
-    Ok(Undo {
+    Ok(LoadUndo {
         modules: modules.remove(name),
         killed,
     })

@@ -1,15 +1,15 @@
 // Several purges are taken back, all of them or none.
 ghost use Rattle.std.specs.Prelude.{◌≡◌, ◌+◌, ◌≤◌, [], IfErr, IfOk, List, OnErr, OnOk, vec_capacity, vec_len};
-ghost use Rattle.code_server.specs.Modules.{IsSound, Table as Loaded};
-ghost use Rattle.code_server.specs.declared.undo.Undo as code_undo;
-ghost use Rattle.erl_forms.specs.Module.{Forms};
+ghost use Rattle.code_server.specs.Modules.{IsModuleTable, Table as Loaded};
+ghost use Rattle.code_server.specs.declared.undo.ModulesUndo as code_undo;
+ghost use Rattle.erl_ir.specs.Module.{Forms};
 ghost use Rattle.process_effects.specs.Ends.{AllStand};
 ghost use Rattle.process_store.specs.Table.{Table};
 ghost use Rattle.code_loading.specs.Unpurging.{AllUnpurge, PurgesBack, Repurges, all_unpurged};
 
 use crate::undo::Purges;
-use code_server::{Modules, Redo, Undo};
-use erl_forms::Module;
+use code_server::{Modules, ModulesUndo, Redo};
+use erl_ir::Module;
 use process_table::Processes;
 use std::alloc::Global;
 use values::Row;
@@ -18,18 +18,18 @@ use values::Row;
 #[derive(Drop)]
 struct Unpurged {
     /// What takes those back that stand. There is room for all.
-    left: Vec<Undo<Module>>,
+    left: Vec<ModulesUndo<Module>>,
     /// What makes those again that were taken back, the last of them first.
     redos: Vec<Redo<Module>>,
 }
 
 /// Purges that were taken back are made again, and what takes them back is handed out. There is room for it, and it takes no
 /// memory.
-fn repurge_all(modules: &mut Modules<Module>, unpurged: Unpurged) -> Vec<Undo<Module>>
-    requires back { (all : List (code_undo.Undo Forms)) × (m : Loaded Forms)
+fn repurge_all(modules: &mut Modules<Module>, unpurged: Unpurged) -> Vec<ModulesUndo<Module>>
+    requires back { (all : List (code_undo.ModulesUndo Forms)) × (m : Loaded Forms)
         × Repurges unpurged.redos.items unpurged.left.items modules.old all m }
     requires room { vec_len unpurged.left + vec_len unpurged.redos ≤ vec_capacity unpurged.left }
-    ensures { (all : List (code_undo.Undo Forms)) (m : Loaded Forms)
+    ensures { (all : List (code_undo.ModulesUndo Forms)) (m : Loaded Forms)
         → Repurges unpurged.redos.items unpurged.left.items modules.old all m → (result.items ≡ all) × (modules.new ≡ m) }
 {
     let Unpurged {
@@ -49,9 +49,9 @@ fn repurge_all(modules: &mut Modules<Module>, unpurged: Unpurged) -> Vec<Undo<Mo
 /// The undos, where memory is refused. The modules are then as they were.
 fn unpurge_all(
     modules: &mut Modules<Module>,
-    mut left: Vec<Undo<Module>>,
+    mut left: Vec<ModulesUndo<Module>>,
     mut redos: Vec<Redo<Module>>,
-) -> Result<Unpurged, Vec<Undo<Module>>>
+) -> Result<Unpurged, Vec<ModulesUndo<Module>>>
     requires fits { AllUnpurge left.items modules.old }
     requires none { redos.items ≡ [] }
     requires room { vec_len left + vec_len redos ≤ vec_capacity redos }
@@ -85,11 +85,11 @@ pub fn revert_purges(
     alloc: Global,
     undo: Purges,
 ) -> Result<(), Purges>
-    requires { (m : Loaded Forms) × (t : Table) × PurgesBack undo m t modules.old processes.old × IsSound m × AllStand m t }
+    requires { (m : Loaded Forms) × (t : Table) × PurgesBack undo m t modules.old processes.old × IsModuleTable m × AllStand m t }
     ensures modules { OnOk result ((m : Loaded Forms) (t : Table) → PurgesBack undo m t modules.old processes.old
         → modules.new ≡ m) }
     ensures processes { OnOk result ((m : Loaded Forms) (t : Table) → PurgesBack undo m t modules.old processes.old
-        → IsSound m → AllStand m t → processes.new ≡ t) }
+        → IsModuleTable m → AllStand m t → processes.new ≡ t) }
     ensures back { IfErr result (λ it. it ≡ undo) }
     ensures err { OnErr result ((modules.new ≡ modules.old) × (processes.new ≡ processes.old)) }
 {
@@ -111,7 +111,7 @@ pub fn revert_purges(
 }
 
 /// What takes these purges back, and this kill. Takes no memory.
-fn purges_of(undos: Vec<Undo<Module>>, killed: process_table::Undo) -> Purges
+fn purges_of(undos: Vec<ModulesUndo<Module>>, killed: process_table::ProcessesUndo) -> Purges
     ensures modules { result.modules ≡ undos.items }
     ensures killed { result.killed ≡ killed }
 {

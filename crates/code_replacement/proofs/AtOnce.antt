@@ -1,6 +1,6 @@
 -- Children end module after module, or all at once.
 use Rattle.std.proofs.Common.{◌≡◌, ℕ, List, [], ◌∷◌, ◌++◌, refl, ap, ◌∙◌}
-use Rattle.erl_forms.specs.Module.{Forms}
+use Rattle.erl_ir.specs.Module.{Forms}
 use Rattle.erl_term.specs.declared.term.Term.{Term}
 use Rattle.app_table.specs.Applications.{Application, all_ended, ended}
 use Rattle.code_loading.specs.Loading.{lingering, spared}

@@ -1,10 +1,10 @@
 -- Code is replaced under processes, and under the children of supervisors that they are (Erlang Reference Manual, Compilation and
 -- Code Loading, Code Replacement; supervisor(3)).
 use Rattle.std.specs.Prelude.{List, [], ◌∷◌, ℕ}
-use Rattle.erl_forms.specs.Module.{Forms}
+use Rattle.erl_ir.specs.Module.{Forms}
 use Rattle.app_table.specs.Applications.{Application, all_ended}
 use Rattle.code_loading.specs.Loading.{lingering, spared}
-use Rattle.code_server.specs.Modules.{IsSound, Table as Loaded, loaded, purged, removed}
+use Rattle.code_server.specs.Modules.{IsModuleTable, Table as Loaded, loaded, purged, removed}
 use Rattle.process_effects.specs.Ends.{AllStand}
 use Rattle.process_effects.specs.Told.{killed}
 use Rattle.process_store.specs.Table.{Table}
@@ -21,7 +21,7 @@ running modules processes apps = record { modules = modules; processes = process
 -- Modules differ in name, and the serials of their instances differ; each instance that a process uses is its module's current or
 -- old code.
 pub record HasItsCode (p : RunningSystem) : Type 0 where
-  pub sound : IsSound p.modules
+  pub sound : IsModuleTable p.modules
   pub stand : AllStand p.modules p.processes
 
 -- A module is purged: those who linger in it are killed, and their children are due, or not.

@@ -5,7 +5,7 @@ ghost use Rattle.app_table.specs.Undo.{undone};
 ghost use Rattle.process_effects.specs.Told.{killed};
 ghost use Rattle.code_replacement.specs.Undo.{ChildrenBack, held_of};
 
-use app_table::{AppTable, Undo};
+use app_table::{AppTable, AppsUndo};
 use erl_term::{Atom, Predefined, Term};
 use std::alloc::AllocError;
 
@@ -14,7 +14,10 @@ use std::alloc::AllocError;
 /// # Errors
 ///
 /// `AllocError` where memory is refused. All is then as it was.
-pub(crate) fn end_children(apps: &mut AppTable, pids: &[u64]) -> Result<Option<Undo>, AllocError>
+pub(crate) fn end_children(
+    apps: &mut AppTable,
+    pids: &[u64],
+) -> Result<Option<AppsUndo>, AllocError>
     ensures ended { OnOk result (apps.new ≡ all_ended killed pids.now apps.old) }
     ensures inverse { IfOk result (λ undo. ChildrenBack undo apps.old apps.new) }
     ensures pieces { IfOk result (λ undo. held_of undo apps.new ≡ []) }
@@ -29,7 +32,7 @@ pub(crate) fn end_children(apps: &mut AppTable, pids: &[u64]) -> Result<Option<U
 }
 
 /// Children run again as the processes that have ended. Takes no memory.
-pub(crate) fn unend(apps: &mut AppTable, undo: Option<Undo>)
+pub(crate) fn unend(apps: &mut AppTable, undo: Option<AppsUndo>)
     ensures undone { IfSome undo (λ it. apps.new ≡ undone it apps.old) }
     ensures none { undo ≡ None → apps.new ≡ apps.old }
 {

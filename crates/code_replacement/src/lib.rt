@@ -10,7 +10,7 @@
 //! - What runs after each change is what the rules make of what ran before (`code_loaded`, `without_lingering`, `code_removed`,
 //!   `all_without`), where modules, processes and children change together. A child whose process was killed is due where its
 //!   Restart says so and its application is started, and else stopped (`all_ended` of [`app_table`]).
-//! - A load is refused exactly where the last serial was given, and else only for want of memory. Where anything is refused, all
+//! - A load is refused exactly where the last serial was given, and else only for lack of memory. Where anything is refused, all
 //!   three are as they were.
 //! - What takes a change back gives what ran before it, whole; or hands itself back, and leaves all as it was (`TakesBack`,
 //!   `PurgesBack`). It needs that each instance that a process used then is its module's current or old code (`HasItsCode`).
@@ -19,8 +19,8 @@
 //!
 //! # What no contract says
 //!
-//! That there is memory, and what a call costs: what [`code_loading`] says, once more for who lingers, and a look for the child of
-//! each process that is killed.
+//! That there is memory, and what a call costs: what [`code_loading`] says, once more for who lingers, and a look for the
+//! child of each process that is killed.
 #![tactic(auto)]
 
 mod children;
@@ -30,4 +30,4 @@ mod undo;
 
 pub use replacing::{load, purge, purge_all, remove};
 pub use reverting::{revert, revert_purges};
-pub use undo::{Purges, Undo};
+pub use undo::{Purges, ReplacementUndo};

@@ -1,16 +1,16 @@
 // Code is loaded, purged and removed.
 ghost use Rattle.std.specs.Prelude.{◌≡◌, IfErr, IfOk, None, OnErr, OnOk};
-ghost use Rattle.values.specs.Failure.{Tells};
+ghost use Rattle.values.specs.Failure.{TellsFailure};
 ghost use Rattle.code_server.specs.Modules.{load_refusal, purged};
 ghost use Rattle.code_replacement.specs.Replacing.{all_without, code_loaded, code_removed, running, without_lingering};
 ghost use Rattle.code_replacement.specs.Undo.{PurgesBack, TakesBack};
 
 use crate::children::{end_children, unend};
-use crate::undo::{Purges, Undo};
+use crate::undo::{Purges, ReplacementUndo};
 use app_table::AppTable;
 use code_loading::{all_lingering, lingering};
 use code_server::{CodeError, Modules};
-use erl_forms::Module;
+use erl_ir::Module;
 use erl_term::Atom;
 use process_table::Processes;
 use std::alloc::{AllocError, Global};
@@ -18,7 +18,7 @@ use values::Failure;
 
 /// Loads a module: it becomes current under the next serial, and its current code becomes old. Where it has old code, that is
 /// purged first: those who linger in it are killed, and their children are due, or not. What clients are told is asked of
-/// [`code_loading::purge_told`] before.
+/// [`code_loading::downs_of_purge`] before.
 ///
 /// # Errors
 ///
@@ -29,13 +29,13 @@ pub fn load(
     apps: &mut AppTable,
     alloc: Global,
     code: Module,
-) -> Result<Undo, Failure<CodeError>>
+) -> Result<ReplacementUndo, Failure<CodeError>>
     ensures ok { OnOk result (load_refusal code.name (purged code.name modules.old) ≡ None) }
     ensures loaded { OnOk result (running modules.new processes.new apps.new
         ≡ code_loaded code (running modules.old processes.old apps.old)) }
     ensures inverse { IfOk result (λ undo. TakesBack undo (running modules.old processes.old apps.old)
         (running modules.new processes.new apps.new)) }
-    ensures refused { IfErr result (λ failure. Tells failure (load_refusal code.name (purged code.name modules.old))) }
+    ensures refused { IfErr result (λ failure. TellsFailure failure (load_refusal code.name (purged code.name modules.old))) }
     ensures err { OnErr result (running modules.new processes.new apps.new ≡ running modules.old processes.old apps.old) }
 {
     if let Some(refusal) = modules.purge_and_load_refusal() {
@@ -48,7 +48,7 @@ pub fn load(
         return Err(Failure::Memory);
     };
     match code_loading::load(modules, processes, alloc, code) {
-        Ok(code) => Ok(Undo { code, ended }),
+        Ok(code) => Ok(ReplacementUndo { code, ended }),
         Err(failure) => {
             unend(apps, ended);
             Err(failure)
@@ -57,7 +57,7 @@ pub fn load(
 }
 
 /// Purges a module: those who linger in it are killed, and their children are due, or not; its old code is gone, if it has any.
-/// What clients are told is asked of [`code_loading::purge_told`] before.
+/// What clients are told is asked of [`code_loading::downs_of_purge`] before.
 ///
 /// # Errors
 ///
@@ -68,7 +68,7 @@ pub fn purge(
     apps: &mut AppTable,
     alloc: Global,
     name: &Atom,
-) -> Result<Undo, AllocError>
+) -> Result<ReplacementUndo, AllocError>
     ensures purged { OnOk result (running modules.new processes.new apps.new
         ≡ without_lingering name.now (running modules.old processes.old apps.old)) }
     ensures inverse { IfOk result (λ undo. TakesBack undo (running modules.old processes.old apps.old)
@@ -78,7 +78,7 @@ pub fn purge(
     let pids = lingering(modules, processes, alloc, name)?;
     let ended = end_children(apps, pids.as_slice())?;
     match code_loading::purge(modules, processes, name) {
-        Ok(code) => Ok(Undo { code, ended }),
+        Ok(code) => Ok(ReplacementUndo { code, ended }),
         Err(error) => {
             unend(apps, ended);
             Err(error)
@@ -87,7 +87,7 @@ pub fn purge(
 }
 
 /// Removes a module (appup(4), remove): it is purged, as by [`purge`], and its current code becomes old, if it has any. What
-/// clients are told is asked of [`code_loading::purge_told`] before.
+/// clients are told is asked of [`code_loading::downs_of_purge`] before.
 ///
 /// # Errors
 ///
@@ -98,7 +98,7 @@ pub fn remove(
     apps: &mut AppTable,
     alloc: Global,
     name: &Atom,
-) -> Result<Undo, AllocError>
+) -> Result<ReplacementUndo, AllocError>
     ensures removed { OnOk result (running modules.new processes.new apps.new
         ≡ code_removed name.now (running modules.old processes.old apps.old)) }
     ensures inverse { IfOk result (λ undo. TakesBack undo (running modules.old processes.old apps.old)
@@ -108,7 +108,7 @@ pub fn remove(
     let pids = lingering(modules, processes, alloc, name)?;
     let ended = end_children(apps, pids.as_slice())?;
     match code_loading::remove(modules, processes, name) {
-        Ok(code) => Ok(Undo { code, ended }),
+        Ok(code) => Ok(ReplacementUndo { code, ended }),
         Err(error) => {
             unend(apps, ended);
             Err(error)

@@ -4,10 +4,10 @@ ghost use Rattle.code_replacement.specs.Replacing.{HasItsCode, RunningSystem, ru
 ghost use Rattle.code_replacement.specs.Undo.{PurgesBack, TakesBack};
 
 use crate::children::unend;
-use crate::undo::{Purges, Undo};
+use crate::undo::{Purges, ReplacementUndo};
 use app_table::AppTable;
 use code_server::Modules;
-use erl_forms::Module;
+use erl_ir::Module;
 use process_table::Processes;
 use std::alloc::Global;
 
@@ -20,8 +20,8 @@ pub fn revert(
     modules: &mut Modules<Module>,
     processes: &mut Processes,
     apps: &mut AppTable,
-    undo: Undo,
-) -> Result<(), Undo>
+    undo: ReplacementUndo,
+) -> Result<(), ReplacementUndo>
     requires { (before : RunningSystem) × HasItsCode before × TakesBack undo before (running modules.old processes.old apps.old) }
     ensures ok { OnOk result ((before : RunningSystem) → HasItsCode before
         → TakesBack undo before (running modules.old processes.old apps.old)
@@ -29,13 +29,13 @@ pub fn revert(
     ensures back { IfErr result (λ it. it ≡ undo) }
     ensures err { OnErr result (running modules.new processes.new apps.new ≡ running modules.old processes.old apps.old) }
 {
-    let Undo { code, ended } = undo;
+    let ReplacementUndo { code, ended } = undo;
     match code_loading::revert(modules, processes, code) {
         Ok(()) => {
             unend(apps, ended);
             Ok(())
         }
-        Err(code) => Err(Undo { code, ended }),
+        Err(code) => Err(ReplacementUndo { code, ended }),
     }
 }
 
@@ -51,7 +51,8 @@ pub fn revert_purges(
     alloc: Global,
     undo: Purges,
 ) -> Result<(), Purges>
-    requires { (before : RunningSystem) × HasItsCode before × PurgesBack undo before (running modules.old processes.old apps.old) }
+    requires { (before : RunningSystem) × HasItsCode before ×
+        PurgesBack undo before (running modules.old processes.old apps.old) }
     ensures ok { OnOk result ((before : RunningSystem) → HasItsCode before
         → PurgesBack undo before (running modules.old processes.old apps.old)
         → running modules.new processes.new apps.new ≡ before) }

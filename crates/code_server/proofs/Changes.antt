@@ -9,9 +9,9 @@ use Rattle.values.proofs.Edits.{All-slice_get, changed_at-back, changed_at-same,
 use Rattle.code_server.specs.declared.error.CodeError.TheVariants.{NotLoaded, NotPurged, CounterEnd}
 use Rattle.code_server.specs.declared.modules.Instance.{Instance}
 use Rattle.code_server.specs.declared.modules.Slots.{Slots}
-use Rattle.code_server.specs.declared.undo.Undo.{Undo}
-use Rattle.code_server.specs.declared.undo.Undo.TheVariants.{Nothing, Added, Stacked, Replaced, Retired, Demoted, Purged, Removed}
-use Rattle.code_server.specs.Modules.{Entry, Table, HasCode, IsSound, current_of, old_of, place_of, with_slots, load_refusal, stacked, delete_refusal, retired, purged_slots, purged_at, purged}
+use Rattle.code_server.specs.declared.undo.ModulesUndo.{ModulesUndo}
+use Rattle.code_server.specs.declared.undo.ModulesUndo.TheVariants.{Nothing, Added, Stacked, Replaced, Retired, Demoted, Purged, Removed}
+use Rattle.code_server.specs.Modules.{Entry, Table, HasCode, IsModuleTable, current_of, old_of, place_of, with_slots, load_refusal, stacked, delete_refusal, retired, purged_slots, purged_at, purged}
 use Rattle.code_server.specs.Places.{current_at, former_at}
 use Rattle.code_server.specs.Undo.{Fits, IsPlaced, restored, swapped_back, undone, unpurged}
 use Rattle.code_server.proofs.Standing.{Stands}
@@ -42,7 +42,7 @@ module _ {C : Type 0} where
     pub no_old : old_of name t ≡ None
     pub serial : t.next < 2 ^ 64
 
-  pub IsLoadable-unrefused : (name : List ℕ) (t : Table C) → IsSound t → load_refusal name t ≡ None → IsLoadable name t
+  pub IsLoadable-unrefused : (name : List ℕ) (t : Table C) → IsModuleTable t → load_refusal name t ≡ None → IsLoadable name t
   IsLoadable-unrefused name t sound e =
       let none = refused_none (is_some (old_of name t)) (t.next == 2 ^ 64) e in
       let below = eqb-false t.next (2 ^ 64) none.1 in
@@ -78,9 +78,9 @@ module _ {C : Type 0} where
   -- The undo of each change
 
   -- `old` is the table before the change, by its fields, and `now` that table
-  pub taken_back : (undo : Undo C) (new old now : Table C) → IsPlaced undo new → undone undo new ≡ old → IsSound old → old ≡ now → Fits undo new × (undone undo new ≡ now)
+  pub taken_back : (undo : ModulesUndo C) (new old now : Table C) → IsPlaced undo new → undone undo new ≡ old → IsModuleTable old → old ≡ now → Fits undo new × (undone undo new ≡ now)
   taken_back undo new old now placed back sound is =
-      (record { placed = placed; sound = subst IsSound (sym back) sound }, back ∙ is)
+      (record { placed = placed; sound = subst IsModuleTable (sym back) sound }, back ∙ is)
 
   pub same_slots : (current former : Option (Instance C)) (slots : Slots C) → slots.current ≡ current → slots.former ≡ former → record { current = current; former = former } ≡ slots
   same_slots current former slots c f = (λ j. record { current = sym c j; former = sym f j })
@@ -94,46 +94,46 @@ module _ {C : Type 0} where
   within_changed f name es changed place at is =
       omega (arith, at.within, ap length is ∙ length-changed_at (λ e. (e.0, f e.1)) es place)
 
-  pub Retired-back : (name : List ℕ) (t now : Table C) (place : ℕ) (es : List (Entry C)) (at : Stands name t.entries place) → at.slots.former ≡ None → es ≡ with_slots retired t.entries place → IsSound t → t ≡ now → Fits (Retired place) (record { entries = es; next = t.next }) × (undone (Retired place) (record { entries = es; next = t.next }) ≡ now)
+  pub Retired-back : (name : List ℕ) (t now : Table C) (place : ℕ) (es : List (Entry C)) (at : Stands name t.entries place) → at.slots.former ≡ None → es ≡ with_slots retired t.entries place → IsModuleTable t → t ≡ now → Fits (Retired place) (record { entries = es; next = t.next }) × (undone (Retired place) (record { entries = es; next = t.next }) ≡ now)
   Retired-back name t now place es at none is sound same =
       let slots = same_slots at.slots.current None at.slots refl none in
       let back = with_slots-back retired restored name t.entries es place at slots is in
       taken_back (Retired place) (record { entries = es; next = t.next }) t now (within_changed retired name t.entries es place at is) (λ j. record { entries = back j; next = t.next }) sound same
 
-  pub Stacked-back : (name : List ℕ) (t now : Table C) (place : ℕ) (es : List (Entry C)) (instance : Instance C) (at : Stands name t.entries place) → at.slots.former ≡ None → es ≡ with_slots (stacked instance) t.entries place → IsSound t → t ≡ now → Fits (Stacked place) (record { entries = es; next = t.next + 1 }) × (undone (Stacked place) (record { entries = es; next = t.next + 1 }) ≡ now)
+  pub Stacked-back : (name : List ℕ) (t now : Table C) (place : ℕ) (es : List (Entry C)) (instance : Instance C) (at : Stands name t.entries place) → at.slots.former ≡ None → es ≡ with_slots (stacked instance) t.entries place → IsModuleTable t → t ≡ now → Fits (Stacked place) (record { entries = es; next = t.next + 1 }) × (undone (Stacked place) (record { entries = es; next = t.next + 1 }) ≡ now)
   Stacked-back name t now place es instance at none is sound same =
       let slots = same_slots at.slots.current None at.slots refl none in
       let back = with_slots-back (stacked instance) restored name t.entries es place at slots is in
       let count : t.next + 1 - 1 ≡ t.next = omega arith in
       taken_back (Stacked place) (record { entries = es; next = t.next + 1 }) t now (within_changed (stacked instance) name t.entries es place at is) (λ j. record { entries = back j; next = count j }) sound same
 
-  pub Replaced-back : (name : List ℕ) (t now : Table C) (place : ℕ) (es : List (Entry C)) (instance former : Instance C) (at : Stands name t.entries place) → at.slots.former ≡ Some former → es ≡ with_slots (stacked instance) t.entries place → IsSound t → t ≡ now → Fits (Replaced place former) (record { entries = es; next = t.next + 1 }) × (undone (Replaced place former) (record { entries = es; next = t.next + 1 }) ≡ now)
+  pub Replaced-back : (name : List ℕ) (t now : Table C) (place : ℕ) (es : List (Entry C)) (instance former : Instance C) (at : Stands name t.entries place) → at.slots.former ≡ Some former → es ≡ with_slots (stacked instance) t.entries place → IsModuleTable t → t ≡ now → Fits (Replaced place former) (record { entries = es; next = t.next + 1 }) × (undone (Replaced place former) (record { entries = es; next = t.next + 1 }) ≡ now)
   Replaced-back name t now place es instance former at some is sound same =
       let slots = same_slots at.slots.current (Some former) at.slots refl some in
       let back = with_slots-back (stacked instance) (swapped_back former) name t.entries es place at slots is in
       let count : t.next + 1 - 1 ≡ t.next = omega arith in
       taken_back (Replaced place former) (record { entries = es; next = t.next + 1 }) t now (within_changed (stacked instance) name t.entries es place at is) (λ j. record { entries = back j; next = count j }) sound same
 
-  pub Demoted-back : (name : List ℕ) (t now : Table C) (place : ℕ) (es : List (Entry C)) (former : Instance C) (at : Stands name t.entries place) → at.slots.former ≡ Some former → es ≡ with_slots retired t.entries place → IsSound t → t ≡ now → Fits (Demoted place former) (record { entries = es; next = t.next }) × (undone (Demoted place former) (record { entries = es; next = t.next }) ≡ now)
+  pub Demoted-back : (name : List ℕ) (t now : Table C) (place : ℕ) (es : List (Entry C)) (former : Instance C) (at : Stands name t.entries place) → at.slots.former ≡ Some former → es ≡ with_slots retired t.entries place → IsModuleTable t → t ≡ now → Fits (Demoted place former) (record { entries = es; next = t.next }) × (undone (Demoted place former) (record { entries = es; next = t.next }) ≡ now)
   Demoted-back name t now place es former at some is sound same =
       let slots = same_slots at.slots.current (Some former) at.slots refl some in
       let back = with_slots-back retired (swapped_back former) name t.entries es place at slots is in
       taken_back (Demoted place former) (record { entries = es; next = t.next }) t now (within_changed retired name t.entries es place at is) (λ j. record { entries = back j; next = t.next }) sound same
 
-  pub Purged-back : (name : List ℕ) (t now : Table C) (place : ℕ) (es : List (Entry C)) (former : Instance C) (at : Stands name t.entries place) → at.slots.former ≡ Some former → es ≡ with_slots purged_slots t.entries place → IsSound t → t ≡ now → Fits (Purged place former) (record { entries = es; next = t.next }) × (undone (Purged place former) (record { entries = es; next = t.next }) ≡ now)
+  pub Purged-back : (name : List ℕ) (t now : Table C) (place : ℕ) (es : List (Entry C)) (former : Instance C) (at : Stands name t.entries place) → at.slots.former ≡ Some former → es ≡ with_slots purged_slots t.entries place → IsModuleTable t → t ≡ now → Fits (Purged place former) (record { entries = es; next = t.next }) × (undone (Purged place former) (record { entries = es; next = t.next }) ≡ now)
   Purged-back name t now place es former at some is sound same =
       let slots = same_slots at.slots.current (Some former) at.slots refl some in
       let back = with_slots-back purged_slots (unpurged former) name t.entries es place at slots is in
       taken_back (Purged place former) (record { entries = es; next = t.next }) t now (within_changed purged_slots name t.entries es place at is) (λ j. record { entries = back j; next = t.next }) sound same
 
-  pub Added-back : (t now : Table C) (entry : Entry C) (es : List (Entry C)) → es ≡ t.entries ++ entry ∷ [] → IsSound t → t ≡ now → Fits Added (record { entries = es; next = t.next + 1 }) × (undone Added (record { entries = es; next = t.next + 1 }) ≡ now)
+  pub Added-back : (t now : Table C) (entry : Entry C) (es : List (Entry C)) → es ≡ t.entries ++ entry ∷ [] → IsModuleTable t → t ≡ now → Fits Added (record { entries = es; next = t.next + 1 }) × (undone Added (record { entries = es; next = t.next + 1 }) ≡ now)
   Added-back t now entry es is sound same =
       let long = length-append t.entries (entry ∷ []) in
       let taken : take (length es - 1) es ≡ t.entries = (λ j. take (length (is j) - 1) (is j)) ∙ ap (λ n. take n (t.entries ++ entry ∷ [])) (last_place t.entries entry) ∙ take-end t.entries entry in
       let count : t.next + 1 - 1 ≡ t.next = omega arith in
       taken_back Added (record { entries = es; next = t.next + 1 }) t now (omega (arith, ap length is, long)) (λ j. record { entries = taken j; next = count j }) sound same
 
-  pub Removed-back : (name stored : List ℕ) (t now : Table C) (place : ℕ) (es : List (Entry C)) (former : Instance C) (at : Stands name t.entries place) → stored ≡ name → at.slots.current ≡ None → at.slots.former ≡ Some former → es ≡ remove t.entries place → IsSound t → t ≡ now → Fits (Removed place stored former) (record { entries = es; next = t.next }) × (undone (Removed place stored former) (record { entries = es; next = t.next }) ≡ now)
+  pub Removed-back : (name stored : List ℕ) (t now : Table C) (place : ℕ) (es : List (Entry C)) (former : Instance C) (at : Stands name t.entries place) → stored ≡ name → at.slots.current ≡ None → at.slots.former ≡ Some former → es ≡ remove t.entries place → IsModuleTable t → t ≡ now → Fits (Removed place stored former) (record { entries = es; next = t.next }) × (undone (Removed place stored former) (record { entries = es; next = t.next }) ≡ now)
   Removed-back name stored t now place es former at key none some is sound same =
       let slots = same_slots None (Some former) at.slots none some in
       let back : insert es place (stored, record { current = None; former = Some former }) ≡ t.entries = (λ j. insert (is j) place (key j, slots j)) ∙ insert-remove t.entries place (name, at.slots) at.entry in
@@ -141,7 +141,7 @@ module _ {C : Type 0} where
       let absent : lookup (bytes_eq stored) es ≡ None = (λ j. lookup (bytes_eq (key j)) (is j)) ∙ at.gone sound.distinct in
       taken_back (Removed place stored former) (record { entries = es; next = t.next }) t now (omega (arith, ap length is, shorter, at.within), absent) (λ j. record { entries = back j; next = t.next }) sound same
 
-  pub Nothing-back : (name : List ℕ) (t now : Table C) (place : ℕ) (es : List (Entry C)) (at : Stands name t.entries place) → at.slots.former ≡ None → es ≡ with_slots purged_slots t.entries place → IsSound t → t ≡ now → Fits Nothing (record { entries = es; next = t.next }) × (undone Nothing (record { entries = es; next = t.next }) ≡ now)
+  pub Nothing-back : (name : List ℕ) (t now : Table C) (place : ℕ) (es : List (Entry C)) (at : Stands name t.entries place) → at.slots.former ≡ None → es ≡ with_slots purged_slots t.entries place → IsModuleTable t → t ≡ now → Fits Nothing (record { entries = es; next = t.next }) × (undone Nothing (record { entries = es; next = t.next }) ≡ now)
   Nothing-back name t now place es at none is sound same =
       let slots = same_slots at.slots.current None at.slots refl none in
       let back = is ∙ changed_at-same (λ e. (e.0, purged_slots e.1)) t.entries place (name, at.slots) at.entry (ap (λ s. (name, s)) slots) in
@@ -207,7 +207,7 @@ module _ {C : Type 0} where
           (ap Some parts.1, sym parts.0)
 
   -- no module is without code
-  pub codeless : (name : List ℕ) (t : Table C) (place : ℕ) (at : Stands name t.entries place) → IsSound t → at.slots.current ≡ None → at.slots.former ≡ None → ⊥
+  pub codeless : (name : List ℕ) (t : Table C) (place : ℕ) (at : Stands name t.entries place) → IsModuleTable t → at.slots.current ≡ None → at.slots.former ≡ None → ⊥
   codeless name t place at sound current former =
       let code = All-slice_get (λ e. HasCode e) t.entries place (name, at.slots) sound.with_code at.entry in
       let none : (is_some at.slots.current || is_some at.slots.former) ≡ false = (λ j. is_some (current j) || is_some (former j)) in

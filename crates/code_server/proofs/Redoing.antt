@@ -7,9 +7,9 @@ use Rattle.code_server.specs.declared.modules.Instance.{Instance}
 use Rattle.code_server.specs.declared.modules.Slots.{Slots}
 use Rattle.code_server.specs.declared.undo.Redo.{Redo}
 use Rattle.code_server.specs.declared.undo.Redo.TheVariants.{Replace, Demote, Move, Purge, Remove}
-use Rattle.code_server.specs.declared.undo.Undo.{Undo}
-use Rattle.code_server.specs.declared.undo.Undo.TheVariants.{Replaced, Demoted, Moved, Purged, Removed}
-use Rattle.code_server.specs.Modules.{Entry, Table, IsSound, with_slots}
+use Rattle.code_server.specs.declared.undo.ModulesUndo.{ModulesUndo}
+use Rattle.code_server.specs.declared.undo.ModulesUndo.TheVariants.{Replaced, Demoted, Moved, Purged, Removed}
+use Rattle.code_server.specs.Modules.{Entry, Table, IsModuleTable, with_slots}
 use Rattle.code_server.specs.Places.{current_at, former_at, old_alone}
 use Rattle.code_server.specs.Undo.{Fits, Redoes, moved_back, moved_last, replaced, swapped_back, unpurged, with_old}
 use Rattle.code_server.proofs.Changes.{same_slots}
@@ -17,7 +17,7 @@ use Rattle.code_server.proofs.Standing.{entry_at, slice_get-insert}
 
 module _ {C : Type 0} where
   -- of the table by its fields, and of the undo by its variant, is of both
-  pub again_of : (redo : Redo C) (undo u : Undo C) (t now before : Table C) → undo ≡ u → t ≡ now → Fits undo now → (Fits u t → Redoes redo u t before) → Redoes redo undo now before
+  pub again_of : (redo : Redo C) (undo u : ModulesUndo C) (t now before : Table C) → undo ≡ u → t ≡ now → Fits undo now → (Fits u t → Redoes redo u t before) → Redoes redo undo now before
   again_of redo undo u t now before is same fits by =
       let here : Fits u t = subst (λ n. Fits u n) (sym same) (subst (λ v. Fits v now) is fits) in
       subst (λ v. Redoes redo v now before) (sym is) (subst (λ n. Redoes redo u n before) same (by here))
@@ -31,7 +31,7 @@ module _ {C : Type 0} where
   former-changed f es before place entry at is =
       ap (λ l. former_at l place) is ∙ ap (option_and_then (λ e. e.1.former)) (slice_get-changed_at (λ e. (e.0, f e.1)) es place entry at)
 
-  pub Replaced-again : (place : ℕ) (instance : Instance C) (gone : Option (Instance C)) (t : Table C) (es : List (Entry C)) (next : ℕ) → IsSound t → es ≡ with_slots (swapped_back instance) t.entries place → gone ≡ current_at t.entries place → next + 1 ≡ t.next → Fits (Replaced place instance) t → Redoes (Replace place gone) (Replaced place instance) t (record { entries = es; next = next })
+  pub Replaced-again : (place : ℕ) (instance : Instance C) (gone : Option (Instance C)) (t : Table C) (es : List (Entry C)) (next : ℕ) → IsModuleTable t → es ≡ with_slots (swapped_back instance) t.entries place → gone ≡ current_at t.entries place → next + 1 ≡ t.next → Fits (Replaced place instance) t → Redoes (Replace place gone) (Replaced place instance) t (record { entries = es; next = next })
   Replaced-again place instance gone t es next sound is went count fits =
       let there = entry_at t.entries place fits.placed in
       let lost = went ∙ ap (option_and_then (λ e. e.1.current)) there.1 in
@@ -46,7 +46,7 @@ module _ {C : Type 0} where
         sound = sound;
       }
 
-  pub Demoted-again : (place : ℕ) (instance : Instance C) (gone : Option (Instance C)) (t : Table C) (es : List (Entry C)) → IsSound t → es ≡ with_slots (swapped_back instance) t.entries place → gone ≡ current_at t.entries place → Fits (Demoted place instance) t → Redoes (Demote place gone) (Demoted place instance) t (record { entries = es; next = t.next })
+  pub Demoted-again : (place : ℕ) (instance : Instance C) (gone : Option (Instance C)) (t : Table C) (es : List (Entry C)) → IsModuleTable t → es ≡ with_slots (swapped_back instance) t.entries place → gone ≡ current_at t.entries place → Fits (Demoted place instance) t → Redoes (Demote place gone) (Demoted place instance) t (record { entries = es; next = t.next })
   Demoted-again place instance gone t es sound is went fits =
       let there = entry_at t.entries place fits.placed in
       let lost = went ∙ ap (option_and_then (λ e. e.1.current)) there.1 in
@@ -60,7 +60,7 @@ module _ {C : Type 0} where
         sound = sound;
       }
 
-  pub Purged-again : (place : ℕ) (instance : Instance C) (gone : Option (Instance C)) (t : Table C) (es : List (Entry C)) → IsSound t → es ≡ with_slots (unpurged instance) t.entries place → gone ≡ former_at t.entries place → Fits (Purged place instance) t → Redoes (Purge place gone) (Purged place instance) t (record { entries = es; next = t.next })
+  pub Purged-again : (place : ℕ) (instance : Instance C) (gone : Option (Instance C)) (t : Table C) (es : List (Entry C)) → IsModuleTable t → es ≡ with_slots (unpurged instance) t.entries place → gone ≡ former_at t.entries place → Fits (Purged place instance) t → Redoes (Purge place gone) (Purged place instance) t (record { entries = es; next = t.next })
   Purged-again place instance gone t es sound is went fits =
       let there = entry_at t.entries place fits.placed in
       let lost = went ∙ ap (option_and_then (λ e. e.1.former)) there.1 in
@@ -74,7 +74,7 @@ module _ {C : Type 0} where
         sound = sound;
       }
 
-  pub Removed-again : (place : ℕ) (name : List ℕ) (instance : Instance C) (t : Table C) (es : List (Entry C)) → IsSound t → es ≡ insert t.entries place (name, record { current = None; former = Some instance }) → Fits (Removed place name instance) t → Redoes (Remove place) (Removed place name instance) t (record { entries = es; next = t.next })
+  pub Removed-again : (place : ℕ) (name : List ℕ) (instance : Instance C) (t : Table C) (es : List (Entry C)) → IsModuleTable t → es ≡ insert t.entries place (name, record { current = None; former = Some instance }) → Fits (Removed place name instance) t → Redoes (Remove place) (Removed place name instance) t (record { entries = es; next = t.next })
   Removed-again place name instance t es sound is fits =
       let entry : Entry C = (name, record { current = None; former = Some instance }) in
       let found : slice_get es place ≡ Some entry = ap (λ l. slice_get l place) is ∙ slice_get-insert t.entries place entry fits.placed.0 in
@@ -93,7 +93,7 @@ module _ {C : Type 0} where
       let last = length es - 1 in
       sym (take_all (last + 1) es (omega arith)) ∙ take_more es last entry (omega arith) ∙ ap (λ e. take last es ++ e ∷ []) (get_or_from_slice_get es last entry entry at)
 
-  pub Moved-again : (place : ℕ) (instance : Instance C) (gone : Slots C) (t : Table C) (es : List (Entry C)) (next : ℕ) → IsSound t → es ≡ moved_back place instance (slice_get t.entries (length t.entries - 1)) (take (length t.entries - 1) t.entries) → Some gone ≡ option_map (λ e. e.1) (slice_get t.entries (length t.entries - 1)) → next + 1 ≡ t.next → Fits (Moved place instance) t → Redoes (Move place gone) (Moved place instance) t (record { entries = es; next = next })
+  pub Moved-again : (place : ℕ) (instance : Instance C) (gone : Slots C) (t : Table C) (es : List (Entry C)) (next : ℕ) → IsModuleTable t → es ≡ moved_back place instance (slice_get t.entries (length t.entries - 1)) (take (length t.entries - 1) t.entries) → Some gone ≡ option_map (λ e. e.1) (slice_get t.entries (length t.entries - 1)) → next + 1 ≡ t.next → Fits (Moved place instance) t → Redoes (Move place gone) (Moved place instance) t (record { entries = es; next = next })
   Moved-again place instance gone t es next sound is went count fits =
       let within : place < length t.entries = fits.placed in
       let last = length t.entries - 1 in

@@ -11,12 +11,12 @@ use Rattle.values.proofs.Edits.{changed_at-end, changed_at-twice, insert-remove,
 use Rattle.code_server.specs.declared.error.CodeError.TheVariants.{NotPurged, CounterEnd}
 use Rattle.code_server.specs.declared.modules.Instance.{Instance}
 use Rattle.code_server.specs.declared.modules.Slots.{Slots}
-use Rattle.code_server.specs.declared.undo.Undo.TheVariants.{Moved}
-use Rattle.code_server.specs.Modules.{Entry, Table, IsSound, current_of, old_of, place_of, with_slots, load_refusal, stacked, loaded_at, loaded, purged_slots, purged}
+use Rattle.code_server.specs.declared.undo.ModulesUndo.TheVariants.{Moved}
+use Rattle.code_server.specs.Modules.{Entry, Table, IsModuleTable, current_of, old_of, place_of, with_slots, load_refusal, stacked, loaded_at, loaded, purged_slots, purged}
 use Rattle.code_server.specs.Places.{former_at}
 use Rattle.code_server.specs.Undo.{Fits, moved_back, undone}
 use Rattle.code_server.proofs.Changes.{none_from_test, old_of-slots, purged-absent, purged-gone, purged-kept, same_slots, taken_back}
-use Rattle.code_server.proofs.Sound.{IsSound-added, IsSound-removed}
+use Rattle.code_server.proofs.Sound.{IsModuleTable-added, IsModuleTable-removed}
 use Rattle.code_server.proofs.Standing.{Stands, Stands-place, absent_from_place, keys-with_slots, last_is, move_index-end}
 
 module _ {C : Type 0} where
@@ -39,7 +39,7 @@ module _ {C : Type 0} where
   old_of-absent : (name : List ℕ) (t : Table C) → lookup (bytes_eq name) t.entries ≡ None → old_of name t ≡ None
   old_of-absent name t absent = ap (option_and_then (λ slots. slots.former)) absent
 
-  pub old_of-purged : (name : List ℕ) (t : Table C) → IsSound t → old_of name (purged name t) ≡ None
+  pub old_of-purged : (name : List ℕ) (t : Table C) → IsModuleTable t → old_of name (purged name t) ≡ None
   old_of-purged name t sound =
       by (place_of name t.entries) refl (is_some (current_of name t)) refl
     where
@@ -53,15 +53,15 @@ module _ {C : Type 0} where
           ap (old_of name) (purged-gone name t place found there) ∙ old_of-absent name (record { entries = remove t.entries place; next = t.next }) (at.gone sound.distinct)
 
   -- so nothing but the counter refuses
-  pub refusal-purged : (name : List ℕ) (t : Table C) (b : Bool) → IsSound t → (t.next == 2 ^ 64) ≡ b → load_refusal name (purged name t) ≡ (if b then Some CounterEnd else None)
+  pub refusal-purged : (name : List ℕ) (t : Table C) (b : Bool) → IsModuleTable t → (t.next == 2 ^ 64) ≡ b → load_refusal name (purged name t) ≡ (if b then Some CounterEnd else None)
   refusal-purged name t b sound is =
       (λ j. if is_some (old_of-purged name t sound j) then Some NotPurged else (if is j then Some CounterEnd else None))
 
-  pub refused-end : (name : List ℕ) (t now : Table C) → IsSound t → t.next ≡ 2 ^ 64 → t ≡ now → load_refusal name (purged name now) ≡ Some CounterEnd
+  pub refused-end : (name : List ℕ) (t now : Table C) → IsModuleTable t → t.next ≡ 2 ^ 64 → t ≡ now → load_refusal name (purged name now) ≡ Some CounterEnd
   refused-end name t now sound end same =
       sym (ap (λ u. load_refusal name (purged name u)) same) ∙ refusal-purged name t true sound (eq-eqb t.next (2 ^ 64) end)
 
-  pub refused-never : (name : List ℕ) (t now : Table C) → IsSound t → t.next < 2 ^ 64 → t ≡ now → load_refusal name (purged name now) ≡ None
+  pub refused-never : (name : List ℕ) (t now : Table C) → IsModuleTable t → t.next < 2 ^ 64 → t ≡ now → load_refusal name (purged name now) ≡ None
   refused-never name t now sound below same =
       sym (ap (λ u. load_refusal name (purged name u)) same) ∙ refusal-purged name t false sound (ne_eqb t.next (2 ^ 64) (λ e. absurd (omega (arith, e))))
 
@@ -91,7 +91,7 @@ module _ {C : Type 0} where
   former-last name es place at =
       (λ j. former_at (move_index-end es place (name, at.slots) at.within at.entry j) (last_is es place at.within j)) ∙ ap (option_and_then (λ entry. entry.1.former)) (slice_get-end (remove es place) (name, at.slots))
 
-  pub loaded-gone : (name : List ℕ) (code : C) (t : Table C) (place : ℕ) → IsSound t → place_of name t.entries ≡ Some place → is_some (current_of name t) ≡ false → loaded name code (purged name t) ≡ record { entries = remove t.entries place ++ (name, record { current = Some (record { serial = t.next; code = code }); former = None }) ∷ []; next = t.next + 1 }
+  pub loaded-gone : (name : List ℕ) (code : C) (t : Table C) (place : ℕ) → IsModuleTable t → place_of name t.entries ≡ Some place → is_some (current_of name t) ≡ false → loaded name code (purged name t) ≡ record { entries = remove t.entries place ++ (name, record { current = Some (record { serial = t.next; code = code }); former = None }) ∷ []; next = t.next + 1 }
   loaded-gone name code t place sound found there =
       let instance : Instance C = record { serial = t.next; code = code } in
       let others = remove t.entries place in
@@ -99,11 +99,11 @@ module _ {C : Type 0} where
       let nowhere = none_from_test (place_of name others) (some_index (bytes_eq name) others ∙ ap is_some (at.gone sound.distinct)) in
       ap (loaded name code) (purged-gone name t place found there) ∙ (λ j. record { entries = loaded_at (nowhere j) name instance others; next = t.next + 1 })
 
-  pub IsSound-reloaded : (name : List ℕ) (t : Table C) (place : ℕ) (instance : Instance C) → IsSound t → Stands name t.entries place → instance.serial ≡ t.next → t.next < 2 ^ 64 → IsSound (record { entries = remove t.entries place ++ (name, record { current = Some instance; former = None }) ∷ []; next = t.next + 1 })
-  IsSound-reloaded name t place instance sound at is below =
-      IsSound-added (record { entries = remove t.entries place; next = t.next }) name instance (IsSound-removed t place sound) (at.gone sound.distinct) is below
+  pub IsModuleTable-reloaded : (name : List ℕ) (t : Table C) (place : ℕ) (instance : Instance C) → IsModuleTable t → Stands name t.entries place → instance.serial ≡ t.next → t.next < 2 ^ 64 → IsModuleTable (record { entries = remove t.entries place ++ (name, record { current = Some instance; former = None }) ∷ []; next = t.next + 1 })
+  IsModuleTable-reloaded name t place instance sound at is below =
+      IsModuleTable-added (record { entries = remove t.entries place; next = t.next }) name instance (IsModuleTable-removed t place sound) (at.gone sound.distinct) is below
 
-  pub Moved-back : (name : List ℕ) (t now : Table C) (place : ℕ) (es : List (Entry C)) (instance former : Instance C) (at : Stands name t.entries place) → at.slots.current ≡ None → at.slots.former ≡ Some former → es ≡ remove t.entries place ++ (name, record { current = Some instance; former = None }) ∷ [] → IsSound t → t ≡ now → Fits (Moved place former) (record { entries = es; next = t.next + 1 }) × (undone (Moved place former) (record { entries = es; next = t.next + 1 }) ≡ now)
+  pub Moved-back : (name : List ℕ) (t now : Table C) (place : ℕ) (es : List (Entry C)) (instance former : Instance C) (at : Stands name t.entries place) → at.slots.current ≡ None → at.slots.former ≡ Some former → es ≡ remove t.entries place ++ (name, record { current = Some instance; former = None }) ∷ [] → IsModuleTable t → t ≡ now → Fits (Moved place former) (record { entries = es; next = t.next + 1 }) × (undone (Moved place former) (record { entries = es; next = t.next + 1 }) ≡ now)
   Moved-back name t now place es instance former at none some is sound same =
       let others = remove t.entries place in
       let entry : Entry C = (name, record { current = Some instance; former = None }) in

@@ -4,7 +4,7 @@ use Rattle.std.specs.Str.{bytes_eq}
 use Rattle.indexmap.proofs.MapLemmas.{some_index}
 use Rattle.values.proofs.Edits.{changed_at-twice}
 use Rattle.code_server.specs.declared.modules.Slots.{Slots}
-use Rattle.code_server.specs.Modules.{Entry, IsSound, Table, current_of, deleted, deleted_at, place_of, purged, purged_slots, removed, retired, with_slots}
+use Rattle.code_server.specs.Modules.{Entry, IsModuleTable, Table, current_of, deleted, deleted_at, place_of, purged, purged_slots, removed, retired, with_slots}
 use Rattle.code_server.proofs.Changes.{none_from_test, purged-absent, purged-gone, purged-kept}
 use Rattle.code_server.proofs.Reloads.{place_of-with_slots}
 use Rattle.code_server.proofs.Standing.{Stands-place}
@@ -23,7 +23,7 @@ module _ {C : Type 0} where
       let twice = changed_at-twice (λ (e : Entry C). (e.0, purged_slots e.1)) (λ (e : Entry C). (e.0, retired e.1)) (λ (e : Entry C). (e.0, retired e.1)) t.entries place (name, at.slots) at.entry refl in
       ap (deleted name) (purged-kept name t place found has) ∙ deleted-found name kept place (place_of-with_slots purged_slots name t.entries place found) ∙ ap (λ es. record { entries = es; next = t.next }) twice
 
-  pub removed-gone : (name : List ℕ) (t : Table C) (place : ℕ) → IsSound t → place_of name t.entries ≡ Some place → is_some (current_of name t) ≡ false → removed name t ≡ record { entries = remove t.entries place; next = t.next }
+  pub removed-gone : (name : List ℕ) (t : Table C) (place : ℕ) → IsModuleTable t → place_of name t.entries ≡ Some place → is_some (current_of name t) ≡ false → removed name t ≡ record { entries = remove t.entries place; next = t.next }
   removed-gone name t place sound found none =
       let gone : Table C = record { entries = remove t.entries place; next = t.next } in
       let at = Stands-place name t.entries place found in

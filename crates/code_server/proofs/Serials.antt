@@ -5,7 +5,7 @@ use Rattle.std.proofs.lemmas.List.Elements.{All-weaker}
 use Rattle.std.proofs.lemmas.List.Sums.{sum_by-cons, sum_by-le}
 use Rattle.values.specs.Edits.{changed_at}
 use Rattle.code_server.specs.declared.modules.Instance.{Instance}
-use Rattle.code_server.specs.Modules.{Entry, Table, IsGiven, IsSound, in_slot, in_entry, in_entries}
+use Rattle.code_server.specs.Modules.{Entry, Table, IsGiven, IsModuleTable, in_slot, in_entry, in_entries}
 
 module _ {C : Type 0} where
   -- Edits at a place
@@ -55,7 +55,7 @@ module _ {C : Type 0} where
       omega (arith, sum_by-le (in_entry n) 0 es nowhere)
 
   -- with an instance of the next serial still no serial is there twice
-  pub once_with : (t : Table C) (instance : Instance C) → IsSound t → instance.serial ≡ t.next → (n : ℕ) → in_entries n t.entries + in_slot n (Some instance) ≤ 1
+  pub once_with : (t : Table C) (instance : Instance C) → IsModuleTable t → instance.serial ≡ t.next → (n : ℕ) → in_entries n t.entries + in_slot n (Some instance) ≤ 1
   once_with t instance sound is n =
       by (instance.serial == n) refl
     where

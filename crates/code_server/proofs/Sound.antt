@@ -13,7 +13,7 @@ use Rattle.std.specs.Str.{bytes_eq}
 use Rattle.values.proofs.Edits.{All-changed_at, All-remove, All-slice_get, IsDistinct-remove, map-remove}
 use Rattle.code_server.specs.declared.modules.Instance.{Instance}
 use Rattle.code_server.specs.declared.modules.Slots.{Slots}
-use Rattle.code_server.specs.Modules.{Entry, Table, HasCode, IsGiven, IsSound, in_slot, in_entry, in_entries, with_slots, stacked, retired, purged_slots}
+use Rattle.code_server.specs.Modules.{Entry, Table, HasCode, IsGiven, IsModuleTable, in_slot, in_entry, in_entries, with_slots, stacked, retired, purged_slots}
 use Rattle.code_server.specs.Places.{current_at}
 use Rattle.code_server.proofs.Serials.{AreGiven, in_entries-at_most, in_entries-remove, once_with}
 use Rattle.code_server.proofs.Standing.{keys-with_slots}
@@ -28,8 +28,8 @@ module _ {C : Type 0} where
       All-weaker (AreGiven n) (AreGiven m) (λ e g. (IsGiven-later n m e.1.current later g.0, IsGiven-later n m e.1.former later g.1)) es given
 
   -- the instances of one module change, and `new` is the one that comes in, if any
-  pub IsSound-with_slots : (f : Slots C → Slots C) (t : Table C) (place next : ℕ) (new : Option (Instance C)) → IsSound t → t.next ≤ next → next ≤ 2 ^ 64 → ((n : ℕ) → in_entries n t.entries + in_slot n new ≤ 1) → ((e : Entry C) → slice_get t.entries place ≡ Some e → HasCode (e.0, f e.1) × AreGiven next (e.0, f e.1) × ((n : ℕ) → in_entry n (e.0, f e.1) ≤ in_entry n e + in_slot n new)) → IsSound (record { entries = with_slots f t.entries place; next = next })
-  IsSound-with_slots f t place next new sound later end room at = record {
+  pub IsModuleTable-with_slots : (f : Slots C → Slots C) (t : Table C) (place next : ℕ) (new : Option (Instance C)) → IsModuleTable t → t.next ≤ next → next ≤ 2 ^ 64 → ((n : ℕ) → in_entries n t.entries + in_slot n new ≤ 1) → ((e : Entry C) → slice_get t.entries place ≡ Some e → HasCode (e.0, f e.1) × AreGiven next (e.0, f e.1) × ((n : ℕ) → in_entry n (e.0, f e.1) ≤ in_entry n e + in_slot n new)) → IsModuleTable (record { entries = with_slots f t.entries place; next = next })
+  IsModuleTable-with_slots f t place next new sound later end room at = record {
     distinct = subst (IsDistinct bytes_eq) (sym (keys-with_slots f t.entries place)) sound.distinct;
     with_code = All-changed_at (λ e. HasCode e) (λ e. (e.0, f e.1)) t.entries place sound.with_code (λ e is. (at e is).0);
     given = All-changed_at (AreGiven next) (λ e. (e.0, f e.1)) t.entries place (AreGiven-later t.next next t.entries later sound.given) (λ e is. (at e is).1);
@@ -38,9 +38,9 @@ module _ {C : Type 0} where
   }
 
   -- a load of a module that is there
-  pub IsSound-stacked : (t : Table C) (place : ℕ) (instance : Instance C) → IsSound t → instance.serial ≡ t.next → t.next < 2 ^ 64 → IsSound (record { entries = with_slots (stacked instance) t.entries place; next = t.next + 1 })
-  IsSound-stacked t place instance sound is below =
-      IsSound-with_slots (stacked instance) t place (t.next + 1) (Some instance) sound (omega arith) (omega arith) (once_with t instance sound is) (λ e at.
+  pub IsModuleTable-stacked : (t : Table C) (place : ℕ) (instance : Instance C) → IsModuleTable t → instance.serial ≡ t.next → t.next < 2 ^ 64 → IsModuleTable (record { entries = with_slots (stacked instance) t.entries place; next = t.next + 1 })
+  IsModuleTable-stacked t place instance sound is below =
+      IsModuleTable-with_slots (stacked instance) t place (t.next + 1) (Some instance) sound (omega arith) (omega arith) (once_with t instance sound is) (λ e at.
       let given = All-slice_get (AreGiven t.next) t.entries place e sound.given at in (
         refl,
         ((omega (arith, sound.counted.0, is), omega (arith, is)), IsGiven-later t.next (t.next + 1) e.1.current (omega arith) given.0),
@@ -52,22 +52,22 @@ module _ {C : Type 0} where
       sym (ap (λ o. is_some (option_and_then (λ entry. entry.1.current) o)) at) ∙ there
 
   -- a delete
-  pub IsSound-retired : (t : Table C) (place : ℕ) → IsSound t → is_some (current_at t.entries place) ≡ true → IsSound (record { entries = with_slots retired t.entries place; next = t.next })
-  IsSound-retired t place sound there =
-      IsSound-with_slots retired t place t.next None sound (omega arith) sound.counted.1 (λ n. omega (arith, sound.once n)) (λ e at.
+  pub IsModuleTable-retired : (t : Table C) (place : ℕ) → IsModuleTable t → is_some (current_at t.entries place) ≡ true → IsModuleTable (record { entries = with_slots retired t.entries place; next = t.next })
+  IsModuleTable-retired t place sound there =
+      IsModuleTable-with_slots retired t place t.next None sound (omega arith) sound.counted.1 (λ n. omega (arith, sound.once n)) (λ e at.
       let given = All-slice_get (AreGiven t.next) t.entries place e sound.given at in
       (current_at_some t.entries place e at there, (tt, given.0), λ n. omega arith))
 
   -- a purge of a module with current code
-  pub IsSound-purged_slots : (t : Table C) (place : ℕ) → IsSound t → is_some (current_at t.entries place) ≡ true → IsSound (record { entries = with_slots purged_slots t.entries place; next = t.next })
-  IsSound-purged_slots t place sound there =
-      IsSound-with_slots purged_slots t place t.next None sound (omega arith) sound.counted.1 (λ n. omega (arith, sound.once n)) (λ e at.
+  pub IsModuleTable-purged_slots : (t : Table C) (place : ℕ) → IsModuleTable t → is_some (current_at t.entries place) ≡ true → IsModuleTable (record { entries = with_slots purged_slots t.entries place; next = t.next })
+  IsModuleTable-purged_slots t place sound there =
+      IsModuleTable-with_slots purged_slots t place t.next None sound (omega arith) sound.counted.1 (λ n. omega (arith, sound.once n)) (λ e at.
       let given = All-slice_get (AreGiven t.next) t.entries place e sound.given at in
       (ap (λ b. b || false) (current_at_some t.entries place e at there), (given.0, tt), λ n. omega arith))
 
   -- a purge of a module with old code alone
-  pub IsSound-removed : (t : Table C) (place : ℕ) → IsSound t → IsSound (record { entries = remove t.entries place; next = t.next })
-  IsSound-removed t place sound = record {
+  pub IsModuleTable-removed : (t : Table C) (place : ℕ) → IsModuleTable t → IsModuleTable (record { entries = remove t.entries place; next = t.next })
+  IsModuleTable-removed t place sound = record {
     distinct = subst (IsDistinct bytes_eq) (sym (map-remove (λ e. e.0) t.entries place)) (IsDistinct-remove bytes_eq (keys_of t.entries) place sound.distinct);
     with_code = All-remove (λ e. HasCode e) t.entries place sound.with_code;
     given = All-remove (AreGiven t.next) t.entries place sound.given;
@@ -80,8 +80,8 @@ module _ {C : Type 0} where
       list_any_none test (keys_of es) (All-map (λ k. test k ≡ false) (λ e. e.0) es (All-from_recursion (λ e. test e.0 ≡ false) es (none_passes_from_lookup test es absent)))
 
   -- a load of a module that is not there
-  pub IsSound-added : (t : Table C) (name : List ℕ) (instance : Instance C) → IsSound t → lookup (bytes_eq name) t.entries ≡ None → instance.serial ≡ t.next → t.next < 2 ^ 64 → IsSound (record { entries = t.entries ++ (name, record { current = Some instance; former = None }) ∷ []; next = t.next + 1 })
-  IsSound-added t name instance sound absent is below =
+  pub IsModuleTable-added : (t : Table C) (name : List ℕ) (instance : Instance C) → IsModuleTable t → lookup (bytes_eq name) t.entries ≡ None → instance.serial ≡ t.next → t.next < 2 ^ 64 → IsModuleTable (record { entries = t.entries ++ (name, record { current = Some instance; former = None }) ∷ []; next = t.next + 1 })
+  IsModuleTable-added t name instance sound absent is below =
       let slots : Slots C = record { current = Some instance; former = None } in
       record {
         distinct = subst (IsDistinct bytes_eq) (sym (map-append (λ e. e.0) t.entries ((name, slots) ∷ []))) (IsDistinct-push nat_list_eq_equiv (keys_of t.entries) name sound.distinct (absent_from_keys t.entries (bytes_eq name) absent));

@@ -135,7 +135,7 @@ in_entries serial entries = sum_by (in_entry serial) entries
 
 -- Modules differ in name, and each has code; the instances' serials were given by loads, and no two instances have
 -- one serial; the next serial is one that a load can give, or one past the last.
-pub record IsSound {C : Type 0} (t : Table C) : Type 0 where
+pub record IsModuleTable {C : Type 0} (t : Table C) : Type 0 where
   pub distinct : IsDistinct bytes_eq (keys_of t.entries)
   pub with_code : All HasCode t.entries
   pub given : All (λ entry. IsGiven t.next entry.1.current × IsGiven t.next entry.1.former) t.entries

@@ -4,11 +4,11 @@ use Rattle.std.specs.Map.{lookup}
 use Rattle.std.specs.Str.{bytes_eq}
 use Rattle.code_server.specs.declared.modules.Instance.{Instance}
 use Rattle.code_server.specs.declared.modules.Slots.{Slots}
-use Rattle.code_server.specs.declared.undo.Undo.{Undo}
-use Rattle.code_server.specs.declared.undo.Undo.TheVariants.{Nothing, Added, Stacked, Replaced, Moved, Retired, Demoted, Purged, Removed}
+use Rattle.code_server.specs.declared.undo.ModulesUndo.{ModulesUndo}
+use Rattle.code_server.specs.declared.undo.ModulesUndo.TheVariants.{Nothing, Added, Stacked, Replaced, Moved, Retired, Demoted, Purged, Removed}
 use Rattle.code_server.specs.declared.undo.Redo.{Redo}
 use Rattle.code_server.specs.declared.undo.Redo.TheVariants.{Replace, Demote, Move, Purge, Remove}
-use Rattle.code_server.specs.Modules.{Entry, Table, IsSound, with_slots}
+use Rattle.code_server.specs.Modules.{Entry, Table, IsModuleTable, with_slots}
 use Rattle.code_server.specs.Places.{former_at}
 
 -- what was old is current again
@@ -29,7 +29,7 @@ moved_back place instance None others = others
 moved_back place instance (Some entry) others = insert others place (entry.0, record { current = None; former = Some instance })
 
 -- the table that an undo gives back
-abbrev pub undone : {C : Type 0} → Undo C → Table C → Table C
+abbrev pub undone : {C : Type 0} → ModulesUndo C → Table C → Table C
 undone Nothing t = t
 undone Added t = record { entries = take (length t.entries - 1) t.entries; next = t.next - 1 }
 undone (Stacked place) t = record { entries = with_slots restored t.entries place; next = t.next - 1 }
@@ -47,7 +47,7 @@ undone (Removed place name instance) t = record {
 }
 
 -- an undo's place is in the table, and what it puts back is not there yet
-abbrev pub IsPlaced : {C : Type 0} → Undo C → Table C → Type 0
+abbrev pub IsPlaced : {C : Type 0} → ModulesUndo C → Table C → Type 0
 IsPlaced Nothing t = Unit {0}
 IsPlaced Added t = 0 < length t.entries
 IsPlaced (Stacked place) t = place < length t.entries
@@ -59,12 +59,12 @@ IsPlaced (Purged place instance) t = place < length t.entries
 IsPlaced (Removed place name instance) t = (place ≤ length t.entries) × (lookup (bytes_eq name) t.entries ≡ None)
 
 -- what `revert` needs: the table is one that the undo's change led to
-pub record Fits {C : Type 0} (undo : Undo C) (t : Table C) : Type 0 where
+pub record Fits {C : Type 0} (undo : ModulesUndo C) (t : Table C) : Type 0 where
   pub placed : IsPlaced undo t
-  pub sound : IsSound (undone undo t)
+  pub sound : IsModuleTable (undone undo t)
 
 -- The instance that an undo holds: the old code that its change has purged. All else that it holds are places and a name.
-abbrev pub held : {C : Type 0} → Undo C → Option (Instance C)
+abbrev pub held : {C : Type 0} → ModulesUndo C → Option (Instance C)
 held Nothing = None
 held Added = None
 held (Stacked place) = None
@@ -76,7 +76,7 @@ held (Purged place instance) = Some instance
 held (Removed place name instance) = Some instance
 
 -- the undo of a removal, the one that puts a module back into the table
-abbrev pub IsRemoval : {C : Type 0} → Undo C → Type 0
+abbrev pub IsRemoval : {C : Type 0} → ModulesUndo C → Type 0
 IsRemoval Nothing = ⊥
 IsRemoval Added = ⊥
 IsRemoval (Stacked place) = ⊥
@@ -88,7 +88,7 @@ IsRemoval (Purged place instance) = ⊥
 IsRemoval (Removed place name instance) = Unit {0}
 
 -- the undo of a change that has purged old code
-abbrev pub HasPurged : {C : Type 0} → Undo C → Type 0
+abbrev pub HasPurged : {C : Type 0} → ModulesUndo C → Type 0
 HasPurged Nothing = ⊥
 HasPurged Added = ⊥
 HasPurged (Stacked place) = ⊥
@@ -126,7 +126,7 @@ redone (Purge place instance) t = record { entries = with_slots (with_old instan
 redone (Remove place) t = record { entries = remove t.entries place; next = t.next }
 
 -- the undo that the change hands out: with it is the old code that the module at the place has, which goes
-abbrev pub undo_of : {C : Type 0} → Redo C → Table C → Option (Undo C)
+abbrev pub undo_of : {C : Type 0} → Redo C → Table C → Option (ModulesUndo C)
 undo_of (Replace place instance) t = option_map (Replaced place) (former_at t.entries place)
 undo_of (Demote place instance) t = option_map (Demoted place) (former_at t.entries place)
 undo_of (Move place slots) t = option_map (Moved place) (former_at t.entries place)
@@ -136,9 +136,9 @@ undo_of (Remove place) t =
 
 -- what `redo` needs: made again over the table `before` the change leads to the sound table `after`, and hands out the
 -- undo, which takes it back then
-pub record Redoes {C : Type 0} (redo : Redo C) (undo : Undo C) (after before : Table C) : Type 0 where
+pub record Redoes {C : Type 0} (redo : Redo C) (undo : ModulesUndo C) (after before : Table C) : Type 0 where
   pub again : redone redo before ≡ after
   pub hands : undo_of redo before ≡ Some undo
   pub fits : Fits undo after
   pub back : undone undo after ≡ before
-  pub sound : IsSound after
+  pub sound : IsModuleTable after

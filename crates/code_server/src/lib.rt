@@ -4,7 +4,7 @@
 //! the former current one old; a third load asks that old code be purged first (Erlang Reference Manual,
 //! Compilation and Code Loading). Each load has a serial, from 1 on.
 //!
-//! [`Modules`] is the table, first loaded first. Each change hands out an [`Undo`], by which
+//! [`Modules`] is the table, first loaded first. Each change hands out a [`ModulesUndo`], by which
 //! [`Modules::revert`] takes the newest change back, whole: instances, the module's place in the table,
 //! the serial of the next load. One that has purged old code can be taken back so that it can be made again without memory:
 //! [`Modules::unpurge`] hands out a [`Redo`] for [`Modules::redo`].
@@ -20,7 +20,8 @@
 //! # What is proved
 //!
 //! - Each change makes of the table what its definition says, is refused in the order that it says, and leaves the table
-//!   as it was where it is refused. `purge`, `purge_and_load` and `remove` of a module with old code hand out the undo of a purge.
+//!   as it was where it is refused. `purge`, `purge_and_load` and `remove` of a module with old code hand out the undo of a
+//!   purge.
 //! - An undo holds the old code that its change has purged, and no other instance (`held`).
 //! - [`Modules::revert`] and [`Modules::unpurge`] give the table before the change, or, where a module comes back to the
 //!   table and memory is refused, their undo, with the table as it was.
@@ -35,4 +36,4 @@ mod undo;
 
 pub use error::CodeError;
 pub use modules::{Instance, Modules, Slots};
-pub use undo::{Redo, Undo};
+pub use undo::{ModulesUndo, Redo};

@@ -11,7 +11,7 @@ use crate::error::CodeError;
 use crate::places::{
     SlotChange, add, change_at, has_current, move_back, put_back, stack_last, take_out,
 };
-use crate::undo::Undo;
+use crate::undo::ModulesUndo;
 use erl_term::Atom;
 use indexmap::IndexMap;
 use std::alloc::Global;
@@ -50,18 +50,18 @@ pub struct Modules<C> {
 
 impl<C> Model for Modules<C> {
     ghost use Rattle.std.specs.Prelude.{◌+◌};
-    ghost use Rattle.code_server.specs.Modules.{Table, IsSound};
+    ghost use Rattle.code_server.specs.Modules.{Table, IsModuleTable};
 
     ghost Value = { Table C };
 
     ghost view = { λ m. record { entries = m.table.entries; next = m.last + 1 } };
 
-    ghost invariant = { λ m. IsSound (record { entries = m.table.entries; next = m.last + 1 }) };
+    ghost invariant = { λ m. IsModuleTable (record { entries = m.table.entries; next = m.last + 1 }) };
 }
 
 impl<C: Drop> Modules<C> {
-    ghost use Rattle.code_server.specs.Modules.{Table, IsSound, emptied, empty_table, slots_of, current_of, old_of, place_of, load_refusal, loaded, delete_refusal, deleted, purged, soft_purge_refusal};
-    ghost use Rattle.values.specs.Failure.{Tells};
+    ghost use Rattle.code_server.specs.Modules.{Table, IsModuleTable, emptied, empty_table, slots_of, current_of, old_of, place_of, load_refusal, loaded, delete_refusal, deleted, purged, soft_purge_refusal};
+    ghost use Rattle.values.specs.Failure.{TellsFailure};
     ghost use Rattle.values.specs.declared.failure.Failure.TheVariants.{Memory};
     ghost use Rattle.code_server.specs.Undo.{Fits, HasPurged, IsRemoval, held, undone};
 
@@ -97,7 +97,7 @@ impl<C: Drop> Modules<C> {
     /// How many modules there are. Takes no memory.
     pub fn len(&self) -> usize
         ensures len { result ≡ length self.now.entries }
-        ensures sound { IsSound self.now }
+        ensures sound { IsModuleTable self.now }
     {
         self.table.len()
     }
@@ -160,7 +160,7 @@ impl<C: Drop> Modules<C> {
         }
     }
 
-    /// Why a load of the module would be refused, but for want of memory. Takes no memory.
+    /// Why a load of the module would be refused, but for lack of memory. Takes no memory.
     pub fn load_refusal(&self, name: &Atom) -> Option<CodeError>
         ensures { result ≡ load_refusal name.now self.now }
     {
@@ -171,7 +171,7 @@ impl<C: Drop> Modules<C> {
         }
     }
 
-    /// Why [`Modules::purge_and_load`] would be refused, whatever the module, but for want of memory. Takes no memory.
+    /// Why [`Modules::purge_and_load`] would be refused, whatever the module, but for lack of memory. Takes no memory.
     pub fn purge_and_load_refusal(&self) -> Option<CodeError>
         ensures { (name : List ℕ) → result ≡ load_refusal name (purged name self.now) }
     {
@@ -199,12 +199,12 @@ impl<C: Drop> Modules<C> {
     ///
     /// In this order: `NotPurged` where there is old code, `CounterEnd` where the last serial was given,
     /// `Memory`. The table is then as it was; the code is dropped.
-    pub fn load(&mut self, name: &Atom, code: C) -> Result<Undo<C>, Failure<CodeError>>
+    pub fn load(&mut self, name: &Atom, code: C) -> Result<ModulesUndo<C>, Failure<CodeError>>
         ensures ok { OnOk result (load_refusal name.now self.old ≡ None) }
         ensures loaded { OnOk result (self.new ≡ loaded name.now code self.old) }
         ensures inverse { IfOk result (λ undo. Fits undo self.new × (undone undo self.new ≡ self.old)) }
         ensures pieces { IfOk result (λ undo. held undo ≡ None) }
-        ensures refused { IfErr result (λ failure. Tells failure (load_refusal name.now self.old)) }
+        ensures refused { IfErr result (λ failure. TellsFailure failure (load_refusal name.now self.old)) }
         ensures old_code { IfOk result (λ undo. IsSome (old_of name.now self.old) → HasPurged undo) }
         ensures memory { IfErr result (λ failure. failure ≡ Memory → slots_of name.now self.old ≡ None) }
         ensures err { OnErr result (self.new ≡ self.old) }
@@ -218,12 +218,12 @@ impl<C: Drop> Modules<C> {
             Some(place) => {
                 let _ = change_at(&mut self.table, place, SlotChange::Stack(Some(instance)));
                 self.last = serial;
-                Ok(Undo::Stacked(place))
+                Ok(ModulesUndo::Stacked(place))
             }
             None => {
                 add(&mut self.table, self.alloc, name, instance)?;
                 self.last = serial;
-                Ok(Undo::Added)
+                Ok(ModulesUndo::Added)
             }
         }
     }
@@ -236,12 +236,16 @@ impl<C: Drop> Modules<C> {
     ///
     /// `CounterEnd` where the last serial was given, and else `Memory`. The table is then as it was; the code
     /// is dropped.
-    pub fn purge_and_load(&mut self, name: &Atom, code: C) -> Result<Undo<C>, Failure<CodeError>>
+    pub fn purge_and_load(
+        &mut self,
+        name: &Atom,
+        code: C,
+    ) -> Result<ModulesUndo<C>, Failure<CodeError>>
         ensures ok { OnOk result (load_refusal name.now (purged name.now self.old) ≡ None) }
         ensures loaded { OnOk result (self.new ≡ loaded name.now code (purged name.now self.old)) }
         ensures inverse { IfOk result (λ undo. Fits undo self.new × (undone undo self.new ≡ self.old)) }
         ensures pieces { IfOk result (λ undo. held undo ≡ old_of name.now self.old) }
-        ensures refused { IfErr result (λ failure. Tells failure (load_refusal name.now (purged name.now self.old))) }
+        ensures refused { IfErr result (λ failure. TellsFailure failure (load_refusal name.now (purged name.now self.old))) }
         ensures old_code { IfOk result (λ undo. IsSome (old_of name.now self.old) → HasPurged undo) }
         ensures memory { IfErr result (λ failure. failure ≡ Memory → slots_of name.now self.old ≡ None) }
         ensures err { OnErr result (self.new ≡ self.old) }
@@ -254,18 +258,18 @@ impl<C: Drop> Modules<C> {
         let Some(place) = self.table.get_index_of(name) else {
             add(&mut self.table, self.alloc, name, instance)?;
             self.last = serial;
-            return Ok(Undo::Added);
+            return Ok(ModulesUndo::Added);
         };
         self.last = serial;
         if has_current(&self.table, place) {
             let change = SlotChange::Stack(Some(instance));
             let Some(former) = change_at(&mut self.table, place, change) else {
-                return Ok(Undo::Stacked(place));
+                return Ok(ModulesUndo::Stacked(place));
             };
-            return Ok(Undo::Replaced(place, former));
+            return Ok(ModulesUndo::Replaced(place, former));
         }
         match stack_last(&mut self.table, place, instance) {
-            Some(former) => Ok(Undo::Moved(place, former)),
+            Some(former) => Ok(ModulesUndo::Moved(place, former)),
             None => unreachable!(),
         }
     }
@@ -276,7 +280,7 @@ impl<C: Drop> Modules<C> {
     ///
     /// In this order: `NotLoaded` where there is no current code, `NotPurged` where there is old code. The
     /// table is then as it was.
-    pub fn delete(&mut self, name: &Atom) -> Result<Undo<C>, CodeError>
+    pub fn delete(&mut self, name: &Atom) -> Result<ModulesUndo<C>, CodeError>
         ensures deleted { OnOk result (self.new ≡ deleted name.now self.old) }
         ensures inverse { IfOk result (λ undo. Fits undo self.new × (undone undo self.new ≡ self.old)) }
         ensures pieces { IfOk result (λ undo. held undo ≡ None) }
@@ -290,7 +294,7 @@ impl<C: Drop> Modules<C> {
         match self.table.get_index_of(name) {
             Some(place) => {
                 let _ = change_at(&mut self.table, place, SlotChange::Stack(None));
-                Ok(Undo::Retired(place))
+                Ok(ModulesUndo::Retired(place))
             }
             None => Err(CodeError::NotLoaded),
         }
@@ -298,24 +302,24 @@ impl<C: Drop> Modules<C> {
 
     /// Purges a module: its old code is gone, if it has any, and a module that is left without code leaves
     /// the table. Who uses the old code is the caller's to see to. Takes no memory.
-    pub fn purge(&mut self, name: &Atom) -> Undo<C>
+    pub fn purge(&mut self, name: &Atom) -> ModulesUndo<C>
         ensures purged { self.new ≡ purged name.now self.old }
         ensures inverse { Fits result self.new × (undone result self.new ≡ self.old) }
         ensures pieces { held result ≡ old_of name.now self.old }
         ensures old_code { IsSome (old_of name.now self.old) → HasPurged result }
     {
         let Some(place) = self.table.get_index_of(name) else {
-            return Undo::Nothing;
+            return ModulesUndo::Nothing;
         };
         if has_current(&self.table, place) {
             let change = SlotChange::ReplaceOld(None);
             let Some(former) = change_at(&mut self.table, place, change) else {
-                return Undo::Nothing;
+                return ModulesUndo::Nothing;
             };
-            return Undo::Purged(place, former);
+            return ModulesUndo::Purged(place, former);
         }
         match take_out(&mut self.table, place) {
-            Some((name, former)) => Undo::Removed(place, name, former),
+            Some((name, former)) => ModulesUndo::Removed(place, name, former),
             None => unreachable!(),
         }
     }
@@ -325,7 +329,7 @@ impl<C: Drop> Modules<C> {
     /// # Errors
     ///
     /// `OldInUse` where there is old code and it is in use. The table is then as it was.
-    pub fn soft_purge(&mut self, name: &Atom, in_use: bool) -> Result<Undo<C>, CodeError>
+    pub fn soft_purge(&mut self, name: &Atom, in_use: bool) -> Result<ModulesUndo<C>, CodeError>
         ensures purged { OnOk result (self.new ≡ purged name.now self.old) }
         ensures inverse { IfOk result (λ undo. Fits undo self.new × (undone undo self.new ≡ self.old)) }
         ensures pieces { IfOk result (λ undo. held undo ≡ old_of name.now self.old) }
@@ -344,7 +348,7 @@ impl<C: Drop> Modules<C> {
     /// # Errors
     ///
     /// The undo, where memory is refused. The table is then as it was.
-    pub fn revert(&mut self, undo: Undo<C>) -> Result<(), Undo<C>>
+    pub fn revert(&mut self, undo: ModulesUndo<C>) -> Result<(), ModulesUndo<C>>
         requires { Fits undo self.old }
         ensures ok { OnOk result (self.new ≡ undone undo self.old) }
         ensures back { IfErr result (λ it. it ≡ undo) }
@@ -352,26 +356,26 @@ impl<C: Drop> Modules<C> {
         ensures err { OnErr result (self.new ≡ self.old) }
     {
         match undo {
-            Undo::Nothing => Ok(()),
-            Undo::Added => {
+            ModulesUndo::Nothing => Ok(()),
+            ModulesUndo::Added => {
                 let _ = self.table.pop();
                 self.last -= 1;
                 Ok(())
             }
-            Undo::Stacked(place) => {
+            ModulesUndo::Stacked(place) => {
                 let _ = change_at(&mut self.table, place, SlotChange::Unstack(None));
                 self.last -= 1;
                 Ok(())
             }
-            Undo::Retired(place) => {
+            ModulesUndo::Retired(place) => {
                 let _ = change_at(&mut self.table, place, SlotChange::Unstack(None));
                 Ok(())
             }
-            Undo::Replaced(..) | Undo::Moved(..) | Undo::Demoted(..) => {
+            ModulesUndo::Replaced(..) | ModulesUndo::Moved(..) | ModulesUndo::Demoted(..) => {
                 self.unpurge(undo)?;
                 Ok(())
             }
-            Undo::Purged(..) | Undo::Removed(..) => {
+            ModulesUndo::Purged(..) | ModulesUndo::Removed(..) => {
                 self.unpurge(undo)?;
                 Ok(())
             }

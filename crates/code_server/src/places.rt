@@ -34,7 +34,8 @@ pub(crate) fn add<C: Drop>(
     instance: Instance<C>,
 ) -> Result<(), AllocError>
     requires { lookup (bytes_eq name.now) table.old.entries ≡ None }
-    ensures added { OnOk result (table.new.entries ≡ table.old.entries ++ (name.now, record { current = Some instance; former = None }) ∷ []) }
+    ensures added { OnOk result (table.new.entries ≡ table.old.entries ++
+        (name.now, record { current = Some instance; former = None }) ∷ []) }
     ensures err { OnErr result (table.new.entries ≡ table.old.entries) }
 {
     let slots = Slots {
@@ -88,8 +89,10 @@ pub(crate) fn stack_last<C>(
     instance: Instance<C>,
 ) -> Option<Instance<C>>
     requires { place < length table.old.entries }
-    ensures stacked { table.new.entries ≡ with_slots (stacked instance) (move_index table.old.entries place (length table.old.entries - 1)) (length table.old.entries - 1) }
-    ensures former { result ≡ former_at (move_index table.old.entries place (length table.old.entries - 1)) (length table.old.entries - 1) }
+    ensures stacked { table.new.entries ≡ with_slots (stacked instance)
+        (move_index table.old.entries place (length table.old.entries - 1)) (length table.old.entries - 1) }
+    ensures former { result ≡ former_at (move_index table.old.entries place (length table.old.entries - 1))
+        (length table.old.entries - 1) }
 {
     let last = table.len() - 1;
     table.move_index(place, last);
@@ -99,7 +102,8 @@ pub(crate) fn stack_last<C>(
 /// Moves the last module to a place, leaves it with this old code alone, and gives the instances that it had.
 pub(crate) fn move_back<C>(table: &mut ByName<C>, place: usize, instance: Instance<C>) -> Slots<C>
     requires { place < length table.old.entries }
-    ensures moved { table.new.entries ≡ moved_back place instance (slice_get table.old.entries (length table.old.entries - 1)) (take (length table.old.entries - 1) table.old.entries) }
+    ensures moved { table.new.entries ≡ moved_back place instance (slice_get table.old.entries (length table.old.entries - 1))
+        (take (length table.old.entries - 1) table.old.entries) }
     ensures gone { Some result ≡ option_map (λ entry. entry.1) (slice_get table.old.entries (length table.old.entries - 1)) }
 {
     let last = table.len() - 1;
@@ -130,7 +134,8 @@ pub(crate) fn move_last<C: Drop>(
 /// Takes the module at a place out of the table, with its old code, where it has no other.
 pub(crate) fn take_out<C: Drop>(table: &mut ByName<C>, place: usize) -> Option<(Atom, Instance<C>)>
     ensures removed { table.new.entries ≡ remove table.old.entries place }
-    ensures taken { result ≡ option_and_then (λ entry. option_map (λ instance. (entry.0, instance)) entry.1.former) (slice_get table.old.entries place) }
+    ensures taken { result ≡ option_and_then (λ entry. option_map (λ instance. (entry.0, instance)) entry.1.former)
+        (slice_get table.old.entries place) }
 {
     let (name, slots) = table.shift_remove_index(place)?;
     let former = slots.former?;
@@ -146,7 +151,8 @@ pub(crate) fn put_back<C: Drop>(
 ) -> Result<(), (Atom, Instance<C>)>
     requires within { place ≤ length table.old.entries }
     requires absent { lookup (bytes_eq name) table.old.entries ≡ None }
-    ensures put { OnOk result (table.new.entries ≡ insert table.old.entries place (name, record { current = None; former = Some instance })) }
+    ensures put { OnOk result (table.new.entries ≡ insert table.old.entries place
+        (name, record { current = None; former = Some instance })) }
     ensures back { IfErr result (λ pair. pair ≡ (name, instance)) }
     ensures err { OnErr result (table.new.entries ≡ table.old.entries) }
 {

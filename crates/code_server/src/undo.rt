@@ -5,7 +5,7 @@ use erl_term::Atom;
 /// What takes one change of the table back: what the change took away, and where. Places are counted
 /// from 0, in the table's order.
 #[derive(Drop)]
-pub enum Undo<C> {
+pub enum ModulesUndo<C> {
     /// Nothing was changed.
     Nothing,
     /// A load put a new module last.
@@ -34,8 +34,8 @@ pub enum Redo<C> {
     /// A load makes the current code of the module at this place old, and purges its old code. The instance is the load's,
     /// which is current again.
     Replace(usize, Option<Instance<C>>),
-    /// A removal makes the current code of the module at this place old, and purges its old code. The instance is what the removal left for
-    /// current code: none.
+    /// A removal makes the current code of the module at this place old, and purges its old code. The instance is what the
+    /// removal left for current code: none.
     Demote(usize, Option<Instance<C>>),
     /// A load of the module at this place, which has old code alone, purges that, and puts the module last. The instances
     /// are those that the load left it with.

@@ -2,7 +2,7 @@
 use Rattle.std.proofs.Common.{◌≡◌, ◌<◌, ◌≤◌, ◌⊎◌, inl, inr, ℕ, Bool, true, false, ◌+◌, List, [], ◌∷◌, ◌++◌, eqb, length, set, sym, ap, ◌∙◌, refl, subst, arith, length-set, get_or-set_same, get_or-set_other}
 use Rattle.std.proofs.lemmas.Bool.{cases_eq, eq-eqb, eqb-true, false≢true, or_cases, or_left, or_right}
 use Rattle.dependency_order.specs.Groups.{IsJoined}
-use Rattle.dependency_order.specs.Forests.{AreJoining, AreTrees, IsFlatter, IsForest, IsJoining, IsSound, IsTie, Respects, parent}
+use Rattle.dependency_order.specs.Forests.{AreJoining, AreTrees, IsFlatter, IsForest, IsJoining, JoinsOnlyJoined, IsTie, Respects, parent}
 use Rattle.dependency_order.specs.Lists.{row}
 use Rattle.dependency_order.specs.Orders.{stands}
 use Rattle.dependency_order.proofs.Chains.{joined_back, joined_on}
@@ -37,14 +37,14 @@ forest_set : (ps : List ℕ) (x a : ℕ) → x < length ps → a ≤ x → IsFor
 forest_set ps x a below less forest y in' =
     forest_written ps x a y below less forest (let e = length-set ps x a in omega (arith, e, in'))
 
-sound_written : (names : ℕ → ℕ → Bool) (ps : List ℕ) (x a y : ℕ) → x < length ps → IsJoined names x a → IsSound names ps → y < length ps → IsJoined names y (parent (set ps x a) y)
+sound_written : (names : ℕ → ℕ → Bool) (ps : List ℕ) (x a y : ℕ) → x < length ps → IsJoined names x a → JoinsOnlyJoined names ps → y < length ps → IsJoined names y (parent (set ps x a) y)
 sound_written names ps x a y below chain sound in' =
     elim (written ps x a y below) [
       | Written.here e is ↦ joined-eq names y a (parent (set ps x a) y) (sym is) (joined-eq_from names x y a (sym e) chain)
       | Written.elsewhere ne is ↦ joined-eq names y (parent ps y) (parent (set ps x a) y) (sym is) (sound y in')
     ]
 
-sound_set : (names : ℕ → ℕ → Bool) (ps : List ℕ) (x a : ℕ) → x < length ps → IsJoined names x a → IsSound names ps → IsSound names (set ps x a)
+sound_set : (names : ℕ → ℕ → Bool) (ps : List ℕ) (x a : ℕ) → x < length ps → IsJoined names x a → JoinsOnlyJoined names ps → JoinsOnlyJoined names (set ps x a)
 sound_set names ps x a below chain sound y in' =
     sound_written names ps x a y below chain sound (let e = length-set ps x a in omega (arith, e, in'))
 
@@ -167,8 +167,8 @@ module _ (ps qs : List ℕ) (p x : ℕ) (below : x < length qs) (flatter : IsFla
   pub still_flatter : IsFlatter ps (set qs x (parent qs (parent qs x)))
   still_flatter = flatter_on ps qs (set qs x (parent qs (parent qs x))) flatter (moved_up qs x below flatter.forest)
 
-  pub still_joined : ((names : ℕ → ℕ → Bool) → IsSound names ps → IsJoined names p x) →
-      (names : ℕ → ℕ → Bool) → IsSound names ps → IsJoined names p (parent qs (parent qs x))
+  pub still_joined : ((names : ℕ → ℕ → Bool) → JoinsOnlyJoined names ps → IsJoined names p x) →
+      (names : ℕ → ℕ → Bool) → JoinsOnlyJoined names ps → IsJoined names p (parent qs (parent qs x))
   still_joined chain names sound =
       let first = flatter.forest x below in
       let on = flatter.sound names sound in
@@ -195,7 +195,7 @@ joining_swapped ps qs one other is = record {
 
 -- `a` and `b` are the roots of `one` and `other`
 pub join_under : (ps qs : List ℕ) (one other a b : ℕ) → IsFlatter ps qs →
-    ((names : ℕ → ℕ → Bool) → IsSound names ps → IsJoined names one a) → ((names : ℕ → ℕ → Bool) → IsSound names ps → IsJoined names other b) →
+    ((names : ℕ → ℕ → Bool) → JoinsOnlyJoined names ps → IsJoined names one a) → ((names : ℕ → ℕ → Bool) → JoinsOnlyJoined names ps → IsJoined names other b) →
     ((label : ℕ → ℕ) → Respects label qs → label one ≡ label a) → ((label : ℕ → ℕ) → Respects label qs → label other ≡ label b) →
     parent qs a ≡ a → a < length qs → b ≤ a → IsJoining ps (set qs a b) one other
 join_under ps qs one other a b flatter to_a to_b like_a like_b root below less =

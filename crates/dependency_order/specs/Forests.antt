@@ -12,8 +12,8 @@ abbrev pub IsForest : List ℕ → Type 0
 IsForest parents = (p : ℕ) → p < length parents → parent parents p ≤ p
 
 -- only what is joined has one tree
-abbrev pub IsSound : (ℕ → ℕ → Bool) → List ℕ → Type 0
-IsSound names parents = (p : ℕ) → p < length parents → IsJoined names p (parent parents p)
+abbrev pub JoinsOnlyJoined : (ℕ → ℕ → Bool) → List ℕ → Type 0
+JoinsOnlyJoined names parents = (p : ℕ) → p < length parents → IsJoined names p (parent parents p)
 
 -- A labelling that gives all places of a tree one label. The less of these there are, the more is joined.
 abbrev pub Respects : (ℕ → ℕ) → List ℕ → Type 0
@@ -23,7 +23,7 @@ Respects label parents = (p : ℕ) → p < length parents → label (parent pare
 pub record IsFlatter (old new : List ℕ) : Type 0 where
   pub many : length new ≡ length old
   pub forest : IsForest new
-  pub sound : (names : ℕ → ℕ → Bool) → IsSound names old → IsSound names new
+  pub sound : (names : ℕ → ℕ → Bool) → JoinsOnlyJoined names old → JoinsOnlyJoined names new
   pub full : (label : ℕ → ℕ) → Respects label new → Respects label old
   pub roots : (p : ℕ) → parent old p ≡ p → parent new p ≡ p
 
@@ -31,7 +31,7 @@ pub record IsFlatter (old new : List ℕ) : Type 0 where
 pub record IsJoining (old new : List ℕ) (one other : ℕ) : Type 0 where
   pub many : length new ≡ length old
   pub forest : IsForest new
-  pub sound : (names : ℕ → ℕ → Bool) → IsSound names old → IsJoined names one other → IsSound names new
+  pub sound : (names : ℕ → ℕ → Bool) → JoinsOnlyJoined names old → IsJoined names one other → JoinsOnlyJoined names new
   pub full : (label : ℕ → ℕ) → Respects label new → Respects label old
   pub tied : (label : ℕ → ℕ) → Respects label new → label one ≡ label other
 
@@ -39,8 +39,8 @@ pub record IsJoining (old new : List ℕ) (one other : ℕ) : Type 0 where
 pub record AreJoining (old new places : List ℕ) (with' : ℕ) : Type 0 where
   pub many : length new ≡ length old
   pub forest : IsForest new
-  pub sound : (names : ℕ → ℕ → Bool) → IsSound names old →
-      ((p : ℕ) → stands p places ≡ true → IsJoined names p with') → IsSound names new
+  pub sound : (names : ℕ → ℕ → Bool) → JoinsOnlyJoined names old →
+      ((p : ℕ) → stands p places ≡ true → IsJoined names p with') → JoinsOnlyJoined names new
   pub full : (label : ℕ → ℕ) → Respects label new → Respects label old
   pub tied : (label : ℕ → ℕ) → Respects label new → (p : ℕ) → stands p places ≡ true → label p ≡ label with'
 
@@ -48,8 +48,8 @@ pub record AreJoining (old new places : List ℕ) (with' : ℕ) : Type 0 where
 pub record IsTie (old new some others : List ℕ) : Type 0 where
   pub many : length new ≡ length old
   pub forest : IsForest new
-  pub sound : (names : ℕ → ℕ → Bool) → IsSound names old →
-      ((p q : ℕ) → stands p some ≡ true → stands q others ≡ true → IsJoined names p q) → IsSound names new
+  pub sound : (names : ℕ → ℕ → Bool) → JoinsOnlyJoined names old →
+      ((p q : ℕ) → stands p some ≡ true → stands q others ≡ true → IsJoined names p q) → JoinsOnlyJoined names new
   pub full : (label : ℕ → ℕ) → Respects label new → Respects label old
   pub tied : (label : ℕ → ℕ) → Respects label new →
       (p q : ℕ) → stands p some ≡ true → stands q others ≡ true → label p ≡ label q
@@ -60,7 +60,7 @@ pub record AreTrees (some others : List (List ℕ)) (count bound : ℕ) (parents
   pub forest : IsForest parents
   pub sound : (names : ℕ → ℕ → Bool) →
       ((k p q : ℕ) → k < bound → stands p (row some k) ≡ true → stands q (row others k) ≡ true → IsJoined names p q) →
-      IsSound names parents
+      JoinsOnlyJoined names parents
   pub tied : (label : ℕ → ℕ) → Respects label parents →
       (k p q : ℕ) → k < bound → stands p (row some k) ≡ true → stands q (row others k) ≡ true → label p ≡ label q
 

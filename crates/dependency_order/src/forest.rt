@@ -1,7 +1,7 @@
 // Places that are joined, as trees.
 ghost use Rattle.std.specs.Prelude.{◌≡◌, ◌<◌, ◌≤◌, ℕ, Bool, length, All};
 ghost use Rattle.dependency_order.specs.Groups.{IsJoined};
-ghost use Rattle.dependency_order.specs.Forests.{AreJoining, IsFlatter, IsForest, IsJoining, IsSound, IsTie, Respects, parent};
+ghost use Rattle.dependency_order.specs.Forests.{AreJoining, IsFlatter, IsForest, IsJoining, JoinsOnlyJoined, IsTie, Respects, parent};
 
 /// The root of a place's tree. On the way each second place is moved up to its parent's parent.
 pub fn root(parents: &mut [usize], place: usize) -> usize
@@ -10,7 +10,7 @@ pub fn root(parents: &mut [usize], place: usize) -> usize
     ensures flatter { IsFlatter parents.old parents.new }
     ensures root { parent parents.new result ≡ result }
     ensures before { result ≤ place }
-    ensures joined { (names : ℕ → ℕ → Bool) → IsSound names parents.old → IsJoined names place result }
+    ensures joined { (names : ℕ → ℕ → Bool) → JoinsOnlyJoined names parents.old → IsJoined names place result }
     ensures one { (label : ℕ → ℕ) → Respects label parents.new → label place ≡ label result }
 {
     let mut at = place;

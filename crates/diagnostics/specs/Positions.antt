@@ -15,8 +15,8 @@ begins_character b = not (nat_le 128 b && nat_lt b 192)
 abbrev pub AreLines : List ℕ → Type 0
 AreLines bytes = (bytes ≡ []) ⊎ ((front : List ℕ) × (bytes ≡ front ++ 10 ∷ []))
 
--- The position of what stands behind some bytes: these are lines, and the first bytes of a line. Lines and columns count from 1, and a
--- column is a character.
+-- The position of what stands behind some bytes: these are lines, and the first bytes of a line. Lines and columns count
+-- from 1, and a column is a character.
 pub record StandsBehind (before : List ℕ) (position : Position) : Type 0 where
   pub lines : List ℕ
   pub begun : List ℕ

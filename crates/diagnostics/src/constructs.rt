@@ -5,7 +5,8 @@ use std::alloc::{AllocError, Global};
 /// How many characters of a text are shown at most.
 const MOST_SHOWN: usize = 60;
 
-/// What is not supported where a token stands that a text begins with (Erlang Reference Manual): none where its own text tells it best.
+/// What is not supported where a token stands that a text begins with (Erlang Reference Manual): none where its own text
+/// tells it best.
 pub(crate) fn construct_of(alloc: Global, text: &str) -> Option<&'static str> {
     let mut scanner = Scanner::new(alloc, text);
     match scanner.next_token() {
@@ -118,7 +119,8 @@ pub(crate) fn prefix(text: &str, end: usize) -> &str {
     std::str::from_utf8(&bytes[..end.min(bytes.len())]).unwrap_or("")
 }
 
-/// Appends a text without the blanks around it, each row of blanks in it as one space, and of a long one the first characters alone.
+/// Appends a text without the blanks around it, each row of blanks in it as one space, and of a long one the first
+/// characters alone.
 pub(crate) fn push_brief(text: &str, out: &mut String) -> Result<(), AllocError> {
     let mut is_blank = false;
     let mut shown: usize = 0;

@@ -102,7 +102,7 @@ fn is_below(path: &str, folder: &str) -> bool {
 
 impl fmt::Display for Diagnostic {
     fn fmt<W: fmt::Write>(&self, f: &mut fmt::Formatter<W>) -> fmt::Result {
-        // Of want of memory there may be no path.
+        // Of lack of memory there may be no path.
         if !self.path.is_empty() {
             write!(f, "{}:", self.path)?;
         }

@@ -1,14 +1,15 @@
 //! What is told of a fault of a file, for the one who is to mend it: where it stands, and what is wrong in words.
 //!
-//! The readers of files tell a fault by a kind and a byte, an element or an instruction. [`diagnose`] looks at the bytes again and
-//! makes a [`Diagnostic`] of it: the place as a line and a column, which element must be what and what it is, and which construct of
-//! Erlang is not supported. [`push_shown`] writes a text that comes from a file so that it is one line on a terminal.
+//! The readers of files tell a fault by a kind and a byte, an element or an instruction. [`diagnose`] looks at the bytes
+//! again and makes a [`Diagnostic`] of it: the place as a line and a column, which element must be what and what it is, and
+//! which construct of Erlang is not supported. [`push_shown`] writes a text that comes from a file so that it is one line
+//! on a terminal.
 //!
 //! # What is proved
 //!
 //! - [`position_of`]: the line and the column of a byte (`StandsBehind`).
-//! - [`push_shown`]: no character that is hidden, such as a newline, a control character or one that turns the direction of a text,
-//!   comes to what is written, and a text without any is written as it stands (`is_hidden`).
+//! - [`push_shown`]: no character that is hidden, such as a newline, a control character or one that turns the direction of
+//!   a text, comes to what is written, and a text without any is written as it stands (`is_hidden`).
 //!
 //! # What no contract says
 //!

@@ -5,7 +5,8 @@ ghost use Rattle.diagnostics.specs.Shown.{is_hidden, IsOneLine};
 
 use std::alloc::AllocError;
 
-/// Whether a character is shown as an escape: a control character, a separator of lines, or one that sets the direction of a text.
+/// Whether a character is shown as an escape: a control character, a separator of lines, or one that sets the direction of
+/// a text.
 pub fn is_hidden(c: char) -> bool
     ensures { result ≡ is_hidden c }
 {
@@ -27,7 +28,8 @@ pub fn is_hidden(c: char) -> bool
 /// `AllocError` where memory is refused; a front of the text may have been appended then.
 pub fn push_shown(text: &str, out: &mut String) -> Result<(), AllocError>
     ensures one_line { IsOneLine (chars (string_bytes out.old)) → IsOneLine (chars (string_bytes out.new)) }
-    ensures plain { OnOk result (IsOneLine (chars text.now) → chars (string_bytes out.new) ≡ chars (string_bytes out.old) ++ chars text.now) }
+    ensures plain { OnOk result (IsOneLine (chars text.now) →
+        chars (string_bytes out.new) ≡ chars (string_bytes out.old) ++ chars text.now) }
 {
     for c in text.chars() {
         if is_hidden(c) {

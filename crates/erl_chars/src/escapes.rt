@@ -129,7 +129,8 @@ impl<'a> Cursor<'a> {
 
 /// The value of a hexadecimal digit.
 fn hexadecimal_digit(c: char) -> Result<u32, EscapeError>
-    ensures { MatchResult result (λ digit. (is_digit 16 c ≡ true) × (digit ≡ digit_value c)) (λ e. (is_digit 16 c ≡ false) × (e ≡ EscapeError.Wrong)) }
+    ensures { MatchResult result (λ digit. (is_digit 16 c ≡ true) × (digit ≡ digit_value c)) (λ e. (is_digit 16 c ≡ false) ×
+        (e ≡ EscapeError.Wrong)) }
 {
     c.to_digit(16).ok_or(EscapeError::Wrong)
 }

@@ -34,7 +34,8 @@ impl<'a> Cursor<'a> {
     ///
     /// `Unclosed` and `BadEscape` as the text says, and `Memory` where memory is refused.
     pub fn quoted(&mut self, alloc: Global, quote: char) -> Result<Text, QuoteError>
-        ensures read { MatchResult result (λ text. IsQuoted quote (left self.old) (closed text (left self.new))) (λ e. IsNotQuoted (total self.old) quote (left self.old) e) }
+        ensures read { MatchResult result (λ text. IsQuoted quote (left self.old) (closed text (left self.new)))
+            (λ e. IsNotQuoted (total self.old) quote (left self.old) e) }
         ensures total { total self.new ≡ total self.old }
     {
         let mut text = String::new(alloc);
@@ -65,7 +66,8 @@ impl<'a> Cursor<'a> {
 
 /// Appends a character to a text.
 fn append(text: &mut String, c: char) -> Result<(), QuoteError>
-    ensures { MatchResult result (λ _. chars (string_bytes text.new) ≡ chars (string_bytes text.old) ++ c ∷ []) (λ e. e ≡ QuoteError.Memory) }
+    ensures { MatchResult result (λ _. chars (string_bytes text.new) ≡ chars (string_bytes text.old) ++ c ∷
+        []) (λ e. e ≡ QuoteError.Memory) }
 {
     match text.push(c) {
         Ok(()) => Ok(()),

@@ -13,7 +13,7 @@ use Rattle.erl_consult.proofs.Spelling.{sign_part, spell-run, beginning}
 use Rattle.erl_consult.proofs.Nesting.{nested-counts, innermost-from_nested, innermost-at, no_innermost}
 use Rattle.erl_consult.proofs.Judging.{Bracketed, at_tuple, at_list, at_tail, Lasting, none_last, sign_last, form_last, strings_last, place_of, places, show, bare, sign_end, string_end, other_end, end_at, Follows, Judged, is_unread_part, is_out, is_misplaced, is_wrong, is_deep, is_next}
 use Rattle.erl_consult.proofs.Judges.{judge}
-use Rattle.erl_consult.proofs.Reached.{take_all, take_all-append, outcome_then, goes-fails, Stands, stands-none, stands-next, Tells, faulty-from_judged, judged-from_faulty, is-sign}
+use Rattle.erl_consult.proofs.Reached.{take_all, take_all-append, outcome_then, goes-fails, Stands, stands-none, stands-next, FitsEnd, faulty-from_judged, judged-from_faulty, is-sign}
 use Rattle.erl_consult.proofs.Truth.{clash}
 
 -- The end
@@ -61,17 +61,17 @@ dot-sign true = refl
 dot-sign false = refl
 
 -- by what stands behind the tokens
-sign_cut : (before : List Spot) (m : Bool) (place total : ℕ) (k : Fault) (told : ℕ) (o : Option Spot) → opened before ≡ closed before → last_of before ≡ o → Tells o (sign_end m place) → cut_short Syntax place ≡ cut_short k told → IsCutShort before total k told
+sign_cut : (before : List Spot) (m : Bool) (place total : ℕ) (k : Fault) (told : ℕ) (o : Option Spot) → opened before ≡ closed before → last_of before ≡ o → FitsEnd o (sign_end m place) → cut_short Syntax place ≡ cut_short k told → IsCutShort before total k told
 sign_cut before m place total k told None even is t e = absurd t
 sign_cut before m place total k told (Some b) even is t e =
     behind_sign even b is (ap is_sign t.0 ∙ is-sign m) (sym (same_cut_kind Syntax k place told e)) (sym (same_cut_place Syntax k place told e) ∙ sym t.1)
 
-form_cut : (before : List Spot) (total : ℕ) (k : Fault) (told : ℕ) (o : Option Spot) → opened before ≡ closed before → last_of before ≡ o → Tells o other_end → cut_short MissingDot total ≡ cut_short k told → IsCutShort before total k told
+form_cut : (before : List Spot) (total : ℕ) (k : Fault) (told : ℕ) (o : Option Spot) → opened before ≡ closed before → last_of before ≡ o → FitsEnd o other_end → cut_short MissingDot total ≡ cut_short k told → IsCutShort before total k told
 form_cut before total k told None even is t e = absurd t
 form_cut before total k told (Some b) even is t e =
     behind_term even b is t.0 t.1.1.1 (sym (same_cut_kind MissingDot k total told e)) (sym (same_cut_place MissingDot k total told e))
 
-string_cut : (before : List Spot) (total : ℕ) (k : Fault) (told : ℕ) (o : Option Spot) → opened before ≡ closed before → last_of before ≡ o → Tells o string_end → cut_short MissingDot total ≡ cut_short k told → IsCutShort before total k told
+string_cut : (before : List Spot) (total : ℕ) (k : Fault) (told : ℕ) (o : Option Spot) → opened before ≡ closed before → last_of before ≡ o → FitsEnd o string_end → cut_short MissingDot total ≡ cut_short k told → IsCutShort before total k told
 string_cut before total k told None even is t e = absurd t
 string_cut before total k told (Some b) even is t e =
     behind_term even b is (ap is_sign t.1) (ap is_dot t.1) (sym (same_cut_kind MissingDot k total told e)) (sym (same_cut_place MissingDot k total told e))
@@ -99,7 +99,7 @@ bracket_end (at_list at fs) os w r total = refl
 bracket_end (at_tail at bar_at fs f) os w r total = refl
 
 -- the end behind a sign
-end_sign : (w : Forms) (r : Lasting) (total : ℕ) (s : Spot) (o : Option Spot) → o ≡ Some s → is_sign (spot_part s) ≡ true → Tells o (end_at r []) → end_of (show w [] r) total ≡ cut_short Syntax s.at
+end_sign : (w : Forms) (r : Lasting) (total : ℕ) (s : Spot) (o : Option Spot) → o ≡ Some s → is_sign (spot_part s) ≡ true → FitsEnd o (end_at r []) → end_of (show w [] r) total ≡ cut_short Syntax s.at
 end_sign w none_last total s None is sign t = absurd (none-some s is)
 end_sign w none_last total s (Some b) is sign t =
     clash (is_sign (spot_part s)) sign (ap (λ c. is_sign (spot_part c)) (sym (same_Some b s is)) ∙ ap is_sign t)
@@ -113,7 +113,7 @@ end_sign w (strings_last cs others) total s (Some b) is sign t =
     clash (is_sign (spot_part s)) sign (ap (λ c. is_sign (spot_part c)) (sym (same_Some b s is)) ∙ ap is_sign t.1)
 
 -- and behind a term
-end_term : (w : Forms) (r : Lasting) (total : ℕ) (s : Spot) (o : Option Spot) → o ≡ Some s → is_sign (spot_part s) ≡ false → is_dot (spot_part s) ≡ false → Tells o (end_at r []) → end_of (show w [] r) total ≡ cut_short MissingDot total
+end_term : (w : Forms) (r : Lasting) (total : ℕ) (s : Spot) (o : Option Spot) → o ≡ Some s → is_sign (spot_part s) ≡ false → is_dot (spot_part s) ≡ false → FitsEnd o (end_at r []) → end_of (show w [] r) total ≡ cut_short MissingDot total
 end_term w none_last total s None is no_sign no_dot t = absurd (none-some s is)
 end_term w none_last total s (Some b) is no_sign no_dot t =
     clash (is_dot (spot_part s)) (ap (λ c. is_dot (spot_part c)) (sym (same_Some b s is)) ∙ ap is_dot t) no_dot

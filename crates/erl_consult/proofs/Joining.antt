@@ -72,7 +72,7 @@ fault-from_taking cs left rest held s k told so comes at took = record {
   first = sound so.before so.here;
 }
 
--- a token that is faulty by itself, or want of memory
+-- a token that is faulty by itself, or lack of memory
 pub fault-from_scanning : (cs left : List ℕ) (held : Seen) (e : ReadError) → SoFar cs left held → IsFault (byte_count cs) (after_gap left) e → (e.kind ≡ Memory) ⊎ FaultsFirst cs e.kind e.at
 fault-from_scanning cs left held e so (memory is) = inl is
 fault-from_scanning cs left held e so (faulty at comes e_at) = inr (record {

@@ -75,13 +75,13 @@ take_all-more before b s t o taken next =
 
 -- The token before
 
-abbrev pub Tells : Option Spot → End → Type 0
-Tells None start_end = Unit {0}
-Tells None (sign_end m place) = ⊥
-Tells None string_end = ⊥
-Tells None (bar_end place) = ⊥
-Tells None other_end = ⊥
-Tells (Some b) e = TellsPart e (spot_part b) b.at
+abbrev pub FitsEnd : Option Spot → End → Type 0
+FitsEnd None start_end = Unit {0}
+FitsEnd None (sign_end m place) = ⊥
+FitsEnd None string_end = ⊥
+FitsEnd None (bar_end place) = ⊥
+FitsEnd None other_end = ⊥
+FitsEnd (Some b) e = TellsPart e (spot_part b) b.at
 
 minus-from_sign : (p : Part) → is_sign p ≡ false → is_minus p ≡ false
 minus-from_sign (number n) e = refl
@@ -115,7 +115,7 @@ string-sign : (m : Bool) → is_string (sign_part m) ≡ false
 string-sign true = refl
 string-sign false = refl
 
-tells-minus : (o : Option Spot) (e : End) → Tells o e → last_is is_minus o ≡ end_minus e
+tells-minus : (o : Option Spot) (e : End) → FitsEnd o e → last_is is_minus o ≡ end_minus e
 tells-minus None start_end t = refl
 tells-minus None (sign_end m place) t = absurd t
 tells-minus None string_end t = absurd t
@@ -127,7 +127,7 @@ tells-minus (Some b) string_end t = ap is_minus t.1
 tells-minus (Some b) (bar_end place) t = ap is_minus t.0
 tells-minus (Some b) other_end t = minus-from_sign (spot_part b) t.0
 
-pub tells-bar : (o : Option Spot) (e : End) → Tells o e → last_is is_bar o ≡ end_bar e
+pub tells-bar : (o : Option Spot) (e : End) → FitsEnd o e → last_is is_bar o ≡ end_bar e
 tells-bar None start_end t = refl
 tells-bar None (sign_end m place) t = absurd t
 tells-bar None string_end t = absurd t
@@ -139,7 +139,7 @@ tells-bar (Some b) string_end t = ap is_bar t.1
 tells-bar (Some b) (bar_end place) t = ap is_bar t.0
 tells-bar (Some b) other_end t = t.1.0
 
-tells-string : (o : Option Spot) (e : End) → Tells o e → last_is is_string o ≡ end_string e
+tells-string : (o : Option Spot) (e : End) → FitsEnd o e → last_is is_string o ≡ end_string e
 tells-string None start_end t = refl
 tells-string None (sign_end m place) t = absurd t
 tells-string None string_end t = absurd t
@@ -151,7 +151,7 @@ tells-string (Some b) string_end t = ap is_string t.1
 tells-string (Some b) (bar_end place) t = ap is_string t.0
 tells-string (Some b) other_end t = t.1.1.0
 
-tells-place : (o : Option Spot) (e : End) (at : ℕ) → Tells o e → range_place_by o at ≡ end_place e at
+tells-place : (o : Option Spot) (e : End) (at : ℕ) → FitsEnd o e → range_place_by o at ≡ end_place e at
 tells-place None start_end at t = refl
 tells-place None (sign_end m place) at t = absurd t
 tells-place None string_end at t = absurd t
@@ -164,7 +164,7 @@ tells-place (Some b) string_end at t = ap (λ p. cond (is_sign p) b.at at) t.1
 tells-place (Some b) (bar_end place) at t = ap (λ p. cond (is_sign p) b.at at) t.0
 tells-place (Some b) other_end at t = ap (λ c. cond c b.at at) t.0
 
-tells-bar_at : (o : Option Spot) (place : ℕ) → Tells o (bar_end place) → (b : Spot) × ((o ≡ Some b) × (b.at ≡ place))
+tells-bar_at : (o : Option Spot) (place : ℕ) → FitsEnd o (bar_end place) → (b : Spot) × ((o ≡ Some b) × (b.at ≡ place))
 tells-bar_at None place t = absurd t
 tells-bar_at (Some b) place t = (b, (refl, t.1))
 
@@ -173,7 +173,7 @@ tells-bar_at (Some b) place t = (b, (refl, t.1))
 pub record Stands (before : List Spot) (w : Forms) (os : List Bracketed) (r : Lasting) : Type 0 where
   pub took : take_all nothing_seen before ≡ goes (show w os r)
   pub ran : run beginning (parts before) ≡ Some (bare w os r)
-  pub tells : Tells (last_of before) (end_at r os)
+  pub tells : FitsEnd (last_of before) (end_at r os)
   pub nested : Nested before (places os)
   pub fine : Fine w os r
 
@@ -214,7 +214,7 @@ pub stands-next : (before : List Spot) (w v : Forms) (os qs : List Bracketed) (r
 stands-next before w v os qs r q b stands follows = record {
   took = take_all-more before b nothing_seen (show w os r) (goes (show v qs q)) stands.took follows.took;
   ran = ap (run beginning) (parts-append before (b ∷ [])) ∙ (run-more before (spot_part b) (bare w os r) stands.ran ∙ follows.stepped);
-  tells = subst (λ o. Tells o (end_at q qs)) (sym (last-append before b)) follows.tells;
+  tells = subst (λ o. FitsEnd o (end_at q qs)) (sym (last-append before b)) follows.tells;
   nested = moved before b os qs stands.nested follows.moves;
   fine = follows.fine;
 }
@@ -299,7 +299,7 @@ faulty-from_judged before w os r p at k told stands (is_out out took) e =
 faulty-from_judged before w os r p at k told stands (is_misplaced sound stuck took) e =
     misplaced ((tests before w os r p stands).faulty ∙ sound) (no-step before p (bare w os r) stands.ran stuck) (same_kind k Syntax told at (sym e ∙ took)) (same_place k Syntax told at (sym e ∙ took))
 faulty-from_judged before w os r p at k told stands (is_wrong sound t stepped place end no_list took) e =
-    let b = tells-bar_at (last_of before) place (subst (Tells (last_of before)) end stands.tells) in
+    let b = tells-bar_at (last_of before) place (subst (FitsEnd (last_of before)) end stands.tells) in
     wrong_tail ((tests before w os r p stands).faulty ∙ sound) (start-from_step before p (bare w os r) t stands.ran stepped) ((tests before w os r p stands).tail ∙ wrong-tail (end_bar (end_at r os)) p (ap end_bar end) no_list) b.0 b.1.0 (same_kind k Unsupported told place (sym e ∙ took)) (same_place k Unsupported told place (sym e ∙ took) ∙ sym b.1.1)
 faulty-from_judged before w os r p at k told stands (is_deep sound t stepped no_tail nests deep took) e =
     too_deep ((tests before w os r p stands).faulty ∙ sound) (start-from_step before p (bare w os r) t stands.ran stepped) ((tests before w os r p stands).tail ∙ no_tail) ((tests before w os r p stands).nests ∙ nests) (omega (arith, deep, (tests before w os r p stands).deep)) (same_kind k TooDeep told at (sym e ∙ took)) (same_place k TooDeep told at (sym e ∙ took))
@@ -348,7 +348,7 @@ judged-from_faulty before w os r p at k told stands (is_out out took) (wrong_tai
 judged-from_faulty before w os r p at k told stands (is_misplaced sound' stuck took) (wrong_tail sound start_is tail b last kind place) =
     absurd (no-step before p (bare w os r) stands.ran stuck start_is)
 judged-from_faulty before w os r p at k told stands (is_wrong sound' t stepped place' end no_list took) (wrong_tail sound start_is tail b last kind place) =
-    let c = tells-bar_at (last_of before) place' (subst (Tells (last_of before)) end stands.tells) in
+    let c = tells-bar_at (last_of before) place' (subst (FitsEnd (last_of before)) end stands.tells) in
     took ∙ fails-both Unsupported k place' told (sym kind) (sym c.1.1 ∙ (ap (λ s. s.at) (same_Some c.0 b (sym c.1.0 ∙ last)) ∙ sym place))
 judged-from_faulty before w os r p at k told stands (is_deep sound' t stepped no_tail nests deep took) (wrong_tail sound start_is tail b last kind place) =
     clash (is_wrong_tail before p) tail ((tests before w os r p stands).tail ∙ no_tail)

@@ -25,7 +25,8 @@ use std::str;
 /// The first fault of the text, at the byte where it is told: a token that is faulty by itself or that no text has
 /// behind the tokens before it, or the end of the text. `Memory` where memory is refused.
 pub fn read_terms(alloc: Global, text: &[u8]) -> Result<Vec<Term>, ReadError>
-    ensures { MatchResult result (λ terms. IsTextOf text.now (trees terms.items)) (λ e. (e.kind ≡ refused) ⊎ IsRefused text.now e.kind e.at) }
+    ensures { MatchResult result (λ terms. IsTextOf text.now (trees terms.items)) (λ e. (e.kind ≡ refused) ⊎
+        IsRefused text.now e.kind e.at) }
 {
     match str::from_utf8(text) {
         Ok(text) => read_text(alloc, text),
@@ -38,7 +39,8 @@ pub fn read_terms(alloc: Global, text: &[u8]) -> Result<Vec<Term>, ReadError>
 
 /// Reads a text of terms.
 fn read_text(alloc: Global, text: &str) -> Result<Vec<Term>, ReadError>
-    ensures { MatchResult result (λ terms. IsTextOf text.now (trees terms.items)) (λ e. (e.kind ≡ refused) ⊎ FaultsFirst (chars text.now) e.kind e.at) }
+    ensures { MatchResult result (λ terms. IsTextOf text.now (trees terms.items)) (λ e. (e.kind ≡ refused) ⊎
+        FaultsFirst (chars text.now) e.kind e.at) }
 {
     let mut scanner = Scanner::new(alloc, text);
     let mut parser = Parser::new(alloc);

@@ -1,10 +1,10 @@
 -- Reading, by how many levels are left.
 use Rattle.std.proofs.Common.{◌≡◌, ℕ, zero, suc, ◌+◌, ◌-◌, ◌<◌, List, Some, None, ap, subst, sym, ◌∙◌, refl, arith}
-use Rattle.erl_syntax.specs.declared.role.Role.{Role}
-use Rattle.erl_syntax.specs.Terminal.{Terminal}
-use Rattle.erl_syntax.specs.Tree.{Tree}
-use Rattle.erl_syntax.specs.Grammar.{level}
-use Rattle.erl_syntax.specs.declared.shape.Infix.{Infix}
+use Rattle.erl_ast.specs.declared.role.Role.{Role}
+use Rattle.erl_ast.specs.Terminal.{Terminal}
+use Rattle.erl_ast.specs.Tree.{Tree}
+use Rattle.erl_ast.specs.Grammar.{level}
+use Rattle.erl_ast.specs.declared.shape.Infix.{Infix}
 use Rattle.erl_expressions.specs.Reading.{climbed_by, ended_by}
 use Rattle.erl_expressions.specs.Leaves.{leaf_ahead, operator_ahead}
 use Rattle.erl_expressions.specs.Reading.{Reader, read, begun, climbed, joined, only_leaf, and_then}

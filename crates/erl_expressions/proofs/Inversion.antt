@@ -1,13 +1,13 @@
 -- What an answer tells of the steps that it came by.
 use Rattle.std.proofs.Common.{◌≡◌, Bool, true, false, ◌&&◌, if◌then◌else◌, IsTrue, List, [], ◌∷◌, Option, Some, None, ap, sym, refl, true≢false, rules}
 use Rattle.std.proofs.lemmas.Option.{none-some, same_Some}
-use Rattle.erl_syntax.specs.Terminal.{Terminal, mark, word}
+use Rattle.erl_ast.specs.Terminal.{Terminal, mark, word}
 use Rattle.erl_scan.specs.declared.mark.Mark.{Mark}
 use Rattle.erl_scan.specs.declared.mark.Mark.TheVariants as marks
 use Rattle.erl_scan.specs.declared.word.Word.{Word}
 use Rattle.erl_scan.specs.declared.word.Word.TheVariants as words
-use Rattle.erl_syntax.specs.declared.shape.Infix.{Infix}
-use Rattle.erl_syntax.specs.Written.{infix_terminal}
+use Rattle.erl_ast.specs.declared.shape.Infix.{Infix}
+use Rattle.erl_ast.specs.Written.{infix_terminal}
 use Rattle.erl_expressions.specs.declared.delimiter.Delimiter.{Delimiter}
 use Rattle.erl_expressions.specs.declared.delimiter.Delimiter.TheVariants as delimiters
 use Rattle.erl_expressions.specs.Delimiters.{delimiter, is_delimiter, after}

@@ -2,17 +2,17 @@
 use Rattle.std.proofs.Common.{◌≡◌, ℕ, suc, ◌≤◌, ◌==◌, Bool, ◌&&◌, IsTrue, List, [], ◌∷◌, length, sym, arith, rules, true≢false}
 use Rattle.erl_scan.specs.declared.mark.Mark.TheVariants as marks
 use Rattle.erl_scan.specs.declared.word.Word.TheVariants as words
-use Rattle.erl_syntax.specs.declared.leaf.Sign.TheVariants as signs
-use Rattle.erl_syntax.specs.declared.leaf.Leaf.{Leaf}
-use Rattle.erl_syntax.specs.declared.leaf.Leaf.TheVariants as leaves
-use Rattle.erl_syntax.specs.declared.role.Role.{Role}
-use Rattle.erl_syntax.specs.declared.shape.Qualifier.TheVariants as qualifier
-use Rattle.erl_syntax.specs.declared.shape.Shape.{Shape}
-use Rattle.erl_syntax.specs.declared.shape.Shape.TheVariants as shapes
-use Rattle.erl_syntax.specs.Terminal.{Terminal, word, mark}
-use Rattle.erl_syntax.specs.Tree.{Tree, Trees, Guards, Clauses, leaf, node, case, none, more, no_guards, guard, no_clauses, clause}
-use Rattle.erl_syntax.specs.Grammar.{is_leaf, has_operator, IsWell}
-use Rattle.erl_syntax.specs.Written.{written, leaf_written, strings_written, opened, closed, parts_written, other_parts_written, row_written, others_written, guards_written, other_guards_written, clauses_written, other_clauses_written}
+use Rattle.erl_ast.specs.declared.leaf.Sign.TheVariants as signs
+use Rattle.erl_ast.specs.declared.leaf.Leaf.{Leaf}
+use Rattle.erl_ast.specs.declared.leaf.Leaf.TheVariants as leaves
+use Rattle.erl_ast.specs.declared.role.Role.{Role}
+use Rattle.erl_ast.specs.declared.shape.Qualifier.TheVariants as qualifier
+use Rattle.erl_ast.specs.declared.shape.Shape.{Shape}
+use Rattle.erl_ast.specs.declared.shape.Shape.TheVariants as shapes
+use Rattle.erl_ast.specs.Terminal.{Terminal, word, mark}
+use Rattle.erl_ast.specs.Tree.{Tree, Trees, Guards, Clauses, leaf, node, case, none, more, no_guards, guard, no_clauses, clause}
+use Rattle.erl_ast.specs.Grammar.{is_leaf, has_operator, IsWell}
+use Rattle.erl_ast.specs.Written.{written, leaf_written, strings_written, opened, closed, parts_written, other_parts_written, row_written, others_written, guards_written, other_guards_written, clauses_written, other_clauses_written}
 
 strings_longer : (ss : List (List ℕ)) (ts : List Terminal) → length ts ≤ length (strings_written ss ts)
 strings_longer [] ts = omega arith

@@ -1,13 +1,13 @@
 -- Operators: what is written of one is read as it, and what levels say of a tree left of one.
 use Rattle.std.proofs.Common.{◌≡◌, ℕ, ◌-◌, ◌<◌, ◌≤◌, nat_lt, nat_le, ◌==◌, Bool, true, false, ◌&&◌, ◌||◌, if◌then◌else◌, IsTrue, List, ◌∷◌, Option, Some, None, ap, subst, sym, ◌∙◌, refl, arith, rules, true≢false}
-use Rattle.erl_syntax.specs.declared.role.Role.{Role}
-use Rattle.erl_syntax.specs.declared.shape.Infix.{Infix}
-use Rattle.erl_syntax.specs.declared.shape.Infix.TheVariants as infixes
-use Rattle.erl_syntax.specs.declared.shape.Shape.TheVariants as shapes
-use Rattle.erl_syntax.specs.Terminal.{Terminal}
-use Rattle.erl_syntax.specs.Tree.{Tree, leaf, node, case}
-use Rattle.erl_syntax.specs.Grammar.{level, level_of, left_level, right_level, has_operator}
-use Rattle.erl_syntax.specs.Written.{infix_terminal}
+use Rattle.erl_ast.specs.declared.role.Role.{Role}
+use Rattle.erl_ast.specs.declared.shape.Infix.{Infix}
+use Rattle.erl_ast.specs.declared.shape.Infix.TheVariants as infixes
+use Rattle.erl_ast.specs.declared.shape.Shape.TheVariants as shapes
+use Rattle.erl_ast.specs.Terminal.{Terminal}
+use Rattle.erl_ast.specs.Tree.{Tree, leaf, node, case}
+use Rattle.erl_ast.specs.Grammar.{level, level_of, left_level, right_level, has_operator}
+use Rattle.erl_ast.specs.Written.{infix_terminal}
 use Rattle.erl_expressions.specs.declared.delimiter.Delimiter.{Delimiter}
 use Rattle.erl_expressions.specs.declared.delimiter.Delimiter.TheVariants as delimiters
 use Rattle.erl_expressions.specs.Delimiters.{delimiter}

@@ -2,23 +2,23 @@
 use Rattle.std.proofs.Common.{◌≡◌, ℕ, zero, suc, ◌+◌, ◌-◌, ◌≤◌, nat_lt, nat_le, ◌==◌, Bool, true, false, ◌&&◌, not, if◌then◌else◌, IsTrue, is_some, List, [], ◌∷◌, Option, Some, None, ap, subst, sym, ◌∙◌, refl, arith, rules, true≢false}
 use Rattle.erl_scan.specs.declared.mark.Mark.TheVariants as marks
 use Rattle.erl_scan.specs.declared.word.Word.TheVariants as words
-use Rattle.erl_syntax.specs.declared.leaf.Sign.TheVariants as signs
-use Rattle.erl_syntax.specs.declared.leaf.Leaf.{Leaf}
-use Rattle.erl_syntax.specs.declared.leaf.Leaf.TheVariants as leaves
-use Rattle.erl_syntax.specs.declared.role.Role.{Role}
-use Rattle.erl_syntax.specs.declared.role.Role.TheVariants.{Expression, Pattern, Test}
-use Rattle.erl_syntax.specs.declared.shape.Infix.{Infix}
-use Rattle.erl_syntax.specs.declared.shape.Infix.TheVariants as infixes
-use Rattle.erl_syntax.specs.declared.shape.Prefix.{Prefix}
-use Rattle.erl_syntax.specs.declared.shape.Prefix.TheVariants.{Negate, Not}
-use Rattle.erl_syntax.specs.declared.shape.Qualifier.TheVariants as qualifier
-use Rattle.erl_syntax.specs.declared.shape.Shape.{Shape}
-use Rattle.erl_syntax.specs.declared.shape.Shape.TheVariants as shapes
-use Rattle.erl_syntax.specs.Functions.{guard_arity, is_arity, is_guard_function}
-use Rattle.erl_syntax.specs.Terminal.{Terminal, word, string, mark}
-use Rattle.erl_syntax.specs.Tree.{Tree, Trees, Clauses, leaf, node, case, none, more, tree_count, tree_depth, trees_depth, clauses_depth}
-use Rattle.erl_syntax.specs.Grammar.{level, right_level, matches, in_brackets, first_level, has, has_operator, begins, is_unsigned, is_pattern, is_erlang, is_leaf, IsWell, AreWell, AreWellClauses, has_clause}
-use Rattle.erl_syntax.specs.Written.{written, leaf_written, strings_written, infix_terminal, closed, parts_written, row_written, clauses_written}
+use Rattle.erl_ast.specs.declared.leaf.Sign.TheVariants as signs
+use Rattle.erl_ast.specs.declared.leaf.Leaf.{Leaf}
+use Rattle.erl_ast.specs.declared.leaf.Leaf.TheVariants as leaves
+use Rattle.erl_ast.specs.declared.role.Role.{Role}
+use Rattle.erl_ast.specs.declared.role.Role.TheVariants.{Expression, Pattern, Test}
+use Rattle.erl_ast.specs.declared.shape.Infix.{Infix}
+use Rattle.erl_ast.specs.declared.shape.Infix.TheVariants as infixes
+use Rattle.erl_ast.specs.declared.shape.Prefix.{Prefix}
+use Rattle.erl_ast.specs.declared.shape.Prefix.TheVariants.{Negate, Not}
+use Rattle.erl_ast.specs.declared.shape.Qualifier.TheVariants as qualifier
+use Rattle.erl_ast.specs.declared.shape.Shape.{Shape}
+use Rattle.erl_ast.specs.declared.shape.Shape.TheVariants as shapes
+use Rattle.erl_ast.specs.Functions.{guard_arity, is_arity, is_guard_function}
+use Rattle.erl_ast.specs.Terminal.{Terminal, word, string, mark}
+use Rattle.erl_ast.specs.Tree.{Tree, Trees, Clauses, leaf, node, case, none, more, tree_count, tree_depth, trees_depth, clauses_depth}
+use Rattle.erl_ast.specs.Grammar.{level, right_level, matches, in_brackets, first_level, has, has_operator, begins, is_unsigned, is_pattern, is_erlang, is_leaf, IsWell, AreWell, AreWellClauses, has_clause}
+use Rattle.erl_ast.specs.Written.{written, leaf_written, strings_written, infix_terminal, closed, parts_written, row_written, clauses_written}
 use Rattle.erl_expressions.specs.declared.delimiter.Delimiter.{Delimiter}
 use Rattle.erl_expressions.specs.declared.delimiter.Delimiter.TheVariants.{Comma, CloseParen, CloseBracket, Bar, Of}
 use Rattle.erl_expressions.specs.Delimiters.{delimiter, after}

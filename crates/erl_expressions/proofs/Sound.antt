@@ -7,22 +7,22 @@ use Rattle.erl_scan.specs.declared.mark.Mark.{Mark}
 use Rattle.erl_scan.specs.declared.mark.Mark.TheVariants as marks
 use Rattle.erl_scan.specs.declared.word.Word.{Word}
 use Rattle.erl_scan.specs.declared.word.Word.TheVariants as words
-use Rattle.erl_syntax.specs.declared.leaf.Sign.{Sign}
-use Rattle.erl_syntax.specs.declared.leaf.Sign.TheVariants as signs
-use Rattle.erl_syntax.specs.declared.leaf.Leaf.{Leaf}
-use Rattle.erl_syntax.specs.declared.leaf.Leaf.TheVariants as leaves
-use Rattle.erl_syntax.specs.declared.leaf.Named.{Named}
-use Rattle.erl_syntax.specs.declared.role.Role.{Role}
-use Rattle.erl_syntax.specs.declared.shape.Infix.{Infix}
-use Rattle.erl_syntax.specs.declared.shape.Infix.TheVariants as infixes
-use Rattle.erl_syntax.specs.declared.shape.Prefix.TheVariants.{Negate, Not}
-use Rattle.erl_syntax.specs.declared.shape.Qualifier.{Qualifier}
-use Rattle.erl_syntax.specs.declared.shape.Qualifier.TheVariants as qualifier
-use Rattle.erl_syntax.specs.declared.shape.Shape.TheVariants as shapes
-use Rattle.erl_syntax.specs.Terminal.{Terminal, integer, atom, word, variable, string, mark}
-use Rattle.erl_syntax.specs.Tree.{Tree, leaf, node, none, more, tree_depth}
-use Rattle.erl_syntax.specs.Grammar.{level, level_of, left_level, right_level, has_operator, is_leaf, begins}
-use Rattle.erl_syntax.specs.Written.{written, leaf_written, strings_written, infix_terminal, qualified, signed}
+use Rattle.erl_ast.specs.declared.leaf.Sign.{Sign}
+use Rattle.erl_ast.specs.declared.leaf.Sign.TheVariants as signs
+use Rattle.erl_ast.specs.declared.leaf.Leaf.{Leaf}
+use Rattle.erl_ast.specs.declared.leaf.Leaf.TheVariants as leaves
+use Rattle.erl_ast.specs.declared.leaf.Named.{Named}
+use Rattle.erl_ast.specs.declared.role.Role.{Role}
+use Rattle.erl_ast.specs.declared.shape.Infix.{Infix}
+use Rattle.erl_ast.specs.declared.shape.Infix.TheVariants as infixes
+use Rattle.erl_ast.specs.declared.shape.Prefix.TheVariants.{Negate, Not}
+use Rattle.erl_ast.specs.declared.shape.Qualifier.{Qualifier}
+use Rattle.erl_ast.specs.declared.shape.Qualifier.TheVariants as qualifier
+use Rattle.erl_ast.specs.declared.shape.Shape.TheVariants as shapes
+use Rattle.erl_ast.specs.Terminal.{Terminal, integer, atom, word, variable, string, mark}
+use Rattle.erl_ast.specs.Tree.{Tree, leaf, node, none, more, tree_depth}
+use Rattle.erl_ast.specs.Grammar.{level, level_of, left_level, right_level, has_operator, is_leaf, begins}
+use Rattle.erl_ast.specs.Written.{written, leaf_written, strings_written, infix_terminal, qualified, signed}
 use Rattle.erl_expressions.specs.Leaves.{leaf_ahead, leaf_behind, number_ahead, module_ahead, strings_ahead, after_strings, call_ahead, colon_ahead, paren_ahead, infix_ahead, fitting, operator_ahead}
 use Rattle.erl_expressions.specs.Reading.{Found, Reader, and_then, behind_first, bracketed, remote, called, own_called, begun_by_mark, begun_by_word, construct, leaf_read, begun_by, begun, joined, climbed_by, climbed, ended_by, only_leaf, read}
 use Rattle.erl_expressions.specs.Readings.{BeginsWith}

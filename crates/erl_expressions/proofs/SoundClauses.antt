@@ -3,11 +3,11 @@ use Rattle.std.proofs.Common.{◌≡◌, ℕ, ◌≤◌, max, IsTrue, List, [], 
 use Rattle.std.proofs.lemmas.Option.{same_Some}
 use Rattle.erl_scan.specs.declared.mark.Mark.TheVariants as marks
 use Rattle.erl_scan.specs.declared.word.Word.TheVariants as words
-use Rattle.erl_syntax.specs.declared.role.Role.TheVariants.{Expression, Pattern, Test}
-use Rattle.erl_syntax.specs.Terminal.{Terminal, mark, word}
-use Rattle.erl_syntax.specs.Tree.{Tree, Trees, Guards, Clauses, none, more, no_guards, guard, no_clauses, clause, tree_count, trees_depth, guards_depth, clauses_depth}
-use Rattle.erl_syntax.specs.Grammar.{matches, operations, AreWell, AreWellGuards, AreWellClauses, has_clause}
-use Rattle.erl_syntax.specs.Written.{written, row_written, guards_written, other_guards_written, clauses_written, other_clauses_written}
+use Rattle.erl_ast.specs.declared.role.Role.TheVariants.{Expression, Pattern, Test}
+use Rattle.erl_ast.specs.Terminal.{Terminal, mark, word}
+use Rattle.erl_ast.specs.Tree.{Tree, Trees, Guards, Clauses, none, more, no_guards, guard, no_clauses, clause, tree_count, trees_depth, guards_depth, clauses_depth}
+use Rattle.erl_ast.specs.Grammar.{matches, operations, AreWell, AreWellGuards, AreWellClauses, has_clause}
+use Rattle.erl_ast.specs.Written.{written, row_written, guards_written, other_guards_written, clauses_written, other_clauses_written}
 use Rattle.erl_expressions.specs.declared.delimiter.Delimiter.TheVariants.{Semicolon, Arrow, When, End}
 use Rattle.erl_expressions.specs.Delimiters.{after}
 use Rattle.erl_expressions.specs.Reading.{Reader, Arm, and_then, separated, row, alternatives, guarded, guarded_by, arm, one_clause, clauses_to_end, with_guards, with_last_guard, with_clauses, with_last_clause, rest_of_guards, rest_of_clauses}

@@ -3,17 +3,17 @@ use Rattle.std.proofs.Common.{◌≡◌, ℕ, suc, ◌≤◌, max, Bool, true, f
 use Rattle.std.proofs.lemmas.Option.{none-some, same_Some}
 use Rattle.erl_scan.specs.declared.mark.Mark.TheVariants as marks
 use Rattle.erl_scan.specs.declared.word.Word.TheVariants as words
-use Rattle.erl_syntax.specs.declared.leaf.Named.{Named}
-use Rattle.erl_syntax.specs.declared.role.Role.{Role}
-use Rattle.erl_syntax.specs.declared.role.Role.TheVariants.{Expression, Pattern, Test}
-use Rattle.erl_syntax.specs.declared.shape.Prefix.{Prefix}
-use Rattle.erl_syntax.specs.declared.shape.Qualifier.{Qualifier}
-use Rattle.erl_syntax.specs.declared.shape.Shape.{Shape}
-use Rattle.erl_syntax.specs.declared.shape.Shape.TheVariants as shapes
-use Rattle.erl_syntax.specs.Terminal.{Terminal, mark, word}
-use Rattle.erl_syntax.specs.Tree.{Tree, Trees, node, case, none, more, tree_count, tree_depth, trees_depth}
-use Rattle.erl_syntax.specs.Grammar.{level, matches, in_brackets, first_level, other_level, has, begins, is_expression, is_pattern, IsWell, AreWell}
-use Rattle.erl_syntax.specs.Written.{written, row_written, others_written, parts_written, other_parts_written, before_part, opened, closed, prefix_terminal}
+use Rattle.erl_ast.specs.declared.leaf.Named.{Named}
+use Rattle.erl_ast.specs.declared.role.Role.{Role}
+use Rattle.erl_ast.specs.declared.role.Role.TheVariants.{Expression, Pattern, Test}
+use Rattle.erl_ast.specs.declared.shape.Prefix.{Prefix}
+use Rattle.erl_ast.specs.declared.shape.Qualifier.{Qualifier}
+use Rattle.erl_ast.specs.declared.shape.Shape.{Shape}
+use Rattle.erl_ast.specs.declared.shape.Shape.TheVariants as shapes
+use Rattle.erl_ast.specs.Terminal.{Terminal, mark, word}
+use Rattle.erl_ast.specs.Tree.{Tree, Trees, node, case, none, more, tree_count, tree_depth, trees_depth}
+use Rattle.erl_ast.specs.Grammar.{level, matches, in_brackets, first_level, other_level, has, begins, is_expression, is_pattern, IsWell, AreWell}
+use Rattle.erl_ast.specs.Written.{written, row_written, others_written, parts_written, other_parts_written, before_part, opened, closed, prefix_terminal}
 use Rattle.erl_expressions.specs.declared.delimiter.Delimiter.{Delimiter}
 use Rattle.erl_expressions.specs.declared.delimiter.Delimiter.TheVariants.{CloseParen, CloseBracket, Bar, Of}
 use Rattle.erl_expressions.specs.Delimiters.{delimiter, after}

@@ -2,11 +2,11 @@
 use Rattle.std.proofs.Common.{◌≡◌, ℕ, zero, suc, ◌≤◌, List, [], ◌∷◌, length, Option, Some, None, ap, subst, sym, ◌∙◌, refl, arith}
 use Rattle.std.proofs.lemmas.Option.{none-some, same_Some}
 use Rattle.erl_scan.specs.declared.mark.Mark.TheVariants as marks
-use Rattle.erl_syntax.specs.declared.role.Role.{Role}
-use Rattle.erl_syntax.specs.Terminal.{Terminal, mark}
-use Rattle.erl_syntax.specs.Tree.{Tree, Trees, none, more, tree_count, trees_depth}
-use Rattle.erl_syntax.specs.Grammar.{AreWell}
-use Rattle.erl_syntax.specs.Written.{written, row_written, others_written}
+use Rattle.erl_ast.specs.declared.role.Role.{Role}
+use Rattle.erl_ast.specs.Terminal.{Terminal, mark}
+use Rattle.erl_ast.specs.Tree.{Tree, Trees, none, more, tree_count, trees_depth}
+use Rattle.erl_ast.specs.Grammar.{AreWell}
+use Rattle.erl_ast.specs.Written.{written, row_written, others_written}
 use Rattle.erl_expressions.specs.declared.delimiter.Delimiter.{Delimiter}
 use Rattle.erl_expressions.specs.declared.delimiter.Delimiter.TheVariants.{Comma}
 use Rattle.erl_expressions.specs.Delimiters.{delimiter, after}

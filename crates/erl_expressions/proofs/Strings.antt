@@ -1,7 +1,7 @@
 -- Strings behind one another.
 use Rattle.std.proofs.Common.{◌≡◌, ℕ, suc, ◌<◌, List, [], ◌∷◌, ◌++◌, length, Some, None, ap, sym, ◌∙◌, refl, arith, rules, append_assoc}
 use Rattle.erl_scan.specs.declared.token.Spot.{Spot}
-use Rattle.erl_syntax.specs.Terminal.{Terminal, integer, float, atom, word, variable, string, mark, dot, terminals}
+use Rattle.erl_ast.specs.Terminal.{Terminal, integer, float, atom, word, variable, string, mark, dot, terminals}
 use Rattle.erl_expressions.specs.Leaves.{string_ahead, strings_ahead, after_strings}
 
 pub one_string : (ts rest : List Terminal) (s : List ℕ) → string_ahead ts ≡ Some (s, rest) → ts ≡ string s ∷ rest

@@ -1,12 +1,12 @@
 -- Things in a row: one more of them, the last, and none.
 use Rattle.std.proofs.Common.{◌≡◌, ℕ, zero, suc, ◌+◌, ◌-◌, ◌<◌, ◌≤◌, List, [], ◌∷◌, length, Option, Some, None, ap, ◌∙◌, ◌≢◌, refl, arith}
 use Rattle.erl_scan.specs.declared.token.Spot.{Spot}
-use Rattle.erl_syntax.specs.declared.role.Role.TheVariants.{Test}
-use Rattle.erl_syntax.specs.Grammar.{operations}
-use Rattle.erl_syntax.specs.Terminal.{Terminal, terminals}
+use Rattle.erl_ast.specs.declared.role.Role.TheVariants.{Test}
+use Rattle.erl_ast.specs.Grammar.{operations}
+use Rattle.erl_ast.specs.Terminal.{Terminal, terminals}
 use Rattle.erl_expressions.proofs.Strings.{terminals_length}
 use Rattle.erl_expressions.specs.Reading.{Reader, row, alternatives, clauses_to_end, one_clause}
-use Rattle.erl_syntax.specs.Tree.{Tree, Trees, Guards, Clauses, none, no_guards, no_clauses}
+use Rattle.erl_ast.specs.Tree.{Tree, Trees, Guards, Clauses, none, no_guards, no_clauses}
 use Rattle.erl_expressions.specs.declared.delimiter.Delimiter.{Delimiter}
 use Rattle.erl_expressions.specs.declared.delimiter.Delimiter.TheVariants.{Comma, Semicolon}
 use Rattle.erl_expressions.specs.Delimiters.{after}

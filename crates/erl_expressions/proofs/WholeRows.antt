@@ -1,16 +1,16 @@
 -- What is written in a row is read as that row.
 use Rattle.std.proofs.Common.{◌≡◌, ℕ, zero, suc, ◌≤◌, IsTrue, List, [], ◌∷◌, length, Some, None, ap, sym, ◌∙◌, refl, arith, true≢false}
-use Rattle.erl_syntax.specs.declared.leaf.Sign.TheVariants as signs
-use Rattle.erl_syntax.specs.declared.leaf.Leaf.{Leaf}
-use Rattle.erl_syntax.specs.declared.leaf.Leaf.TheVariants as leaves
-use Rattle.erl_syntax.specs.declared.role.Role.{Role}
-use Rattle.erl_syntax.specs.declared.shape.Prefix.TheVariants.{Negate, Not}
-use Rattle.erl_syntax.specs.declared.shape.Qualifier.TheVariants as qualifier
-use Rattle.erl_syntax.specs.declared.shape.Shape.TheVariants as shapes
-use Rattle.erl_syntax.specs.Terminal.{Terminal}
-use Rattle.erl_syntax.specs.Tree.{Tree, Trees, leaf, node, case, none, more, tree_count, tree_depth, trees_depth}
-use Rattle.erl_syntax.specs.Grammar.{level, is_leaf, has_operator, IsWell, AreWell}
-use Rattle.erl_syntax.specs.Written.{written, leaf_written, row_written, others_written, other_parts_written}
+use Rattle.erl_ast.specs.declared.leaf.Sign.TheVariants as signs
+use Rattle.erl_ast.specs.declared.leaf.Leaf.{Leaf}
+use Rattle.erl_ast.specs.declared.leaf.Leaf.TheVariants as leaves
+use Rattle.erl_ast.specs.declared.role.Role.{Role}
+use Rattle.erl_ast.specs.declared.shape.Prefix.TheVariants.{Negate, Not}
+use Rattle.erl_ast.specs.declared.shape.Qualifier.TheVariants as qualifier
+use Rattle.erl_ast.specs.declared.shape.Shape.TheVariants as shapes
+use Rattle.erl_ast.specs.Terminal.{Terminal}
+use Rattle.erl_ast.specs.Tree.{Tree, Trees, leaf, node, case, none, more, tree_count, tree_depth, trees_depth}
+use Rattle.erl_ast.specs.Grammar.{level, is_leaf, has_operator, IsWell, AreWell}
+use Rattle.erl_ast.specs.Written.{written, leaf_written, row_written, others_written, other_parts_written}
 use Rattle.erl_expressions.specs.declared.delimiter.Delimiter.{Delimiter}
 use Rattle.erl_expressions.specs.declared.delimiter.Delimiter.TheVariants as delimiters
 use Rattle.erl_expressions.specs.declared.delimiter.Delimiter.TheVariants.{Comma}

@@ -2,7 +2,7 @@
 use Rattle.std.specs.Prelude.{Bool, true, false, if◌then◌else◌, List, [], ◌∷◌, Option, None, Some}
 use Rattle.erl_scan.specs.declared.mark.Mark.TheVariants as marks
 use Rattle.erl_scan.specs.declared.word.Word.TheVariants as words
-use Rattle.erl_syntax.specs.Terminal.{Terminal, mark, word}
+use Rattle.erl_ast.specs.Terminal.{Terminal, mark, word}
 use Rattle.erl_expressions.specs.declared.delimiter.Delimiter.{Delimiter}
 use Rattle.erl_expressions.specs.declared.delimiter.Delimiter.TheVariants as delimiters
 

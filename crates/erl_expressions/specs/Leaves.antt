@@ -5,15 +5,15 @@ use Rattle.erl_scan.specs.declared.mark.Mark.{Mark}
 use Rattle.erl_scan.specs.declared.mark.Mark.TheVariants as marks
 use Rattle.erl_scan.specs.declared.word.Word.{Word}
 use Rattle.erl_scan.specs.declared.word.Word.TheVariants as words
-use Rattle.erl_syntax.specs.declared.leaf.Sign.{Sign}
-use Rattle.erl_syntax.specs.declared.leaf.Sign.TheVariants as signs
-use Rattle.erl_syntax.specs.declared.leaf.Leaf.{Leaf}
-use Rattle.erl_syntax.specs.declared.leaf.Leaf.TheVariants as leaves
-use Rattle.erl_syntax.specs.declared.role.Role.{Role}
-use Rattle.erl_syntax.specs.declared.shape.Infix.{Infix}
-use Rattle.erl_syntax.specs.declared.shape.Infix.TheVariants as infixes
-use Rattle.erl_syntax.specs.Terminal.{Terminal, integer, atom, variable, string, mark, word}
-use Rattle.erl_syntax.specs.Grammar.{level_of, left_level, has_operator}
+use Rattle.erl_ast.specs.declared.leaf.Sign.{Sign}
+use Rattle.erl_ast.specs.declared.leaf.Sign.TheVariants as signs
+use Rattle.erl_ast.specs.declared.leaf.Leaf.{Leaf}
+use Rattle.erl_ast.specs.declared.leaf.Leaf.TheVariants as leaves
+use Rattle.erl_ast.specs.declared.role.Role.{Role}
+use Rattle.erl_ast.specs.declared.shape.Infix.{Infix}
+use Rattle.erl_ast.specs.declared.shape.Infix.TheVariants as infixes
+use Rattle.erl_ast.specs.Terminal.{Terminal, integer, atom, variable, string, mark, word}
+use Rattle.erl_ast.specs.Grammar.{level_of, left_level, has_operator}
 
 -- behind the name of a function in a call stands `(`, behind a module's name `:`
 

@@ -7,23 +7,23 @@ use Rattle.erl_scan.specs.declared.mark.Mark.{Mark}
 use Rattle.erl_scan.specs.declared.mark.Mark.TheVariants as marks
 use Rattle.erl_scan.specs.declared.word.Word.{Word}
 use Rattle.erl_scan.specs.declared.word.Word.TheVariants as words
-use Rattle.erl_syntax.specs.declared.leaf.Leaf.{Leaf}
-use Rattle.erl_syntax.specs.declared.leaf.Named.{Named}
-use Rattle.erl_syntax.specs.declared.role.Role.{Role}
-use Rattle.erl_syntax.specs.declared.role.Role.TheVariants.{Expression, Pattern, Test}
-use Rattle.erl_syntax.specs.declared.shape.Infix.{Infix}
-use Rattle.erl_syntax.specs.declared.shape.Prefix.{Prefix}
-use Rattle.erl_syntax.specs.declared.shape.Prefix.TheVariants.{Negate, Not}
-use Rattle.erl_syntax.specs.declared.shape.Qualifier.{Qualifier}
-use Rattle.erl_syntax.specs.declared.shape.Qualifier.TheVariants as qualifier
-use Rattle.erl_syntax.specs.declared.shape.Shape.{Shape}
-use Rattle.erl_syntax.specs.declared.shape.Shape.TheVariants as shapes
-use Rattle.erl_syntax.specs.Functions.{guard_arity}
-use Rattle.erl_syntax.specs.Terminal.{Terminal, atom, variable, mark, word}
-use Rattle.erl_syntax.specs.Tree.{Tree, Trees, Guards, Clauses, leaf, node, case, none, more, no_guards, guard, no_clauses, clause}
-use Rattle.erl_syntax.specs.Tree.{tree_count, tree_depth}
-use Rattle.erl_syntax.specs.Grammar.{matches, operations, level, right_level, in_brackets, first_level, is_leaf, has}
-use Rattle.erl_syntax.specs.Grammar.{begins, is_expression, is_pattern, is_erlang}
+use Rattle.erl_ast.specs.declared.leaf.Leaf.{Leaf}
+use Rattle.erl_ast.specs.declared.leaf.Named.{Named}
+use Rattle.erl_ast.specs.declared.role.Role.{Role}
+use Rattle.erl_ast.specs.declared.role.Role.TheVariants.{Expression, Pattern, Test}
+use Rattle.erl_ast.specs.declared.shape.Infix.{Infix}
+use Rattle.erl_ast.specs.declared.shape.Prefix.{Prefix}
+use Rattle.erl_ast.specs.declared.shape.Prefix.TheVariants.{Negate, Not}
+use Rattle.erl_ast.specs.declared.shape.Qualifier.{Qualifier}
+use Rattle.erl_ast.specs.declared.shape.Qualifier.TheVariants as qualifier
+use Rattle.erl_ast.specs.declared.shape.Shape.{Shape}
+use Rattle.erl_ast.specs.declared.shape.Shape.TheVariants as shapes
+use Rattle.erl_ast.specs.Functions.{guard_arity}
+use Rattle.erl_ast.specs.Terminal.{Terminal, atom, variable, mark, word}
+use Rattle.erl_ast.specs.Tree.{Tree, Trees, Guards, Clauses, leaf, node, case, none, more, no_guards, guard, no_clauses, clause}
+use Rattle.erl_ast.specs.Tree.{tree_count, tree_depth}
+use Rattle.erl_ast.specs.Grammar.{matches, operations, level, right_level, in_brackets, first_level, is_leaf, has}
+use Rattle.erl_ast.specs.Grammar.{begins, is_expression, is_pattern, is_erlang}
 use Rattle.erl_expressions.specs.declared.delimiter.Delimiter.{Delimiter}
 use Rattle.erl_expressions.specs.declared.delimiter.Delimiter.TheVariants.{Comma, Semicolon, Bar, Arrow, CloseParen, CloseBrace}
 use Rattle.erl_expressions.specs.declared.delimiter.Delimiter.TheVariants.{CloseBracket, When, Of, End}
@@ -44,7 +44,8 @@ and_then (Some x) f = f x
 
 -- Things in a row, with a delimiter between them
 
-abbrev pub other_things : {A : Type 0} → A × List Terminal → Option (List Terminal) → (List Terminal → Found (List A)) → Found (List A)
+abbrev pub other_things : {A : Type 0} → A × List Terminal → Option (List Terminal) → (List Terminal → Found (List A)) →
+    Found (List A)
 other_things f None others = Some (f.0 ∷ [], f.1)
 other_things f (Some ts) others = and_then (others ts) (λ g. Some (f.0 ∷ g.0, g.1))
 

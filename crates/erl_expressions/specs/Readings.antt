@@ -1,13 +1,13 @@
 -- What it is that tokens begin with a tree.
 use Rattle.std.specs.Prelude.{◌≡◌, ℕ, ◌≤◌, nat_lt, Bool, true, false, IsTrue, List, ◌∷◌, Option, None, Some}
 use Rattle.erl_scan.specs.declared.mark.Mark.TheVariants as marks
-use Rattle.erl_syntax.specs.declared.role.Role.{Role}
-use Rattle.erl_syntax.specs.declared.role.Role.TheVariants.{Expression, Pattern, Test}
-use Rattle.erl_syntax.specs.declared.shape.Infix.{Infix}
-use Rattle.erl_syntax.specs.Grammar.{level, level_of, matches, operations, IsWell}
-use Rattle.erl_syntax.specs.Terminal.{Terminal, string, mark}
-use Rattle.erl_syntax.specs.Tree.{Tree, tree_depth}
-use Rattle.erl_syntax.specs.Written.{written}
+use Rattle.erl_ast.specs.declared.role.Role.{Role}
+use Rattle.erl_ast.specs.declared.role.Role.TheVariants.{Expression, Pattern, Test}
+use Rattle.erl_ast.specs.declared.shape.Infix.{Infix}
+use Rattle.erl_ast.specs.Grammar.{level, level_of, matches, operations, IsWell}
+use Rattle.erl_ast.specs.Terminal.{Terminal, string, mark}
+use Rattle.erl_ast.specs.Tree.{Tree, tree_depth}
+use Rattle.erl_ast.specs.Written.{written}
 use Rattle.erl_expressions.specs.Leaves.{infix_ahead}
 
 -- Tokens begin with a tree of a role, of at most a level, that is nested at most so many levels, and so much is left.

@@ -1,13 +1,13 @@
 // Trees that know how deep they are nested.
 ghost use Rattle.std.specs.Prelude.{◌≡◌, nat_lt, IfOk};
-ghost use Rattle.erl_syntax.specs.Tree.{leaf, node, case, none, more, tree_count, tree_depth, no_guards, no_clauses};
-ghost use Rattle.erl_syntax.specs.TreeForms.{tree as tree_of};
+ghost use Rattle.erl_ast.specs.Tree.{leaf, node, case, none, more, tree_count, tree_depth, no_guards, no_clauses};
+ghost use Rattle.erl_ast.specs.TreeForms.{tree as tree_of};
 ghost use Rattle.erl_expressions.specs.Reading.{with_last, with_last_guard, with_last_clause};
-ghost use Rattle.erl_syntax.specs.Grammar.{begins as begins_in};
+ghost use Rattle.erl_ast.specs.Grammar.{begins as begins_in};
 
 use crate::fitted::fitted;
 use crate::patterns::may_begin;
-use erl_syntax::{ClauseTree, ClauseTrees, GuardTrees, Leaf, Shape, SyntaxTree, SyntaxTrees};
+use erl_ast::{ClauseTree, ClauseTrees, GuardTrees, Leaf, Shape, SyntaxTree, SyntaxTrees};
 use std::alloc::{AllocError, Global};
 use std::marker::Model;
 
@@ -22,14 +22,14 @@ pub(crate) struct Deep {
 impl Model for Deep {
     ghost use Rattle.std.specs.Prelude.{◌≡◌, ◌-◌, ◌^◌, min};
     ghost use Rattle.std.specs.Coded.{codes};
-    ghost use Rattle.erl_syntax.specs.Tree.{Tree, tree_depth};
-    ghost use Rattle.erl_syntax.specs.TreeCode.{tree_coded};
+    ghost use Rattle.erl_ast.specs.Tree.{Tree, tree_depth};
+    ghost use Rattle.erl_ast.specs.TreeCode.{tree_coded};
 
     ghost Value = { Tree };
 
     ghost coded = { tree_coded (Prim.hlevel codes) (Prim.hlevel codes) };
 
-    ghost use Rattle.erl_syntax.specs.TreeForms.{tree as tree_of};
+    ghost use Rattle.erl_ast.specs.TreeForms.{tree as tree_of};
 
     ghost view = { λ a. tree_of a.tree };
 
@@ -47,14 +47,14 @@ pub(crate) struct DeepRow {
 impl Model for DeepRow {
     ghost use Rattle.std.specs.Prelude.{◌≡◌, ◌-◌, ◌^◌, min};
     ghost use Rattle.std.specs.Coded.{codes};
-    ghost use Rattle.erl_syntax.specs.Tree.{Trees, trees_depth};
-    ghost use Rattle.erl_syntax.specs.TreeCode.{trees_coded};
+    ghost use Rattle.erl_ast.specs.Tree.{Trees, trees_depth};
+    ghost use Rattle.erl_ast.specs.TreeCode.{trees_coded};
 
     ghost Value = { Trees };
 
     ghost coded = { trees_coded (Prim.hlevel codes) (Prim.hlevel codes) };
 
-    ghost use Rattle.erl_syntax.specs.TreeForms.{trees};
+    ghost use Rattle.erl_ast.specs.TreeForms.{trees};
 
     ghost view = { λ a. trees a.items.items };
 
@@ -72,14 +72,14 @@ pub(crate) struct DeepGuards {
 impl Model for DeepGuards {
     ghost use Rattle.std.specs.Prelude.{◌≡◌, ◌-◌, ◌^◌, min};
     ghost use Rattle.std.specs.Coded.{codes};
-    ghost use Rattle.erl_syntax.specs.Tree.{Guards, guards_depth};
-    ghost use Rattle.erl_syntax.specs.TreeCode.{guards_coded};
+    ghost use Rattle.erl_ast.specs.Tree.{Guards, guards_depth};
+    ghost use Rattle.erl_ast.specs.TreeCode.{guards_coded};
 
     ghost Value = { Guards };
 
     ghost coded = { guards_coded (Prim.hlevel codes) (Prim.hlevel codes) };
 
-    ghost use Rattle.erl_syntax.specs.TreeForms.{guards};
+    ghost use Rattle.erl_ast.specs.TreeForms.{guards};
 
     ghost view = { λ a. guards a.alternatives.items };
 
@@ -111,14 +111,14 @@ pub(crate) struct DeepClauses {
 impl Model for DeepClauses {
     ghost use Rattle.std.specs.Prelude.{◌≡◌, ◌-◌, ◌^◌, min};
     ghost use Rattle.std.specs.Coded.{codes};
-    ghost use Rattle.erl_syntax.specs.Tree.{Clauses, clauses_depth};
-    ghost use Rattle.erl_syntax.specs.TreeCode.{clauses_coded};
+    ghost use Rattle.erl_ast.specs.Tree.{Clauses, clauses_depth};
+    ghost use Rattle.erl_ast.specs.TreeCode.{clauses_coded};
 
     ghost Value = { Clauses };
 
     ghost coded = { clauses_coded (Prim.hlevel codes) (Prim.hlevel codes) };
 
-    ghost use Rattle.erl_syntax.specs.TreeForms.{clauses as clauses_of};
+    ghost use Rattle.erl_ast.specs.TreeForms.{clauses as clauses_of};
 
     ghost view = { λ a. clauses_of a.clauses.items };
 

@@ -2,7 +2,7 @@
 ghost use Rattle.std.specs.Prelude.{◌≡◌, ℕ, false, IfSome};
 ghost use Rattle.std.specs.Bool.{OnTrue};
 ghost use Rattle.std.specs.Option.{option_map};
-ghost use Rattle.erl_syntax.specs.Terminal.{terminal_at, terminals};
+ghost use Rattle.erl_ast.specs.Terminal.{terminal_at, terminals};
 ghost use Rattle.erl_expressions.specs.Refusing.{Leaves, ends_form};
 ghost use Rattle.erl_expressions.specs.Delimiters.{is_delimiter as is_delimiter_in, after as after_in};
 

@@ -2,14 +2,14 @@
 ghost use Rattle.std.specs.Prelude.{◌≡◌, IfOk, IfSome, MatchOption, Some, None, false, codes};
 ghost use Rattle.std.specs.Bool.{OnTrue};
 ghost use Rattle.std.specs.Str.{bytes_eq};
-ghost use Rattle.erl_syntax.specs.Terminal.{terminals};
+ghost use Rattle.erl_ast.specs.Terminal.{terminals};
 ghost use Rattle.erl_expressions.specs.Leaves.{leaf_ahead as leaf_in, leaf_behind as leaf_behind_in, number_ahead as number_in};
 ghost use Rattle.erl_expressions.specs.Leaves.{module_ahead as module_in, call_ahead as call_in, colon_ahead as colon_in, paren_ahead as paren_in, atom_ahead as atom_in};
 ghost use Rattle.erl_expressions.specs.Leaves.{joined_strings as joined_in, string_ahead as string_in};
 ghost use Rattle.erl_expressions.specs.Refusing.{Leaves, begins_with_dot};
 
+use erl_ast::{Leaf, Named, Sign};
 use erl_scan::{Mark, Name, SharedText, Spot, Text, Token};
-use erl_syntax::{Leaf, Named, Sign};
 use erl_term::Atom;
 use std::alloc::{AllocError, Global};
 use values::Row;

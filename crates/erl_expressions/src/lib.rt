@@ -19,7 +19,7 @@
 //!   group in one way alone.
 //! - [`after`] gives the tokens behind a delimiter exactly where they begin with it.
 //!
-//! Grammar and writing are those of [`erl_syntax`], which know no reading. `specs/Reading.antt` is the reader as a function of
+//! Grammar and writing are those of [`erl_ast`], which know no reading. `specs/Reading.antt` is the reader as a function of
 //! tokens, by which the proof goes; no contract outside of this crate is about it.
 //!
 //! # What no contract says

@@ -1,14 +1,14 @@
 // The operator that tokens begin with.
 ghost use Rattle.std.specs.Prelude.{◌≡◌, false, OnSome};
-ghost use Rattle.erl_syntax.specs.Terminal.{terminals};
-ghost use Rattle.erl_syntax.specs.Grammar.{level_of as level_in, left_level as left_in, right_level as right_in};
-ghost use Rattle.erl_syntax.specs.Grammar.{has_operator as has_in};
+ghost use Rattle.erl_ast.specs.Terminal.{terminals};
+ghost use Rattle.erl_ast.specs.Grammar.{level_of as level_in, left_level as left_in, right_level as right_in};
+ghost use Rattle.erl_ast.specs.Grammar.{has_operator as has_in};
 ghost use Rattle.erl_expressions.specs.Leaves.{infix_mark as mark_in, infix_word as word_in, infix_ahead as ahead_in};
 ghost use Rattle.erl_expressions.specs.Leaves.{operator_ahead as operator_in};
 ghost use Rattle.erl_expressions.specs.Refusing.{begins_with_dot};
 
+use erl_ast::{Infix, Role};
 use erl_scan::{Mark, Spot, Token, Word};
-use erl_syntax::{Infix, Role};
 
 /// The greatest level of what has no match in it but in brackets.
 pub(crate) const OPERATIONS: u32 = 8;

@@ -1,9 +1,9 @@
 // What the forms of a module are made of: patterns in a row, guard sequences, bodies, clauses.
 ghost use Rattle.std.specs.Prelude.{◌≡◌, IfOk, MatchResult, Some, None};
-ghost use Rattle.erl_syntax.specs.Grammar.{matches as matches_in};
-ghost use Rattle.erl_syntax.specs.Terminal.{terminals};
-ghost use Rattle.erl_syntax.specs.TreeForms.{tree as tree_of};
-ghost use Rattle.erl_syntax.specs.declared.role.Role.TheVariants.{Expression as an_expression, Pattern as a_pattern};
+ghost use Rattle.erl_ast.specs.Grammar.{matches as matches_in};
+ghost use Rattle.erl_ast.specs.Terminal.{terminals};
+ghost use Rattle.erl_ast.specs.TreeForms.{tree as tree_of};
+ghost use Rattle.erl_ast.specs.declared.role.Role.TheVariants.{Expression as an_expression, Pattern as a_pattern};
 ghost use Rattle.erl_expressions.specs.Reading.{read as read_in, parts as parts_in, guarded as guarded_in, row as row_in};
 ghost use Rattle.erl_expressions.specs.Reading.{clauses_to_end as clauses_in};
 ghost use Rattle.erl_expressions.specs.Refusing.{Leaves, IsToldOf};
@@ -15,8 +15,8 @@ use crate::reader::brackets::{parts, row};
 use crate::reader::clauses::{clauses_to_end, guarded};
 use crate::reader::{Reading, read};
 use crate::refusal::Choice;
+use erl_ast::{ClauseTrees, GuardTrees, Role, SyntaxTree, SyntaxTrees};
 use erl_scan::Spot;
-use erl_syntax::{ClauseTrees, GuardTrees, Role, SyntaxTree, SyntaxTrees};
 use std::alloc::Global;
 
 /// Reads patterns in a row, which may be none, up to a closing parenthesis.

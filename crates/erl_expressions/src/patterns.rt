@@ -1,12 +1,12 @@
 // What may stand left of `=`, and behind an operator.
 ghost use Rattle.std.specs.Prelude.{◌≡◌, ◌&&◌};
-ghost use Rattle.erl_syntax.specs.Grammar.{fits_pattern as fits_in, fit_pattern as fit_in, makes_pattern as makes_in, begins as begins_in};
-ghost use Rattle.erl_syntax.specs.Grammar.{is_unsigned as unsigned_in};
-ghost use Rattle.erl_syntax.specs.Tree.{Trees, more, none};
-ghost use Rattle.erl_syntax.specs.TreeForms.{tree as tree_of, trees as trees_of};
-ghost use Rattle.erl_syntax.specs.declared.shape.Shape.TheVariants.{Infix as infix_of};
+ghost use Rattle.erl_ast.specs.Grammar.{fits_pattern as fits_in, fit_pattern as fit_in, makes_pattern as makes_in, begins as begins_in};
+ghost use Rattle.erl_ast.specs.Grammar.{is_unsigned as unsigned_in};
+ghost use Rattle.erl_ast.specs.Tree.{Trees, more, none};
+ghost use Rattle.erl_ast.specs.TreeForms.{tree as tree_of, trees as trees_of};
+ghost use Rattle.erl_ast.specs.declared.shape.Shape.TheVariants.{Infix as infix_of};
 
-use erl_syntax::{Infix, Leaf, Prefix, Shape, Sign, SyntaxTree};
+use erl_ast::{Infix, Leaf, Prefix, Shape, Sign, SyntaxTree};
 
 /// Whether a tree may stand left of an operator, its level aside: left of `=` what is a pattern.
 pub(crate) fn may_be_left_of(op: Infix, left: &SyntaxTree) -> bool

@@ -1,6 +1,6 @@
 // Expressions, patterns and tests of guards, read from tokens.
 ghost use Rattle.std.specs.Prelude.{◌≡◌, IfOk, MatchResult, Some, None};
-ghost use Rattle.erl_syntax.specs.Terminal.{terminals};
+ghost use Rattle.erl_ast.specs.Terminal.{terminals};
 ghost use Rattle.erl_expressions.specs.Reading.{read as read_in};
 ghost use Rattle.erl_expressions.specs.Refusing.{Leaves, IsToldOf};
 
@@ -10,8 +10,8 @@ mod operands;
 
 use crate::deep::Deep;
 use crate::refusal::Refusal;
+use erl_ast::Role;
 use erl_scan::Spot;
-use erl_syntax::Role;
 use std::alloc::{AllocError, Global};
 
 /// What was read and the tokens behind it, or why the tokens begin with no such thing; or memory was refused.

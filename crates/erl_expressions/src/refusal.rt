@@ -2,8 +2,8 @@
 ghost use Rattle.std.specs.Prelude.{◌≡◌, ◌≤◌, length};
 ghost use Rattle.erl_expressions.specs.Refusing.{IsToldOf, Leaves};
 
+use erl_ast::{Infix, Prefix, Role, Shape, SyntaxTree};
 use erl_scan::{Mark, Spot, Token, Word};
-use erl_syntax::{Infix, Prefix, Role, Shape, SyntaxTree};
 
 /// What clauses belong to.
 #[derive(Clone, Copy, PartialEq, Eq)]

@@ -1,15 +1,15 @@
 // Reading one tree, and the law that it is the only one.
 ghost use Rattle.std.specs.Prelude.{◌≡◌, ℕ, ⊤, List, IfOk, MatchResult};
-ghost use Rattle.erl_syntax.specs.Terminal.{Terminal, terminals};
-ghost use Rattle.erl_syntax.specs.Tree.{Tree};
-ghost use Rattle.erl_syntax.specs.TreeForms.{tree as tree_of};
+ghost use Rattle.erl_ast.specs.Terminal.{Terminal, terminals};
+ghost use Rattle.erl_ast.specs.Tree.{Tree};
+ghost use Rattle.erl_ast.specs.TreeForms.{tree as tree_of};
 ghost use Rattle.erl_expressions.specs.Refusing.{Leaves, IsToldOf};
 ghost use Rattle.erl_expressions.specs.Readings.{BeginsWith, Stops, greatest as greatest_in, OneTree};
 
 use crate::operators::{MATCHES, OPERATIONS};
 use crate::reader::{Reading, read};
+use erl_ast::{Role, SyntaxTree};
 use erl_scan::Spot;
-use erl_syntax::{Role, SyntaxTree};
 use std::alloc::Global;
 
 /// Reads the expression, pattern or test of a guard that tokens begin with, nested at most so many levels.

@@ -1,12 +1,12 @@
 -- Lemmas on rows of trees: none of their items is higher than the row, and what a row gives item by item.
 use Rattle.std.proofs.Common.{◌≡◌, ℕ, ◌+◌, ◌<◌, ◌≤◌, max, List, [], ◌∷◌, ◌++◌, length, get_or, take, Option, fold, zero, suc, sym, ap, ◌∙◌, subst, refl, arith}
 use Rattle.std.proofs.lemmas.List.{take_more}
-use Rattle.erl_syntax.specs.declared.tree.SyntaxTree.{SyntaxTree}
-use Rattle.erl_syntax.specs.declared.tree.ClauseTree.{ClauseTree}
-use Rattle.erl_syntax.specs.declared.form.FormTree.{FormTree}
-use Rattle.erl_syntax.specs.Tree.{Trees, tree_count}
-use Rattle.erl_syntax.specs.TreeForms.{tree, trees, guards, clauses}
-use Rattle.erl_syntax.specs.Heights.{tree_height, trees_height, guards_height, clauses_height}
+use Rattle.erl_ast.specs.declared.tree.SyntaxTree.{SyntaxTree}
+use Rattle.erl_ast.specs.declared.tree.ClauseTree.{ClauseTree}
+use Rattle.erl_ast.specs.declared.form.FormTree.{FormTree}
+use Rattle.erl_ast.specs.Tree.{Trees, tree_count}
+use Rattle.erl_ast.specs.TreeForms.{tree, trees, guards, clauses}
+use Rattle.erl_ast.specs.Heights.{tree_height, trees_height, guards_height, clauses_height}
 use Rattle.erl_lint.specs.declared.fault.StaticFault.{StaticFault}
 use Rattle.erl_lint.specs.First.{sooner, soonest}
 use Rattle.erl_lint.specs.Keys.{Key, heading_of, heading_faults, with_form, with_forms, duplicates}

@@ -4,12 +4,12 @@ use Rattle.std.proofs.Math.Seq.{take-append_seam}
 use Rattle.std.specs.List.{list_any}
 use Rattle.std.specs.Str.{bytes_eq}
 use Rattle.indexmap.specs.IndexSet.{insert_key}
-use Rattle.erl_syntax.specs.declared.tree.SyntaxTree.{SyntaxTree}
-use Rattle.erl_syntax.specs.declared.tree.ClauseTree.{ClauseTree}
-use Rattle.erl_syntax.specs.declared.form.Exported.{Exported}
-use Rattle.erl_syntax.specs.declared.form.FunctionClause.{FunctionClause}
-use Rattle.erl_syntax.specs.Tree.{Trees}
-use Rattle.erl_syntax.specs.TreeForms.{tree, trees, guards, clauses}
+use Rattle.erl_ast.specs.declared.tree.SyntaxTree.{SyntaxTree}
+use Rattle.erl_ast.specs.declared.tree.ClauseTree.{ClauseTree}
+use Rattle.erl_ast.specs.declared.form.Exported.{Exported}
+use Rattle.erl_ast.specs.declared.form.FunctionClause.{FunctionClause}
+use Rattle.erl_ast.specs.Tree.{Trees}
+use Rattle.erl_ast.specs.TreeForms.{tree, trees, guards, clauses}
 use Rattle.erl_lint.specs.declared.fault.StaticFault.{StaticFault}
 use Rattle.erl_lint.specs.First.{sooner, soonest}
 use Rattle.erl_lint.specs.Keys.{Key}

@@ -1,19 +1,19 @@
 -- The static faults of a module beside functions that are defined twice: variables that are not bound where they are used,
 -- and local calls and exports of functions that there are not (Erlang Reference Manual, Expressions; Modules).
 use Rattle.std.specs.Prelude.{ℕ, ◌&&◌, ◌||◌, not, if◌then◌else◌, List, [], ◌∷◌, ◌++◌}
-use Rattle.erl_syntax.specs.declared.leaf.Leaf.{Leaf}
-use Rattle.erl_syntax.specs.declared.leaf.Leaf.TheVariants as leaves
-use Rattle.erl_syntax.specs.declared.shape.Shape.{Shape}
-use Rattle.erl_syntax.specs.declared.shape.Shape.TheVariants as shapes
-use Rattle.erl_syntax.specs.declared.tree.ClauseTree.{ClauseTree}
-use Rattle.erl_syntax.specs.declared.form.Exported.{Exported}
-use Rattle.erl_syntax.specs.declared.form.FunctionClause.{FunctionClause}
-use Rattle.erl_syntax.specs.declared.form.LoopTree.{LoopTree}
-use Rattle.erl_syntax.specs.declared.form.FormTree.{FormTree}
-use Rattle.erl_syntax.specs.declared.form.FormTree.TheVariants as forms
-use Rattle.erl_syntax.specs.declared.form.ModuleTree.{ModuleTree}
-use Rattle.erl_syntax.specs.Tree.{Tree, Trees, Guards, Clauses, tree_count}
-use Rattle.erl_syntax.specs.Tree.{leaf, node, case, none, more, no_guards, guard, no_clauses, clause}
+use Rattle.erl_ast.specs.declared.leaf.Leaf.{Leaf}
+use Rattle.erl_ast.specs.declared.leaf.Leaf.TheVariants as leaves
+use Rattle.erl_ast.specs.declared.shape.Shape.{Shape}
+use Rattle.erl_ast.specs.declared.shape.Shape.TheVariants as shapes
+use Rattle.erl_ast.specs.declared.tree.ClauseTree.{ClauseTree}
+use Rattle.erl_ast.specs.declared.form.Exported.{Exported}
+use Rattle.erl_ast.specs.declared.form.FunctionClause.{FunctionClause}
+use Rattle.erl_ast.specs.declared.form.LoopTree.{LoopTree}
+use Rattle.erl_ast.specs.declared.form.FormTree.{FormTree}
+use Rattle.erl_ast.specs.declared.form.FormTree.TheVariants as forms
+use Rattle.erl_ast.specs.declared.form.ModuleTree.{ModuleTree}
+use Rattle.erl_ast.specs.Tree.{Tree, Trees, Guards, Clauses, tree_count}
+use Rattle.erl_ast.specs.Tree.{leaf, node, case, none, more, no_guards, guard, no_clauses, clause}
 use Rattle.erl_lint.specs.declared.fault.StaticFault.{StaticFault}
 use Rattle.erl_lint.specs.declared.fault.StaticFault.TheVariants.{UnboundVariable, UndefinedLocal}
 use Rattle.erl_lint.specs.declared.scoping.Scoping.{Scoping}

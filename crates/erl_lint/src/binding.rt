@@ -1,13 +1,13 @@
 // What patterns and expressions bind.
 ghost use Rattle.std.specs.Prelude.{◌≡◌, codes, OnOk};
 ghost use Rattle.std.specs.Str.{bytes_eq};
-ghost use Rattle.erl_syntax.specs.TreeForms.{tree as tree_of, trees};
+ghost use Rattle.erl_ast.specs.TreeForms.{tree as tree_of, trees};
 ghost use Rattle.erl_lint.specs.Scopes.{with_names, variable_names, leaf_names, pattern_names, pattern_names_in, binds, binds_in, bound_by_parts};
 
 use crate::scope::Scope;
 use crate::scoping::{Scoping, scoping_of};
+use erl_ast::{Leaf, SyntaxTree};
 use erl_chars::SharedText;
-use erl_syntax::{Leaf, SyntaxTree};
 use std::alloc::AllocError;
 
 /// Binds the variables of a pattern.

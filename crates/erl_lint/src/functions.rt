@@ -3,12 +3,12 @@ ghost use Rattle.std.specs.Prelude.{◌≡◌, ◌==◌, ◌&&◌, IfOk, OnOk};
 ghost use Rattle.std.specs.Str.{bytes_eq};
 ghost use Rattle.std.specs.Cmp.Rules.{hashing};
 ghost use Rattle.std.proofs.Common.{rules};
-ghost use Rattle.erl_syntax.specs.Tree.{tree_count};
+ghost use Rattle.erl_ast.specs.Tree.{tree_count};
 ghost use Rattle.erl_lint.specs.First.{soonest};
 ghost use Rattle.erl_lint.specs.Keys.{is_among, is_built_in as is_built_in_key, body_arity as body_arity_of, heading_of as heading_in, heading_faults, with_heading, with_forms, duplicates};
 
 use crate::fault::{StaticFault, sooner};
-use erl_syntax::{FormTree, SyntaxTrees, is_guard_function};
+use erl_ast::{FormTree, SyntaxTrees, is_guard_function};
 use erl_term::Atom;
 use indexmap::{Equivalent, IndexSet};
 use std::alloc::{AllocError, Global};

@@ -1,7 +1,8 @@
 //! The static faults of a module of Erlang that is read as a syntax tree.
 //!
-//! [`note_functions`] tells the first fault of the heads of a module's functions, and [`first_in_form`] then, form after form, the
-//! first that stands in the source, or none. There are three kinds of them ([`StaticFault`]), by the rules of the Erlang Reference Manual (Functions, Modules, Expressions):
+//! [`note_functions`] tells the first fault of the heads of a module's functions, and [`first_in_form`] then, form after
+//! form, the first that stands in the source, or none. There are three kinds of them ([`StaticFault`]), by the rules of the
+//! Erlang Reference Manual (Functions, Modules, Expressions):
 //!
 //! - A function may not have the name and the number of arguments of an earlier function of the module, nor of a function
 //!   that is built in and called plainly. The fault stands at the name of its first clause.

@@ -8,7 +8,7 @@ use crate::fault::{StaticFault, sooner};
 use crate::functions::{Functions, has, is_built_in};
 use crate::scope::Scope;
 use crate::walk::{First, first_in_clause, first_in_clauses, first_in_guards};
-use erl_syntax::{Exported, FormTree, FunctionClause, LoopTree};
+use erl_ast::{Exported, FormTree, FunctionClause, LoopTree};
 use std::alloc::AllocError;
 
 /// The first fault with those of a form of a module that has these functions. In `scope` nothing is bound, before and behind it.

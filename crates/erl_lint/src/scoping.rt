@@ -2,7 +2,7 @@
 ghost use Rattle.std.specs.Prelude.{◌≡◌};
 ghost use Rattle.erl_lint.specs.Scopes.{scoping_of as scoping_in};
 
-use erl_syntax::{Infix, Shape};
+use erl_ast::{Infix, Shape};
 
 /// What the parts of an expression see of what the others bind.
 #[derive(Clone, Copy, Debug, PartialEq, Eq)]

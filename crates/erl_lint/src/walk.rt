@@ -1,6 +1,6 @@
 // The first fault of the expressions of a module.
 ghost use Rattle.std.specs.Prelude.{◌≡◌, IfOk, OnOk};
-ghost use Rattle.erl_syntax.specs.TreeForms.{tree as tree_of, trees, guards, clauses};
+ghost use Rattle.erl_ast.specs.TreeForms.{tree as tree_of, trees, guards, clauses};
 ghost use Rattle.erl_lint.specs.First.{soonest};
 ghost use Rattle.erl_lint.specs.Faults.{leaf_faults, call_faults, faults_in, faults_in_parts, faults_apart, faults_in_turn, faults_in_guards, faults_in_clause, faults_in_clauses};
 
@@ -9,7 +9,7 @@ use crate::fault::{StaticFault, sooner};
 use crate::functions::{Functions, count, has, is_built_in};
 use crate::scope::Scope;
 use crate::scoping::{Scoping, scoping_of};
-use erl_syntax::{ClauseTree, Leaf, Shape, SyntaxTree, SyntaxTrees};
+use erl_ast::{ClauseTree, Leaf, Shape, SyntaxTree, SyntaxTrees};
 use std::alloc::AllocError;
 
 /// The first fault that was found, if any.
@@ -85,7 +85,8 @@ fn first_in_parts<'a>(
     scope: &mut Scope<'a>,
     first: First,
 ) -> Result<First, AllocError>
-    ensures found { IfOk result (λ r. r ≡ soonest first (faults_in_parts functions.now.keys scope.old scoping (trees parts.now))) }
+    ensures found { IfOk result (λ r. r ≡ soonest first
+        (faults_in_parts functions.now.keys scope.old scoping (trees parts.now))) }
     ensures kept { OnOk result (scope.new ≡ scope.old) }
 {
     match scoping {
@@ -145,7 +146,8 @@ pub(crate) fn first_in_guards<'a>(
     scope: &mut Scope<'a>,
     first: First,
 ) -> Result<First, AllocError>
-    ensures found { IfOk result (λ r. r ≡ soonest first (faults_in_guards functions.now.keys scope.old (guards alternatives.now))) }
+    ensures found { IfOk result (λ r. r ≡ soonest first
+        (faults_in_guards functions.now.keys scope.old (guards alternatives.now))) }
     ensures kept { OnOk result (scope.new ≡ scope.old) }
 {
     let mut found = first;

@@ -1,8 +1,8 @@
 -- The first fault of a tree is found form by form, behind the faults of the headings.
 use Rattle.std.proofs.Common.{◌≡◌, List, [], Option, None, sym, subst, ◌∙◌}
 use Rattle.std.proofs.lemmas.List.Sums.{fold-append}
-use Rattle.erl_syntax.specs.declared.form.FormTree.{FormTree}
-use Rattle.erl_syntax.specs.declared.form.ModuleTree.{ModuleTree}
+use Rattle.erl_ast.specs.declared.form.FormTree.{FormTree}
+use Rattle.erl_ast.specs.declared.form.ModuleTree.{ModuleTree}
 use Rattle.erl_lint.specs.declared.fault.StaticFault.{StaticFault}
 use Rattle.erl_lint.specs.First.{IsFirstFault, sooner, soonest}
 use Rattle.erl_lint.specs.Keys.{Key, duplicates, with_forms}

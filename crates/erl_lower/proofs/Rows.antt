@@ -10,28 +10,28 @@ use Rattle.erl_term.specs.declared.term.Term.{Term}
 use Rattle.erl_term.specs.Term.{term_of, term_of-tree, tree as term_tree, trees as term_trees}
 use Rattle.erl_term.specs.Rows.{append_trees, integers}
 use Rattle.erl_term.specs.Tree as term
-use Rattle.erl_syntax.specs.declared.tree.SyntaxTree.{SyntaxTree}
-use Rattle.erl_syntax.specs.declared.tree.ClauseTree.{ClauseTree}
-use Rattle.erl_syntax.specs.declared.form.FormTree.{FormTree}
-use Rattle.erl_syntax.specs.declared.form.FunctionClause.{FunctionClause}
-use Rattle.erl_syntax.specs.declared.form.ModuleTree.{ModuleTree}
-use Rattle.erl_syntax.specs.declared.shape.Infix.{Infix}
-use Rattle.erl_syntax.specs.declared.shape.Infix.TheVariants as operators
-use Rattle.erl_syntax.specs.declared.shape.Shape.{Shape}
-use Rattle.erl_syntax.specs.declared.shape.Shape.TheVariants as shapes
-use Rattle.erl_syntax.specs.Tree.{Trees, node}
-use Rattle.erl_syntax.specs.TreeForms.{tree, trees, guards, clauses}
-use Rattle.erl_syntax.specs.Heights.{tree_height, trees_height, guards_height, clauses_height}
+use Rattle.erl_ast.specs.declared.tree.SyntaxTree.{SyntaxTree}
+use Rattle.erl_ast.specs.declared.tree.ClauseTree.{ClauseTree}
+use Rattle.erl_ast.specs.declared.form.FormTree.{FormTree}
+use Rattle.erl_ast.specs.declared.form.FunctionClause.{FunctionClause}
+use Rattle.erl_ast.specs.declared.form.ModuleTree.{ModuleTree}
+use Rattle.erl_ast.specs.declared.shape.Infix.{Infix}
+use Rattle.erl_ast.specs.declared.shape.Infix.TheVariants as operators
+use Rattle.erl_ast.specs.declared.shape.Shape.{Shape}
+use Rattle.erl_ast.specs.declared.shape.Shape.TheVariants as shapes
+use Rattle.erl_ast.specs.Tree.{Trees, node}
+use Rattle.erl_ast.specs.TreeForms.{tree, trees, guards, clauses}
+use Rattle.erl_ast.specs.Heights.{tree_height, trees_height, guards_height, clauses_height}
 use Rattle.erl_lint.specs.Scopes.{Names, binds, binds_in, binds_in_first, binds_in_match, pattern_names, with_names}
-use Rattle.erl_forms.specs.declared.pattern.Pattern.{Pattern}
-use Rattle.erl_forms.specs.declared.expression.Expression.{Expression}
-use Rattle.erl_forms.specs.declared.expression.Clause.{Clause}
-use Rattle.erl_forms.specs.declared.function.Function.{Function}
-use Rattle.erl_forms.specs.Module.{Forms, Key, key_eq}
-use Rattle.erl_forms.specs.Pattern as pattern
-use Rattle.erl_forms.specs.PatternForms.{pat, pats}
-use Rattle.erl_forms.specs.Expression as expression
-use Rattle.erl_forms.specs.ExpressionForms as forms
+use Rattle.erl_ir.specs.declared.pattern.Pattern.{Pattern}
+use Rattle.erl_ir.specs.declared.expression.Expression.{Expression}
+use Rattle.erl_ir.specs.declared.expression.Clause.{Clause}
+use Rattle.erl_ir.specs.declared.function.Function.{Function}
+use Rattle.erl_ir.specs.Module.{Forms, Key, key_eq}
+use Rattle.erl_ir.specs.Pattern as pattern
+use Rattle.erl_ir.specs.PatternForms.{pat, pats}
+use Rattle.erl_ir.specs.Expression as expression
+use Rattle.erl_ir.specs.ExpressionForms as forms
 use Rattle.erl_lower.specs.Literals.{before_tail, characters, elements_of, term_in, terms_in}
 use Rattle.erl_lower.specs.Patterns.{alone as only_pattern, pattern_of, patterns_of}
 use Rattle.erl_lower.specs.Expressions.{alone as only_expression, by_making, clauses_of, expression_of, guards_of, making_of, row_of}

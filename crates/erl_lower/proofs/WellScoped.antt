@@ -11,22 +11,22 @@ use Rattle.std.proofs.lemmas.List.Elements.{All-nil, All-cons, All-append}
 use Rattle.std.proofs.lemmas.List.Folds.{list_any-append}
 use Rattle.std.proofs.lemmas.Slice.Eq.{bytes_eq-Decides}
 use Rattle.std.specs.Str.{bytes_eq}
-use Rattle.erl_syntax.specs.declared.leaf.Leaf.TheVariants as leaves
-use Rattle.erl_syntax.specs.declared.leaf.Leaf.{Leaf}
-use Rattle.erl_syntax.specs.declared.shape.Infix.{Infix}
-use Rattle.erl_syntax.specs.declared.shape.Infix.TheVariants as operators
-use Rattle.erl_syntax.specs.declared.shape.Shape.{Shape}
-use Rattle.erl_syntax.specs.declared.shape.Shape.TheVariants as shapes
-use Rattle.erl_syntax.specs.declared.form.FunctionClause.{FunctionClause}
-use Rattle.erl_syntax.specs.declared.form.LoopTree.{LoopTree}
-use Rattle.erl_syntax.specs.declared.form.FormTree.{FormTree}
-use Rattle.erl_syntax.specs.declared.form.FormTree.TheVariants as forms
-use Rattle.erl_syntax.specs.declared.form.ModuleTree.{ModuleTree}
-use Rattle.erl_syntax.specs.Terminal.{Terminal}
-use Rattle.erl_syntax.specs.Grammar.{AreWellClauses}
-use Rattle.erl_syntax.specs.Forms.{AreClauses, BeginsForm, AreForms, IsModule, function_form, loop_form}
-use Rattle.erl_syntax.specs.Tree as tree
-use Rattle.erl_syntax.specs.Tree.{Tree, Trees, tree_count}
+use Rattle.erl_ast.specs.declared.leaf.Leaf.TheVariants as leaves
+use Rattle.erl_ast.specs.declared.leaf.Leaf.{Leaf}
+use Rattle.erl_ast.specs.declared.shape.Infix.{Infix}
+use Rattle.erl_ast.specs.declared.shape.Infix.TheVariants as operators
+use Rattle.erl_ast.specs.declared.shape.Shape.{Shape}
+use Rattle.erl_ast.specs.declared.shape.Shape.TheVariants as shapes
+use Rattle.erl_ast.specs.declared.form.FunctionClause.{FunctionClause}
+use Rattle.erl_ast.specs.declared.form.LoopTree.{LoopTree}
+use Rattle.erl_ast.specs.declared.form.FormTree.{FormTree}
+use Rattle.erl_ast.specs.declared.form.FormTree.TheVariants as forms
+use Rattle.erl_ast.specs.declared.form.ModuleTree.{ModuleTree}
+use Rattle.erl_ast.specs.Terminal.{Terminal}
+use Rattle.erl_ast.specs.Grammar.{AreWellClauses}
+use Rattle.erl_ast.specs.Forms.{AreClauses, BeginsForm, AreForms, IsModule, function_form, loop_form}
+use Rattle.erl_ast.specs.Tree as tree
+use Rattle.erl_ast.specs.Tree.{Tree, Trees, tree_count}
 use Rattle.erl_lint.specs.declared.fault.StaticFault.TheVariants.{UnboundVariable}
 use Rattle.erl_lint.specs.Keys.{duplicates}
 use Rattle.erl_lint.specs.Keys as keys
@@ -36,14 +36,14 @@ use Rattle.erl_lint.specs.Scopes.{binds, binds_in, binds_in_match, binds_in_firs
 use Rattle.erl_lint.specs.Faults.{call_faults, leaf_faults, faults_in, faults_apart, faults_in_turn, faults_behind}
 use Rattle.erl_lint.specs.Faults.{faults_in_guards, faults_in_clauses, faults_in_function, faults_in_form, faults_in_forms}
 use Rattle.erl_lint.specs.Faults.{faults_in_loop, faults_of, functions_of}
-use Rattle.erl_forms.specs.declared.operation.Connective.{Connective}
-use Rattle.erl_forms.specs.declared.operation.Connective.TheVariants as connective
-use Rattle.erl_forms.specs.declared.function.Function.{Function}
-use Rattle.erl_forms.specs.Pattern as pattern
-use Rattle.erl_forms.specs.Pattern.{Pat, Pats, pat_count}
-use Rattle.erl_forms.specs.Expression as form
-use Rattle.erl_forms.specs.Expression.{Expr, Exprs}
-use Rattle.erl_forms.specs.Module.{Key}
+use Rattle.erl_ir.specs.declared.operation.Connective.{Connective}
+use Rattle.erl_ir.specs.declared.operation.Connective.TheVariants as connective
+use Rattle.erl_ir.specs.declared.function.Function.{Function}
+use Rattle.erl_ir.specs.Pattern as pattern
+use Rattle.erl_ir.specs.Pattern.{Pat, Pats, pat_count}
+use Rattle.erl_ir.specs.Expression as form
+use Rattle.erl_ir.specs.Expression.{Expr, Exprs}
+use Rattle.erl_ir.specs.Module.{Key}
 use Rattle.erl_lower.specs.Patterns.{leaf_pattern, made_pattern, pattern_variable, pattern_of, patterns_of}
 use Rattle.erl_lower.specs.Patterns as patterns
 use Rattle.erl_lower.specs.Expressions.{by_making, making_of, made, operated, leaf_expression, expression_of, row_of, match_of}

@@ -2,10 +2,10 @@
 -- one (erlang(3), gen_server(3), lists(3), proc_lib(3)).
 use Rattle.std.specs.Prelude.{ℕ, ◌==◌, true, false, if◌then◌else◌, List, [], ◌∷◌, codes, Option, None, Some}
 use Rattle.std.specs.Str.{bytes_eq}
-use Rattle.erl_forms.specs.declared.operation.BuiltIn.{BuiltIn}
-use Rattle.erl_forms.specs.declared.operation.BuiltIn.TheVariants as built_in
-use Rattle.erl_forms.specs.declared.operation.Operation.{Operation}
-use Rattle.erl_forms.specs.declared.operation.Operation.TheVariants as operation
+use Rattle.erl_ir.specs.declared.operation.BuiltIn.{BuiltIn}
+use Rattle.erl_ir.specs.declared.operation.BuiltIn.TheVariants as built_in
+use Rattle.erl_ir.specs.declared.operation.Operation.{Operation}
+use Rattle.erl_ir.specs.declared.operation.Operation.TheVariants as operation
 
 -- functions by their names
 abbrev pub Named : Type 0
@@ -33,7 +33,8 @@ abbrev pub binary : Named
 binary = (codes "element", built_in.Element) ∷ (codes "register", built_in.Register) ∷ []
 
 abbrev pub ternary : Named
-ternary = (codes "setelement", built_in.SetElement) ∷ (codes "spawn", built_in.Spawn) ∷ (codes "spawn_link", built_in.SpawnLink) ∷ []
+ternary = (codes "setelement", built_in.SetElement) ∷ (codes "spawn", built_in.Spawn) ∷
+    (codes "spawn_link", built_in.SpawnLink) ∷ []
 
 abbrev pub erlang_function : List ℕ → ℕ → Option BuiltIn
 erlang_function name n =

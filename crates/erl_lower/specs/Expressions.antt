@@ -1,26 +1,26 @@
 -- What expressions mean (Erlang Reference Manual, Expressions): a variable is its place among those that are bound, in the
 -- order of evaluation, from left to right. Parentheses mean nothing.
 use Rattle.std.specs.Prelude.{ℕ, List}
-use Rattle.erl_syntax.specs.declared.leaf.Leaf.{Leaf}
-use Rattle.erl_syntax.specs.declared.leaf.Leaf.TheVariants as leaves
-use Rattle.erl_syntax.specs.declared.shape.Infix.{Infix}
-use Rattle.erl_syntax.specs.declared.shape.Infix.TheVariants as infix_operator
-use Rattle.erl_syntax.specs.declared.shape.Prefix.{Prefix}
-use Rattle.erl_syntax.specs.declared.shape.Prefix.TheVariants.{Negate, Not}
-use Rattle.erl_syntax.specs.declared.shape.Qualifier.{Qualifier}
-use Rattle.erl_syntax.specs.declared.shape.Qualifier.TheVariants as qualifier
-use Rattle.erl_syntax.specs.declared.shape.Shape.{Shape}
-use Rattle.erl_syntax.specs.declared.shape.Shape.TheVariants as shapes
-use Rattle.erl_syntax.specs.Tree as tree
-use Rattle.erl_syntax.specs.Tree.{Tree, Trees, leaf, node, tree_count}
+use Rattle.erl_ast.specs.declared.leaf.Leaf.{Leaf}
+use Rattle.erl_ast.specs.declared.leaf.Leaf.TheVariants as leaves
+use Rattle.erl_ast.specs.declared.shape.Infix.{Infix}
+use Rattle.erl_ast.specs.declared.shape.Infix.TheVariants as infix_operator
+use Rattle.erl_ast.specs.declared.shape.Prefix.{Prefix}
+use Rattle.erl_ast.specs.declared.shape.Prefix.TheVariants.{Negate, Not}
+use Rattle.erl_ast.specs.declared.shape.Qualifier.{Qualifier}
+use Rattle.erl_ast.specs.declared.shape.Qualifier.TheVariants as qualifier
+use Rattle.erl_ast.specs.declared.shape.Shape.{Shape}
+use Rattle.erl_ast.specs.declared.shape.Shape.TheVariants as shapes
+use Rattle.erl_ast.specs.Tree as tree
+use Rattle.erl_ast.specs.Tree.{Tree, Trees, leaf, node, tree_count}
 use Rattle.erl_lint.specs.Scopes.{Names, binds, binds_in, pattern_names_in, place_of, with_names}
-use Rattle.erl_forms.specs.declared.operation.Connective.{Connective}
-use Rattle.erl_forms.specs.declared.operation.Connective.TheVariants as connective
-use Rattle.erl_forms.specs.declared.operation.Operation.TheVariants as operation
-use Rattle.erl_forms.specs.declared.operation.Operator.{Operator}
-use Rattle.erl_forms.specs.declared.operation.Operator.TheVariants as operator
-use Rattle.erl_forms.specs.Expression.{Expr, Exprs, Guards, Clauses, literal, variable, apply, match, block, case}
-use Rattle.erl_forms.specs.Expression.{short_circuit, none, more, no_guards, guard, no_clauses, clause}
+use Rattle.erl_ir.specs.declared.operation.Connective.{Connective}
+use Rattle.erl_ir.specs.declared.operation.Connective.TheVariants as connective
+use Rattle.erl_ir.specs.declared.operation.Operation.TheVariants as operation
+use Rattle.erl_ir.specs.declared.operation.Operator.{Operator}
+use Rattle.erl_ir.specs.declared.operation.Operator.TheVariants as operator
+use Rattle.erl_ir.specs.Expression.{Expr, Exprs, Guards, Clauses, literal, variable, apply, match, block, case}
+use Rattle.erl_ir.specs.Expression.{short_circuit, none, more, no_guards, guard, no_clauses, clause}
 use Rattle.erl_lower.specs.declared.making.Making.{Making}
 use Rattle.erl_lower.specs.declared.making.Making.TheVariants.{Matching, Connecting, Together}
 use Rattle.erl_lower.specs.BuiltIns.{local_call, remote_call}

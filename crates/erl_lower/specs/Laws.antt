@@ -1,9 +1,9 @@
 -- What is proved of modules that come of sources: a module without a static fault reads no variable that is not bound, and
 -- its clauses have as many patterns as their function has arguments.
 use Rattle.std.specs.Prelude.{◌≡◌, List, []}
-use Rattle.erl_syntax.specs.Terminal.{Terminal}
-use Rattle.erl_syntax.specs.declared.form.ModuleTree.{ModuleTree}
-use Rattle.erl_syntax.specs.Forms.{IsModule}
+use Rattle.erl_ast.specs.Terminal.{Terminal}
+use Rattle.erl_ast.specs.declared.form.ModuleTree.{ModuleTree}
+use Rattle.erl_ast.specs.Forms.{IsModule}
 use Rattle.erl_lint.specs.Faults.{faults_of}
 use Rattle.erl_lower.specs.Meaning.{meaning}
 use Rattle.erl_lower.specs.WellScoped.{IsWellScoped, HasArities}

@@ -2,13 +2,13 @@
 use Rattle.std.specs.Prelude.{ℕ, ℤ, pos, neg_ℤ, min, ◌-◌, ◌^◌, List, [], ◌∷◌}
 use Rattle.erl_term.specs.Rows.{append_trees, integers}
 use Rattle.erl_term.specs.Tree as term
-use Rattle.erl_syntax.specs.declared.leaf.Leaf.{Leaf}
-use Rattle.erl_syntax.specs.declared.leaf.Leaf.TheVariants as leaves
-use Rattle.erl_syntax.specs.declared.leaf.Sign.{Sign}
-use Rattle.erl_syntax.specs.declared.leaf.Sign.TheVariants.{Unsigned, Plus, Minus}
-use Rattle.erl_syntax.specs.declared.shape.Shape.{Shape}
-use Rattle.erl_syntax.specs.declared.shape.Shape.TheVariants as shapes
-use Rattle.erl_syntax.specs.Tree.{Tree, Trees, leaf, node, case, none, more}
+use Rattle.erl_ast.specs.declared.leaf.Leaf.{Leaf}
+use Rattle.erl_ast.specs.declared.leaf.Leaf.TheVariants as leaves
+use Rattle.erl_ast.specs.declared.leaf.Sign.{Sign}
+use Rattle.erl_ast.specs.declared.leaf.Sign.TheVariants.{Unsigned, Plus, Minus}
+use Rattle.erl_ast.specs.declared.shape.Shape.{Shape}
+use Rattle.erl_ast.specs.declared.shape.Shape.TheVariants as shapes
+use Rattle.erl_ast.specs.Tree.{Tree, Trees, leaf, node, case, none, more}
 
 -- An integer is the value of its digits, with its sign. Integers of terms are in -2^63 to 2^63 - 1, and so are those of
 -- sources; where a tree has another one, it means the nearest of these.

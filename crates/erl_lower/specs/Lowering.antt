@@ -1,6 +1,6 @@
 -- What a tree comes to: the module that it means, or its first static fault.
 use Rattle.std.specs.Prelude.{◌≡◌, [], MatchOption, Some}
-use Rattle.erl_syntax.specs.declared.form.ModuleTree.{ModuleTree}
+use Rattle.erl_ast.specs.declared.form.ModuleTree.{ModuleTree}
 use Rattle.erl_lint.specs.First.{IsFirstFault}
 use Rattle.erl_lint.specs.Faults.{faults_of}
 use Rattle.erl_lower.specs.declared.module.Lowering.{Lowering}

@@ -6,20 +6,20 @@ use Rattle.std.specs.Map.{keys_of}
 use Rattle.indexmap.specs.IndexSet.{insert_all}
 use Rattle.erl_term.specs.Term.{term_of}
 use Rattle.erl_term.specs.Tree as term
-use Rattle.erl_syntax.specs.declared.form.Exported.{Exported}
-use Rattle.erl_syntax.specs.declared.form.FunctionClause.{FunctionClause}
-use Rattle.erl_syntax.specs.declared.form.LoopTree.{LoopTree}
-use Rattle.erl_syntax.specs.declared.form.FormTree.{FormTree}
-use Rattle.erl_syntax.specs.declared.form.FormTree.TheVariants as forms
-use Rattle.erl_syntax.specs.declared.form.ModuleTree.{ModuleTree}
-use Rattle.erl_syntax.specs.Tree.{Trees, none, more, tree_count}
+use Rattle.erl_ast.specs.declared.form.Exported.{Exported}
+use Rattle.erl_ast.specs.declared.form.FunctionClause.{FunctionClause}
+use Rattle.erl_ast.specs.declared.form.LoopTree.{LoopTree}
+use Rattle.erl_ast.specs.declared.form.FormTree.{FormTree}
+use Rattle.erl_ast.specs.declared.form.FormTree.TheVariants as forms
+use Rattle.erl_ast.specs.declared.form.ModuleTree.{ModuleTree}
+use Rattle.erl_ast.specs.Tree.{Trees, none, more, tree_count}
 use Rattle.erl_lint.specs.Keys.{is_among}
 use Rattle.erl_lint.specs.Scopes.{pattern_names_in, with_names}
-use Rattle.erl_forms.specs.declared.function.Definition.{Definition}
-use Rattle.erl_forms.specs.declared.function.Definition.TheVariants as definition
-use Rattle.erl_forms.specs.declared.function.Function.{Function}
-use Rattle.erl_forms.specs.Expression.{Clauses, no_clauses, clause}
-use Rattle.erl_forms.specs.Module.{Forms, Key, key_eq}
+use Rattle.erl_ir.specs.declared.function.Definition.{Definition}
+use Rattle.erl_ir.specs.declared.function.Definition.TheVariants as definition
+use Rattle.erl_ir.specs.declared.function.Function.{Function}
+use Rattle.erl_ir.specs.Expression.{Clauses, no_clauses, clause}
+use Rattle.erl_ir.specs.Module.{Forms, Key, key_eq}
 use Rattle.erl_lower.specs.Literals.{term_in}
 use Rattle.erl_lower.specs.Patterns.{patterns_of}
 use Rattle.erl_lower.specs.Expressions.{clauses_of, guards_of, row_of}

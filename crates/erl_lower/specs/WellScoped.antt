@@ -4,15 +4,15 @@
 -- A state is how many variables are bound, n: these have the places 0 to n - 1, and the next one that is bound gets place n.
 use Rattle.std.specs.Prelude.{◌≡◌, ℕ, ◌+◌, ◌<◌, All}
 use Rattle.erl_term.specs.Tree.{Tree}
-use Rattle.erl_forms.specs.declared.operation.Connective.{Connective}
-use Rattle.erl_forms.specs.declared.operation.Operation.{Operation}
-use Rattle.erl_forms.specs.declared.function.Definition.{Definition}
-use Rattle.erl_forms.specs.declared.function.Definition.TheVariants as definition
-use Rattle.erl_forms.specs.Pattern as pattern
-use Rattle.erl_forms.specs.Pattern.{Pat, Pats, pat_count}
-use Rattle.erl_forms.specs.Expression as form
-use Rattle.erl_forms.specs.Expression.{Expr, Exprs, Guards, Clauses}
-use Rattle.erl_forms.specs.Module.{Forms}
+use Rattle.erl_ir.specs.declared.operation.Connective.{Connective}
+use Rattle.erl_ir.specs.declared.operation.Operation.{Operation}
+use Rattle.erl_ir.specs.declared.function.Definition.{Definition}
+use Rattle.erl_ir.specs.declared.function.Definition.TheVariants as definition
+use Rattle.erl_ir.specs.Pattern as pattern
+use Rattle.erl_ir.specs.Pattern.{Pat, Pats, pat_count}
+use Rattle.erl_ir.specs.Expression as form
+use Rattle.erl_ir.specs.Expression.{Expr, Exprs, Guards, Clauses}
+use Rattle.erl_ir.specs.Module.{Forms}
 
 -- Patterns are matched from left to right.
 mutual

@@ -2,7 +2,7 @@
 ghost use Rattle.std.specs.Prelude.{◌≡◌, IfOk};
 ghost use Rattle.erl_lower.specs.BuiltIns.{binary as binary_table, erlang_function as erlang_in, function_in as built_in, gen_server_function as gen_server_in, lists_function as lists_in, local_call as local_operation, named, nullary as nullary_table, proc_lib_function as proc_lib_in, remote_call as remote_operation, ternary as ternary_table, unary as unary_table};
 
-use erl_forms::{BuiltIn, Operation};
+use erl_ir::{BuiltIn, Operation};
 use erl_term::Atom;
 use std::alloc::{AllocError, Global};
 use values::Duplicate;

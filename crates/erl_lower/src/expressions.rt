@@ -1,9 +1,9 @@
 // Expressions, guards and clauses.
 ghost use Rattle.std.specs.Prelude.{◌≡◌, ◌∷◌, [], IfOk, OnOk};
-ghost use Rattle.erl_syntax.specs.Tree.{tree_count};
-ghost use Rattle.erl_syntax.specs.TreeForms.{tree as tree_of, trees, guards as guards_in, clauses as clauses_in};
+ghost use Rattle.erl_ast.specs.Tree.{tree_count};
+ghost use Rattle.erl_ast.specs.TreeForms.{tree as tree_of, trees, guards as guards_in, clauses as clauses_in};
 ghost use Rattle.erl_lint.specs.Scopes.{binds, binds_in, binds_in_first, binds_in_match, with_names};
-ghost use Rattle.erl_forms.specs.ExpressionForms.{expr, exprs, guards, clauses};
+ghost use Rattle.erl_ir.specs.ExpressionForms.{expr, exprs, guards, clauses};
 ghost use Rattle.erl_lower.specs.Expressions.{by_making, clauses_of, connected_of, expression_of, guards_of, leaf_expression, made as made_of, match_of, row_of};
 
 use crate::literals::literal;
@@ -11,9 +11,9 @@ use crate::making::{Making, making_of};
 use crate::numbers::number_of;
 use crate::parts::made;
 use crate::patterns::{lower_pattern, lower_patterns};
-use erl_forms::{Clause, Clauses, Connective, Expression, Expressions, Guard, Patterns};
+use erl_ast::{ClauseTree, Leaf, Shape, SyntaxTree, SyntaxTrees};
+use erl_ir::{Clause, Clauses, Connective, Expression, Expressions, Guard, Patterns};
 use erl_lint::{Scope, count};
-use erl_syntax::{ClauseTree, Leaf, Shape, SyntaxTree, SyntaxTrees};
 use erl_term::Atom;
 use std::alloc::{AllocError, Global};
 
@@ -67,7 +67,8 @@ fn lower_node<'a>(
     parts: &'a SyntaxTrees,
     scope: &mut Scope<'a>,
 ) -> Result<Expression, AllocError>
-    ensures found { IfOk result (λ e. expr e ≡ by_making making (match_of own.now scope.old parts.now) (λ c. connected_of own.now scope.old c parts.now)
+    ensures found { IfOk result (λ e. expr e ≡ by_making making (match_of own.now scope.old parts.now)
+        (λ c. connected_of own.now scope.old c parts.now)
         (made_of own.now shape.now (tree_count parts.now) (row_of own.now scope.old parts.now))) }
     ensures bound { OnOk result (scope.new ≡ with_names scope.old
         (by_making making (binds_in_match parts.now) (λ c. binds_in_first parts.now) (binds_in parts.now))) }

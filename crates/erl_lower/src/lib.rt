@@ -1,6 +1,6 @@
 //! Modules of Erlang that are written as syntax trees, as the modules that they mean.
 //!
-//! [`lowered`] makes of a [`erl_syntax::ModuleTree`] the [`erl_forms::Module`] that it means, or tells its first static fault
+//! [`lowered`] makes of a [`erl_ast::ModuleTree`] the [`erl_ir::Module`] that it means, or tells its first static fault
 //! (Erlang Reference Manual, Modules, Functions and Expressions):
 //!
 //! - A variable becomes its place among those that are bound, in the order of evaluation: the first that a clause binds is 0.

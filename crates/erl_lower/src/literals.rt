@@ -2,11 +2,11 @@
 ghost use Rattle.std.specs.Prelude.{◌≡◌, IfOk, OnOk};
 ghost use Rattle.erl_term.specs.Rows.{append_trees, integers};
 ghost use Rattle.erl_term.specs.Term.{tree, trees};
-ghost use Rattle.erl_syntax.specs.TreeForms.{tree as tree_of, trees as trees_of};
+ghost use Rattle.erl_ast.specs.TreeForms.{tree as tree_of, trees as trees_of};
 ghost use Rattle.erl_lower.specs.Literals.{before_tail as elements_before, characters, elements_of as elements_in, integer_of as value_of, literal_of, made_term as term_made, term_in, terms_in};
 
+use erl_ast::{Leaf, Shape, Sign, SyntaxTree};
 use erl_chars::Text;
-use erl_syntax::{Leaf, Shape, Sign, SyntaxTree};
 use erl_term::{Atom, Term, Terms, ToTerm};
 use std::alloc::{AllocError, Global};
 use values::Duplicate;

@@ -2,8 +2,8 @@
 ghost use Rattle.std.specs.Prelude.{◌≡◌};
 ghost use Rattle.erl_lower.specs.Expressions.{making_of as making_in};
 
-use erl_forms::Connective;
-use erl_syntax::{Infix, Shape};
+use erl_ast::{Infix, Shape};
+use erl_ir::Connective;
 
 /// What a shape makes of its parts.
 #[derive(Clone, Copy, Debug, PartialEq, Eq)]

@@ -7,9 +7,9 @@ ghost use Rattle.erl_lower.specs.Lowering.{IsLoweringOf};
 ghost use Rattle.erl_lower.specs.Meaning.{function_of, functions_in};
 
 use crate::program::{Entry, Exports, exports_of, lower_form, version_in};
-use erl_forms::{Module, ModuleBuilder};
+use erl_ast::{FormTree, ModuleTree};
+use erl_ir::{Module, ModuleBuilder};
 use erl_lint::{Functions, Scope, StaticFault, first_in_form, note_functions};
-use erl_syntax::{FormTree, ModuleTree};
 use erl_term::Atom;
 use indexmap::IndexSet;
 use std::alloc::{AllocError, Global};

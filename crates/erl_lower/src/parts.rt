@@ -1,12 +1,12 @@
 // What is made of the expressions of a shape's parts.
 ghost use Rattle.std.specs.Prelude.{◌≡◌, IfOk};
-ghost use Rattle.erl_forms.specs.ExpressionForms.{expr, exprs};
-ghost use Rattle.erl_forms.specs.Expression.{apply};
+ghost use Rattle.erl_ir.specs.ExpressionForms.{expr, exprs};
+ghost use Rattle.erl_ir.specs.Expression.{apply};
 ghost use Rattle.erl_lower.specs.Expressions.{alone as expression_alone, called_in, made as made_of, operated as operated_on, prefix_operator as prefix_in};
 
 use crate::built_ins::{local_call, remote_call};
-use erl_forms::{Expression, Expressions, Operation, Operator};
-use erl_syntax::{Infix, Prefix, Qualifier, Shape};
+use erl_ast::{Infix, Prefix, Qualifier, Shape};
+use erl_ir::{Expression, Expressions, Operation, Operator};
 use erl_term::Atom;
 use std::alloc::{AllocError, Global};
 

@@ -1,16 +1,16 @@
 // Patterns.
 ghost use Rattle.std.specs.Prelude.{◌≡◌, IfOk, OnOk};
-ghost use Rattle.erl_syntax.specs.TreeForms.{tree as tree_of, trees};
+ghost use Rattle.erl_ast.specs.TreeForms.{tree as tree_of, trees};
 ghost use Rattle.erl_lint.specs.Scopes.{leaf_names, pattern_names, pattern_names_in, variable_names, with_names};
-ghost use Rattle.erl_forms.specs.PatternForms.{pat, pats};
+ghost use Rattle.erl_ir.specs.PatternForms.{pat, pats};
 ghost use Rattle.erl_lower.specs.Patterns.{leaf_pattern, made_pattern as pattern_made, alone as pattern_alone, pattern_of, pattern_variable, patterns_of};
 
 use crate::literals::literal;
 use crate::numbers::number_of;
+use erl_ast::{Leaf, Shape, SyntaxTree};
 use erl_chars::SharedText;
-use erl_forms::{Pattern, Patterns};
+use erl_ir::{Pattern, Patterns};
 use erl_lint::{Scope, is_anonymous};
-use erl_syntax::{Leaf, Shape, SyntaxTree};
 use erl_term::Atom;
 use std::alloc::{AllocError, Global};
 

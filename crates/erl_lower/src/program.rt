@@ -3,17 +3,17 @@ ghost use Rattle.std.specs.Prelude.{◌≡◌, ℕ, List, [], ◌++◌, IfOk, Ma
 ghost use Rattle.std.specs.Option.{option_to_list};
 ghost use Rattle.indexmap.specs.IndexSet.{insert_all};
 ghost use Rattle.erl_term.specs.Term.{tree};
-ghost use Rattle.erl_forms.specs.declared.function.Definition.TheVariants as definition_of;
-ghost use Rattle.erl_forms.specs.Module.{key_eq};
+ghost use Rattle.erl_ir.specs.declared.function.Definition.TheVariants as definition_of;
+ghost use Rattle.erl_ir.specs.Module.{key_eq};
 ghost use Rattle.erl_lower.specs.Meaning.{entries_of, entries_of_form, exports_of as exports_in, function_clauses, function_of as function_in_form, function_with, functions_in, key_of as key_in, loop_of, version_in as version_in_forms, version_of as version_in_form};
 
 use crate::expressions::{lower_clause, lower_clauses, lower_guards};
 use crate::literals::lower_term;
 use crate::numbers::number_of;
 use crate::patterns::lower_patterns;
-use erl_forms::{Clauses, Definition, Function, Guard, Patterns};
+use erl_ast::{Exported, FormTree, FunctionClause, LoopTree};
+use erl_ir::{Clauses, Definition, Function, Guard, Patterns};
 use erl_lint::{Scope, count};
-use erl_syntax::{Exported, FormTree, FunctionClause, LoopTree};
 use erl_term::{Atom, Term, Terms};
 use indexmap::IndexSet;
 use std::alloc::{AllocError, Global};

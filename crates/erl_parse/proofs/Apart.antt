@@ -8,13 +8,13 @@ use Rattle.std.specs.Prelude.{⊤}
 use Rattle.std.specs.List.{IsDistinct, AllByRecursion}
 use Rattle.std.specs.Map.{keys_of}
 use Rattle.std.specs.Str.{bytes_eq}
-use Rattle.erl_syntax.specs.declared.form.FunctionClause.{FunctionClause}
-use Rattle.erl_syntax.specs.declared.form.FormTree.{FormTree}
-use Rattle.erl_syntax.specs.declared.form.FormTree.TheVariants as forms
-use Rattle.erl_syntax.specs.declared.form.ModuleTree.{ModuleTree}
-use Rattle.erl_syntax.specs.Terminal.{Terminal}
-use Rattle.erl_syntax.specs.Tree.{tree_count}
-use Rattle.erl_syntax.specs.Forms.{BeginsForm, export_form, version_form, skipped_form, function_form, loop_form, AreForms}
+use Rattle.erl_ast.specs.declared.form.FunctionClause.{FunctionClause}
+use Rattle.erl_ast.specs.declared.form.FormTree.{FormTree}
+use Rattle.erl_ast.specs.declared.form.FormTree.TheVariants as forms
+use Rattle.erl_ast.specs.declared.form.ModuleTree.{ModuleTree}
+use Rattle.erl_ast.specs.Terminal.{Terminal}
+use Rattle.erl_ast.specs.Tree.{tree_count}
+use Rattle.erl_ast.specs.Forms.{BeginsForm, export_form, version_form, skipped_form, function_form, loop_form, AreForms}
 use Rattle.erl_lint.specs.declared.fault.StaticFault.{StaticFault}
 use Rattle.erl_lint.specs.declared.fault.StaticFault.TheVariants.{DuplicateFunction}
 use Rattle.erl_lint.specs.Keys.{Key, key_eq, is_among, is_built_in, heading_among, heading_faults, with_heading, duplicates}

@@ -8,10 +8,10 @@ use Rattle.erl_scan.specs.declared.error.ReadError.{ReadError}
 use Rattle.erl_scan.specs.declared.token.Spot.{Spot}
 use Rattle.erl_scan.specs.Scan.{IsScanOf}
 use Rattle.erl_scan.proofs.WholeTexts.{one_scan}
-use Rattle.erl_syntax.specs.declared.form.ModuleTree.{ModuleTree}
-use Rattle.erl_syntax.specs.declared.form.FormTree.{FormTree}
-use Rattle.erl_syntax.specs.Terminal.{Terminal, terminals}
-use Rattle.erl_syntax.specs.Forms.{IsModule, AreForms}
+use Rattle.erl_ast.specs.declared.form.ModuleTree.{ModuleTree}
+use Rattle.erl_ast.specs.declared.form.FormTree.{FormTree}
+use Rattle.erl_ast.specs.Terminal.{Terminal, terminals}
+use Rattle.erl_ast.specs.Forms.{IsModule, AreForms}
 use Rattle.erl_expressions.specs.declared.refusal.Refusal.{Refusal}
 use Rattle.module_forms.specs.Brackets.{innermost}
 use Rattle.module_forms.specs.FirstFault.{AreFormsTo, Reaches, at_head, at_form, IsFirstFaulty, no_head, no_form, IsToldFirst}
@@ -168,7 +168,7 @@ tree_says bytes tree error written (has_fault is first) = static is (record { tr
 tree_says bytes tree error written (has_no_meaning none nothing is) =
     absurd (nothing (functions_apart tree written.is_module.1 written.is_module.3 none))
 
--- the same of results, of which want of memory says nothing
+-- the same of results, of which lack of memory says nothing
 
 pub token_results_say : {A : Type 0} (bytes : List ℕ) (tokens : List Spot) (stop : Option ReadError) → IsUtf8 bytes →
     IsScanOf (chars bytes) tokens stop → (r : Result A (Failure LangError)) →

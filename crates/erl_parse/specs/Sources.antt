@@ -3,11 +3,11 @@ use Rattle.std.specs.Prelude.{◌≡◌, ℕ, List, [], None}
 use Rattle.std.specs.Str.{chars, IsUtf8}
 use Rattle.erl_scan.specs.declared.token.Spot.{Spot}
 use Rattle.erl_scan.specs.Scan.{IsScanOf}
-use Rattle.erl_syntax.specs.declared.form.ModuleTree.{ModuleTree}
-use Rattle.erl_syntax.specs.Terminal.{terminals}
-use Rattle.erl_syntax.specs.Forms.{IsModule}
+use Rattle.erl_ast.specs.declared.form.ModuleTree.{ModuleTree}
+use Rattle.erl_ast.specs.Terminal.{terminals}
+use Rattle.erl_ast.specs.Forms.{IsModule}
 use Rattle.erl_lint.specs.Faults.{faults_of}
-use Rattle.erl_forms.specs.Module.{Forms}
+use Rattle.erl_ir.specs.Module.{Forms}
 use Rattle.erl_lower.specs.Meaning.{meaning, IsMeaning}
 
 -- Bytes are written as a module: they are UTF-8, and so are their tokens, up to the end.

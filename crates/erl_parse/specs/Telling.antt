@@ -6,9 +6,9 @@ use Rattle.erl_scan.specs.declared.error.Fault.TheVariants as faults
 use Rattle.erl_scan.specs.declared.error.ReadError.{ReadError}
 use Rattle.erl_scan.specs.declared.token.Spot.{Spot}
 use Rattle.erl_scan.specs.Scan.{IsScanOf}
-use Rattle.erl_syntax.specs.declared.form.ModuleTree.{ModuleTree}
-use Rattle.erl_syntax.specs.Terminal.{terminals}
-use Rattle.erl_syntax.specs.Forms.{IsModule}
+use Rattle.erl_ast.specs.declared.form.ModuleTree.{ModuleTree}
+use Rattle.erl_ast.specs.Terminal.{terminals}
+use Rattle.erl_ast.specs.Forms.{IsModule}
 use Rattle.erl_expressions.specs.declared.refusal.Reason.{Reason}
 use Rattle.erl_expressions.specs.declared.refusal.Reason.TheVariants as reasons
 use Rattle.erl_expressions.specs.declared.refusal.Refusal.{Refusal}
@@ -140,5 +140,6 @@ pub record TellsTokens (tokens : List Spot) (stop : Option ReadError) (total : �
 
 -- what is told of a module as it is written
 pub data TellsTree (tree : ModuleTree) (error : LangError) : Type 0 where
-  has_fault : {fault : StaticFault} → error ≡ error_of_static fault → IsFirstFault (Some fault) (faults_of tree) → TellsTree tree error
+  has_fault : {fault : StaticFault} → error ≡ error_of_static fault → IsFirstFault (Some fault) (faults_of tree) →
+      TellsTree tree error
   has_no_meaning : faults_of tree ≡ [] → HasNoMeaning tree → error ≡ errors.Syntax tree.name.at → TellsTree tree error

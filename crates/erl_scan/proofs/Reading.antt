@@ -20,7 +20,7 @@ use Rattle.erl_scan.specs.Words.{word_of}
 use Rattle.erl_scan.specs.Lookahead.{mark_by, with_rest, alone}
 use Rattle.erl_scan.specs.Scanner.{IsFault, faulty as is_faulty, memory as is_memory}
 use Rattle.erl_scan.specs.Tokens.{token, fault, Comes, mark_next, begins_two_quotes}
-use Rattle.erl_scan.specs.Answers.{memory, faulty, Answers, Takes, plain_in, name_in, character_in, atom_at, IsNotBetween, no_memory, open_end, escape as bad_escape_at}
+use Rattle.erl_scan.specs.Answers.{memory, faulty, Answers, AnswersFirst, plain_in, name_in, character_in, atom_at, IsNotBetween, no_memory, open_end, escape as bad_escape_at}
 use Rattle.erl_scan.proofs.Alone.{alone-first}
 use Rattle.erl_scan.proofs.Lookahead.{mark_in-ahead}
 
@@ -96,7 +96,7 @@ pub escape_told : (whole total quote at : ℕ) (here now : List ℕ) → now ≡
 escape_told whole total quote at here now is same h =
     bad_escape_at h.0 (rw is at h.1) refl (rw same at h.2)
 
-pub quoted_atom : (whole at : ℕ) (here rest text : List ℕ) (result : Result Token ReadError) → first_of here ≡ Some 39 → IsQuoted 39 (after_first here) (closed text rest) → at ≡ place whole here → result ≡ atom_at text at → Takes whole here result rest
+pub quoted_atom : (whole at : ℕ) (here rest text : List ℕ) (result : Result Token ReadError) → first_of here ≡ Some 39 → IsQuoted 39 (after_first here) (closed text rest) → at ≡ place whole here → result ≡ atom_at text at → AnswersFirst whole here result rest
 quoted_atom whole at [] rest text result first quoted placed is = cc
 quoted_atom whole at (c ∷ cs) rest text result first quoted placed is =
     let quote : c ≡ 39 = cc in
@@ -150,7 +150,7 @@ three_quotes whole at (c ∷ d ∷ e ∷ cs) first two placed =
 
 -- By the first character
 
-pub plain_takes : (whole first : ℕ) (here rest : List ℕ) (result : Result Token ReadError) → first_of here ≡ Some first → (first ≡ 39 → ⊥) → (first ≡ 34 → ⊥) → Answers whole (plain_in here) result rest → Takes whole here result rest
+pub plain_takes : (whole first : ℕ) (here rest : List ℕ) (result : Result Token ReadError) → first_of here ≡ Some first → (first ≡ 39 → ⊥) → (first ≡ 34 → ⊥) → Answers whole (plain_in here) result rest → AnswersFirst whole here result rest
 plain_takes whole first [] rest result e single double answers = cc
 plain_takes whole first (c ∷ cs) rest (Ok t) e single double answers =
     let is : c ≡ first = cc in

@@ -12,19 +12,19 @@ use Rattle.erl_scan.specs.Scanner.{IsFault}
 use Rattle.erl_scan.specs.Words.{word_of}
 
 -- an error tells the fault that comes next, in a text of so many bytes, unless memory was refused
-pub data Tells (whole : ℕ) (next : Next) (error : ReadError) : Type 0 where
-  memory : error.kind ≡ Memory → Tells whole next error
-  faulty : (at : List ℕ) → next ≡ fault error.kind at → error.at ≡ place whole at → Tells whole next error
+pub data TellsFault (whole : ℕ) (next : Next) (error : ReadError) : Type 0 where
+  memory : error.kind ≡ Memory → TellsFault whole next error
+  faulty : (at : List ℕ) → next ≡ fault error.kind at → error.at ≡ place whole at → TellsFault whole next error
 
 -- an answer gives what comes next, with what is left after it
 abbrev pub Answers : ℕ → Next → Result Token ReadError → List ℕ → Type 0
 Answers whole next (Ok t) rest = next ≡ token t rest
-Answers whole next (Err e) rest = Tells whole next e
+Answers whole next (Err e) rest = TellsFault whole next e
 
 -- an answer gives what comes first in what is left of a text, whatever its first character
-abbrev pub Takes : ℕ → List ℕ → Result Token ReadError → List ℕ → Type 0
-Takes whole here (Ok t) rest = Comes here (token t rest)
-Takes whole here (Err e) rest = IsFault whole here e
+abbrev pub AnswersFirst : ℕ → List ℕ → Result Token ReadError → List ℕ → Type 0
+AnswersFirst whole here (Ok t) rest = Comes here (token t rest)
+AnswersFirst whole here (Err e) rest = IsFault whole here e
 
 -- what comes next in a text, where its first character is no quote
 abbrev pub plain_in : List ℕ → Next

@@ -18,17 +18,18 @@
 //! - [`scan`] gives the tokens that the text has from its start on, each with its place, up to the end, and no fault;
 //!   or up to the first that is faulty by itself, and its fault as `next_token` tells it, other than `Memory`.
 //! - [`texts_scan_one_way`]: a text has one such list and one such fault or end, so that what `scan` answers is fixed
-//!   by the text, want of memory aside.
+//!   by the text, lack of memory aside.
 //! - [`tokens_read_one_way`]: one thing comes next in a text, so that what `next_token` answers is fixed by the text,
-//!   want of memory aside, and as many tokens of a text are read in one way.
+//!   lack of memory aside, and as many tokens of a text are read in one way.
 //! - [`marks_are_longest`]: of the marks that a text begins with, the longest is read.
 //!
 //! # What no contract says
 //!
 //! That there is memory, which the atoms, variables and strings ask for, and the list of [`scan`]; that `Memory` and
 //! `AllocError` are told only where it was refused; and what a call costs: it is linear in what it steps over, and `scan`
-//! in the text, with one list, which has room for a token in three bytes from the start. A scanner keeps at most 512 names that it read, at most 64 in a text of
-//! under 4096 bytes and none in one of under 64: an atom or a variable that has one of these shares its characters.
+//! in the text, with one list, which has room for a token in three bytes from the start. A scanner keeps at most 512 names
+//! that it read, at most 64 in a text of under 4096 bytes and none in one of under 64: an atom or a variable that has one
+//! of these shares its characters.
 #![tactic(auto)]
 
 mod error;

@@ -27,7 +27,8 @@ pub(crate) enum Number {
 impl<'a> Scanner<'a> {
     /// Reads a number.
     pub(crate) fn number_token(&mut self) -> Result<Token, ReadError>
-        ensures answers { Answers (total self.old) (number_next (left self.old) (number_in (left self.old))) result (left self.new) }
+        ensures answers { Answers (total self.old) (number_next (left self.old) (number_in (left self.old))) result
+            (left self.new) }
         ensures total { total self.new ≡ total self.old }
     {
         let at = self.cursor.place();

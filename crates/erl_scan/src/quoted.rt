@@ -2,7 +2,7 @@
 ghost use Rattle.std.specs.Prelude.{◌≡◌, Some};
 ghost use Rattle.erl_chars.specs.Cursor.{first_of, after_first};
 ghost use Rattle.erl_scan.specs.Scanner.{left, total};
-ghost use Rattle.erl_scan.specs.Answers.{Answers, Takes, IsBetween, character_in};
+ghost use Rattle.erl_scan.specs.Answers.{Answers, AnswersFirst, IsBetween, character_in};
 ghost use Rattle.erl_scan.specs.Tokens.{begins_two_quotes};
 
 use crate::error::{Fault, ReadError};
@@ -16,7 +16,7 @@ impl<'a> Scanner<'a> {
     /// Reads an atom between single quotes.
     pub(crate) fn quoted_atom_token(&mut self) -> Result<Token, ReadError>
         requires first { first_of (left self.old) ≡ Some 39 }
-        ensures takes { Takes (total self.old) (left self.old) result (left self.new) }
+        ensures takes { AnswersFirst (total self.old) (left self.old) result (left self.new) }
         ensures total { total self.new ≡ total self.old }
     {
         let at = self.cursor.place();
@@ -33,7 +33,7 @@ impl<'a> Scanner<'a> {
     /// Reads a string.
     pub(crate) fn string_token(&mut self) -> Result<Token, ReadError>
         requires first { first_of (left self.old) ≡ Some 34 }
-        ensures takes { Takes (total self.old) (left self.old) result (left self.new) }
+        ensures takes { AnswersFirst (total self.old) (left self.old) result (left self.new) }
         ensures total { total self.new ≡ total self.old }
     {
         if self.begins_three_quotes() {

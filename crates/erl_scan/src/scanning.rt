@@ -5,7 +5,7 @@ ghost use Rattle.erl_chars.specs.Chars as kinds;
 ghost use Rattle.erl_chars.specs.Cursor.{left as left_of, total as total_of, first_of, after_first};
 ghost use Rattle.erl_chars.specs.Gaps.{after_gap};
 ghost use Rattle.erl_scan.specs.Scanner.{left, total, Scans};
-ghost use Rattle.erl_scan.specs.Answers.{Answers, Takes, plain_in};
+ghost use Rattle.erl_scan.specs.Answers.{Answers, AnswersFirst, plain_in};
 ghost use Rattle.erl_scan.specs.Tokens.{ends_form};
 
 use crate::error::ReadError;
@@ -54,7 +54,7 @@ impl<'a> Scanner<'a> {
     /// Reads a token, by its first character.
     fn token(&mut self, first: char) -> Result<Token, ReadError>
         requires first { first_of (left self.old) ≡ Some first }
-        ensures takes { Takes (total self.old) (left self.old) result (left self.new) }
+        ensures takes { AnswersFirst (total self.old) (left self.old) result (left self.new) }
         ensures total { total self.new ≡ total self.old }
     {
         if first == '\'' {

@@ -3,7 +3,7 @@ use Rattle.std.specs.Prelude.{◌≡◌, refl, None, Some}
 use Rattle.std.proofs.Common.{ap, sym}
 use Rattle.erl_term.specs.Accessors.{two_of}
 use Rattle.erl_term.specs.Tree.{Tree, Trees, none, more}
-use Rattle.erl_forms.specs.declared.operation.Operator.TheVariants as operator
+use Rattle.erl_ir.specs.declared.operation.Operator.TheVariants as operator
 use Rattle.erl_semantics.specs.Operators.{receiver_of, sent, sends}
 use Rattle.erl_semantics.proofs.Options.{some_none, some_injective}
 

@@ -2,8 +2,8 @@
 use Rattle.std.specs.Prelude.{refl, false}
 use Rattle.erl_term.specs.Tree as term
 use Rattle.erl_term.specs.Tree.{Tree}
-use Rattle.erl_forms.specs.Expression as form
-use Rattle.erl_forms.specs.Expression.{Expr}
+use Rattle.erl_ir.specs.Expression as form
+use Rattle.erl_ir.specs.Expression.{Expr}
 use Rattle.erl_semantics.specs.State.{World, Activation, State, value}
 use Rattle.erl_semantics.specs.Guards.{all}
 use Rattle.erl_semantics.specs.Evaluation.{Eval, Operands}

@@ -2,16 +2,16 @@
 use Rattle.std.specs.Prelude.{◌≡◌, ℕ, ◌+◌, Bool, true, false, ◌&&◌, nat_lt, List, Option, None, Some, refl}
 use Rattle.std.proofs.Common.{ap, sym, subst, ◌∙◌, true≢false}
 use Rattle.erl_term.specs.Tree.{Tree, Trees}
-use Rattle.erl_forms.specs.declared.operation.BuiltIn.{BuiltIn}
-use Rattle.erl_forms.specs.declared.operation.BuiltIn.TheVariants as built_in
-use Rattle.erl_forms.specs.declared.operation.Connective.{Connective}
-use Rattle.erl_forms.specs.declared.operation.Connective.TheVariants.{AndAlso, OrElse}
-use Rattle.erl_forms.specs.declared.operation.Operation.{Operation}
-use Rattle.erl_forms.specs.declared.operation.Operation.TheVariants as operation
-use Rattle.erl_forms.specs.declared.operation.Operator.{Operator}
-use Rattle.erl_forms.specs.declared.operation.Operator.TheVariants as operator
-use Rattle.erl_forms.specs.Expression as form
-use Rattle.erl_forms.specs.Expression.{Expr, Exprs}
+use Rattle.erl_ir.specs.declared.operation.BuiltIn.{BuiltIn}
+use Rattle.erl_ir.specs.declared.operation.BuiltIn.TheVariants as built_in
+use Rattle.erl_ir.specs.declared.operation.Connective.{Connective}
+use Rattle.erl_ir.specs.declared.operation.Connective.TheVariants.{AndAlso, OrElse}
+use Rattle.erl_ir.specs.declared.operation.Operation.{Operation}
+use Rattle.erl_ir.specs.declared.operation.Operation.TheVariants as operation
+use Rattle.erl_ir.specs.declared.operation.Operator.{Operator}
+use Rattle.erl_ir.specs.declared.operation.Operator.TheVariants as operator
+use Rattle.erl_ir.specs.Expression as form
+use Rattle.erl_ir.specs.Expression.{Expr, Exprs}
 use Rattle.erl_semantics.specs.State.{Result, value, exit, IsEnd, World, Activation, State, with_calls, after}
 use Rattle.erl_semantics.specs.State as state
 use Rattle.erl_semantics.specs.Operators.{operated, sends, truth_of}

@@ -2,7 +2,7 @@
 use Rattle.std.specs.Prelude.{◌≡◌, ◌↔◌, ◌<◌, ℕ, zero, suc, true, false, List, [], ◌∷◌, None, Some, is_some, IsTrue, refl}
 use Rattle.std.proofs.Common.{arith, ap, sym, subst, true≢false}
 use Rattle.erl_term.specs.Tree.{count}
-use Rattle.erl_forms.specs.Module.{function_of}
+use Rattle.erl_ir.specs.Module.{function_of}
 use Rattle.erl_semantics.specs.State.{Instance, Place, server, loop}
 use Rattle.erl_semantics.specs.Guards.{Selection}
 use Rattle.erl_semantics.specs.Jobs.{Outcome, Job, GivesAt, Receives, unheard, received, accepts, entered_in, heard, nowhere}

@@ -6,14 +6,14 @@ use Rattle.std.proofs.Common.{arith, sym, subst, ◌∙◌, true≢false}
 use Rattle.std.proofs.lemmas.List.Elements.{All-nil, All-push}
 use Rattle.erl_term.specs.Tree as term
 use Rattle.erl_term.specs.Tree.{Tree, Trees, count}
-use Rattle.erl_forms.specs.declared.operation.BuiltIn.{BuiltIn}
-use Rattle.erl_forms.specs.declared.operation.Connective.{Connective}
-use Rattle.erl_forms.specs.declared.operation.Operation.{Operation}
-use Rattle.erl_forms.specs.declared.function.Function.{Function}
-use Rattle.erl_forms.specs.declared.function.Definition.{Definition}
-use Rattle.erl_forms.specs.Module.{exported_of, function_of}
-use Rattle.erl_forms.specs.Pattern.{Pat}
-use Rattle.erl_forms.specs.Expression.{Expr, Exprs, Clauses}
+use Rattle.erl_ir.specs.declared.operation.BuiltIn.{BuiltIn}
+use Rattle.erl_ir.specs.declared.operation.Connective.{Connective}
+use Rattle.erl_ir.specs.declared.operation.Operation.{Operation}
+use Rattle.erl_ir.specs.declared.function.Function.{Function}
+use Rattle.erl_ir.specs.declared.function.Definition.{Definition}
+use Rattle.erl_ir.specs.Module.{exported_of, function_of}
+use Rattle.erl_ir.specs.Pattern.{Pat}
+use Rattle.erl_ir.specs.Expression.{Expr, Exprs, Clauses}
 use Rattle.erl_semantics.specs.State.{Instance, Place, server, Act, Result, value, rest, exit, pair, Mode, plain, start_mode}
 use Rattle.erl_semantics.specs.State.{World, current, Activation, callee, Startup, State, with_bindings, after}
 use Rattle.erl_semantics.specs.Operators.{truth, sends}

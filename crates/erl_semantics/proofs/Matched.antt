@@ -6,10 +6,10 @@ use Rattle.erl_term.specs.declared.term.Term.{Term}
 use Rattle.erl_term.specs.Term.{tree, trees}
 use Rattle.erl_term.specs.Tree.{Tree, Trees}
 use Rattle.erl_term.specs.Tree as term
-use Rattle.erl_forms.specs.declared.pattern.Pattern.{Pattern}
-use Rattle.erl_forms.specs.PatternForms.{pat, pats}
+use Rattle.erl_ir.specs.declared.pattern.Pattern.{Pattern}
+use Rattle.erl_ir.specs.PatternForms.{pat, pats}
 use Rattle.erl_term.specs.Parts.{behind}
-use Rattle.erl_forms.specs.Pattern.{pat_depth, pats_depth}
+use Rattle.erl_ir.specs.Pattern.{pat_depth, pats_depth}
 use Rattle.erl_semantics.specs.Bindings.{rest_behind}
 use Rattle.erl_semantics.specs.Matching.{matched, matched_each, matched_front, matched_all}
 use Rattle.erl_semantics.proofs.Options.{some_none, some_injective}

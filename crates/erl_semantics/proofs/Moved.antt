@@ -1,10 +1,10 @@
 -- What came of an equal beginning, moved to it.
 use Rattle.std.specs.Prelude.{◌≡◌, Bool}
 use Rattle.std.proofs.Common.{sym, subst}
-use Rattle.erl_forms.specs.declared.operation.Connective.{Connective}
-use Rattle.erl_forms.specs.declared.operation.Operation.{Operation}
-use Rattle.erl_forms.specs.Pattern.{Pat}
-use Rattle.erl_forms.specs.Expression.{Exprs, Clauses}
+use Rattle.erl_ir.specs.declared.operation.Connective.{Connective}
+use Rattle.erl_ir.specs.declared.operation.Operation.{Operation}
+use Rattle.erl_ir.specs.Pattern.{Pat}
+use Rattle.erl_ir.specs.Expression.{Exprs, Clauses}
 use Rattle.erl_semantics.specs.State.{Result, World, Activation, State}
 use Rattle.erl_semantics.specs.Guards.{Values}
 use Rattle.erl_semantics.specs.Evaluation.{Bound, Others, Applied, Onward, Cased, Decided}

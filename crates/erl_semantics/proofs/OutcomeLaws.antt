@@ -6,8 +6,8 @@ use Rattle.std.proofs.Common.{sym, subst, true≢false}
 use Rattle.std.proofs.lemmas.List.Elements.{All-nil, All-cons, All-append, All-take, All-drop, All-weaker, All-contains}
 use Rattle.erl_term.specs.Tree as term
 use Rattle.erl_term.specs.Tree.{Tree, Trees, count}
-use Rattle.erl_forms.specs.declared.function.Function.{Function}
-use Rattle.erl_forms.specs.declared.function.Definition.{Definition}
+use Rattle.erl_ir.specs.declared.function.Function.{Function}
+use Rattle.erl_ir.specs.declared.function.Definition.{Definition}
 use Rattle.erl_semantics.specs.State.{Instance, Place, server, loop, Act, send, reply, start, name, Result, value, rest, exit, World}
 use Rattle.erl_semantics.specs.State.{plain, Startup, State, all_acts, started_at, named_by}
 use Rattle.erl_semantics.specs.BuiltIns.{reply_to}

@@ -2,7 +2,7 @@
 use Rattle.std.specs.Prelude.{◌≡◌, ℕ, List, Option, None, Some}
 use Rattle.std.proofs.Common.{sym, ◌∙◌}
 use Rattle.erl_term.specs.Tree.{Tree, Trees}
-use Rattle.erl_forms.specs.declared.function.Function.{Function}
+use Rattle.erl_ir.specs.declared.function.Function.{Function}
 use Rattle.erl_semantics.specs.State.{Instance, Place, World, all_acts, server, loop}
 use Rattle.erl_semantics.specs.Guards.{Selection}
 use Rattle.erl_semantics.specs.Jobs.{Outcome, FromOutside, undefined, called, Job, world_of, Callback, served, Handles, not_exported}

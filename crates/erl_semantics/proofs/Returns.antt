@@ -4,10 +4,10 @@ use Rattle.std.specs.Prelude.{if◌then◌else◌, codes, Option, None, Some, op
 use Rattle.erl_term.specs.Accessors.{int_of}
 use Rattle.erl_term.specs.Rows.{append_trees}
 use Rattle.erl_term.specs.Tree.{Tree, Trees, int, atom, pid, tuple, list, none, more}
-use Rattle.erl_forms.specs.declared.operation.BuiltIn.{BuiltIn}
-use Rattle.erl_forms.specs.declared.operation.BuiltIn.TheVariants as built_in
-use Rattle.erl_forms.specs.declared.operation.Operator.{Operator}
-use Rattle.erl_forms.specs.declared.operation.Operator.TheVariants as operator
+use Rattle.erl_ir.specs.declared.operation.BuiltIn.{BuiltIn}
+use Rattle.erl_ir.specs.declared.operation.BuiltIn.TheVariants as built_in
+use Rattle.erl_ir.specs.declared.operation.Operator.{Operator}
+use Rattle.erl_ir.specs.declared.operation.Operator.TheVariants as operator
 use Rattle.erl_semantics.specs.State.{Receiver, Act, reply, Result, value, rest, exit, exit_by, bound_to, made, is_within}
 use Rattle.erl_semantics.specs.Operators.{truth, truth_of, fits, integer, of_integer, is_zero, of_truth, receiver_of, operated, sends}
 use Rattle.erl_semantics.specs.Operators.{appended_to, appended, before_tail, consed_row, consed, made_of, sent_to, sent}

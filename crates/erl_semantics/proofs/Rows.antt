@@ -7,9 +7,9 @@ use Rattle.erl_term.specs.Accessors.{one_of, two_of, three_of, list_of}
 use Rattle.erl_term.specs.Rows.{append_trees}
 use Rattle.erl_term.specs.Term.{tree, trees}
 use Rattle.erl_term.specs.Tree.{Tree, Trees, count, int, atom, pid, tuple, list, none, more}
-use Rattle.erl_forms.specs.declared.operation.Operator.{Operator}
+use Rattle.erl_ir.specs.declared.operation.Operator.{Operator}
 use Rattle.erl_semantics.specs.State.{value, exit_by, made}
-use Rattle.erl_forms.specs.declared.operation.BuiltIn.{BuiltIn}
+use Rattle.erl_ir.specs.declared.operation.BuiltIn.{BuiltIn}
 use Rattle.erl_semantics.specs.BuiltIns as built_ins
 use Rattle.erl_semantics.specs.BuiltIns.{given}
 use Rattle.erl_semantics.proofs.Options.{some_none, some_injective}

@@ -6,9 +6,9 @@ use Rattle.erl_term.specs.declared.term.Term.{Term}
 use Rattle.erl_term.specs.Term.{tree, trees}
 use Rattle.erl_term.specs.Tree.{Tree, Trees, more}
 use Rattle.erl_term.specs.Tree as term
-use Rattle.erl_forms.specs.declared.expression.Expression.{Expression}
-use Rattle.erl_forms.specs.Expression.{Exprs}
-use Rattle.erl_forms.specs.ExpressionForms.{expr, exprs, guards}
+use Rattle.erl_ir.specs.declared.expression.Expression.{Expression}
+use Rattle.erl_ir.specs.Expression.{Exprs}
+use Rattle.erl_ir.specs.ExpressionForms.{expr, exprs, guards}
 use Rattle.erl_semantics.specs.State.{Result, value, exit}
 use Rattle.erl_semantics.specs.Guards.{Values, no_guard, all, stopped, values_then, first_value, tested, tested_row, tested_alone}
 use Rattle.erl_semantics.specs.Guards.{one_holds, guarded}

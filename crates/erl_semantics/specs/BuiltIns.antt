@@ -5,8 +5,8 @@ use Rattle.std.specs.Prelude.{if◌then◌else◌, codes, Option, None, Some, is
 use Rattle.std.specs.Prelude.{option_map}
 use Rattle.erl_term.specs.Tree.{Tree, Trees, int, atom, pid, tuple, list, none, more, count}
 use Rattle.erl_term.specs.Order.{tree_cmp}
-use Rattle.erl_forms.specs.declared.operation.BuiltIn.{BuiltIn}
-use Rattle.erl_forms.specs.declared.operation.BuiltIn.TheVariants as built_in
+use Rattle.erl_ir.specs.declared.operation.BuiltIn.{BuiltIn}
+use Rattle.erl_ir.specs.declared.operation.BuiltIn.TheVariants as built_in
 use Rattle.erl_semantics.specs.State.{Result, value, exit, exit_by, made, Receiver, Act, send, reply}
 use Rattle.erl_semantics.specs.Operators.{truth, truth_of, integer, is_equal, receiver_of}
 

@@ -1,5 +1,5 @@
--- What the value that a callback returns means (gen_server(3), Callback Functions: handle_call/3, handle_cast/2, handle_info/2): a
--- rule for each form of it, by which each value means one thing.
+-- What the value that a callback returns means (gen_server(3), Callback Functions: handle_call/3, handle_cast/2,
+-- handle_info/2): a rule for each form of it, by which each value means one thing.
 use Rattle.std.specs.Prelude.{◌≡◌, ◌≢◌, ℕ, List, codes, None, Some}
 use Rattle.erl_term.specs.Tree.{Tree, atom, tuple, none, more}
 use Rattle.erl_semantics.specs.State.{server, rest, exit}

@@ -3,19 +3,19 @@ use Rattle.std.specs.Prelude.{ℕ, ◌-◌, ◌^◌, pos, true, false, List, [],
 use Rattle.erl_term.specs.Tree as term
 use Rattle.erl_term.specs.Tree.{Tree, Trees, int, atom, pid}
 use Rattle.erl_term.specs.Conversions.{row}
-use Rattle.erl_forms.specs.declared.operation.Connective.TheVariants.{AndAlso}
-use Rattle.erl_forms.specs.declared.operation.BuiltIn.{BuiltIn}
-use Rattle.erl_forms.specs.declared.operation.Operator.{Operator}
-use Rattle.erl_forms.specs.declared.operation.Operator.TheVariants as operator
-use Rattle.erl_forms.specs.declared.operation.BuiltIn.TheVariants as built_in
-use Rattle.erl_forms.specs.declared.operation.Operation.TheVariants as operation
-use Rattle.erl_forms.specs.declared.function.Function.{Function}
-use Rattle.erl_forms.specs.declared.function.Definition.TheVariants as definition
-use Rattle.erl_forms.specs.Module.{Key, Forms}
-use Rattle.erl_forms.specs.Pattern as pattern
-use Rattle.erl_forms.specs.Pattern.{Pat, Pats}
-use Rattle.erl_forms.specs.Expression as form
-use Rattle.erl_forms.specs.Expression.{Expr, Exprs, Guards, Clauses}
+use Rattle.erl_ir.specs.declared.operation.Connective.TheVariants.{AndAlso}
+use Rattle.erl_ir.specs.declared.operation.BuiltIn.{BuiltIn}
+use Rattle.erl_ir.specs.declared.operation.Operator.{Operator}
+use Rattle.erl_ir.specs.declared.operation.Operator.TheVariants as operator
+use Rattle.erl_ir.specs.declared.operation.BuiltIn.TheVariants as built_in
+use Rattle.erl_ir.specs.declared.operation.Operation.TheVariants as operation
+use Rattle.erl_ir.specs.declared.function.Function.{Function}
+use Rattle.erl_ir.specs.declared.function.Definition.TheVariants as definition
+use Rattle.erl_ir.specs.Module.{Key, Forms}
+use Rattle.erl_ir.specs.Pattern as pattern
+use Rattle.erl_ir.specs.Pattern.{Pat, Pats}
+use Rattle.erl_ir.specs.Expression as form
+use Rattle.erl_ir.specs.Expression.{Expr, Exprs, Guards, Clauses}
 use Rattle.erl_semantics.specs.State.{Instance, World, plain, start_mode, value, rest, exit, exit_by, exit_by_pair, server, loop}
 use Rattle.erl_semantics.specs.State as state
 use Rattle.erl_semantics.specs.State.{named}
@@ -335,7 +335,8 @@ OddValueIsBad = EnderGives (call_5 (codes "odd")) [] (exit_by_pair (codes "bad_r
 
 -- `{noreply,4}` rests.
 abbrev pub RestsWithoutReply : Type 0
-RestsWithoutReply = EnderGives (term.tuple (row (a (codes "$gen_cast") ∷ a (codes "go") ∷ []))) [] (rest (server (codes "ender") (n 4)))
+RestsWithoutReply = EnderGives (term.tuple (row (a (codes "$gen_cast") ∷ a (codes "go") ∷ []))) []
+    (rest (server (codes "ender") (n 4)))
 
 -- `{stop,gone,0}` ends the process.
 abbrev pub StopsByItself : Type 0

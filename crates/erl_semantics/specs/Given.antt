@@ -3,7 +3,7 @@ use Rattle.std.specs.Prelude.{List}
 use Rattle.erl_term.specs.declared.term.Term.{Term}
 use Rattle.erl_term.specs.Term.{tree, trees}
 use Rattle.erl_term.specs.Tree.{Tree}
-use Rattle.erl_forms.specs.Expression.{Exprs}
+use Rattle.erl_ir.specs.Expression.{Exprs}
 use Rattle.erl_semantics.specs.declared.given.Given.{Given}
 use Rattle.erl_semantics.specs.declared.given.Given.TheVariants as variants
 use Rattle.erl_semantics.specs.declared.guards.Values.{Values as Tested}

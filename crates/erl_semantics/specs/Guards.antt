@@ -6,16 +6,16 @@
 use Rattle.std.specs.Prelude.{ℕ, ◌+◌, Bool, true, false, nat_lt, List, codes, slice_get, Option, None, Some}
 use Rattle.erl_term.specs.Tree as term
 use Rattle.erl_term.specs.Tree.{Tree, Trees}
-use Rattle.erl_forms.specs.declared.operation.BuiltIn.{BuiltIn}
-use Rattle.erl_forms.specs.declared.operation.BuiltIn.TheVariants as built_in
-use Rattle.erl_forms.specs.declared.operation.Connective.{Connective}
-use Rattle.erl_forms.specs.declared.operation.Connective.TheVariants.{AndAlso, OrElse}
-use Rattle.erl_forms.specs.declared.operation.Operation.{Operation}
-use Rattle.erl_forms.specs.declared.operation.Operation.TheVariants as operation
-use Rattle.erl_forms.specs.declared.operation.Operator.{Operator}
-use Rattle.erl_forms.specs.declared.operation.Operator.TheVariants as operator
-use Rattle.erl_forms.specs.Expression as form
-use Rattle.erl_forms.specs.Expression.{Expr, Exprs, Guards, Clauses}
+use Rattle.erl_ir.specs.declared.operation.BuiltIn.{BuiltIn}
+use Rattle.erl_ir.specs.declared.operation.BuiltIn.TheVariants as built_in
+use Rattle.erl_ir.specs.declared.operation.Connective.{Connective}
+use Rattle.erl_ir.specs.declared.operation.Connective.TheVariants.{AndAlso, OrElse}
+use Rattle.erl_ir.specs.declared.operation.Operation.{Operation}
+use Rattle.erl_ir.specs.declared.operation.Operation.TheVariants as operation
+use Rattle.erl_ir.specs.declared.operation.Operator.{Operator}
+use Rattle.erl_ir.specs.declared.operation.Operator.TheVariants as operator
+use Rattle.erl_ir.specs.Expression as form
+use Rattle.erl_ir.specs.Expression.{Expr, Exprs, Guards, Clauses}
 use Rattle.erl_semantics.specs.State.{Result, exit_by, exit_by_pair, made, bound_to, value, rest, exit}
 use Rattle.erl_semantics.specs.Operators.{operated, truth_of, consed}
 use Rattle.erl_semantics.specs.BuiltIns.{given}

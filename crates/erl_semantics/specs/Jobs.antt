@@ -5,11 +5,11 @@ use Rattle.std.specs.Prelude.{Option, None, Some, is_some}
 use Rattle.std.specs.Str.{bytes_eq}
 use Rattle.erl_term.specs.Tree as term
 use Rattle.erl_term.specs.Tree.{Tree, Trees, atom, tuple, count}
-use Rattle.erl_forms.specs.declared.function.Function.{Function}
-use Rattle.erl_forms.specs.declared.function.Definition.{Definition}
-use Rattle.erl_forms.specs.declared.function.Definition.TheVariants as definition
-use Rattle.erl_forms.specs.Expression.{Exprs, Clauses}
-use Rattle.erl_forms.specs.Module.{exported_of, function_of}
+use Rattle.erl_ir.specs.declared.function.Function.{Function}
+use Rattle.erl_ir.specs.declared.function.Definition.{Definition}
+use Rattle.erl_ir.specs.declared.function.Definition.TheVariants as definition
+use Rattle.erl_ir.specs.Expression.{Exprs, Clauses}
+use Rattle.erl_ir.specs.Module.{exported_of, function_of}
 use Rattle.erl_semantics.specs.State.{Instance, Place, Act, Result, exit_by, exit_by_pair, value, rest, exit, server, loop, World}
 use Rattle.erl_semantics.specs.State.{plain}
 use Rattle.erl_semantics.specs.State.{Activation, State, all_acts, with_bindings, with_calls}

@@ -2,8 +2,8 @@
 -- accepts are those that by the rules are taken there.
 use Rattle.std.specs.Prelude.{◌≡◌, ◌↔◌, ◌<◌, ℕ, Bool, true, false, List, ◌∷◌, Option, None, Some, IsTrue}
 use Rattle.erl_term.specs.Tree.{Tree, Trees, count}
-use Rattle.erl_forms.specs.Expression.{Expr, Exprs}
-use Rattle.erl_forms.specs.Module.{function_of}
+use Rattle.erl_ir.specs.Expression.{Expr, Exprs}
+use Rattle.erl_ir.specs.Module.{function_of}
 use Rattle.erl_semantics.specs.State.{Instance, Place, server, loop, Result, World, Activation, State, with_bindings, with_calls}
 use Rattle.erl_semantics.specs.Guards.{Selection}
 use Rattle.erl_semantics.specs.Evaluation.{Eval, Body}

@@ -7,8 +7,8 @@ use Rattle.std.specs.Prelude.{Option, None, Some, option_and_then}
 use Rattle.erl_term.specs.Tree as term
 use Rattle.erl_term.specs.Tree.{Tree, Trees}
 use Rattle.erl_term.specs.Order.{tree_cmp}
-use Rattle.erl_forms.specs.Pattern as pattern
-use Rattle.erl_forms.specs.Pattern.{Pat, Pats}
+use Rattle.erl_ir.specs.Pattern as pattern
+use Rattle.erl_ir.specs.Pattern.{Pat, Pats}
 use Rattle.erl_semantics.specs.Operators.{is_equal}
 
 -- an equal term binds nothing

@@ -10,8 +10,8 @@ use Rattle.erl_term.specs.Tree.{Tree, Trees, int, atom, pid, tuple, list, none, 
 use Rattle.erl_term.specs.Rows.{append_trees}
 use Rattle.erl_term.specs.Accessors.{int_of}
 use Rattle.erl_term.specs.Order.{tree_cmp}
-use Rattle.erl_forms.specs.declared.operation.Operator.{Operator}
-use Rattle.erl_forms.specs.declared.operation.Operator.TheVariants as operator
+use Rattle.erl_ir.specs.declared.operation.Operator.{Operator}
+use Rattle.erl_ir.specs.declared.operation.Operator.TheVariants as operator
 use Rattle.erl_semantics.specs.State.{Result, value, exit_by, made, Receiver, named, process, Act, send}
 
 -- Truth values are the atoms `true` and `false`.

@@ -4,10 +4,10 @@ use Rattle.std.specs.Prelude.{Option, None, Some, is_some, option_map, option_an
 use Rattle.std.specs.Str.{bytes_eq}
 use Rattle.erl_term.specs.Tree as term
 use Rattle.erl_term.specs.Tree.{Tree, Trees, atom, pid, count}
-use Rattle.erl_forms.specs.declared.operation.BuiltIn.{BuiltIn}
-use Rattle.erl_forms.specs.declared.operation.BuiltIn.TheVariants as built_in
-use Rattle.erl_forms.specs.declared.function.Function.{Function}
-use Rattle.erl_forms.specs.Module.{exported_of}
+use Rattle.erl_ir.specs.declared.operation.BuiltIn.{BuiltIn}
+use Rattle.erl_ir.specs.declared.operation.BuiltIn.TheVariants as built_in
+use Rattle.erl_ir.specs.declared.function.Function.{Function}
+use Rattle.erl_ir.specs.Module.{exported_of}
 use Rattle.erl_semantics.specs.State.{Instance, Place, Result, exit_by, made, Mode, World, current, Activation, Startup, State}
 use Rattle.erl_semantics.specs.State.{with_bindings}
 use Rattle.erl_semantics.specs.State as state

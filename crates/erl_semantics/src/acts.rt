@@ -5,7 +5,7 @@ ghost use Rattle.erl_semantics.specs.Acts.{act_of, receiver};
 ghost use Rattle.erl_semantics.specs.BuiltIns.{cast_of, cast_to, number_of, reply_to, does};
 ghost use Rattle.erl_semantics.specs.Operators.{receiver_of, sent, sends};
 
-use erl_forms::{BuiltIn, Operator};
+use erl_ir::{BuiltIn, Operator};
 use erl_term::{Atom, Predefined, Term, Terms, two};
 use std::alloc::{AllocError, Global};
 use values::{Duplicate, Same};

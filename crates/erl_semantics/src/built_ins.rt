@@ -3,14 +3,14 @@ ghost use Rattle.std.specs.Prelude.{◌≡◌, ℕ, suc, pos, Bool, IsTrue, IfOk
 ghost use Rattle.erl_term.specs.Accessors.{one_of, two_of};
 ghost use Rattle.erl_term.specs.Term.{tree, trees};
 ghost use Rattle.erl_term.specs.Tree.{Tree, Trees, int, list, tuple, none, more, count};
-ghost use Rattle.erl_forms.specs.declared.operation.BuiltIn.TheVariants as built_in;
+ghost use Rattle.erl_ir.specs.declared.operation.BuiltIn.TheVariants as built_in;
 ghost use Rattle.erl_semantics.specs.Given.{result_of};
 ghost use Rattle.erl_semantics.specs.State as state;
 ghost use Rattle.erl_semantics.specs.BuiltIns.{given, of_none, of_one, of_two, of_three, has_member, is_of_kind, ok, element_of, with_element};
 
 use crate::given::{Given, exit_by, made};
 use crate::operators::{boolean, integer, truth_of};
-use erl_forms::BuiltIn;
+use erl_ir::BuiltIn;
 use erl_term::{Atom, Predefined, Term, Terms, one, three, two};
 use std::alloc::{AllocError, Global};
 use std::cmp::Ordering;
@@ -127,7 +127,8 @@ fn item_at(terms: &[Term], place: usize) -> Option<&Term>
 
 /// The element of a row at a place that is counted from 1.
 fn nth<'a>(x: &Term, row: &'a Terms) -> Option<&'a Term>
-    ensures { MatchOption result (element_of (tree x.now) row.now ≡ None) (λ t. element_of (tree x.now) row.now ≡ Some (tree t.now)) }
+    ensures { MatchOption result (element_of (tree x.now) row.now ≡ None)
+        (λ t. element_of (tree x.now) row.now ≡ Some (tree t.now)) }
 {
     let terms = row.as_slice();
     match place_of(x) {

@@ -1,9 +1,9 @@
 // Guards, and the selection of a clause.
 ghost use Rattle.std.specs.Prelude.{◌≡◌, IfOk, map, nat_lt, option_map, slice_get};
 ghost use Rattle.erl_term.specs.Term.{tree, trees};
-ghost use Rattle.erl_forms.specs.Expression.{Exprs, clause, no_clauses};
-ghost use Rattle.erl_forms.specs.ExpressionForms.{expr, exprs, guards, clauses};
-ghost use Rattle.erl_forms.specs.PatternForms.{pats};
+ghost use Rattle.erl_ir.specs.Expression.{Exprs, clause, no_clauses};
+ghost use Rattle.erl_ir.specs.ExpressionForms.{expr, exprs, guards, clauses};
+ghost use Rattle.erl_ir.specs.PatternForms.{pats};
 ghost use Rattle.erl_semantics.specs.Bindings.{bindings};
 ghost use Rattle.erl_semantics.specs.Given.{result_of, values_of, found_by};
 ghost use Rattle.erl_semantics.specs.Guards.{guard_operated, is_guard_bif, guard_called, guard_applied, applied_to, connected, tested_then, tested, tested_row, tested_alone, holds, all_hold, one_holds, guarded, selected, decisive};
@@ -14,9 +14,7 @@ use crate::built_ins::call_built_in;
 use crate::given::{Given, exit_by, exit_by_pair, made};
 use crate::matching::{bound, match_each};
 use crate::operators::{cons, operate, truth_of};
-use erl_forms::{
-    BuiltIn, Clause, Connective, Expression, Expressions, Operation, Operator, Pattern,
-};
+use erl_ir::{BuiltIn, Clause, Connective, Expression, Expressions, Operation, Operator, Pattern};
 use erl_term::{Term, Terms};
 use std::alloc::{AllocError, Global};
 use values::Duplicate;
@@ -101,7 +99,8 @@ fn call_in_guard(
     arguments: &[Term],
     calls: &mut u32,
 ) -> Result<Given, AllocError>
-    ensures { IfOk result (λ it. (result_of it, calls.new) ≡ guard_called (is_guard_bif function) (nat_lt calls.old 10000) setting.now.own function (trees arguments.now) calls.old) }
+    ensures { IfOk result (λ it. (result_of it, calls.new) ≡ guard_called (is_guard_bif function) (nat_lt calls.old 10000)
+        setting.now.own function (trees arguments.now) calls.old) }
 {
     if !is_guard_bif(function) {
         return exit_by(setting.alloc, "undef");
@@ -120,7 +119,8 @@ fn apply_in_guard(
     operands: Vec<Term>,
     calls: &mut u32,
 ) -> Result<Given, AllocError>
-    ensures { IfOk result (λ it. (result_of it, calls.new) ≡ guard_applied setting.now.own operation.now (trees operands.items) calls.old) }
+    ensures { IfOk result (λ it. (result_of it, calls.new) ≡ guard_applied setting.now.own operation.now (trees operands.items)
+        calls.old) }
 {
     match operation {
         Operation::Tuple => made(
@@ -142,7 +142,8 @@ fn apply_in_guard(
 
 /// What a variable gives.
 fn value_of(alloc: Global, bound_terms: &Bound<'_>, place: usize) -> Result<Given, AllocError>
-    ensures { IfOk result (λ it. result_of it ≡ bound_to (slice_get (bindings bound_terms.now.base.now bound_terms.now.fresh.now) place)) }
+    ensures { IfOk result (λ it. result_of it ≡ bound_to
+        (slice_get (bindings bound_terms.now.base.now bound_terms.now.fresh.now) place)) }
 {
     match bound(bound_terms.base, bound_terms.fresh, place) {
         Some(term) => Ok(Given::Value(term.copy(alloc)?)),
@@ -158,7 +159,8 @@ fn test(
     expression: &Expression,
     calls: &mut u32,
 ) -> Result<Given, AllocError>
-    ensures { IfOk result (λ it. (result_of it, calls.new) ≡ tested setting.now.own (bindings bound.now.base.now bound.now.fresh.now) (expr expression.now) calls.old) }
+    ensures { IfOk result (λ it. (result_of it, calls.new) ≡ tested setting.now.own
+        (bindings bound.now.base.now bound.now.fresh.now) (expr expression.now) calls.old) }
 {
     match expression {
         Expression::Literal(term) => Ok(Given::Value(term.copy(setting.alloc)?)),
@@ -189,7 +191,8 @@ fn test_operation(
     operands: &[Expression],
     calls: &mut u32,
 ) -> Result<Given, AllocError>
-    ensures { IfOk result (λ it. (result_of it, calls.new) ≡ applied_to setting.now.own operation.now (tested_row setting.now.own (bindings bound.now.base.now bound.now.fresh.now) (exprs operands.now) calls.old)) }
+    ensures { IfOk result (λ it. (result_of it, calls.new) ≡ applied_to setting.now.own operation.now
+        (tested_row setting.now.own (bindings bound.now.base.now bound.now.fresh.now) (exprs operands.now) calls.old)) }
 {
     match test_row(setting, bound, operands, calls)? {
         Values::All(values) => apply_in_guard(setting, operation, values, calls),
@@ -205,7 +208,8 @@ fn test_row(
     row: &[Expression],
     calls: &mut u32,
 ) -> Result<Values, AllocError>
-    ensures { IfOk result (λ it. (values_of it, calls.new) ≡ tested_row setting.now.own (bindings bound.now.base.now bound.now.fresh.now) (exprs row.now) calls.old) }
+    ensures { IfOk result (λ it. (values_of it, calls.new) ≡ tested_row setting.now.own
+        (bindings bound.now.base.now bound.now.fresh.now) (exprs row.now) calls.old) }
 {
     let mut values = Vec::with_capacity(setting.alloc, row.len())?;
     for expression in row {
@@ -225,7 +229,8 @@ fn test_alone(
     side: &[Expression],
     calls: &mut u32,
 ) -> Result<Given, AllocError>
-    ensures { IfOk result (λ it. (result_of it, calls.new) ≡ tested_alone setting.now.own (bindings bound.now.base.now bound.now.fresh.now) (exprs side.now) calls.old) }
+    ensures { IfOk result (λ it. (result_of it, calls.new) ≡ tested_alone setting.now.own
+        (bindings bound.now.base.now bound.now.fresh.now) (exprs side.now) calls.old) }
 {
     if side.len() != 1 {
         return exit_by(setting.alloc, "undef");
@@ -244,7 +249,8 @@ fn test_connective(
     calls: &mut u32,
 ) -> Result<Given, AllocError>
     ensures { IfOk result (λ it. (result_of it, calls.new) ≡ tested_then
-        (λ t behind. connected (operators.truth_of t) connective t (tested_alone setting.now.own (bindings bound.now.base.now bound.now.fresh.now) (exprs right.now)) behind)
+        (λ t behind. connected (operators.truth_of t) connective t
+        (tested_alone setting.now.own (bindings bound.now.base.now bound.now.fresh.now) (exprs right.now)) behind)
         (tested_alone setting.now.own (bindings bound.now.base.now bound.now.fresh.now) (exprs left.now) calls.old)) }
 {
     match test_alone(setting, bound, left, calls)? {
@@ -273,7 +279,9 @@ fn test_right(
     right: &[Expression],
     calls: &mut u32,
 ) -> Result<Given, AllocError>
-    ensures { IfOk result (λ it. (result_of it, calls.new) ≡ connected (operators.truth_of (tree value)) connective (tree value) (tested_alone setting.now.own (bindings bound.now.base.now bound.now.fresh.now) (exprs right.now)) calls.old) }
+    ensures { IfOk result (λ it. (result_of it, calls.new) ≡ connected (operators.truth_of (tree value)) connective
+        (tree value) (tested_alone setting.now.own (bindings bound.now.base.now bound.now.fresh.now) (exprs right.now))
+        calls.old) }
 {
     match truth_of(&value) {
         None => exit_by_pair(setting.alloc, "badarg", value),
@@ -299,7 +307,8 @@ fn all_hold(
     tests: &[Expression],
     calls: &mut u32,
 ) -> Result<bool, AllocError>
-    ensures { IfOk result (λ it. (it, calls.new) ≡ all_hold setting.now.own (bindings bound.now.base.now bound.now.fresh.now) (exprs tests.now) calls.old) }
+    ensures { IfOk result (λ it. (it, calls.new) ≡ all_hold setting.now.own (bindings bound.now.base.now bound.now.fresh.now)
+        (exprs tests.now) calls.old) }
 {
     for expression in tests {
         let given = test(setting, bound, expression, calls)?;
@@ -317,7 +326,8 @@ fn one_holds(
     alternatives: &[Expressions],
     calls: &mut u32,
 ) -> Result<bool, AllocError>
-    ensures { IfOk result (λ it. (it, calls.new) ≡ one_holds setting.now.own (bindings bound.now.base.now bound.now.fresh.now) (guards alternatives.now) calls.old) }
+    ensures { IfOk result (λ it. (it, calls.new) ≡ one_holds setting.now.own (bindings bound.now.base.now bound.now.fresh.now)
+        (guards alternatives.now) calls.old) }
 {
     for tests in alternatives {
         if all_hold(setting, bound, tests.as_slice(), calls)? {
@@ -334,7 +344,8 @@ fn is_guarded(
     alternatives: &[Expressions],
     calls: &mut u32,
 ) -> Result<bool, AllocError>
-    ensures { IfOk result (λ it. (it, calls.new) ≡ guarded setting.now.own (bindings bound.now.base.now bound.now.fresh.now) (guards alternatives.now) calls.old) }
+    ensures { IfOk result (λ it. (it, calls.new) ≡ guarded setting.now.own (bindings bound.now.base.now bound.now.fresh.now)
+        (guards alternatives.now) calls.old) }
 {
     if alternatives.is_empty() {
         return Ok(true);
@@ -356,7 +367,11 @@ pub fn try_clause(
     terms: &[Term],
     calls: &mut u32,
 ) -> Result<Option<Vec<Term>>, AllocError>
-    ensures { IfOk result (λ it. (body : Exprs) → (option_map (λ fresh. (bindings base.now fresh.items, body)) it, calls.new) ≡ selected setting.now.own (map tree base.now) (clause (pats patterns.now) (guards alternatives.now) body no_clauses) (trees terms.now) calls.old) }
+    ensures { IfOk result (λ it. (body : Exprs) → (
+      option_map (λ fresh. (bindings base.now fresh.items, body)) it,
+      calls.new,
+    ) ≡ selected setting.now.own (map tree base.now)
+        (clause (pats patterns.now) (guards alternatives.now) body no_clauses) (trees terms.now) calls.old) }
 {
     let mut fresh = Vec::new(setting.alloc);
     if !match_each(setting.alloc, patterns, terms, base, &mut fresh)? {
@@ -388,7 +403,8 @@ pub fn select<'a>(
     terms: &[Term],
     calls: &mut u32,
 ) -> Result<Option<Selected<'a>>, AllocError>
-    ensures { IfOk result (λ it. (option_map (found_by base.now) it, calls.new) ≡ selected setting.now.own (map tree base.now) (clauses items.now) (trees terms.now) calls.old) }
+    ensures { IfOk result (λ it. (option_map (found_by base.now) it, calls.new) ≡ selected setting.now.own (map tree base.now)
+        (clauses items.now) (trees terms.now) calls.old) }
 {
     for clause in items {
         let patterns = clause.patterns.as_slice();

@@ -1,5 +1,5 @@
 // Modules that are loaded, and the mode in which a call is evaluated.
-use erl_forms::Module;
+use erl_ir::Module;
 use erl_term::Atom;
 use std::alloc::{AllocError, Global};
 use values::{Duplicate, Same};

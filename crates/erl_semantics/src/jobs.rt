@@ -2,7 +2,7 @@
 ghost use Rattle.std.specs.Prelude.{◌≡◌, IfOk, MatchOption, None, Some, map};
 ghost use Rattle.erl_term.specs.Term.{tree};
 ghost use Rattle.erl_term.specs.Tree.{more, none};
-ghost use Rattle.erl_forms.specs.ExpressionForms.{clauses};
+ghost use Rattle.erl_ir.specs.ExpressionForms.{clauses};
 ghost use Rattle.erl_semantics.specs.Acts.{place};
 ghost use Rattle.erl_semantics.specs.Guards.{selected};
 ghost use Rattle.erl_semantics.specs.Jobs.{GivesJob, accepts, heard_by};
@@ -14,7 +14,7 @@ use crate::guards::{Setting, select};
 use crate::instance::Instance;
 use crate::matching::match_each;
 use crate::outcome::Outcome;
-use erl_forms::{Clause, Definition, Expressions, Function};
+use erl_ir::{Clause, Definition, Expressions, Function};
 use erl_term::{Term, Terms};
 use std::alloc::{AllocError, Global};
 use values::{Duplicate, Row, Same};
@@ -57,7 +57,8 @@ fn hear_by<'a>(
 ) -> Result<Option<Heard<'a>>, AllocError>
     ensures { IfOk result (λ it. MatchOption it
         ((selected setting.now.own (map tree bound.items) (clauses receive.now) (more (tree message.now) none) 0).0 ≡ None)
-        (λ h. selected setting.now.own (map tree bound.items) (clauses receive.now) (more (tree message.now) none) 0 ≡ (Some (map tree h.bindings.items, h.body.now), h.calls))) }
+        (λ h. selected setting.now.own (map tree bound.items) (clauses receive.now) (more (tree message.now) none)
+        0 ≡ (Some (map tree h.bindings.items, h.body.now), h.calls))) }
 {
     let mut calls = 0;
     let terms = std::slice::from_ref(message);
@@ -87,7 +88,8 @@ pub fn hear<'a>(
 ) -> Result<Option<Heard<'a>>, AllocError>
     ensures { IfOk result (λ it. MatchOption it
         ((heard_by setting.now.own (tree message.now) args.now function.now.definition).0 ≡ None)
-        (λ h. heard_by setting.now.own (tree message.now) args.now function.now.definition ≡ (Some (map tree h.bindings.items, h.body.now), h.calls))) }
+        (λ h. heard_by setting.now.own (tree message.now) args.now
+        function.now.definition ≡ (Some (map tree h.bindings.items, h.body.now), h.calls))) }
 {
     let Definition::Loop {
         patterns,
@@ -105,7 +107,8 @@ pub fn hear<'a>(
     hear_by(setting, message, receive.as_slice(), bound)
 }
 
-/// A job that was run, and what it gave: nobody can make one up, for who makes one owes the proof that the outcome comes of the job.
+/// A job that was run, and what it gave: nobody can make one up, for who makes one owes the proof that the outcome comes of
+/// the job.
 #[derive(Drop)]
 pub struct Done {
     job: Job,

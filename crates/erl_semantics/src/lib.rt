@@ -1,5 +1,5 @@
-//! What evaluating a callback is: the rules, and that one outcome comes of them; and the values that it is about, jobs, places, acts and
-//! outcomes. Whoever keeps processes stands on this, and not on the machine that evaluates.
+//! What evaluating a callback is: the rules, and that one outcome comes of them; and the values that it is about, jobs,
+//! places, acts and outcomes. Whoever keeps processes stands on this, and not on the machine that evaluates.
 //!
 //! The definitions are in `specs`: what is evaluated and what it leaves behind (`State`), matching (`Matching`), operators and
 //! functions that are built in (`Operators`, `BuiltIns`), guards and the selection of a clause (`Guards`), starting a process
@@ -55,10 +55,11 @@
 //!
 //! # What is proved
 //!
-//! [`operate`] gives what the rules say of an operator and the values of its operands ([`of_two`] of two), and [`call_built_in`] of a function
-//! that is built in and its arguments, but of those that start or name a process; [`sends`] and [`does`] give what they do.
-//! [`match_pattern`] tells whether a term matches a pattern, and binds what the rules say. [`select`] selects the clause that
-//! the rules select, with what it binds, and counts the calls in guards; [`try_clause`] tries one clause.
+//! [`operate`] gives what the rules say of an operator and the values of its operands ([`of_two`] of two), and
+//! [`call_built_in`] of a function that is built in and its arguments, but of those that start or name a process; [`sends`]
+//! and [`does`] give what they do. [`match_pattern`] tells whether a term matches a pattern, and binds what the rules say.
+//! [`select`] selects the clause that the rules select, with what it binds, and counts the calls in guards; [`try_clause`]
+//! tries one clause.
 //!
 //! By the rules one result and one state come of an expression ([`expressions_have_one_result`]), and one outcome of a job
 //! and of a call from outside ([`evaluation_has_one_outcome`]). What a place accepts is what its callback or a clause of its
@@ -76,11 +77,11 @@
 //! ([`at_most_one_process_is_started`]). Where a process rests in a loop function behind a job, or behind its start, the code
 //! that was given holds an instance of that name and serial ([`processes_rest_in_code_that_was_given`]).
 //!
-//! A [`Done`] is a job with what it gives (`GivesJob`): who makes one owes the proof, and the type keeps it. [`matches`] is `accepts` of
-//! the rules: whether a process takes a message where it rests.
+//! A [`Done`] is a job with what it gives (`GivesJob`): who makes one owes the proof, and the type keeps it. [`matches`] is
+//! `accepts` of the rules: whether a process takes a message where it rests.
 //!
-//! [`Place`], [`Receiver`], [`Act`], [`Instance`], [`End`], [`Outcome`], [`Job`] and [`Done`] are compared and copied by value; a copy shares its
-//! terms and its modules.
+//! [`Place`], [`Receiver`], [`Act`], [`Instance`], [`End`], [`Outcome`], [`Job`] and [`Done`] are compared and copied by
+//! value; a copy shares its terms and its modules.
 //!
 //! # What no contract says
 //!
@@ -139,8 +140,8 @@ pub fn evaluation_has_one_outcome()
     ensures job { OneJobOutcome }
 {}
 
-/// By the forms of gen_server(3) each value that a callback returns means one thing: what is replied, and where the process rests or by
-/// which reason it ends; it is what a job gives.
+/// By the forms of gen_server(3) each value that a callback returns means one thing: what is replied, and where the process
+/// rests or by which reason it ends; it is what a job gives.
 pub fn returns_mean_one_thing()
     ensures { ReturnsMeanOneThing }
 {}
@@ -177,8 +178,8 @@ pub fn processes_rest_in_code_that_was_given()
 {}
 
 /// The rules give what the Reference Manual says of small modules: calls that are not in tail position, exits, guards, a send
-/// and a reply, a rest, a message that is dropped, callbacks that stop or return what they may not, and processes that are started and
-/// named.
+/// and a reply, a rest, a message that is dropped, callbacks that stop or return what they may not, and processes that are
+/// started and named.
 pub fn rules_hold_of_examples()
     ensures calls { CallsAreAdded }
     ensures divides { ZeroDividesNothing }

@@ -1,12 +1,12 @@
 // Matching: what a term binds of a pattern.
 ghost use Rattle.std.specs.Prelude.{◌≡◌, ◌++◌, IfOk, Bool, MatchOption, None, Some, slice_get, map};
 ghost use Rattle.erl_term.specs.Term.{tree, trees};
-ghost use Rattle.erl_forms.specs.Pattern as pattern;
-ghost use Rattle.erl_forms.specs.PatternForms.{pat, pats};
+ghost use Rattle.erl_ir.specs.Pattern as pattern;
+ghost use Rattle.erl_ir.specs.PatternForms.{pat, pats};
 ghost use Rattle.erl_semantics.specs.Bindings.{bindings, bound_if, rest_behind};
 ghost use Rattle.erl_semantics.specs.Matching.{matched, matched_each, matched_front, matched_all, matched_variable};
 
-use erl_forms::Pattern;
+use erl_ir::Pattern;
 use erl_term::{Term, Terms};
 use std::alloc::{AllocError, Global};
 use values::Duplicate;
@@ -35,7 +35,8 @@ fn match_variable(
     base: &[Term],
     fresh: &mut Vec<Term>,
 ) -> Result<bool, AllocError>
-    ensures { IfOk result (λ ok. matched (pattern.variable place) (tree term.now) (bindings base.now fresh.old.items) ≡ bound_if ok (bindings base.now fresh.new.items)) }
+    ensures { IfOk result (λ ok. matched (pattern.variable place) (tree term.now)
+        (bindings base.now fresh.old.items) ≡ bound_if ok (bindings base.now fresh.new.items)) }
 {
     if let Some(value) = bound(base, fresh.as_slice(), place) {
         return Ok(term == value);
@@ -61,7 +62,8 @@ pub fn match_pattern(
     base: &[Term],
     fresh: &mut Vec<Term>,
 ) -> Result<bool, AllocError>
-    ensures { IfOk result (λ ok. matched (pat pattern.now) (tree term.now) (bindings base.now fresh.old.items) ≡ bound_if ok (bindings base.now fresh.new.items)) }
+    ensures { IfOk result (λ ok. matched (pat pattern.now) (tree term.now) (bindings base.now fresh.old.items) ≡ bound_if ok
+        (bindings base.now fresh.new.items)) }
 {
     match (pattern, term) {
         (Pattern::Literal(literal), _) => Ok(term == literal),
@@ -88,7 +90,8 @@ pub fn match_each(
     base: &[Term],
     fresh: &mut Vec<Term>,
 ) -> Result<bool, AllocError>
-    ensures { IfOk result (λ ok. matched_each (pats patterns.now) (trees terms.now) (bindings base.now fresh.old.items) ≡ bound_if ok (bindings base.now fresh.new.items)) }
+    ensures { IfOk result (λ ok. matched_each (pats patterns.now) (trees terms.now)
+        (bindings base.now fresh.old.items) ≡ bound_if ok (bindings base.now fresh.new.items)) }
 {
     if patterns.len() != terms.len() {
         return Ok(false);
@@ -124,7 +127,8 @@ fn match_front(
     base: &[Term],
     fresh: &mut Vec<Term>,
 ) -> Result<bool, AllocError>
-    ensures { IfOk result (λ ok. matched_front (pats patterns.now) row.now (bindings base.now fresh.old.items) ≡ bound_if ok (bindings base.now fresh.new.items)) }
+    ensures { IfOk result (λ ok. matched_front (pats patterns.now) row.now (bindings base.now fresh.old.items) ≡ bound_if ok
+        (bindings base.now fresh.new.items)) }
 {
     let Some((last, patterns)) = patterns.split_last() else {
         return Ok(false);
@@ -150,7 +154,8 @@ fn match_all(
     base: &[Term],
     fresh: &mut Vec<Term>,
 ) -> Result<bool, AllocError>
-    ensures { IfOk result (λ ok. matched_all (pats patterns.now) (tree term.now) (bindings base.now fresh.old.items) ≡ bound_if ok (bindings base.now fresh.new.items)) }
+    ensures { IfOk result (λ ok. matched_all (pats patterns.now) (tree term.now) (bindings base.now fresh.old.items) ≡ bound_if
+        ok (bindings base.now fresh.new.items)) }
 {
     for pattern in patterns {
         if !match_pattern(alloc, pattern, term, base, fresh)? {

@@ -6,11 +6,11 @@ ghost use Rattle.erl_term.specs.Term.{tree, trees};
 ghost use Rattle.erl_term.specs.Rows.{append_trees};
 ghost use Rattle.erl_semantics.specs.Given.{result_of};
 ghost use Rattle.erl_semantics.specs.State as state;
-ghost use Rattle.erl_forms.specs.declared.operation.Operator.TheVariants as operator;
+ghost use Rattle.erl_ir.specs.declared.operation.Operator.TheVariants as operator;
 ghost use Rattle.erl_semantics.specs.Operators.{truth, truth_of, of_one, of_two, operated, integer, holds_by, consed};
 
 use crate::given::{Given, exit_by, made, truth_term};
-use erl_forms::Operator;
+use erl_ir::Operator;
 use erl_term::{Term, Terms, one, two};
 use std::alloc::{AllocError, Global};
 use std::cmp::Ordering;

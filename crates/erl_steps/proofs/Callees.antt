@@ -6,8 +6,8 @@ use Rattle.std.specs.Map.{lookup}
 use Rattle.std.proofs.Common.{arith}
 use Rattle.erl_term.specs.Tree as term
 use Rattle.erl_term.specs.Tree.{Tree, Trees, atom, count}
-use Rattle.erl_forms.specs.declared.function.Function.{Function}
-use Rattle.erl_forms.specs.Module.{Key, key_eq, function_of, if_exported, exported_of}
+use Rattle.erl_ir.specs.declared.function.Function.{Function}
+use Rattle.erl_ir.specs.Module.{Key, key_eq, function_of, if_exported, exported_of}
 use Rattle.erl_semantics.specs.State as state
 use Rattle.erl_semantics.specs.State.{Instance, Mode, World, Startup, current}
 use Rattle.erl_semantics.specs.Evaluation.{local_function}

@@ -2,13 +2,13 @@
 use Rattle.std.specs.Prelude.{◌≡◌, ◌≤◌, ℕ, max, Bool, true, false, nat_lt, List, Option, None, Some, refl}
 use Rattle.std.proofs.Common.{arith}
 use Rattle.erl_term.specs.Tree.{Tree, Trees}
-use Rattle.erl_forms.specs.declared.operation.BuiltIn.{BuiltIn}
-use Rattle.erl_forms.specs.declared.operation.Connective.{Connective}
-use Rattle.erl_forms.specs.declared.operation.Connective.TheVariants.{AndAlso, OrElse}
-use Rattle.erl_forms.specs.declared.operation.Operation.{Operation}
-use Rattle.erl_forms.specs.declared.operation.Operation.TheVariants as operation
-use Rattle.erl_forms.specs.Expression as form
-use Rattle.erl_forms.specs.Expression.{Expr, Exprs, Guards, Clauses}
+use Rattle.erl_ir.specs.declared.operation.BuiltIn.{BuiltIn}
+use Rattle.erl_ir.specs.declared.operation.Connective.{Connective}
+use Rattle.erl_ir.specs.declared.operation.Connective.TheVariants.{AndAlso, OrElse}
+use Rattle.erl_ir.specs.declared.operation.Operation.{Operation}
+use Rattle.erl_ir.specs.declared.operation.Operation.TheVariants as operation
+use Rattle.erl_ir.specs.Expression as form
+use Rattle.erl_ir.specs.Expression.{Expr, Exprs, Guards, Clauses}
 use Rattle.erl_semantics.specs.State.{Act, Result, World, State, after, value, rest, exit}
 use Rattle.erl_semantics.specs.Operators.{truth_of}
 use Rattle.erl_semantics.specs.Matching.{matched_each}

@@ -2,10 +2,10 @@
 use Rattle.std.specs.Prelude.{◌<◌, ℕ, ◌+◌, zero, suc, true, false, List, [], Option, None, Some, refl}
 use Rattle.std.proofs.Common.{arith}
 use Rattle.erl_term.specs.Tree.{Tree, Trees, count}
-use Rattle.erl_forms.specs.declared.function.Function.{Function}
-use Rattle.erl_forms.specs.declared.function.Definition.{Definition}
-use Rattle.erl_forms.specs.Expression.{Exprs}
-use Rattle.erl_forms.specs.Module.{exported_of, function_of}
+use Rattle.erl_ir.specs.declared.function.Function.{Function}
+use Rattle.erl_ir.specs.declared.function.Definition.{Definition}
+use Rattle.erl_ir.specs.Expression.{Exprs}
+use Rattle.erl_ir.specs.Module.{exported_of, function_of}
 use Rattle.erl_semantics.specs.State.{Instance, Place, server, loop, Result, World, Activation, State, with_bindings, with_calls, all_acts}
 use Rattle.erl_semantics.specs.Guards.{Selection}
 use Rattle.erl_semantics.specs.Evaluation.{Body, Entered}

@@ -8,17 +8,17 @@ use borrow.Author.Tests.{ltb-true}
 use Rattle.erl_term.specs.Tree as term
 use Rattle.erl_term.specs.Tree.{Tree, Trees, count}
 use Rattle.erl_term.specs.Rows.{append_trees}
-use Rattle.erl_forms.specs.declared.operation.BuiltIn.{BuiltIn}
-use Rattle.erl_forms.specs.declared.operation.Connective.{Connective}
-use Rattle.erl_forms.specs.declared.operation.Connective.TheVariants.{AndAlso, OrElse}
-use Rattle.erl_forms.specs.declared.operation.Operation.{Operation}
-use Rattle.erl_forms.specs.declared.operation.Operation.TheVariants as operation
-use Rattle.erl_forms.specs.declared.function.Function.{Function}
-use Rattle.erl_forms.specs.declared.function.Definition.{Definition}
-use Rattle.erl_forms.specs.declared.function.Definition.TheVariants as definition
-use Rattle.erl_forms.specs.Expression as form
-use Rattle.erl_forms.specs.Expression.{Expr, Exprs, Guards, Clauses}
-use Rattle.erl_forms.specs.Pattern.{Pats}
+use Rattle.erl_ir.specs.declared.operation.BuiltIn.{BuiltIn}
+use Rattle.erl_ir.specs.declared.operation.Connective.{Connective}
+use Rattle.erl_ir.specs.declared.operation.Connective.TheVariants.{AndAlso, OrElse}
+use Rattle.erl_ir.specs.declared.operation.Operation.{Operation}
+use Rattle.erl_ir.specs.declared.operation.Operation.TheVariants as operation
+use Rattle.erl_ir.specs.declared.function.Function.{Function}
+use Rattle.erl_ir.specs.declared.function.Definition.{Definition}
+use Rattle.erl_ir.specs.declared.function.Definition.TheVariants as definition
+use Rattle.erl_ir.specs.Expression as form
+use Rattle.erl_ir.specs.Expression.{Expr, Exprs, Guards, Clauses}
+use Rattle.erl_ir.specs.Pattern.{Pats}
 use Rattle.erl_semantics.specs.State as state
 use Rattle.erl_semantics.specs.State.{Instance, Place, Result, World, Activation, State, made, bound_to, after}
 use Rattle.erl_semantics.specs.Operators.{operated, sends, truth_of, consed}

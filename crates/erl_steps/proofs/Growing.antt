@@ -6,14 +6,14 @@ use Rattle.std.proofs.lemmas.List.{append-nil, append_assoc}
 use Rattle.erl_term.specs.Tree as term
 use Rattle.erl_term.specs.Tree.{Tree, Trees}
 use Rattle.erl_term.specs.Order.{tree_cmp}
-use Rattle.erl_forms.specs.declared.operation.BuiltIn.{BuiltIn}
-use Rattle.erl_forms.specs.declared.operation.Connective.{Connective}
-use Rattle.erl_forms.specs.declared.operation.Operation.{Operation}
-use Rattle.erl_forms.specs.declared.function.Function.{Function}
-use Rattle.erl_forms.specs.Expression as form
-use Rattle.erl_forms.specs.Expression.{Expr, Exprs, Guards, Clauses}
-use Rattle.erl_forms.specs.Pattern as pattern
-use Rattle.erl_forms.specs.Pattern.{Pat, Pats}
+use Rattle.erl_ir.specs.declared.operation.BuiltIn.{BuiltIn}
+use Rattle.erl_ir.specs.declared.operation.Connective.{Connective}
+use Rattle.erl_ir.specs.declared.operation.Operation.{Operation}
+use Rattle.erl_ir.specs.declared.function.Function.{Function}
+use Rattle.erl_ir.specs.Expression as form
+use Rattle.erl_ir.specs.Expression.{Expr, Exprs, Guards, Clauses}
+use Rattle.erl_ir.specs.Pattern as pattern
+use Rattle.erl_ir.specs.Pattern.{Pat, Pats}
 use Rattle.erl_semantics.specs.State as state
 use Rattle.erl_semantics.specs.State.{Instance, Result, Startup, World, Activation, Mode, plain, start_mode, State, with_bindings, Act, after}
 use Rattle.erl_semantics.specs.Operators.{is_equal, sends}

@@ -2,9 +2,9 @@
 use Rattle.std.specs.Prelude.{◌≡◌, Option, None, Some, refl}
 use Rattle.std.proofs.Common.{ap, sym, ◌∙◌}
 use Rattle.erl_term.specs.Tree.{Tree, Trees}
-use Rattle.erl_forms.specs.declared.operation.Operator.{Operator}
-use Rattle.erl_forms.specs.declared.operation.Operator.TheVariants as operator
-use Rattle.erl_forms.specs.declared.operation.Operation.TheVariants as operation
+use Rattle.erl_ir.specs.declared.operation.Operator.{Operator}
+use Rattle.erl_ir.specs.declared.operation.Operator.TheVariants as operator
+use Rattle.erl_ir.specs.declared.operation.Operation.TheVariants as operation
 use Rattle.erl_semantics.specs.State.{Receiver, Result, value, exit}
 use Rattle.erl_semantics.specs.Operators.{of_two, receiver_of, sends, sent, sent_to}
 use Rattle.erl_steps.specs.Machine.{pair_of, value_alone, worked_out}

@@ -1,7 +1,7 @@
 -- What a call of a loop function gives, by whether its head takes the arguments.
 use Rattle.std.specs.Prelude.{◌≡◌, ℕ, true, false, List, codes, Option, None, Some, is_some, refl}
 use Rattle.erl_term.specs.Tree.{Tree, Trees}
-use Rattle.erl_forms.specs.Expression.{Exprs}
+use Rattle.erl_ir.specs.Expression.{Exprs}
 use Rattle.erl_semantics.specs.State.{Activation, exit_by, rest, loop}
 use Rattle.erl_semantics.specs.Evaluation.{rested}
 

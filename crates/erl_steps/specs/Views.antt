@@ -1,12 +1,12 @@
 -- The code's values, as contracts see them.
 use Rattle.std.specs.Prelude.{List, [], ◌∷◌, map, Option, None, Some, option_map}
 use Rattle.erl_term.specs.Term.{tree, trees}
-use Rattle.erl_forms.specs.ExpressionForms.{expr, exprs, clauses}
-use Rattle.erl_forms.specs.PatternForms.{pat}
+use Rattle.erl_ir.specs.ExpressionForms.{expr, exprs, clauses}
+use Rattle.erl_ir.specs.PatternForms.{pat}
 use Rattle.erl_semantics.specs.Acts.{act_of, place}
 use Rattle.erl_semantics.specs.Views.{end_of, instance, mode_of}
 use Rattle.erl_semantics.specs.State as state
-use Rattle.erl_forms.specs.declared.function.Function.{Function}
+use Rattle.erl_ir.specs.declared.function.Function.{Function}
 use Rattle.erl_steps.specs.declared.world.Callee.{Callee}
 use Rattle.erl_steps.specs.declared.world.World.{World}
 use Rattle.erl_steps.specs.declared.stack.Starter.{Starter}

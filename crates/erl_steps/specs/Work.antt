@@ -3,12 +3,12 @@
 -- What is to be evaluated weighs more than what its first step leaves of it. The calls that are left weigh as much each as the
 -- heaviest body that a call can begin, so that a call may leave such a body behind.
 use Rattle.std.specs.Prelude.{ℕ, ◌+◌, ◌-◌, ◌*◌, max, List, [], ◌∷◌}
-use Rattle.erl_forms.specs.declared.function.Function.{Function}
-use Rattle.erl_forms.specs.declared.function.Definition.{Definition}
-use Rattle.erl_forms.specs.declared.function.Definition.TheVariants as definition
-use Rattle.erl_forms.specs.Expression as form
-use Rattle.erl_forms.specs.Expression.{Expr, Exprs, Clauses}
-use Rattle.erl_forms.specs.Module.{Key}
+use Rattle.erl_ir.specs.declared.function.Function.{Function}
+use Rattle.erl_ir.specs.declared.function.Definition.{Definition}
+use Rattle.erl_ir.specs.declared.function.Definition.TheVariants as definition
+use Rattle.erl_ir.specs.Expression as form
+use Rattle.erl_ir.specs.Expression.{Expr, Exprs, Clauses}
+use Rattle.erl_ir.specs.Module.{Key}
 use Rattle.erl_semantics.specs.State.{Instance, World}
 use Rattle.erl_steps.specs.Machine.{Frame, operands, onward, binding, cases, deciding, scope, caller, starter}
 use Rattle.erl_steps.specs.Machine.{Control, evaluate, run, give, settle, end, Machine}

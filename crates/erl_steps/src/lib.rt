@@ -16,10 +16,10 @@
 //! # What no contract says
 //!
 //! That there is memory, and what a step costs: it costs what it changes, and operands that are literals or bound variables, or
-//! operators of two of these, are taken together in one step, up to the first that has to be evaluated. A variable and an argument
-//! are shared, a tuple or a list costs its own elements, a clause the patterns that are tried, and a call its arguments. Matching
-//! and guards recurse as deep as a pattern or a guard is nested. A step is refused, as where there is no memory, where there are
-//! more arguments or more nested calls than a `u32` counts.
+//! operators of two of these, are taken together in one step, up to the first that has to be evaluated. A variable and an
+//! argument are shared, a tuple or a list costs its own elements, a clause the patterns that are tried, and a call its
+//! arguments. Matching and guards recurse as deep as a pattern or a guard is nested. A step is refused, as where there is
+//! no memory, where there are more arguments or more nested calls than a `u32` counts.
 #![tactic(auto)]
 
 mod machine;

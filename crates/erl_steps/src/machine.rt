@@ -11,7 +11,7 @@ ghost use Rattle.erl_semantics.specs.Views.{instance};
 ghost use Rattle.erl_steps.specs.Views.{control_of, machine_of};
 
 use crate::stack::{Activation, Stack};
-use erl_forms::Expression;
+use erl_ir::Expression;
 use erl_semantics::{Act, End, Given, Instance, Place, exit_by, exit_by_pair};
 use erl_term::{Atom, Term};
 use std::alloc::{AllocError, Global};

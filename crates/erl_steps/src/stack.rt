@@ -3,7 +3,7 @@ ghost use Rattle.std.specs.Prelude.{◌≡◌, ◌∷◌, [], MatchOption, OnOk}
 ghost use Rattle.erl_steps.specs.Machine.{is_tail};
 ghost use Rattle.erl_steps.specs.Views.{frame_of, stack};
 
-use erl_forms::{Clause, Connective, Expression, Operation, Pattern};
+use erl_ir::{Clause, Connective, Expression, Operation, Pattern};
 use erl_semantics::Instance;
 use erl_term::{Atom, Term};
 use std::alloc::{AllocError, Global};
@@ -96,7 +96,8 @@ impl<'a> Stack<'a> {
 
     /// What is to be done next, if something is.
     pub fn pop(&mut self) -> Option<Frame<'a>>
-        ensures { MatchOption result ((stack self.old ≡ []) × (stack self.new ≡ [])) (λ frame. stack self.old ≡ frame_of frame ∷ stack self.new) }
+        ensures { MatchOption result ((stack self.old ≡ []) ×
+            (stack self.new ≡ [])) (λ frame. stack self.old ≡ frame_of frame ∷ stack self.new) }
     {
         self.frames.pop()
     }

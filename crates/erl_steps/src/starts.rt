@@ -69,7 +69,9 @@ fn begin<'a>(
     name: Atom,
     arguments: Vec<Term>,
 ) -> Result<Request<'a>, AllocError>
-    ensures { IfOk result (λ it. request_of it ≡ first_start (option_map startup_of startup.now) (begin_or_undef registered name (trees arguments.items) (remote_function (world_of world.now) module_name.now name (count (trees arguments.items))))) }
+    ensures { IfOk result (λ it. request_of it ≡ first_start (option_map startup_of startup.now)
+        (begin_or_undef registered name (trees arguments.items)
+        (remote_function (world_of world.now) module_name.now name (count (trees arguments.items))))) }
 {
     if startup.is_some() {
         return refuse(world.setting.alloc, "not_in_profile");
@@ -100,7 +102,8 @@ fn spawn_asked<'a>(
     startup: &Option<Startup>,
     arguments: &[Term],
 ) -> Result<Request<'a>, AllocError>
-    ensures { IfOk result (λ it. request_of it ≡ spawn_asked (world_of world.now) (option_map startup_of startup.now) (trees arguments.now)) }
+    ensures { IfOk result (λ it. request_of it ≡ spawn_asked (world_of world.now) (option_map startup_of startup.now)
+        (trees arguments.now)) }
 {
     let alloc = world.setting.alloc;
     let Some((m, f, args)) = three(arguments) else {
@@ -129,7 +132,8 @@ fn init_asked<'a>(
     args: &Term,
     options: &Term,
 ) -> Result<Request<'a>, AllocError>
-    ensures { IfOk result (λ it. request_of it ≡ init_asked (world_of world.now) (option_map startup_of startup.now) registered (tree m.now) (tree args.now) (tree options.now)) }
+    ensures { IfOk result (λ it. request_of it ≡ init_asked (world_of world.now) (option_map startup_of startup.now) registered
+        (tree m.now) (tree args.now) (tree options.now)) }
 {
     let alloc = world.setting.alloc;
     let Some(m) = m.as_atom() else {
@@ -177,7 +181,8 @@ fn start_link_asked<'a>(
     startup: &Option<Startup>,
     arguments: &[Term],
 ) -> Result<Request<'a>, AllocError>
-    ensures { IfOk result (λ it. request_of it ≡ start_link_asked (world_of world.now) (option_map startup_of startup.now) (trees arguments.now)) }
+    ensures { IfOk result (λ it. request_of it ≡ start_link_asked (world_of world.now) (option_map startup_of startup.now)
+        (trees arguments.now)) }
 {
     let alloc = world.setting.alloc;
     if let Some((m, args, options)) = three(arguments) {
@@ -199,7 +204,8 @@ fn asked<'a>(
     startup: &Option<Startup>,
     arguments: &[Term],
 ) -> Result<Request<'a>, AllocError>
-    ensures { IfOk result (λ it. request_of it ≡ asked (world_of world.now) (starter_of starter) (option_map startup_of startup.now) (trees arguments.now)) }
+    ensures { IfOk result (λ it. request_of it ≡ asked (world_of world.now) (starter_of starter)
+        (option_map startup_of startup.now) (trees arguments.now)) }
 {
     if world.mode == Mode::Plain {
         return refuse(world.setting.alloc, "not_in_profile");
@@ -224,7 +230,8 @@ fn pair(alloc: Global, word: &str, term: Term) -> Result<Term, AllocError>
 
 /// What a value of `init` means that it must not give.
 fn bad_value(alloc: Global, value: &Term) -> Result<Initialized, AllocError>
-    ensures { IfOk result (λ it. initialized_of it ≡ starting.failed (state.pair (atom (codes "bad_return_value")) (tree value.now))) }
+    ensures { IfOk result (λ it. initialized_of it ≡ starting.failed
+        (state.pair (atom (codes "bad_return_value")) (tree value.now))) }
 {
     Ok(Initialized::Failed(pair(alloc, "bad_return_value", value.copy(alloc)?)?))
 }
@@ -281,7 +288,8 @@ impl<'a> Machine<'a> {
         registered: Option<Atom>,
         item: &'a Instance,
     ) -> Result<(), AllocError>
-        ensures { OnOk result (machine_of self.new ≡ beginner (starter_of starter) registered (instance item.now) (machine_of self.old)) }
+        ensures { OnOk result (machine_of self.new ≡ beginner (starter_of starter) registered (instance item.now)
+            (machine_of self.old)) }
     {
         let Some(nesting) = self.activation.nesting.checked_add(1) else {
             return Err(AllocError);
@@ -315,7 +323,9 @@ impl<'a> Machine<'a> {
         starter: Starter,
         arguments: &[Term],
     ) -> Result<Control<'a>, AllocError>
-        ensures { IfOk result (λ it. (control_of it, machine_of self.new) ≡ starting_by (world_of world.now) (starter_of starter) (asked (world_of world.now) (starter_of starter) (machine_of self.old).state.startup (trees arguments.now)) (machine_of self.old)) }
+        ensures { IfOk result (λ it. (control_of it, machine_of self.new) ≡ starting_by (world_of world.now)
+            (starter_of starter) (asked (world_of world.now) (starter_of starter) (machine_of self.old).state.startup
+            (trees arguments.now)) (machine_of self.old)) }
     {
         match asked(world, starter, &self.startup, arguments)? {
             Request::Refused(given) => Ok(next_of(given)),
@@ -333,7 +343,12 @@ impl<'a> Machine<'a> {
 
     /// Goes back to the call in which a process was started.
     pub fn return_to(&mut self, bindings: Vec<Term>, activation: Activation<'a>)
-        ensures { machine_of self.new ≡ record { activation = activation_of activation.entry; frames = (machine_of self.old).frames; state = state.with_bindings (map tree bindings.items) (machine_of self.old).state } }
+        ensures { machine_of self.new ≡ record {
+          activation = activation_of activation.entry;
+          frames =
+              (machine_of self.old).frames;
+          state = state.with_bindings (map tree bindings.items) (machine_of self.old).state;
+        } }
     {
         self.bindings = bindings;
         self.activation = activation;
@@ -346,7 +361,9 @@ impl<'a> Machine<'a> {
         module_name: &Atom,
         value: &Term,
     ) -> Result<Control<'a>, AllocError>
-        ensures { IfOk result (λ it. (control_of it, machine_of self.new) ≡ given_by (linked_by (world_of world.now) (machine_of self.old).state.bindings module_name.now (machine_of self.old).state (initialized (tree value.now))) (machine_of self.old)) }
+        ensures { IfOk result (λ it. (control_of it, machine_of self.new) ≡ given_by
+            (linked_by (world_of world.now) (machine_of self.old).state.bindings module_name.now (machine_of self.old).state
+            (initialized (tree value.now))) (machine_of self.old)) }
     {
         let alloc = world.setting.alloc;
         match meaning_of_init(alloc, value)? {
@@ -377,7 +394,9 @@ impl<'a> Machine<'a> {
         module_name: &Atom,
         value: &Term,
     ) -> Result<Control<'a>, AllocError>
-        ensures { IfOk result (λ it. (control_of it, machine_of self.new) ≡ settled_by (world_of world.now) (starter_of starter) (machine_of self.old).state.bindings (machine_of self.old).activation module_name.now (state.value (tree value.now)) (machine_of self.old)) }
+        ensures { IfOk result (λ it. (control_of it, machine_of self.new) ≡ settled_by (world_of world.now)
+            (starter_of starter) (machine_of self.old).state.bindings (machine_of self.old).activation module_name.now
+            (state.value (tree value.now)) (machine_of self.old)) }
     {
         match starter {
             Starter::Spawn => exit(world.setting.alloc, "normal"),
@@ -395,7 +414,9 @@ impl<'a> Machine<'a> {
         module_name: Atom,
         value: Term,
     ) -> Result<Control<'a>, AllocError>
-        ensures { IfOk result (λ it. (control_of it, machine_of self.new) ≡ settled_by (world_of world.now) (starter_of starter) (map tree bindings.items) (activation_of activation.entry) module_name (state.value (tree value)) (machine_of self.old)) }
+        ensures { IfOk result (λ it. (control_of it, machine_of self.new) ≡ settled_by (world_of world.now)
+            (starter_of starter) (map tree bindings.items) (activation_of activation.entry) module_name
+            (state.value (tree value)) (machine_of self.old)) }
     {
         self.return_to(bindings, activation);
         self.end_start(world, starter, &module_name, &value)
@@ -409,7 +430,9 @@ impl<'a> Machine<'a> {
         module_name: &Atom,
         place: Place,
     ) -> Result<Control<'a>, AllocError>
-        ensures { IfOk result (λ it. (control_of it, machine_of self.new) ≡ settled_by (world_of world.now) (starter_of starter) (machine_of self.old).state.bindings (machine_of self.old).activation module_name.now (state.rest (acts.place place)) (machine_of self.old)) }
+        ensures { IfOk result (λ it. (control_of it, machine_of self.new) ≡ settled_by (world_of world.now)
+            (starter_of starter) (machine_of self.old).state.bindings (machine_of self.old).activation module_name.now
+            (state.rest (acts.place place)) (machine_of self.old)) }
     {
         match starter {
             Starter::Spawn => {
@@ -427,7 +450,8 @@ impl<'a> Machine<'a> {
         name: &Atom,
         is_own: bool,
     ) -> Result<Control<'a>, AllocError>
-        ensures { IfOk result (λ it. (control_of it, machine_of self.new) ≡ given_by (register_in name.now is_own (machine_of self.old).state.startup (machine_of self.old).state) (machine_of self.old)) }
+        ensures { IfOk result (λ it. (control_of it, machine_of self.new) ≡ given_by
+            (register_in name.now is_own (machine_of self.old).state.startup (machine_of self.old).state) (machine_of self.old)) }
     {
         let alloc = world.setting.alloc;
         let Some(startup) = self.startup.take() else {
@@ -456,7 +480,9 @@ impl<'a> Machine<'a> {
         world: &World<'a>,
         arguments: &[Term],
     ) -> Result<Control<'a>, AllocError>
-        ensures { IfOk result (λ it. (control_of it, machine_of self.new) ≡ given_by (register_in_mode (world_of world.now) (mode_of world.now.mode) (trees arguments.now) (machine_of self.old).state) (machine_of self.old)) }
+        ensures { IfOk result (λ it. (control_of it, machine_of self.new) ≡ given_by
+            (register_in_mode (world_of world.now) (mode_of world.now.mode) (trees arguments.now) (machine_of self.old).state)
+            (machine_of self.old)) }
     {
         let alloc = world.setting.alloc;
         if world.mode == Mode::Plain {

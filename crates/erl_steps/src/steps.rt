@@ -3,9 +3,9 @@ ghost use Rattle.std.specs.Prelude.{◌≡◌, ◌++◌, IfOk, MatchOption, None
 ghost use Rattle.erl_term.specs.Rows.{append_trees};
 ghost use Rattle.erl_term.specs.Term.{tree, trees};
 ghost use Rattle.erl_term.specs.Tree.{count, more, none};
-ghost use Rattle.erl_forms.specs.declared.operation.Operation.TheVariants as operation;
-ghost use Rattle.erl_forms.specs.ExpressionForms.{expr, exprs, clauses};
-ghost use Rattle.erl_forms.specs.PatternForms.{pat};
+ghost use Rattle.erl_ir.specs.declared.operation.Operation.TheVariants as operation;
+ghost use Rattle.erl_ir.specs.ExpressionForms.{expr, exprs, clauses};
+ghost use Rattle.erl_ir.specs.PatternForms.{pat};
 ghost use Rattle.erl_semantics.specs.Acts.{act_of, place};
 ghost use Rattle.erl_semantics.specs.Evaluation.{chosen, head_of, local_function, may_call, may_nest, tried};
 ghost use Rattle.erl_semantics.specs.Matching.{matched};
@@ -20,7 +20,7 @@ ghost use Rattle.erl_semantics.specs.Views.{instance};
 use crate::machine::{Control, Machine, exit, exit_with, next_of};
 use crate::stack::{Activation, Frame, Starter};
 use crate::world::{Callee, World, remote_function};
-use erl_forms::{
+use erl_ir::{
     BuiltIn, Clause, Connective, Definition, Expression, Guard, Operation, Operator, Pattern,
     Patterns,
 };
@@ -79,7 +79,8 @@ fn work_out(
 impl<'a> Machine<'a> {
     /// Does an act, if there is one.
     fn act(&mut self, act: Option<Act>) -> Result<(), AllocError>
-        ensures { OnOk result (machine_of self.new ≡ in_state (state.after (option_map act_of act) (machine_of self.old).state) (machine_of self.old)) }
+        ensures { OnOk result (machine_of self.new ≡ in_state (state.after (option_map act_of act) (machine_of self.old).state)
+            (machine_of self.old)) }
     {
         match act {
             Some(act) => {
@@ -107,7 +108,9 @@ impl<'a> Machine<'a> {
         items: &'a [Clause],
         terms: &[Term],
     ) -> Result<Option<Control<'a>>, AllocError>
-        ensures { IfOk result (λ it. (failure : state.Result) → (control_or failure it, machine_of self.new) ≡ selecting (world_of world.now) failure (clauses items.now) (trees terms.now) (machine_of self.old)) }
+        ensures { IfOk result (λ it. (failure : state.Result) →
+            (control_or failure it, machine_of self.new) ≡ selecting (world_of world.now) failure (clauses items.now)
+            (trees terms.now) (machine_of self.old)) }
     {
         let mut calls = self.calls;
         let selected = select(
@@ -133,7 +136,8 @@ impl<'a> Machine<'a> {
         items: &'a [Clause],
         arguments: Vec<Term>,
     ) -> Result<Control<'a>, AllocError>
-        ensures { IfOk result (λ it. (control_of it, machine_of self.new) ≡ selecting (world_of world.now) (state.exit_by (codes "function_clause")) (clauses items.now) (trees arguments.items) (machine_of self.old)) }
+        ensures { IfOk result (λ it. (control_of it, machine_of self.new) ≡ selecting (world_of world.now)
+            (state.exit_by (codes "function_clause")) (clauses items.now) (trees arguments.items) (machine_of self.old)) }
     {
         match self.choose(world, items, arguments.as_slice())? {
             Some(next) => Ok(next),
@@ -151,7 +155,9 @@ impl<'a> Machine<'a> {
         guard: &Guard,
         arguments: Vec<Term>,
     ) -> Result<Control<'a>, AllocError>
-        ensures { IfOk result (λ it. (control_of it, machine_of self.new) ≡ resting (machine_of self.old).activation.may_rest (may_nest (machine_of self.old).activation) (world_of world.now) name.now patterns.now guard.now (trees arguments.items) (machine_of self.old)) }
+        ensures { IfOk result (λ it. (control_of it, machine_of self.new) ≡ resting (machine_of self.old).activation.may_rest
+            (may_nest (machine_of self.old).activation) (world_of world.now) name.now patterns.now guard.now
+            (trees arguments.items) (machine_of self.old)) }
     {
         if !self.activation.may_rest {
             return exit(world.setting.alloc, "not_in_profile");
@@ -174,7 +180,11 @@ impl<'a> Machine<'a> {
         guard: &Guard,
         arguments: &[Term],
     ) -> Result<bool, AllocError>
-        ensures { IfOk result (λ it. (it ≡ is_some (chosen (world_of world.now) (head_of patterns.now guard.now) (trees arguments.now) (machine_of self.old).state).0) × (machine_of self.new ≡ in_state (tried (world_of world.now) (head_of patterns.now guard.now) (trees arguments.now) (machine_of self.old).state) (machine_of self.old))) }
+        ensures { IfOk result (λ it. (it ≡ is_some
+            (chosen (world_of world.now) (head_of patterns.now guard.now) (trees arguments.now)
+            (machine_of self.old).state).0) × (machine_of self.new ≡ in_state
+            (tried (world_of world.now) (head_of patterns.now guard.now) (trees arguments.now) (machine_of self.old).state)
+            (machine_of self.old))) }
     {
         let mut calls = self.calls;
         let taken = try_clause(
@@ -196,7 +206,9 @@ impl<'a> Machine<'a> {
         name: &Atom,
         arguments: Vec<Term>,
     ) -> Result<Control<'a>, AllocError>
-        ensures { IfOk result (λ it. control_of it ≡ machine.settle (state.loop self.now.activation.instance.now.name self.now.activation.instance.now.serial name.now (trees arguments.items))) }
+        ensures { IfOk result (λ it. control_of it ≡ machine.settle
+            (state.loop self.now.activation.instance.now.name self.now.activation.instance.now.serial name.now
+            (trees arguments.items))) }
     {
         let instance = self.activation.instance;
         Ok(Control::Settle(Place::Loop {
@@ -215,7 +227,8 @@ impl<'a> Machine<'a> {
         definition: &'a Definition,
         arguments: Vec<Term>,
     ) -> Result<Control<'a>, AllocError>
-        ensures { IfOk result (λ it. (control_of it, machine_of self.new) ≡ entered (world_of world.now) name.now definition.now (trees arguments.items) (machine_of self.old)) }
+        ensures { IfOk result (λ it. (control_of it, machine_of self.new) ≡ entered (world_of world.now) name.now
+            definition.now (trees arguments.items) (machine_of self.old)) }
     {
         match definition {
             Definition::Loop {
@@ -264,7 +277,8 @@ impl<'a> Machine<'a> {
         callee: Option<Callee<'a>>,
         arguments: Vec<Term>,
     ) -> Result<Control<'a>, AllocError>
-        ensures { IfOk result (λ it. (control_of it, machine_of self.new) ≡ calling (may_call (machine_of self.old).state) (world_of world.now) name.now (callee_of callee.entry) (trees arguments.items) (machine_of self.old)) }
+        ensures { IfOk result (λ it. (control_of it, machine_of self.new) ≡ calling (may_call (machine_of self.old).state)
+            (world_of world.now) name.now (callee_of callee.entry) (trees arguments.items) (machine_of self.old)) }
     {
         if self.calls >= MOST_CALLS {
             return exit(world.setting.alloc, "system_limit");
@@ -295,7 +309,8 @@ impl<'a> Machine<'a> {
         function: BuiltIn,
         arguments: &[Term],
     ) -> Result<Control<'a>, AllocError>
-        ensures { IfOk result (λ it. (control_of it, machine_of self.new) ≡ calling_built_in (may_call (machine_of self.old).state) (world_of world.now) function (trees arguments.now) (machine_of self.old)) }
+        ensures { IfOk result (λ it. (control_of it, machine_of self.new) ≡ calling_built_in
+            (may_call (machine_of self.old).state) (world_of world.now) function (trees arguments.now) (machine_of self.old)) }
     {
         if self.calls >= MOST_CALLS {
             return exit(world.setting.alloc, "system_limit");
@@ -318,7 +333,8 @@ impl<'a> Machine<'a> {
         function: BuiltIn,
         arguments: &[Term],
     ) -> Result<Control<'a>, AllocError>
-        ensures { IfOk result (λ it. (control_of it, machine_of self.new) ≡ working (world_of world.now) at_once function (trees arguments.now) (machine_of self.old)) }
+        ensures { IfOk result (λ it. (control_of it, machine_of self.new) ≡ working (world_of world.now) at_once function
+            (trees arguments.now) (machine_of self.old)) }
     {
         let setting = &world.setting;
         let given = call_built_in(setting.alloc, setting.own, function, arguments)?;
@@ -333,7 +349,8 @@ impl<'a> Machine<'a> {
         operator: Operator,
         operands: &[Term],
     ) -> Result<Control<'a>, AllocError>
-        ensures { IfOk result (λ it. (control_of it, machine_of self.new) ≡ applying (world_of world.now) (operation.Operator operator) (trees operands.now) (machine_of self.old)) }
+        ensures { IfOk result (λ it. (control_of it, machine_of self.new) ≡ applying (world_of world.now)
+            (operation.Operator operator) (trees operands.now) (machine_of self.old)) }
     {
         let setting = &world.setting;
         let given = operate(setting.alloc, operator, operands)?;
@@ -348,7 +365,8 @@ impl<'a> Machine<'a> {
         operation: &'a Operation,
         operands: Vec<Term>,
     ) -> Result<Control<'a>, AllocError>
-        ensures { IfOk result (λ it. (control_of it, machine_of self.new) ≡ applying (world_of world.now) operation.now (trees operands.items) (machine_of self.old)) }
+        ensures { IfOk result (λ it. (control_of it, machine_of self.new) ≡ applying (world_of world.now) operation.now
+            (trees operands.items) (machine_of self.old)) }
     {
         let alloc = world.setting.alloc;
         match operation {
@@ -381,7 +399,8 @@ impl<'a> Machine<'a> {
 
     /// What a variable gives.
     fn value_of(&self, alloc: Global, place: usize) -> Result<Control<'a>, AllocError>
-        ensures { IfOk result (λ it. control_of it ≡ of_result (state.bound_to (slice_get (machine_of self.now).state.bindings place))) }
+        ensures { IfOk result (λ it. control_of it ≡ of_result
+            (state.bound_to (slice_get (machine_of self.now).state.bindings place))) }
     {
         match self.bindings.as_slice().get(place) {
             Some(term) => Ok(Control::Give(term.copy(alloc)?)),
@@ -395,7 +414,8 @@ impl<'a> Machine<'a> {
         world: &World<'a>,
         expression: &'a Expression,
     ) -> Result<Control<'a>, AllocError>
-        ensures { IfOk result (λ it. (control_of it, machine_of self.new) ≡ beginning (world_of world.now) (expr expression.now) (machine_of self.old)) }
+        ensures { IfOk result (λ it. (control_of it, machine_of self.new) ≡ beginning (world_of world.now)
+            (expr expression.now) (machine_of self.old)) }
     {
         match expression {
             Expression::Literal(term) => Ok(Control::Give(term.copy(world.setting.alloc)?)),
@@ -424,7 +444,8 @@ impl<'a> Machine<'a> {
 
     /// Begins to evaluate a body.
     fn run(&mut self, world: &World<'a>, body: &'a [Expression]) -> Result<Control<'a>, AllocError>
-        ensures { IfOk result (λ it. (control_of it, machine_of self.new) ≡ running (world_of world.now) (exprs body.now) (machine_of self.old)) }
+        ensures { IfOk result (λ it. (control_of it, machine_of self.new) ≡ running (world_of world.now) (exprs body.now)
+            (machine_of self.old)) }
     {
         let Some((first, rest)) = body.split_first() else {
             return exit(world.setting.alloc, "undef");
@@ -445,7 +466,8 @@ impl<'a> Machine<'a> {
         pattern: &Pattern,
         value: Term,
     ) -> Result<Control<'a>, AllocError>
-        ensures { IfOk result (λ it. (control_of it, machine_of self.new) ≡ bound_by (matched (pat pattern.now) (tree value) (machine_of self.old).state.bindings) (tree value) (machine_of self.old)) }
+        ensures { IfOk result (λ it. (control_of it, machine_of self.new) ≡ bound_by
+            (matched (pat pattern.now) (tree value) (machine_of self.old).state.bindings) (tree value) (machine_of self.old)) }
     {
         let mut fresh = Vec::new(alloc);
         if !match_pattern(alloc, pattern, &value, self.bindings.as_slice(), &mut fresh)? {
@@ -462,7 +484,9 @@ impl<'a> Machine<'a> {
         items: &'a [Clause],
         value: Term,
     ) -> Result<Control<'a>, AllocError>
-        ensures { IfOk result (λ it. (control_of it, machine_of self.new) ≡ selecting (world_of world.now) (state.exit_by_pair (codes "case_clause") (tree value)) (clauses items.now) (more (tree value) none) (machine_of self.old)) }
+        ensures { IfOk result (λ it. (control_of it, machine_of self.new) ≡ selecting (world_of world.now)
+            (state.exit_by_pair (codes "case_clause") (tree value)) (clauses items.now) (more (tree value) none)
+            (machine_of self.old)) }
     {
         match self.choose(world, items, std::slice::from_ref(&value))? {
             Some(next) => Ok(next),
@@ -478,7 +502,8 @@ impl<'a> Machine<'a> {
         right: &'a [Expression],
         value: Term,
     ) -> Result<Control<'a>, AllocError>
-        ensures { IfOk result (λ it. (control_of it, machine_of self.new) ≡ decided_by (operators.truth_of (tree value)) connective (exprs right.now) (tree value) (machine_of self.old)) }
+        ensures { IfOk result (λ it. (control_of it, machine_of self.new) ≡ decided_by (operators.truth_of (tree value))
+            connective (exprs right.now) (tree value) (machine_of self.old)) }
     {
         match truth_of(&value) {
             None => exit_with(alloc, "badarg", value),
@@ -530,7 +555,8 @@ impl<'a> Machine<'a> {
         operation: &Operation,
         operands: &[Expression],
     ) -> Result<Option<Term>, AllocError>
-        ensures { IfOk result (λ it. option_map tree it ≡ worked_out operation.now (simple_two (exprs operands.now) (machine_of self.now).state)) }
+        ensures { IfOk result (λ it. option_map tree it ≡ worked_out operation.now
+            (simple_two (exprs operands.now) (machine_of self.now).state)) }
     {
         match operation {
             Operation::Operator(operator) => match self.simple_two(operands) {
@@ -575,7 +601,8 @@ impl<'a> Machine<'a> {
         values: Vec<Term>,
         rest: &'a [Expression],
     ) -> Result<Control<'a>, AllocError>
-        ensures { IfOk result (λ it. (control_of it, machine_of self.new) ≡ going_on (world_of world.now) operation.now (trees values.items) (exprs rest.now) (machine_of self.old)) }
+        ensures { IfOk result (λ it. (control_of it, machine_of self.new) ≡ going_on (world_of world.now) operation.now
+            (trees values.items) (exprs rest.now) (machine_of self.old)) }
     {
         let mut values = values;
         let mut left = rest;
@@ -602,7 +629,8 @@ impl<'a> Machine<'a> {
         frame: Frame<'a>,
         value: Term,
     ) -> Result<Control<'a>, AllocError>
-        ensures { IfOk result (λ it. (control_of it, machine_of self.new) ≡ resuming (world_of world.now) (frame_of frame.entry) (tree value) (machine_of self.old)) }
+        ensures { IfOk result (λ it. (control_of it, machine_of self.new) ≡ resuming (world_of world.now)
+            (frame_of frame.entry) (tree value) (machine_of self.old)) }
     {
         match frame {
             Frame::Operands {
@@ -648,7 +676,8 @@ impl<'a> Machine<'a> {
         frame: Frame<'a>,
         resting: Place,
     ) -> Result<Control<'a>, AllocError>
-        ensures { IfOk result (λ it. (control_of it, machine_of self.new) ≡ settling_at (world_of world.now) (frame_of frame.entry) (place resting) (machine_of self.old)) }
+        ensures { IfOk result (λ it. (control_of it, machine_of self.new) ≡ settling_at (world_of world.now)
+            (frame_of frame.entry) (place resting) (machine_of self.old)) }
     {
         match frame {
             Frame::Scope(count) => {
@@ -681,7 +710,8 @@ impl<'a> Machine<'a> {
 
     /// The process rests: who started it is told, if somebody did.
     fn settle(&mut self, world: &World<'a>, resting: Place) -> Result<Control<'a>, AllocError>
-        ensures { IfOk result (λ it. (control_of it, machine_of self.new) ≡ settling (world_of world.now) (place resting) (machine_of self.old).frames (machine_of self.old)) }
+        ensures { IfOk result (λ it. (control_of it, machine_of self.new) ≡ settling (world_of world.now) (place resting)
+            (machine_of self.old).frames (machine_of self.old)) }
     {
         match self.frames.pop() {
             Some(frame) => self.settle_at(world, frame, resting),
@@ -691,7 +721,8 @@ impl<'a> Machine<'a> {
 
     /// Gives a value to what waits for it, if something does.
     fn give(&mut self, world: &World<'a>, value: Term) -> Result<Control<'a>, AllocError>
-        ensures { IfOk result (λ it. (control_of it, machine_of self.new) ≡ giving (world_of world.now) (tree value) (machine_of self.old).frames (machine_of self.old)) }
+        ensures { IfOk result (λ it. (control_of it, machine_of self.new) ≡ giving (world_of world.now) (tree value)
+            (machine_of self.old).frames (machine_of self.old)) }
     {
         match self.frames.pop() {
             Some(frame) => self.resume(world, frame, value),
@@ -705,7 +736,8 @@ impl<'a> Machine<'a> {
         world: &World<'a>,
         control: Control<'a>,
     ) -> Result<Control<'a>, AllocError>
-        ensures { IfOk result (λ it. (control_of it, machine_of self.new) ≡ stepping (world_of world.now) (control_of control.entry) (machine_of self.old)) }
+        ensures { IfOk result (λ it. (control_of it, machine_of self.new) ≡ stepping (world_of world.now)
+            (control_of control.entry) (machine_of self.old)) }
     {
         match control {
             Control::Evaluate(expression) => self.begin(world, expression),

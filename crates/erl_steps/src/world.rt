@@ -5,7 +5,7 @@ ghost use Rattle.erl_semantics.specs.State.{current};
 ghost use Rattle.erl_semantics.specs.Views.{instance, mode_of};
 ghost use Rattle.erl_steps.specs.Views.{callee_of, world_of};
 
-use erl_forms::Function;
+use erl_ir::Function;
 use erl_semantics::{Instance, Mode, Setting};
 use erl_term::Atom;
 use std::alloc::Global;
@@ -46,7 +46,8 @@ pub struct Callee<'a> {
 
 /// The current instance of a module, if there is one. Takes no memory.
 fn current<'a>(code: &'a [Instance], module_name: &Atom) -> Option<&'a Instance>
-    ensures { MatchOption result (current module_name.now (map instance code.now) ≡ None) (λ i. current module_name.now (map instance code.now) ≡ Some (instance i.now)) }
+    ensures { MatchOption result (current module_name.now (map instance code.now) ≡ None)
+        (λ i. current module_name.now (map instance code.now) ≡ Some (instance i.now)) }
 {
     for item in code {
         if item.name.same(module_name) {

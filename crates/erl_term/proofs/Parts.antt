@@ -3,7 +3,7 @@ use Rattle.std.proofs.Common.{◌≡◌, ℕ, zero, suc, ◌+◌, ◌-◌, ◌^�
 use Rattle.std.proofs.lemmas.List.{drop-append-le, drop-drop, length-append, length-drop, length-take-le}
 use Rattle.std.proofs.Math.Seq.{drop-append_seam, drop-append-add}
 use Rattle.erl_term.specs.declared.term.Term.{Term}
-use Rattle.erl_term.specs.Parts.{IsPart, IsTold, behind, drop_depth-later}
+use Rattle.erl_term.specs.Parts.{IsPart, HasExtent, behind, drop_depth-later}
 use Rattle.erl_term.specs.Rows.{append_trees}
 use Rattle.erl_term.specs.Tree.{Trees, more, depth, greatest_depth, size, total_size}
 use Rattle.erl_term.specs.Term.{tree, trees}
@@ -12,7 +12,7 @@ use Rattle.erl_term.proofs.Rows.{take_here, greatest_depth-push, total_size-push
 -- One term more, behind those that were told of
 
 -- which is as deep as any before it
-deeper : (ts : List Term) (t : Term) (d last s k n new : ℕ) → IsTold ts d last s → k ≡ min (depth (tree t)) (2 ^ 64 - 1) → n ≡ min (size (tree t)) (2 ^ 64 - 1) → d ≤ k → new ≡ min (s + n) (2 ^ 64 - 1) → IsTold (ts ++ t ∷ []) k (length ts) new
+deeper : (ts : List Term) (t : Term) (d last s k n new : ℕ) → HasExtent ts d last s → k ≡ min (depth (tree t)) (2 ^ 64 - 1) → n ≡ min (size (tree t)) (2 ^ 64 - 1) → d ≤ k → new ≡ min (s + n) (2 ^ 64 - 1) → HasExtent (ts ++ t ∷ []) k (length ts) new
 deeper ts t d last s k n new told here sized least sum = record {
   depth_is = rw greatest_depth-push (omega (arith, told.depth_is, here, least));
   last_has_it = here ∙ sym (ap (λ us. min (greatest_depth (trees us)) (2 ^ 64 - 1)) (drop-append_seam ts (t ∷ [])) ∙ omega arith);
@@ -21,7 +21,7 @@ deeper ts t d last s k n new told here sized least sum = record {
 }
 
 -- which is not
-flatter : (ts : List Term) (t : Term) (d last s k n new : ℕ) → IsTold ts d last s → k ≡ min (depth (tree t)) (2 ^ 64 - 1) → n ≡ min (size (tree t)) (2 ^ 64 - 1) → k < d → new ≡ min (s + n) (2 ^ 64 - 1) → IsTold (ts ++ t ∷ []) d last new
+flatter : (ts : List Term) (t : Term) (d last s k n new : ℕ) → HasExtent ts d last s → k ≡ min (depth (tree t)) (2 ^ 64 - 1) → n ≡ min (size (tree t)) (2 ^ 64 - 1) → k < d → new ≡ min (s + n) (2 ^ 64 - 1) → HasExtent (ts ++ t ∷ []) d last new
 flatter ts t d last s k n new told here sized less sum = record {
   depth_is = rw greatest_depth-push (omega (arith, told.depth_is, here, less));
   last_has_it = rw (drop-append-le last ts (t ∷ []) told.last_within, greatest_depth-push) (omega (arith, told.last_has_it, here, less));
@@ -29,21 +29,21 @@ flatter ts t d last s k n new told here sized less sum = record {
   size_is = rw total_size-push (omega (arith, told.size_is, sized, sum));
 }
 
-pub told_deeper : (items : List Term) (i : ℕ) (t : Term) (d last s k n new : ℕ) → i < length items → t ≡ get_or items i t → IsTold (take i items) d last s → k ≡ min (depth (tree t)) (2 ^ 64 - 1) → n ≡ min (size (tree t)) (2 ^ 64 - 1) → d ≤ k → new ≡ min (s + n) (2 ^ 64 - 1) → IsTold (take (i + 1) items) k i new
+pub told_deeper : (items : List Term) (i : ℕ) (t : Term) (d last s k n new : ℕ) → i < length items → t ≡ get_or items i t → HasExtent (take i items) d last s → k ≡ min (depth (tree t)) (2 ^ 64 - 1) → n ≡ min (size (tree t)) (2 ^ 64 - 1) → d ≤ k → new ≡ min (s + n) (2 ^ 64 - 1) → HasExtent (take (i + 1) items) k i new
 told_deeper items i t d last s k n new within is told here sized least sum =
-    subst (λ us. IsTold us k i new) (sym (take_here items i t within is)) (subst (λ j. IsTold (take i items ++ t ∷ []) k j new) (length-take-le i items (omega arith)) (deeper (take i items) t d last s k n new told here sized least sum))
+    subst (λ us. HasExtent us k i new) (sym (take_here items i t within is)) (subst (λ j. HasExtent (take i items ++ t ∷ []) k j new) (length-take-le i items (omega arith)) (deeper (take i items) t d last s k n new told here sized least sum))
 
-pub told_flatter : (items : List Term) (i : ℕ) (t : Term) (d last s k n new : ℕ) → i < length items → t ≡ get_or items i t → IsTold (take i items) d last s → k ≡ min (depth (tree t)) (2 ^ 64 - 1) → n ≡ min (size (tree t)) (2 ^ 64 - 1) → k < d → new ≡ min (s + n) (2 ^ 64 - 1) → IsTold (take (i + 1) items) d last new
+pub told_flatter : (items : List Term) (i : ℕ) (t : Term) (d last s k n new : ℕ) → i < length items → t ≡ get_or items i t → HasExtent (take i items) d last s → k ≡ min (depth (tree t)) (2 ^ 64 - 1) → n ≡ min (size (tree t)) (2 ^ 64 - 1) → k < d → new ≡ min (s + n) (2 ^ 64 - 1) → HasExtent (take (i + 1) items) d last new
 told_flatter items i t d last s k n new within is told here sized less sum =
-    subst (λ us. IsTold us d last new) (sym (take_here items i t within is)) (flatter (take i items) t d last s k n new told here sized less sum)
+    subst (λ us. HasExtent us d last new) (sym (take_here items i t within is)) (flatter (take i items) t d last s k n new told here sized less sum)
 
-pub told_none : (items : List Term) → IsTold (take 0 items) 0 0 0
+pub told_none : (items : List Term) → HasExtent (take 0 items) 0 0 0
 told_none items = record { depth_is = omega arith; last_has_it = omega arith; last_within = omega arith; size_is = omega arith }
 
 -- A row that is seen whole
 
 -- a place before the last that has the greatest depth serves as well
-pub earlier_part : (items : List Term) (d last s earlier : ℕ) → IsTold items d last s → d < 2 ^ 64 - 1 → earlier ≤ last → IsPart items d earlier s 0 0
+pub earlier_part : (items : List Term) (d last s earlier : ℕ) → HasExtent items d last s → d < 2 ^ 64 - 1 → earlier ≤ last → IsPart items d earlier s 0 0
 earlier_part items d last s earlier told below before = record {
   depth_is = omega (arith, told.depth_is, below);
   last_has_it = omega (arith, told.depth_is, told.last_has_it, below, drop_depth-later items earlier last before, drop_depth-later items 0 earlier (omega arith));
@@ -103,7 +103,7 @@ total_size-append [] us = omega arith
 total_size-append (t ∷ ts) us = omega (arith, total_size-append ts us)
 
 -- the deepest stand behind
-pub told_behind : (ts us : List Term) (n d last s k m z sum : ℕ) → length ts ≡ n → IsTold ts d last s → IsTold us k m z → d ≤ k → sum ≡ min (s + z) (2 ^ 64 - 1) → IsTold (ts ++ us) k (n + m) sum
+pub told_behind : (ts us : List Term) (n d last s k m z sum : ℕ) → length ts ≡ n → HasExtent ts d last s → HasExtent us k m z → d ≤ k → sum ≡ min (s + z) (2 ^ 64 - 1) → HasExtent (ts ++ us) k (n + m) sum
 told_behind ts us n d last s k m z sum len one other least sum_is =
     let here : drop (n + m) (ts ++ us) ≡ drop m us = subst (λ i. drop (i + m) (ts ++ us) ≡ drop m us) len (drop-append-add ts us m) in
     record {
@@ -114,7 +114,7 @@ told_behind ts us n d last s k m z sum len one other least sum_is =
     }
 
 -- they stand in front alone
-pub told_in_front : (ts us : List Term) (d last s k m z sum : ℕ) → IsTold ts d last s → IsTold us k m z → k < d → sum ≡ min (s + z) (2 ^ 64 - 1) → IsTold (ts ++ us) d last sum
+pub told_in_front : (ts us : List Term) (d last s k m z sum : ℕ) → HasExtent ts d last s → HasExtent us k m z → k < d → sum ≡ min (s + z) (2 ^ 64 - 1) → HasExtent (ts ++ us) d last sum
 told_in_front ts us d last s k m z sum one other less sum_is =
     let here : drop last (ts ++ us) ≡ drop last ts ++ us = drop-append-le last ts us one.last_within in
     let deep : min (greatest_depth (trees (drop last (ts ++ us)))) (2 ^ 64 - 1) ≡ min (greatest_depth (trees (drop last ts ++ us))) (2 ^ 64 - 1) = ap (λ vs. min (greatest_depth (trees vs)) (2 ^ 64 - 1)) here in
@@ -126,7 +126,7 @@ told_in_front ts us d last s k m z sum one other less sum_is =
     }
 
 -- what is told of the terms that are seen
-pub told_part : (items : List Term) (d last s from hidden : ℕ) → IsPart items d last s from hidden → IsTold (drop from items) d (last - from) (s - hidden)
+pub told_part : (items : List Term) (d last s from hidden : ℕ) → IsPart items d last s from hidden → HasExtent (drop from items) d (last - from) (s - hidden)
 told_part items d last s from hidden part =
     let whole : from + (last - from) ≡ last = omega (arith, part.from_before) in
     let here : drop (last - from) (drop from items) ≡ drop last items = drop-drop (last - from) from items ∙ ap (λ n. drop n items) whole in

@@ -12,7 +12,7 @@ behind (more t ts) = ts
 
 -- What is told of all terms of a row: their greatest depth, which one of those has that stand from the place `last` on,
 -- and the sum of their sizes, up to 2^64 - 1.
-pub record IsTold (items : List Term) (depth last size : ℕ) : Type 0 where
+pub record HasExtent (items : List Term) (depth last size : ℕ) : Type 0 where
   pub depth_is : depth ≡ min (greatest_depth (trees items)) (2 ^ 64 - 1)
   pub last_has_it : depth ≡ min (greatest_depth (trees (drop last items))) (2 ^ 64 - 1)
   pub last_within : last ≤ length items

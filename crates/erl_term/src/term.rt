@@ -91,7 +91,8 @@ impl Model for Terms {
 
     ghost view = { λ a. trees (drop a.from (listed a.row.value.items)) };
 
-    ghost invariant = { λ a. IsPart (listed a.row.value.items) a.row.value.depth a.row.value.last a.row.value.size a.from a.hidden };
+    ghost invariant = { λ a. IsPart (listed a.row.value.items) a.row.value.depth a.row.value.last a.row.value.size a.from
+        a.hidden };
 
     ghost size = { greatest_depth };
 

@@ -1,9 +1,9 @@
 // The lines of the tables.
 use crate::tables::{EXPRESSIONS, REFUSALS, ROLES, SHALLOW};
 use crate::told::{DEEPEST, put_tree};
+use erl_ast::Role;
 use erl_expressions::{Refusal, read_tree, trees_read_one_way};
 use erl_scan::{Spot, scan};
-use erl_syntax::Role;
 use std::alloc::Global;
 use std::process::Abort;
 use std::test::Fail;

@@ -4,7 +4,7 @@
 // - An operator stands before its operands: `+(1,*(2,3))`, `-(X)`. So do parentheses, `paren(E)`, and blocks, `begin(E,..)`.
 // - Calls are as in Erlang, with `?` for the module where it is `?MODULE`.
 // - `case E of P when T,..;.. -> B; .. end` is `case(E){P when T,..;.. -> B ; ..}`.
-use erl_syntax::{ClauseTree, GuardTrees, Infix, Leaf, Prefix, Qualifier, Shape, Sign, SyntaxTree};
+use erl_ast::{ClauseTree, GuardTrees, Infix, Leaf, Prefix, Qualifier, Shape, Sign, SyntaxTree};
 use std::test::Fail;
 
 /// So deep trees are told.

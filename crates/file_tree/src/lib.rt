@@ -52,13 +52,13 @@ pub enum TreeError {
 /// All files below a folder: their paths, with their parts joined by `/` and without the folder's own,
 /// and their bytes, in the byte order of the paths. The paths are hashed by `hashing`.
 ///
-/// Folders are read however deep they stand. A link to a file is read as that file. A link to a folder is read as that folder, but
-/// left out where it leads back to a folder on the way to it, as the system's numbers of devices and files tell it, where over 8
-/// links to folders were followed on that way, and where it stands over 64 folders below ROOT. So a loop of links ends where it
-/// meets a folder again. A link that leads nowhere, or round in a circle to itself, is a file that cannot be read. Pipes, sockets
-/// and devices, and links to them, are left out, and not opened. In all at most 1,000,000 files, folders and links are looked
-/// at, each time that one is met on a way of its own. Of a file that grows meanwhile the bytes are read that it had when it was
-/// opened.
+/// Folders are read however deep they stand. A link to a file is read as that file. A link to a folder is read as that
+/// folder, but left out where it leads back to a folder on the way to it, as the system's numbers of devices and files tell
+/// it, where over 8 links to folders were followed on that way, and where it stands over 64 folders below ROOT. So a loop
+/// of links ends where it meets a folder again. A link that leads nowhere, or round in a circle to itself, is a file that
+/// cannot be read. Pipes, sockets and devices, and links to them, are left out, and not opened. In all at most 1,000,000
+/// files, folders and links are looked at, each time that one is met on a way of its own. Of a file that grows meanwhile
+/// the bytes are read that it had when it was opened.
 ///
 /// # Errors
 ///
@@ -207,8 +207,8 @@ impl<'a> Walk<'a> {
         Ok(())
     }
 
-    /// Comes to a folder that stands so deep. The folders that are listed between another and one below it all stand below that other, so
-    /// the first of the way are those on the way to this one.
+    /// Comes to a folder that stands so deep. The folders that are listed between another and one below it all stand below
+    /// that other, so the first of the way are those on the way to this one.
     fn enter(&mut self, depth: usize, folder: Identity) -> Result<(), AllocError>
         ensures entries { self.new.entries ≡ self.old.entries }
         ensures files { self.new.files ≡ self.old.files }

@@ -6,7 +6,7 @@ ghost use Rattle.install_checks.specs.Installing.{has_old_processes, install_ref
 
 use code_loading::is_lingered_in;
 use code_server::Modules;
-use erl_forms::Module;
+use erl_ir::Module;
 use erl_term::Atom;
 use low_instructions::Low;
 use otp_files::RelupEntry;
@@ -100,7 +100,7 @@ fn script_refusal(
     }
 }
 
-/// Why the release of a version is not installed, but for want of memory, in the order of [`InstallError`]. Takes no memory.
+/// Why the release of a version is not installed, but for lack of memory, in the order of [`InstallError`]. Takes no memory.
 pub fn install_refusal(
     releases: &Releases,
     modules: &Modules<Module>,

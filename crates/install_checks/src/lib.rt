@@ -10,8 +10,8 @@
 //!
 //! # What no contract says
 //!
-//! What a check costs: each instruction of the script is looked at once, and each process once for each module that is to be purged
-//! softly and has old code.
+//! What a check costs: each instruction of the script is looked at once, and each process once for each module that is to
+//! be purged softly and has old code.
 #![tactic(auto)]
 
 mod installing;

@@ -7,7 +7,7 @@ use Rattle.std.specs.Io.KnownBytes.{Keeps, Appends, Consumes, IsAtEnd}
 use Rattle.std.proofs.KnownBytes.{Appends-nil, Appends-trans, Consumes-nil, Consumes-trans, Consumes-kept}
 use Rattle.line_server.specs.declared.ended.Fault.{Fault}
 use Rattle.line_server.specs.declared.ended.Fault.TheVariants.{Read, Endless, Write, WriteZero, Memory}
-use Rattle.line_server.specs.declared.ended.Ended.{Ended}
+use Rattle.line_server.specs.declared.ended.ServeEnd.{ServeEnd}
 use Rattle.line_server.specs.declared.pending.Pending.{Pending}
 use Rattle.line_server.specs.Lines.{lines_of, longest_line}
 use Rattle.line_server.specs.Session.{Turns, lines_in, text_of, session_after}
@@ -183,8 +183,8 @@ module _ {S F : Type 0} (turn : Turns S F) (start : S) where
   Serves-end (Err fault) old new left rest resting held holds holding before after served read end finishes none stops =
       Serves-stopped [] old new left rest resting held holds holding before after fault served read stops
 
-  -- without a fault and want of memory, the text of all lines is written behind what the writer held
-  pub whole-from_Serves : (new : S) (left rest held holds : Option (List ℕ)) (ended : Ended) (input before : List ℕ) → Serves turn start new left rest held holds ended → left ≡ Some input → held ≡ Some before → ended.fault ≡ None → ended.is_refused ≡ false → ServesWhole turn start new input before holds
+  -- without a fault and lack of memory, the text of all lines is written behind what the writer held
+  pub whole-from_Serves : (new : S) (left rest held holds : Option (List ℕ)) (ended : ServeEnd) (input before : List ℕ) → Serves turn start new left rest held holds ended → left ≡ Some input → held ≡ Some before → ended.fault ≡ None → ended.is_refused ≡ false → ServesWhole turn start new input before holds
   whole-from_Serves new left rest held holds ended input before serves gave had none unrefused =
       let all = all_read rest (subst (λ o. Consumes o rest serves.bytes) gave serves.consumed) (serves.at_end none) in
       let text = subst (λ fault. IsWritten fault (text_of serves.answered) serves.output) none serves.text in

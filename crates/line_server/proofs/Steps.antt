@@ -178,7 +178,7 @@ module _ {S F : Type 0} (turn : Turns S F) where
       let text = before.answers.text.items in
       GoesOn-moved bytes first now held holds holding begun before after on record { taken = text; parts = sym (append-nil text) ∙ ap (λ l. text ++ l) (sym none); appended = written } refused same
 
-  -- where answers can't be written, or are for want of memory none
+  -- where answers can't be written, or are for lack of memory none
   pub StopsIn-part : (chunk bytes rest : List ℕ) (first now : S) (held holds holding : Option (List ℕ)) (begun before after : Pending) (fault : Fault) → chunk ≡ bytes ++ rest → GoesOn turn bytes first now held holds begun before → TakesFront holds holding before.answers.text.items → after.answers.is_refused ≡ before.answers.is_refused → IsOfWriting fault → StopsIn turn chunk first held holding begun after fault
   StopsIn-part chunk bytes rest first now held holds holding begun before after fault is on front refused writing = record {
     of_writing = writing;

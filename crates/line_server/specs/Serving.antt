@@ -3,7 +3,7 @@ use Rattle.std.specs.Prelude.{◌≡◌, ℕ, ◌^◌, ⊤, false, List, ◌++�
 use Rattle.std.specs.Io.KnownBytes.{Consumes, Appends, IsAtEnd}
 use Rattle.line_server.specs.declared.ended.Fault.{Fault}
 use Rattle.line_server.specs.declared.ended.Fault.TheVariants.{Read, Endless, Write, WriteZero, Memory}
-use Rattle.line_server.specs.declared.ended.Ended.{Ended}
+use Rattle.line_server.specs.declared.ended.ServeEnd.{ServeEnd}
 use Rattle.line_server.specs.Lines.{whole_lines, lines_of}
 use Rattle.line_server.specs.Session.{Turns, Answered, AreInTurn, lines_in, text_of, session_after}
 
@@ -48,7 +48,7 @@ most_reads = 2 ^ 32
 -- Serving lines from one session to another: the bytes that the reader gave, the lines that were answered, and the bytes
 -- that the writer took. `left` and `rest` are what the reader has left before and after, `held` and `holds` what the
 -- writer holds, where these are known.
-pub record Serves {S F : Type 0} (turn : Turns S F) (start new : S) (left rest held holds : Option (List ℕ)) (ended : Ended)
+pub record Serves {S F : Type 0} (turn : Turns S F) (start new : S) (left rest held holds : Option (List ℕ)) (ended : ServeEnd)
     : Type 0 where
   pub bytes : List ℕ
   pub answered : List (Answered S F)

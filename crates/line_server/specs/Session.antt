@@ -8,7 +8,7 @@ pub record Turn (S : Type 0) : Type 0 where
   pub text : List ℕ
   pub after : S
 
--- How a session may answer a line, by what became of it for want of memory: its fate, or none where no memory was
+-- How a session may answer a line, by what became of it for lack of memory: its fate, or none where no memory was
 -- refused. The line is its bytes, or none where it is too long.
 abbrev pub Turns : Type 0 → Type 0 → Type 1
 Turns S F = Option F → S → Option (List ℕ) → Turn S → Type 0

@@ -25,9 +25,9 @@ pub enum Fault {
 
 /// How serving ended.
 #[derive(Drop)]
-pub struct Ended {
+pub struct ServeEnd {
     /// The fault, or none: then the reader is at its end, and all answers are written.
     pub fault: Option<Fault>,
-    /// Whether the session met want of memory at some line.
+    /// Whether the session ran out of memory at some line.
     pub is_refused: bool,
 }

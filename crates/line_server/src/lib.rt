@@ -20,7 +20,7 @@ mod session;
 mod waiting;
 mod writing;
 
-pub use ended::{Ended, Fault};
+pub use ended::{Fault, ServeEnd};
 pub use lines::lines_make_the_bytes;
 pub use reads::Reads;
 pub use serving::serve;

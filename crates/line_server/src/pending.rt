@@ -88,7 +88,8 @@ impl Pending {
         self.answers.are_many() || session.may_take_long(rest)
     }
 
-    /// Answers the lines that end in a chunk, and writes the answers: while many wait, before a line that may take long, and in the end.
+    /// Answers the lines that end in a chunk, and writes the answers: while many wait, before a line that may take long,
+    /// and in the end.
     pub(crate) fn take_chunk<S: Session, W: Write>(
         &mut self,
         session: &mut S,

@@ -3,7 +3,7 @@ ghost use Rattle.std.specs.Prelude.{◌≡◌, ℕ, ◌<◌, List, [], ◌++◌,
 ghost use Rattle.line_server.specs.Serving.{Serves, ServesWhole};
 ghost use Rattle.line_server.specs.Progress.{fault_of};
 
-use crate::ended::{Ended, Fault};
+use crate::ended::{Fault, ServeEnd};
 use crate::pending::Pending;
 use crate::reads::Reads;
 use crate::session::Session;
@@ -26,7 +26,7 @@ pub fn serve<S: Session, R: Read, W: Write>(
     session: &mut S,
     reader: &mut R,
     writer: &mut W,
-) -> Ended
+) -> ServeEnd
     ensures served { Serves S.turn session.old session.new (R.remaining reader.old) (R.remaining reader.new)
         (W.contents writer.old) (W.contents writer.new) result }
 
@@ -37,13 +37,13 @@ pub fn serve<S: Session, R: Read, W: Write>(
         → ServesWhole S.turn session.old session.new input before (W.contents writer.new) }
 {
     let Ok((mut pending, mut chunk)) = buffers(alloc) else {
-        return Ended {
+        return ServeEnd {
             fault: Some(Fault::Memory),
             is_refused: false,
         };
     };
     let served = serve_reads(&mut pending, chunk.as_mut_slice(), session, reader, writer);
-    Ended {
+    ServeEnd {
         fault: served.err(),
         is_refused: pending.answers.is_refused,
     }

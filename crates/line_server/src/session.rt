@@ -6,16 +6,16 @@ use std::alloc::AllocError;
 
 /// A session: what answers lines, one after the other.
 ///
-/// A call answers what became of the line for want of memory: its fate, or none where no memory was refused.
+/// A call answers what became of the line for lack of memory: its fate, or none where no memory was refused.
 pub trait Session: Drop {
-    /// What want of memory makes of a line.
+    /// What lack of memory makes of a line.
     type Fate: Drop;
 
-    /// How the session may answer a line, by what want of memory made of it.
+    /// How the session may answer a line, by what lack of memory made of it.
     ghost turn: { Turns Self Self.Fate };
 
-    /// Whether a line that begins with these bytes, others behind it among them, may take long to answer. The answers of the lines
-    /// before it are written first then, so that nobody waits for them.
+    /// Whether a line that begins with these bytes, others behind it among them, may take long to answer. The answers of
+    /// the lines before it are written first then, so that nobody waits for them.
     fn may_take_long(&self, start: &[u8]) -> bool;
 
     /// Answers a line of at most 65,536 bytes, without its newline: appends the answer.

@@ -16,19 +16,20 @@ use std::io::Write;
 /// How many bytes of answers may wait while more lines of a chunk are answered.
 const MOST_WAITING: usize = 65_536;
 
-/// For how many bytes of answers there is room from the start: for those that may wait, and an answer of 65,536 bytes behind them.
+/// For how many bytes of answers there is room from the start: for those that may wait, and an answer of 65,536 bytes
+/// behind them.
 const ROOM: usize = 2 * MOST_WAITING;
 
 /// Answers that are not yet written.
 #[derive(Drop)]
 pub(crate) struct Waiting {
     pub(crate) text: Vec<u8>,
-    /// Whether the session met want of memory at some line.
+    /// Whether the session ran out of memory at some line.
     pub(crate) is_refused: bool,
 }
 
 impl Waiting {
-    /// No answers. There is room from the start, so that a session that is in want of memory goes on being answered.
+    /// No answers. There is room from the start, so that a session that runs out of memory goes on being answered.
     pub(crate) fn new(alloc: Global) -> Result<Waiting, AllocError>
         ensures text { IfOk result (λ answers. answers.text.items ≡ []) }
         ensures unrefused { IfOk result (λ answers. answers.is_refused ≡ false) }

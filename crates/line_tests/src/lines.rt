@@ -84,7 +84,7 @@ fn long_lines_are_told(rt: HostRuntime) -> Result<(), Fail> {
     expect_table(&rt, rt.alloc(), LONG_WAYS, LONG)
 }
 
-/// Ways with a fault or want of memory, and what is written then.
+/// Ways with a fault or lack of memory, and what is written then.
 const FAULTS: &str = "\
 fails:1|ab␤cde␤f ⟶ 1:2␤2:3␤ read
 reads:1 fails:1|ab␤cde␤f ⟶ 1:2␤2:3␤ read

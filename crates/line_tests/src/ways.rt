@@ -1,6 +1,6 @@
 // Ways of reading and writing, and how a run over them ends.
 use crate::streams::{Sink, Source};
-use line_server::{Ended, Fault};
+use line_server::{Fault, ServeEnd};
 use std::alloc::Global;
 use std::str;
 use std::test::Fail;
@@ -80,7 +80,7 @@ pub(crate) fn writer(alloc: Global, how: &How) -> Sink {
 }
 
 /// What was published, or, where the writer failed, written, and then how the fault is named, and whether memory was refused.
-pub(crate) fn ended_text(alloc: Global, writer: &Sink, ended: &Ended) -> Result<String, Fail> {
+pub(crate) fn ended_text(alloc: Global, writer: &Sink, ended: &ServeEnd) -> Result<String, Fail> {
     let refusal = if ended.is_refused { " refused" } else { "" };
     answer(alloc, writer, fault_text(&ended.fault), refusal)
 }

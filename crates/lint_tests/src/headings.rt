@@ -1,10 +1,10 @@
 // Functions that are defined twice, and exports of those that there are not.
 use crate::postfix::{clause, named, trees};
-use erl_lint::StaticFault;
-use erl_lower::{Lowering, lowered};
-use erl_syntax::{
+use erl_ast::{
     ClauseTrees, Exported, FormTree, FunctionClause, FunctionTree, GuardTrees, LoopTree, ModuleTree,
 };
+use erl_lint::StaticFault;
+use erl_lower::{Lowering, lowered};
 use std::alloc::Global;
 use std::hash::RandomState;
 use std::io;

@@ -1,9 +1,9 @@
 // Trees in postfix notation: each word takes its parts from the stack, and leaves one tree.
-use erl_chars::SharedText;
-use erl_syntax::{
+use erl_ast::{
     ClauseTree, ClauseTrees, GuardTrees, Infix, Leaf, Named, Qualifier, Shape, Sign, SyntaxTree,
     SyntaxTrees,
 };
+use erl_chars::SharedText;
 use erl_term::Atom;
 use std::alloc::{AllocError, Global};
 use std::test::Fail;

@@ -2,10 +2,10 @@
 use Rattle.std.proofs.Common.{◌≡◌, ℕ, ◌+◌, ◌≤◌, List, [], ◌∷◌, ◌++◌, length, Some, None, ap, subst, sym, ◌∙◌, refl, arith}
 use Rattle.std.proofs.lemmas.Option.{none-some}
 use Rattle.erl_scan.specs.declared.token.Spot.{Spot}
-use Rattle.erl_syntax.specs.declared.leaf.Named.{Named}
-use Rattle.erl_syntax.specs.declared.form.FormTree.{FormTree}
-use Rattle.erl_syntax.specs.Terminal.{Terminal, terminals}
-use Rattle.erl_syntax.specs.Forms.{BeginsForm}
+use Rattle.erl_ast.specs.declared.leaf.Named.{Named}
+use Rattle.erl_ast.specs.declared.form.FormTree.{FormTree}
+use Rattle.erl_ast.specs.Terminal.{Terminal, terminals}
+use Rattle.erl_ast.specs.Forms.{BeginsForm}
 use Rattle.erl_expressions.specs.declared.refusal.Refusal.{Refusal}
 use Rattle.erl_expressions.specs.Refusing.{IsToldOf}
 use Rattle.erl_expressions.proofs.Strings.{terminals_length}

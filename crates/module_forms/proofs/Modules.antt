@@ -4,17 +4,17 @@ use Rattle.std.proofs.lemmas.Option.{none-some, same_Some}
 use Rattle.std.proofs.lemmas.Slice.Eq.{bytes_eq-Decides}
 use Rattle.std.specs.Str.{bytes_eq}
 use Rattle.erl_scan.specs.declared.mark.Mark.TheVariants as marks
-use Rattle.erl_syntax.specs.declared.leaf.Named.{Named}
+use Rattle.erl_ast.specs.declared.leaf.Named.{Named}
 use Rattle.erl_scan.specs.declared.word.Word.TheVariants as words
-use Rattle.erl_syntax.specs.declared.form.Exported.{Exported}
-use Rattle.erl_syntax.specs.declared.form.FunctionClause.{FunctionClause}
-use Rattle.erl_syntax.specs.declared.form.FormTree.TheVariants as forms
-use Rattle.erl_syntax.specs.Written.{row_written, guards_written, clauses_written}
+use Rattle.erl_ast.specs.declared.form.Exported.{Exported}
+use Rattle.erl_ast.specs.declared.form.FunctionClause.{FunctionClause}
+use Rattle.erl_ast.specs.declared.form.FormTree.TheVariants as forms
+use Rattle.erl_ast.specs.Written.{row_written, guards_written, clauses_written}
 use Rattle.erl_expressions.proofs.Lengths.{tree_longer, row_longer, guards_longer, clauses_longer}
-use Rattle.erl_syntax.specs.declared.form.FormTree.{FormTree}
-use Rattle.erl_syntax.specs.declared.form.ModuleTree.{ModuleTree}
-use Rattle.erl_syntax.specs.Terminal.{Terminal, atom, word, mark, dot}
-use Rattle.erl_syntax.specs.Forms.{after_dot, is_dot, module_written, BeginsForm, export_form, version_form, skipped_form, function_form, loop_form, AreForms, IsModule, OneModule, function_written, other_function_written, loop_written, clause_written, entries_written, other_entries_written}
+use Rattle.erl_ast.specs.declared.form.FormTree.{FormTree}
+use Rattle.erl_ast.specs.declared.form.ModuleTree.{ModuleTree}
+use Rattle.erl_ast.specs.Terminal.{Terminal, atom, word, mark, dot}
+use Rattle.erl_ast.specs.Forms.{after_dot, is_dot, module_written, BeginsForm, export_form, version_form, skipped_form, function_form, loop_form, AreForms, IsModule, OneModule, function_written, other_function_written, loop_written, clause_written, entries_written, other_entries_written}
 use Rattle.erl_expressions.specs.Reading.{Found, and_then}
 use Rattle.erl_expressions.proofs.Inversion.{inverts}
 use Rattle.module_forms.specs.declared.opening.Opening.TheVariants as openings

@@ -5,25 +5,25 @@ use Rattle.std.proofs.lemmas.Slice.Eq.{bytes_eq-Decides}
 use Rattle.std.specs.Str.{bytes_eq}
 use Rattle.erl_scan.specs.declared.mark.Mark.TheVariants as marks
 use Rattle.erl_scan.specs.declared.word.Word.TheVariants as words
-use Rattle.erl_syntax.specs.declared.leaf.Named.{Named}
-use Rattle.erl_syntax.specs.declared.leaf.Leaf.{Leaf}
-use Rattle.erl_syntax.specs.declared.leaf.Leaf.TheVariants as leaves
-use Rattle.erl_syntax.specs.declared.leaf.Sign.TheVariants as signs
-use Rattle.erl_syntax.specs.declared.shape.Shape.TheVariants as shapes
-use Rattle.erl_syntax.specs.declared.shape.Qualifier.TheVariants as qualifier
-use Rattle.erl_syntax.specs.declared.shape.Prefix.TheVariants.{Negate, Not}
+use Rattle.erl_ast.specs.declared.leaf.Named.{Named}
+use Rattle.erl_ast.specs.declared.leaf.Leaf.{Leaf}
+use Rattle.erl_ast.specs.declared.leaf.Leaf.TheVariants as leaves
+use Rattle.erl_ast.specs.declared.leaf.Sign.TheVariants as signs
+use Rattle.erl_ast.specs.declared.shape.Shape.TheVariants as shapes
+use Rattle.erl_ast.specs.declared.shape.Qualifier.TheVariants as qualifier
+use Rattle.erl_ast.specs.declared.shape.Prefix.TheVariants.{Negate, Not}
 use Rattle.erl_expressions.proofs.Lengths.{two_parts, row_longer, guards_longer}
-use Rattle.erl_syntax.specs.declared.role.Role.TheVariants.{Expression, Pattern}
-use Rattle.erl_syntax.specs.declared.form.Exported.{Exported}
-use Rattle.erl_syntax.specs.declared.form.FunctionClause.{FunctionClause}
-use Rattle.erl_syntax.specs.declared.form.FormTree.{FormTree}
-use Rattle.erl_syntax.specs.declared.form.FormTree.TheVariants as forms
-use Rattle.erl_syntax.specs.declared.form.LoopTree.{LoopTree}
-use Rattle.erl_syntax.specs.Terminal.{Terminal, integer, atom, word, mark, dot}
-use Rattle.erl_syntax.specs.Tree.{Tree, Trees, Guards, Clauses, leaf, node, case, none, more, tree_count, tree_depth, trees_depth, guards_depth}
-use Rattle.erl_syntax.specs.Grammar.{matches, level, is_leaf, has_operator, IsWell, AreWell, AreWellGuards}
-use Rattle.erl_syntax.specs.Written.{written, leaf_written, other_parts_written, row_written, others_written, guards_written, clauses_written}
-use Rattle.erl_syntax.specs.Forms.{Attribute, skipped, attribute, is_term, after_dot, are_arities, entry_written, entries_written, other_entries_written, head_written, clause_written, function_written, other_function_written, IsFunctionClause, AreClauses, IsFunction, IsLoop, loop_written, attribute_written, BeginsForm, export_form, version_form, skipped_form, function_form, loop_form}
+use Rattle.erl_ast.specs.declared.role.Role.TheVariants.{Expression, Pattern}
+use Rattle.erl_ast.specs.declared.form.Exported.{Exported}
+use Rattle.erl_ast.specs.declared.form.FunctionClause.{FunctionClause}
+use Rattle.erl_ast.specs.declared.form.FormTree.{FormTree}
+use Rattle.erl_ast.specs.declared.form.FormTree.TheVariants as forms
+use Rattle.erl_ast.specs.declared.form.LoopTree.{LoopTree}
+use Rattle.erl_ast.specs.Terminal.{Terminal, integer, atom, word, mark, dot}
+use Rattle.erl_ast.specs.Tree.{Tree, Trees, Guards, Clauses, leaf, node, case, none, more, tree_count, tree_depth, trees_depth, guards_depth}
+use Rattle.erl_ast.specs.Grammar.{matches, level, is_leaf, has_operator, IsWell, AreWell, AreWellGuards}
+use Rattle.erl_ast.specs.Written.{written, leaf_written, other_parts_written, row_written, others_written, guards_written, clauses_written}
+use Rattle.erl_ast.specs.Forms.{Attribute, skipped, attribute, is_term, after_dot, are_arities, entry_written, entries_written, other_entries_written, head_written, clause_written, function_written, other_function_written, IsFunctionClause, AreClauses, IsFunction, IsLoop, loop_written, attribute_written, BeginsForm, export_form, version_form, skipped_form, function_form, loop_form}
 use Rattle.erl_expressions.specs.declared.delimiter.Delimiter.TheVariants.{Comma, Semicolon, Arrow, CloseParen, CloseBracket}
 use Rattle.erl_expressions.specs.Delimiters.{after}
 use Rattle.erl_expressions.specs.Reading.{Found, and_then, separated, parts, guarded, row, clauses_to_end, read}

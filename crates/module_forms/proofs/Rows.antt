@@ -1,14 +1,14 @@
 -- Rows that are read in turns.
 use Rattle.std.proofs.Common.{◌≡◌, ℕ, zero, suc, ◌+◌, ◌-◌, ◌<◌, ◌≤◌, ◌==◌, Bool, true, false, List, [], ◌∷◌, ◌++◌, length, Option, Some, None, ap, subst, sym, ◌∙◌, refl, arith, append_assoc, append-nil}
 use Rattle.erl_scan.specs.declared.token.Spot.{Spot}
-use Rattle.erl_syntax.specs.declared.tree.SyntaxTree.{SyntaxTree}
-use Rattle.erl_syntax.specs.declared.form.Exported.{Exported}
-use Rattle.erl_syntax.specs.declared.form.FunctionClause.{FunctionClause}
-use Rattle.erl_syntax.specs.declared.form.FormTree.{FormTree}
-use Rattle.erl_syntax.specs.Terminal.{Terminal, integer, float, atom, word, variable, string, mark, dot, terminals}
-use Rattle.erl_syntax.specs.Forms.{after_dot}
-use Rattle.erl_syntax.specs.Tree.{tree_count}
-use Rattle.erl_syntax.specs.TreeForms.{trees}
+use Rattle.erl_ast.specs.declared.tree.SyntaxTree.{SyntaxTree}
+use Rattle.erl_ast.specs.declared.form.Exported.{Exported}
+use Rattle.erl_ast.specs.declared.form.FunctionClause.{FunctionClause}
+use Rattle.erl_ast.specs.declared.form.FormTree.{FormTree}
+use Rattle.erl_ast.specs.Terminal.{Terminal, integer, float, atom, word, variable, string, mark, dot, terminals}
+use Rattle.erl_ast.specs.Forms.{after_dot}
+use Rattle.erl_ast.specs.Tree.{tree_count}
+use Rattle.erl_ast.specs.TreeForms.{trees}
 use Rattle.erl_expressions.specs.declared.delimiter.Delimiter.TheVariants.{Comma, Semicolon}
 use Rattle.erl_expressions.specs.Delimiters.{after}
 use Rattle.erl_expressions.specs.Reading.{Found, and_then, separated, other_things}
@@ -16,7 +16,7 @@ use Rattle.erl_expressions.proofs.Rows.{trees_count}
 use Rattle.erl_expressions.proofs.Strings.{terminals_length}
 use Rattle.erl_expressions.proofs.Things.{things_more, things_last, things_not, things_out}
 use Rattle.module_forms.specs.FormReading.{entry, some_entries, closed_entries, rest_of_entries, clause_like, clauses_like, more_by, ended, rest_of_function, function_from, form, all_forms, forms_from, forms_by, is_end, clause_of}
-use Rattle.erl_syntax.specs.declared.leaf.Named.{Named}
+use Rattle.erl_ast.specs.declared.leaf.Named.{Named}
 
 pub count_of : (ts : List SyntaxTree) → tree_count (trees ts) ≡ length ts
 count_of ts = trees_count ts

@@ -5,18 +5,18 @@ use Rattle.std.proofs.lemmas.Slice.Eq.{bytes_eq-Decides}
 use Rattle.std.specs.Str.{bytes_eq}
 use Rattle.erl_scan.specs.declared.mark.Mark.TheVariants as marks
 use Rattle.erl_scan.specs.declared.word.Word.TheVariants as words
-use Rattle.erl_syntax.specs.declared.leaf.Named.{Named}
-use Rattle.erl_syntax.specs.declared.role.Role.TheVariants.{Expression, Pattern}
-use Rattle.erl_syntax.specs.declared.form.Exported.{Exported}
-use Rattle.erl_syntax.specs.declared.form.FunctionClause.{FunctionClause}
-use Rattle.erl_syntax.specs.declared.form.FormTree.{FormTree}
-use Rattle.erl_syntax.specs.declared.form.FormTree.TheVariants as forms
-use Rattle.erl_syntax.specs.declared.form.ModuleTree.{ModuleTree}
-use Rattle.erl_syntax.specs.Terminal.{Terminal, integer, float, atom, word, variable, string, mark, dot}
-use Rattle.erl_syntax.specs.Tree.{Tree, Trees, Guards, Clauses, none, more, tree_count, trees_depth, guards_depth}
-use Rattle.erl_syntax.specs.Grammar.{matches, AreWell, AreWellGuards}
-use Rattle.erl_syntax.specs.Written.{written, row_written, guards_written, clauses_written}
-use Rattle.erl_syntax.specs.Forms.{Attribute, module_name, export, version, unsupported, skipped, attribute, is_among, unsupported_names, is_term, after_dot, are_arities, entry_written, entries_written, other_entries_written, head_written, clause_written, function_written, other_function_written, IsFunctionClause, AreClauses, IsFunction, IsLoop, loop_written, attribute_written, module_written, BeginsForm, export_form, version_form, skipped_form, function_form, loop_form, AreForms, IsModule}
+use Rattle.erl_ast.specs.declared.leaf.Named.{Named}
+use Rattle.erl_ast.specs.declared.role.Role.TheVariants.{Expression, Pattern}
+use Rattle.erl_ast.specs.declared.form.Exported.{Exported}
+use Rattle.erl_ast.specs.declared.form.FunctionClause.{FunctionClause}
+use Rattle.erl_ast.specs.declared.form.FormTree.{FormTree}
+use Rattle.erl_ast.specs.declared.form.FormTree.TheVariants as forms
+use Rattle.erl_ast.specs.declared.form.ModuleTree.{ModuleTree}
+use Rattle.erl_ast.specs.Terminal.{Terminal, integer, float, atom, word, variable, string, mark, dot}
+use Rattle.erl_ast.specs.Tree.{Tree, Trees, Guards, Clauses, none, more, tree_count, trees_depth, guards_depth}
+use Rattle.erl_ast.specs.Grammar.{matches, AreWell, AreWellGuards}
+use Rattle.erl_ast.specs.Written.{written, row_written, guards_written, clauses_written}
+use Rattle.erl_ast.specs.Forms.{Attribute, module_name, export, version, unsupported, skipped, attribute, is_among, unsupported_names, is_term, after_dot, are_arities, entry_written, entries_written, other_entries_written, head_written, clause_written, function_written, other_function_written, IsFunctionClause, AreClauses, IsFunction, IsLoop, loop_written, attribute_written, module_written, BeginsForm, export_form, version_form, skipped_form, function_form, loop_form, AreForms, IsModule}
 use Rattle.erl_expressions.specs.declared.delimiter.Delimiter.TheVariants.{Comma, Semicolon, Arrow, CloseParen, CloseBracket}
 use Rattle.erl_expressions.specs.Delimiters.{after}
 use Rattle.erl_expressions.specs.Reading.{Found, and_then, separated, parts, guarded, row, clauses_to_end, read}

@@ -1,9 +1,9 @@
 -- Terms as they are written, part by part.
 use Rattle.std.proofs.Common.{◌≡◌, ℕ, zero, suc, ◌+◌, ◌<◌, ◌≤◌, Bool, true, ◌&&◌, List, [], ◌∷◌, ◌++◌, length, get_or, take, drop, ap, sym, subst, ◌∙◌, refl, arith}
 use Rattle.std.proofs.lemmas.List.{take_more, take_all}
-use Rattle.erl_syntax.specs.declared.tree.SyntaxTree.{SyntaxTree}
-use Rattle.erl_syntax.specs.Forms.{is_term, are_terms, is_list, ends_with_list}
-use Rattle.erl_syntax.specs.TreeForms.{tree, trees}
+use Rattle.erl_ast.specs.declared.tree.SyntaxTree.{SyntaxTree}
+use Rattle.erl_ast.specs.Forms.{is_term, are_terms, is_list, ends_with_list}
+use Rattle.erl_ast.specs.TreeForms.{tree, trees}
 
 are_at : (items : List SyntaxTree) (i next : ℕ) (t : SyntaxTree) → next ≡ suc i → i < length items →
     are_terms (trees (drop i items)) ≡ is_term (tree (get_or items i t)) && are_terms (trees (drop next items))

@@ -1,9 +1,9 @@
 -- Where tokens that are no module go wrong: the first of their forms that is none.
 use Rattle.std.specs.Prelude.{◌≡◌, ℕ, ◌≤◌, List, [], ◌∷◌, ◌++◌, length}
 use Rattle.erl_scan.specs.declared.token.Spot.{Spot}
-use Rattle.erl_syntax.specs.declared.form.FormTree.{FormTree}
-use Rattle.erl_syntax.specs.Terminal.{Terminal, terminals}
-use Rattle.erl_syntax.specs.Forms.{BeginsForm, module_written}
+use Rattle.erl_ast.specs.declared.form.FormTree.{FormTree}
+use Rattle.erl_ast.specs.Terminal.{Terminal, terminals}
+use Rattle.erl_ast.specs.Forms.{BeginsForm, module_written}
 use Rattle.erl_expressions.specs.declared.refusal.Refusal.{Refusal}
 use Rattle.erl_expressions.specs.Refusing.{IsToldOf}
 

@@ -3,17 +3,17 @@ use Rattle.std.specs.Prelude.{ℕ, zero, suc, Bool, true, false, ◌&&◌, ◌==
 use Rattle.std.specs.Prelude.{Option, None, Some}
 use Rattle.std.specs.Str.{bytes_eq}
 use Rattle.erl_scan.specs.declared.mark.Mark.TheVariants as marks
-use Rattle.erl_syntax.specs.declared.leaf.Named.{Named}
-use Rattle.erl_syntax.specs.declared.role.Role.TheVariants.{Expression, Pattern}
-use Rattle.erl_syntax.specs.declared.form.Exported.{Exported}
-use Rattle.erl_syntax.specs.declared.form.FunctionClause.{FunctionClause}
-use Rattle.erl_syntax.specs.declared.form.FormTree.{FormTree}
-use Rattle.erl_syntax.specs.declared.form.FormTree.TheVariants as forms
-use Rattle.erl_syntax.specs.declared.form.ModuleTree.{ModuleTree}
-use Rattle.erl_syntax.specs.Terminal.{Terminal, integer, atom, mark}
-use Rattle.erl_syntax.specs.Tree.{Tree, Trees, Guards, none, more, tree_count}
-use Rattle.erl_syntax.specs.Grammar.{matches}
-use Rattle.erl_syntax.specs.Forms.{Attribute, module_name, export, version, unsupported, skipped, attribute, is_term, after_dot}
+use Rattle.erl_ast.specs.declared.leaf.Named.{Named}
+use Rattle.erl_ast.specs.declared.role.Role.TheVariants.{Expression, Pattern}
+use Rattle.erl_ast.specs.declared.form.Exported.{Exported}
+use Rattle.erl_ast.specs.declared.form.FunctionClause.{FunctionClause}
+use Rattle.erl_ast.specs.declared.form.FormTree.{FormTree}
+use Rattle.erl_ast.specs.declared.form.FormTree.TheVariants as forms
+use Rattle.erl_ast.specs.declared.form.ModuleTree.{ModuleTree}
+use Rattle.erl_ast.specs.Terminal.{Terminal, integer, atom, mark}
+use Rattle.erl_ast.specs.Tree.{Tree, Trees, Guards, none, more, tree_count}
+use Rattle.erl_ast.specs.Grammar.{matches}
+use Rattle.erl_ast.specs.Forms.{Attribute, module_name, export, version, unsupported, skipped, attribute, is_term, after_dot}
 use Rattle.erl_expressions.specs.declared.delimiter.Delimiter.TheVariants.{Comma, Semicolon, Arrow, CloseParen, CloseBracket}
 use Rattle.erl_expressions.specs.Delimiters.{after}
 use Rattle.erl_expressions.specs.Reading.{Found, and_then, separated, parts, guarded, row, clauses_to_end, read}
@@ -167,11 +167,13 @@ all_forms ts = forms_from (suc (length ts)) [] ts
 
 -- `-module(M).`, and what is left
 abbrev pub if_module : Bool → List Terminal → Found Named
-if_module true ts = and_then (behind OpenParen ts) (λ a. and_then (named_ahead a) (λ n. and_then (closed_form n.1) (λ us. Some (n.0, us))))
+if_module true ts = and_then (behind OpenParen ts)
+    (λ a. and_then (named_ahead a) (λ n. and_then (closed_form n.1) (λ us. Some (n.0, us))))
 if_module false ts = None
 
 unfoldable pub module_head : List Terminal → Found Named
-module_head ts = and_then (behind Minus ts) (λ a. and_then (named_ahead a) (λ w. if_module (bytes_eq w.0.name (codes "module")) w.1))
+module_head ts = and_then (behind Minus ts) (λ a. and_then (named_ahead a)
+    (λ w. if_module (bytes_eq w.0.name (codes "module")) w.1))
 
 unfoldable pub whole_module : List Terminal → Option ModuleTree
 whole_module ts =

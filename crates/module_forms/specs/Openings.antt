@@ -3,7 +3,7 @@ use Rattle.std.specs.Prelude.{◌≡◌, ◌≤◌, length, Bool, true, false, i
 use Rattle.erl_scan.specs.declared.mark.Mark.TheVariants as marks
 use Rattle.erl_scan.specs.declared.word.Word.TheVariants as words
 use Rattle.erl_scan.specs.declared.token.Spot.{Spot}
-use Rattle.erl_syntax.specs.Terminal.{Terminal, mark, word, dot}
+use Rattle.erl_ast.specs.Terminal.{Terminal, mark, word, dot}
 use Rattle.erl_expressions.specs.Refusing.{from_dot}
 use Rattle.module_forms.specs.declared.opening.Opening.{Opening}
 use Rattle.module_forms.specs.declared.opening.Opening.TheVariants as openings

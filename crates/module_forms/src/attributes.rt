@@ -1,10 +1,10 @@
 // Attributes of a module.
 ghost use Rattle.std.specs.Prelude.{◌≡◌, ℕ, false, ◌≤◌, length, IfNone, IfOk, IfSome, MatchOption, MatchResult, Some, None};
 ghost use Rattle.std.specs.Bool.{OnFalse};
-ghost use Rattle.erl_syntax.specs.Forms.{Attribute, attribute as attribute_in, is_term as is_term_in, are_terms as are_terms_in};
-ghost use Rattle.erl_syntax.specs.Forms.{ends_with_list as ends_with_list_in, is_list as is_list_in, after_dot as after_dot_in, is_dot as is_dot_in};
-ghost use Rattle.erl_syntax.specs.Terminal.{terminals, terminal_at};
-ghost use Rattle.erl_syntax.specs.TreeForms.{tree as tree_of, trees as trees_of};
+ghost use Rattle.erl_ast.specs.Forms.{Attribute, attribute as attribute_in, is_term as is_term_in, are_terms as are_terms_in};
+ghost use Rattle.erl_ast.specs.Forms.{ends_with_list as ends_with_list_in, is_list as is_list_in, after_dot as after_dot_in, is_dot as is_dot_in};
+ghost use Rattle.erl_ast.specs.Terminal.{terminals, terminal_at};
+ghost use Rattle.erl_ast.specs.TreeForms.{tree as tree_of, trees as trees_of};
 ghost use Rattle.erl_expressions.specs.Delimiters.{after as after_in};
 ghost use Rattle.erl_expressions.specs.Refusing.{Leaves, IsToldOf, from_dot, ends_form, begins_with_dot};
 ghost use Rattle.module_forms.specs.FormReading.{entry as entry_in, some_entries as some_entries_in, entries_by};
@@ -14,9 +14,9 @@ ghost use Rattle.erl_expressions.specs.declared.delimiter.Delimiter.TheVariants.
 
 use crate::opening::Opening;
 use crate::tokens::{closed_form, expected, named_ahead};
+use erl_ast::{Exported, FormTree, Leaf, Named, Shape, SyntaxTree, SyntaxTrees};
 use erl_expressions::{Delimiter, Reading, Reason, Refusal, after, read_pattern};
 use erl_scan::{Mark, Spot, Token, Word};
-use erl_syntax::{Exported, FormTree, Leaf, Named, Shape, SyntaxTree, SyntaxTrees};
 use std::alloc::Global;
 use values::Row;
 

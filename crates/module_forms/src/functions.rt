@@ -1,21 +1,21 @@
 // Functions of a module.
 ghost use Rattle.std.specs.Prelude.{◌≡◌, ◌≤◌, length, IfOk, MatchResult, Some, None};
-ghost use Rattle.erl_syntax.specs.Terminal.{terminals};
+ghost use Rattle.erl_ast.specs.Terminal.{terminals};
 ghost use Rattle.module_forms.specs.FormReading.{head as head_in, front as front_in, one_clause as one_clause_in};
 ghost use Rattle.module_forms.specs.FormReading.{clause_like as like_in, function_from as from_in, looped as looped_in};
 ghost use Rattle.module_forms.specs.FormReading.{function as function_in, ended as ended_in, clause_of as clause_in};
-ghost use Rattle.erl_syntax.specs.Tree.{tree_count};
+ghost use Rattle.erl_ast.specs.Tree.{tree_count};
 ghost use Rattle.erl_expressions.specs.Refusing.{Leaves, IsToldOf};
 
 use crate::opening::{Opening, behind};
 use crate::tokens::{expected, named_ahead};
+use erl_ast::{
+    ClauseTree, FormTree, FunctionClause, FunctionTree, GuardTrees, LoopTree, Named, SyntaxTrees,
+};
 use erl_expressions::{
     Delimiter, Reading, Reason, Refusal, after, read_body, read_clauses, read_guard, read_patterns,
 };
 use erl_scan::{Mark, Spot, Token, Word};
-use erl_syntax::{
-    ClauseTree, FormTree, FunctionClause, FunctionTree, GuardTrees, LoopTree, Named, SyntaxTrees,
-};
 use erl_term::Atom;
 use std::alloc::Global;
 use values::Row;

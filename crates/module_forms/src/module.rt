@@ -1,8 +1,8 @@
 // Whole modules.
 ghost use Rattle.std.specs.Prelude.{◌≡◌, ◌≤◌, length, ⊤, IfOk, MatchResult, Some, None};
-ghost use Rattle.erl_syntax.specs.Forms.{Attribute, attribute as attribute_in, is_among, unsupported_names, IsModule, OneModule};
-ghost use Rattle.erl_syntax.specs.declared.form.ModuleTree.{ModuleTree};
-ghost use Rattle.erl_syntax.specs.Terminal.{terminals};
+ghost use Rattle.erl_ast.specs.Forms.{Attribute, attribute as attribute_in, is_among, unsupported_names, IsModule, OneModule};
+ghost use Rattle.erl_ast.specs.declared.form.ModuleTree.{ModuleTree};
+ghost use Rattle.erl_ast.specs.Terminal.{terminals};
 ghost use Rattle.erl_expressions.specs.Refusing.{Leaves, IsToldOf};
 ghost use Rattle.module_forms.specs.FirstFault.{FaultsBehind, IsToldFirst};
 ghost use Rattle.module_forms.specs.FormReading.{form as form_in, module_head as head_in, by_attribute, whole_module as whole_in, all_forms, is_end as is_end_in};
@@ -11,9 +11,9 @@ use crate::attributes::{after_dot, exported, versioned};
 use crate::functions::function;
 use crate::opening::{Opening, behind};
 use crate::tokens::{closed_form, expected, named_ahead};
+use erl_ast::{FormTree, ModuleTree, Named};
 use erl_expressions::{Reading, Reason, Refusal};
 use erl_scan::{Spot, Token, Word};
-use erl_syntax::{FormTree, ModuleTree, Named};
 use erl_term::Atom;
 use std::alloc::{AllocError, Global};
 use values::Row;

@@ -2,7 +2,7 @@
 ghost use Rattle.std.specs.Prelude.{◌≡◌, ℕ, IfSome};
 ghost use Rattle.std.specs.Bool.{OnTrue};
 ghost use Rattle.std.specs.Option.{option_map};
-ghost use Rattle.erl_syntax.specs.Terminal.{terminal_at, terminals};
+ghost use Rattle.erl_ast.specs.Terminal.{terminal_at, terminals};
 ghost use Rattle.erl_expressions.specs.Refusing.{ends_form};
 ghost use Rattle.module_forms.specs.Openings.{is_opening as is_opening_in, behind as behind_in, is_last, Passes};
 

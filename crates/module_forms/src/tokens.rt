@@ -1,14 +1,14 @@
 // Steps over tokens.
 ghost use Rattle.std.specs.Prelude.{◌≡◌, ◌≤◌, length, IfOk, MatchOption, MatchResult, Some, None};
-ghost use Rattle.erl_syntax.specs.Terminal.{terminals};
+ghost use Rattle.erl_ast.specs.Terminal.{terminals};
 ghost use Rattle.module_forms.specs.FormReading.{named_ahead as named_in, closed_form as closed_in};
 ghost use Rattle.module_forms.specs.Openings.{behind as behind_in, Passes};
 ghost use Rattle.erl_expressions.specs.Refusing.{Leaves, IsToldOf};
 
 use crate::opening::{Opening, behind};
+use erl_ast::Named;
 use erl_expressions::{Delimiter, Reading, Reason, Refusal, after};
 use erl_scan::{Spot, Token};
-use erl_syntax::Named;
 use erl_term::Atom;
 
 /// The atom that tokens begin with, whose characters are shared with its token.

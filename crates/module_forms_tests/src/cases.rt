@@ -1,7 +1,7 @@
 // Sources, and what is told of them: the module's name and its forms, or a cross, the kind of a refusal and its place.
+use erl_ast::{FormTree, ModuleTree};
 use erl_expressions::Refusal;
 use erl_scan::{Spot, scan};
-use erl_syntax::{FormTree, ModuleTree};
 use module_forms::{modules_read_one_way, open_bracket, read_forms};
 use std::alloc::Global;
 use std::process::Abort;

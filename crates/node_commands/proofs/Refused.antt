@@ -71,7 +71,7 @@ stops-cut mark reached old new (s ∷ ss) reports at told stop front =
 pub stops_or_stays : (mark reached : ℕ) (old new : NodeTimeline) (reports : Reports) → Stopped mark 3 old new reached reports → IsFront old new → StopsOrStays mark old new reached reports
 stops_or_stays mark reached old new reports stop front = stops-cut mark reached old new (cut_stations old new) reports refl stop.reported stop front
 
--- what is told of an undo that met want of memory
+-- what is told of an undo that ran out of memory
 pub told_stop : {E : Type 0} (mark reached : ℕ) (old new : NodeTimeline) (reports : Reports) (r : Result Acted E) → StopsOrStays mark old new reached reports → (reports ≡ [] → IsErr r) → ((x : Report Note) → reports ≡ x ∷ x ∷ x ∷ [] → TellsStop reached x r) → IfOk r (λ it. IsCut mark old it new)
 told_stop mark reached old new reports (Err e) done none three = tt
 told_stop mark reached old new reports (Ok (acted.Whole g)) (inl stays) none three = absurd (false≢true (none stays.0))

@@ -6,7 +6,7 @@ ghost use Rattle.node_history.specs.declared.command.Said.TheVariants as said;
 ghost use Rattle.node_commands.specs.Acting.{GivesBy, IsOne, IsTried};
 ghost use Rattle.node_types.specs.declared.event.Answer.TheVariants as tells;
 ghost use Rattle.node_types.specs.declared.event.Event.TheVariants as event;
-ghost use Rattle.process_table.specs.declared.body.Body.TheVariants as body;
+ghost use Rattle.process_table.specs.declared.body.ClientMessage.TheVariants as body;
 
 use crate::fault::fault_of;
 use crate::given::{Given, Thrice, reserve_three, three_of, unstepped};
@@ -15,7 +15,7 @@ use erl_term::{Atom, Term};
 use node_core::Node;
 use node_history::{Fault, KeptAnswer, Said};
 use node_types::{Answer, Event, Note};
-use process_table::Body;
+use process_table::ClientMessage;
 use std::alloc::{AllocError, Global};
 use undo_journal::{Journal, Told};
 use values::{Boxed, Duplicate, Reserved};
@@ -111,7 +111,7 @@ fn arrival_of(
     Ok(Event::Arrive {
         client,
         name,
-        body: Body::Call { number, term },
+        body: ClientMessage::Call { number, term },
     })
 }
 

@@ -1,16 +1,16 @@
 // Events of code.
 ghost use Rattle.std.specs.Prelude.{◌≡◌, [], IfOk, replicate};
-ghost use Rattle.code_loading.specs.Loading.{purge_told};
+ghost use Rattle.code_loading.specs.Loading.{downs_of_purge};
 ghost use Rattle.script_events.specs.Changes.{IsStep, state_of};
 ghost use Rattle.script_events.specs.Scripts.{reporting};
 ghost use Rattle.script_events.specs.Step.{MayRunOut};
 ghost use Rattle.node_types.specs.declared.event.Answer.TheVariants as answer;
 ghost use Rattle.node_types.specs.declared.event.Event.TheVariants as event;
 
-use code_loading::{is_lingered_in, purge_told, soft_purge as purge_softly};
+use code_loading::{downs_of_purge, is_lingered_in, soft_purge as purge_softly};
 use code_replacement::{load as replace, purge as purge_code};
 use code_server::Modules;
-use erl_forms::Module;
+use erl_ir::Module;
 use erl_term::Atom;
 use node_types::{Answer, Note};
 use process_table::Processes;
@@ -29,9 +29,9 @@ fn killing_told(
     n: usize,
 ) -> Result<Vec<Told<Answer, Note>>, AllocError>
     ensures { IfOk result (λ it. it.items ≡
-        replicate n (record { answer = answer; note = reporting (purge_told name.now modules.now processes.now) })) }
+        replicate n (record { answer = answer; note = reporting (downs_of_purge name.now modules.now processes.now) })) }
 {
-    let note = reporting(purge_told(modules, processes, alloc, name)?);
+    let note = reporting(downs_of_purge(modules, processes, alloc, name)?);
     tell(alloc, answer, note, n)
 }
 
@@ -141,7 +141,7 @@ pub(crate) fn soft_purge(parts: &mut NodeParts, alloc: Global, name: &Atom, n: u
     let Ok(code) = purge_softly(&mut parts.modules, &parts.processes, name) else {
         unreachable!();
     };
-    let undo = code_replacement::Undo { code, ended: None };
+    let undo = code_replacement::ReplacementUndo { code, ended: None };
     Ok(Stepped {
         told,
         trace: Record::OfCode(room.fill(undo)),

@@ -1,12 +1,12 @@
 // The node.
 ghost use Rattle.std.specs.Prelude.{◌≡◌, [], IfErr, IfOk, None};
-ghost use Rattle.code_server.specs.Modules.{IsSound};
+ghost use Rattle.code_server.specs.Modules.{IsModuleTable};
 ghost use Rattle.release_boot.specs.Boot.{BootFails, Boots};
 ghost use Rattle.release_statuses.specs.Statuses.{booted};
-ghost use Rattle.script_events.specs.Node.{IsKept};
+ghost use Rattle.script_events.specs.Node.{IsSoundNode};
 
 use code_server::Modules;
-use erl_forms::Module;
+use erl_ir::Module;
 use process_table::Processes;
 use release_boot::{BootError, Booted, boot};
 use release_statuses::Releases;
@@ -18,8 +18,8 @@ use std::marker::Model;
 use sys_protocol::AppTable;
 use values::Duplicate;
 
-/// A node: its modules, its processes, its applications and its releases; the old code that is to be purged later; and the script that
-/// it runs, if it runs one.
+/// A node: its modules, its processes, its applications and its releases; the old code that is to be purged later; and the
+/// script that it runs, if it runs one.
 #[derive(Drop)]
 pub struct Node {
     pub(crate) alloc: Global,
@@ -29,9 +29,9 @@ pub struct Node {
 impl Model for Node {
     ghost use Rattle.std.specs.Coded.{codes};
     ghost use Rattle.erl_term.specs.contracts.term.Terms as terms;
-    ghost use Rattle.erl_forms.specs.contracts.module.Module as forms;
+    ghost use Rattle.erl_ir.specs.contracts.module.Module as forms;
     ghost use Rattle.script_events.specs.Changes.{state_of};
-    ghost use Rattle.script_events.specs.Node.{IsKept, NodeState};
+    ghost use Rattle.script_events.specs.Node.{IsSoundNode, NodeState};
 
     ghost Value = { NodeState };
 
@@ -39,19 +39,19 @@ impl Model for Node {
 
     ghost view = { λ n. state_of n.parts };
 
-    ghost invariant = { λ n. IsKept (state_of n.parts) };
+    ghost invariant = { λ n. IsSoundNode (state_of n.parts) };
 }
 
 /// That modules differ in name, and have one or two instances each, whose serials differ: their table keeps it.
 fn are_sound(modules: &Modules<Module>)
-    ensures { IsSound modules.now }
+    ensures { IsModuleTable modules.now }
 {
     let _ = modules.len();
 }
 
 impl Node {
-    /// The node that a release boots: the code of all its applications is loaded first, and then they start, in order. The release is the
-    /// node's only one, and permanent. Names are hashed by `hashing`.
+    /// The node that a release boots: the code of all its applications is loaded first, and then they start, in order. The
+    /// release is the node's only one, and permanent. Names are hashed by `hashing`.
     ///
     /// # Errors
     ///
@@ -85,7 +85,7 @@ impl Node {
     /// Its modules. Takes no memory.
     pub fn modules(&self) -> &Modules<Module>
         ensures modules { result.now ≡ self.now.modules }
-        ensures kept { IsKept self.now }
+        ensures kept { IsSoundNode self.now }
     {
         &self.parts.modules
     }

@@ -13,7 +13,7 @@ ghost use Rattle.node_types.specs.declared.event.Event.TheVariants as event;
 use app_table::AppTable;
 use erl_semantics::{Done, End};
 use erl_term::{Atom, Predefined, Term};
-use process_table::Body;
+use process_table::ClientMessage;
 use script_events::{NodeParts, Record, Step, room, tell_arrivals, tell_done, tell_jobs, unend};
 use std::alloc::{AllocError, Global};
 use undo_journal::Stepped;
@@ -25,7 +25,7 @@ fn end_one(
     alloc: Global,
     pid: u64,
     reason: &Term,
-) -> Result<Option<Boxed<app_table::Undo>>, AllocError>
+) -> Result<Option<Boxed<app_table::AppsUndo>>, AllocError>
     ensures ended { OnOk result (apps.new ≡ all_ended reason.now (pid ∷ []) apps.old) }
     ensures inverse { IfOk result (λ undo. AppsBack undo apps.old apps.new) }
     ensures pieces { IfOk result (λ undo. IfSome undo (λ it. held_specs it apps.new ≡ [])) }
@@ -41,7 +41,7 @@ fn end_child(
     apps: &mut AppTable,
     alloc: Global,
     done: &Done,
-) -> Result<Option<Boxed<app_table::Undo>>, AllocError>
+) -> Result<Option<Boxed<app_table::AppsUndo>>, AllocError>
     ensures ended { OnOk result (apps.new ≡ ended_by done.now.job.pid done.now.outcome.end apps.old) }
     ensures inverse { IfOk result (λ undo. AppsBack undo apps.old apps.new) }
     ensures pieces { IfOk result (λ undo. IfSome undo (λ it. held_specs it apps.new ≡ [])) }
@@ -59,7 +59,10 @@ fn end_child(
 }
 
 /// What takes a change of processes back, and with it that of children, if any.
-fn record_of(undo: process_table::Undo, ended: Option<Boxed<app_table::Undo>>) -> Record
+fn record_of(
+    undo: process_table::ProcessesUndo,
+    ended: Option<Boxed<app_table::AppsUndo>>,
+) -> Record
     ensures { (before after : NodeState) → TakesBackEnds undo before.processes after.processes →
         AppsBack ended before.apps after.apps → (after ≡ record before { processes = after.processes; apps = after.apps }) →
         HoldsLost (held undo after.processes) before.processes after.processes →
@@ -77,7 +80,7 @@ pub(crate) fn arrive(
     alloc: Global,
     client: u64,
     name: &Atom,
-    body: &Body,
+    body: &ClientMessage,
     n: usize,
 ) -> Step
     requires { MayRunOut (state_of parts.old) (event.Arrive client name.now body.now) }

@@ -2,7 +2,7 @@
 ghost use Rattle.std.specs.Prelude.{◌≡◌, IfErr, IfOk, Some, is_some, option_map};
 ghost use Rattle.std.specs.Option.{option_copied};
 ghost use Rattle.std.specs.Str.{chars};
-ghost use Rattle.values.specs.Failure.{Tells};
+ghost use Rattle.values.specs.Failure.{TellsFailure};
 ghost use Rattle.process_effects.specs.Commits.{job_at};
 ghost use Rattle.process_store.specs.Table.{living, pid_of};
 ghost use Rattle.process_table.specs.Steps.{IsNextRunnable, is_runnable, retake_refusal};
@@ -56,7 +56,7 @@ impl Node {
     /// In this order: `NoProc` where no process has the pid, `NotRunning` where it runs nothing, `Memory`.
     pub fn retake(&self, pid: u64) -> Result<Job, Failure<ProcError>>
         ensures job { IfOk result (λ job. job_at (living pid self.now.processes) ≡ Some job) }
-        ensures refused { IfErr result (λ failure. Tells failure (retake_refusal pid self.now.processes)) }
+        ensures refused { IfErr result (λ failure. TellsFailure failure (retake_refusal pid self.now.processes)) }
     {
         self.parts.processes.retake(pid)
     }
@@ -67,7 +67,7 @@ impl Node {
         ensures { result ≡ is_runnable (living pid self.now.processes) }
     {
         match self.parts.processes.get(pid) {
-            Some(living) => living.process.can_take().is_some(),
+            Some(living) => living.process.next_message().is_some(),
             None => false,
         }
     }

@@ -7,8 +7,8 @@ use crate::node::Node;
 use script_events::Record;
 use undo_journal::Journal;
 
-/// The record that takes back the step to the station at a place behind a journal's first, counted from 0; none past its last station.
-/// It holds only what its step has lost, and each piece once (`HoldsLost`). Takes no memory.
+/// The record that takes back the step to the station at a place behind a journal's first, counted from 0; none past its
+/// last station. It holds only what its step has lost, and each piece once (`HoldsLost`). Takes no memory.
 pub fn record_at(journal: &Journal<Node>, place: usize) -> Option<&Record>
     ensures kept { IsTrue (is_some result) ↔ (place < length journal.now.later) }
     ensures lost { IfSome result (λ it. IsRecordAt HoldsLost place journal.now it.now) }

@@ -1,7 +1,7 @@
 -- A legal history leads where the commands lead that its entries made.
 use Rattle.release_statuses.specs.Statuses.{which_releases}
 use Rattle.std.proofs.Common.{◌≡◌, ℕ, inl, inr, List, [], ◌∷◌, ◌++◌, drop, length, Option, None, Some, unwrap_or, Result, Ok, Err, refl, sym, ap, subst}
-use Rattle.undo_journal.proofs.Histories.{AreAfter-append, FoldsTo-live, IsOrdered-after, IsOrdered-opened, Makes-live, Runs-of}
+use Rattle.undo_journal.proofs.Histories.{AreAfter-append, FoldsTo-live, IsOrdered-after, IsOrdered-opened, Makes-live, RunsCommands-of}
 use Rattle.undo_journal.specs.History.{AreAfter}
 use Rattle.undo_journal.specs.Reversible.{Accepted}
 use Rattle.undo_journal.specs.Timeline.{appended, here, opened}
@@ -13,7 +13,7 @@ use Rattle.node_types.specs.Note.{Note}
 use Rattle.node_types.specs.declared.event.Answer.{Answer}
 use Rattle.node_types.specs.declared.event.Event.{Event}
 use Rattle.node_types.specs.declared.event.Event.TheVariants as event
-use Rattle.process_table.specs.declared.body.Body.TheVariants as body
+use Rattle.process_table.specs.declared.body.ClientMessage.TheVariants as body
 use Rattle.node_history.specs.History.{AllAsk, Asks, ByEvent, Cuts, Drops, Gives, IsCalled, IsPerformed, IsNext, Legal, NodeTimeline, TakesOf, replies_to}
 use Rattle.node_history.specs.Laws.{IsCommanded}
 use Rattle.node_history.specs.declared.command.Command.{Command}
@@ -83,7 +83,7 @@ led t before (e ∷ entries) end (mid, gives, legal) =
 pub commanded : (n : NodeState) (entries : List Entry) (end : NodeTimeline) → Legal (opened n) [] entries end → IsCommanded entries n end
 commanded n entries end legal =
     let all = led (opened n) [] entries end legal in
-    let runs = Runs-of Step all.0 (opened n) end [] all.2 in
+    let runs = RunsCommands-of Step all.0 (opened n) end [] all.2 in
     record {
       commands = all.0;
       asked = all.1;

@@ -11,7 +11,7 @@ use Rattle.node_types.specs.Note.{Note}
 use Rattle.node_types.specs.declared.event.Answer.{Answer}
 use Rattle.node_types.specs.declared.event.Event.{Event}
 use Rattle.node_types.specs.declared.event.Event.TheVariants as event
-use Rattle.process_table.specs.declared.body.Body.TheVariants as body
+use Rattle.process_table.specs.declared.body.ClientMessage.TheVariants as body
 use Rattle.node_history.specs.History.{ByEvent, Gives, IsCalled, IsPerformed, IsTaken, Legal, NodeTimeline, TakesOf}
 use Rattle.node_history.specs.Laws.{KeepsStations, NameAsBefore}
 use Rattle.node_history.specs.declared.command.Command.{Command}

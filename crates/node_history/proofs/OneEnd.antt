@@ -5,10 +5,10 @@ use Rattle.std.proofs.lemmas.Option.{none-some, same_Some}
 use Rattle.erl_semantics.specs.declared.jobs.Job.{Job}
 use Rattle.process_effects.specs.Commits.{job_at}
 use Rattle.process_store.specs.Table.{Table, living}
-use Rattle.process_store.specs.declared.living.Living.{Living}
+use Rattle.process_store.specs.declared.living.ProcessEntry.{ProcessEntry}
 use Rattle.process_table.specs.Steps.{IsNextRunnable, is_runnable, retake_refusal_of}
 use Rattle.release_statuses.specs.Statuses.{which_releases}
-use Rattle.process_table.specs.declared.body.Body.TheVariants as body
+use Rattle.process_table.specs.declared.body.ClientMessage.TheVariants as body
 use Rattle.process_table.specs.declared.error.ProcError.{ProcError}
 use Rattle.process_table.specs.declared.error.ProcError.TheVariants.{NotRunning}
 use Rattle.undo_journal.proofs.Forgets.{forgotten_to-uncut}
@@ -170,7 +170,7 @@ drops-once mark t (Err x) (Err y) noting more after last first second =
 
 -- of a job that is given once more
 
-unrefused : (l : Option Living) (job : Job) → job_at l ≡ Some job → retake_refusal_of l ≡ None
+unrefused : (l : Option ProcessEntry) (job : Job) → job_at l ≡ Some job → retake_refusal_of l ≡ None
 unrefused None job runs = absurd (none-some job runs)
 unrefused (Some l) job runs = ap (λ (o : Option Job). if is_some o then None else Some NotRunning) runs
 

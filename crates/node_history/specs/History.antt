@@ -6,7 +6,7 @@ use Rattle.process_effects.specs.Commits.{job_at}
 use Rattle.process_effects.specs.declared.told.Reply.{Reply}
 use Rattle.process_store.specs.Table.{Table, living}
 use Rattle.process_table.specs.Steps.{IsNextRunnable, retake_refusal}
-use Rattle.process_table.specs.declared.body.Body.TheVariants as body
+use Rattle.process_table.specs.declared.body.ClientMessage.TheVariants as body
 use Rattle.process_table.specs.declared.error.ProcError.{ProcError}
 use Rattle.release_statuses.specs.Statuses.{which_releases}
 use Rattle.undo_journal.specs.declared.history.Command as journal

@@ -1,6 +1,6 @@
 -- What holds of histories.
 use Rattle.std.specs.Prelude.{◌≡◌, ◌<◌, ◌≤◌, ℕ, List, [], map, IfSome, Option, None, Some, Result, Ok}
-use Rattle.undo_journal.specs.History.{AreAfter, FoldsTo, Live, MakesKept, Runs}
+use Rattle.undo_journal.specs.History.{AreAfter, FoldsTo, Live, MakesKept, RunsCommands}
 use Rattle.undo_journal.specs.Timeline.{IsOrdered, here, node_at, opened}
 use Rattle.undo_journal.specs.declared.history.Command as journal
 use Rattle.node_rules.specs.Node.{NodeState}
@@ -19,7 +19,8 @@ use Rattle.node_history.specs.declared.entry.Entry.{Entry}
 -- gives one history with one end.
 pub record HistoriesHaveOneEnd : Type 0 where
   pub one : (t : NodeTimeline) (before : List Entry) (seat : ℕ) (c : Command) (answer other : Result Said Fault)
-      (note more : Option Note) (after last : NodeTimeline) → Gives t before seat c answer note after → Gives t before seat c other more last →
+      (note more : Option Note) (after last : NodeTimeline) → Gives t before seat c answer note after →
+      Gives t before seat c other more last →
       (answer ≡ other) × (note ≡ more) × (after ≡ last)
   pub history : (t : NodeTimeline) (before entries others : List Entry) (end last : NodeTimeline) →
       map asked_by entries ≡ map asked_by others →
@@ -35,7 +36,7 @@ pub record IsCommanded (entries : List Entry) (n : NodeState) (end : NodeTimelin
   pub lead : AreAfter Step commands (opened n) end
   pub ordered : IsOrdered end
   pub live : List (Live Event)
-  pub runs : Runs Step commands (opened n) [] end live
+  pub runs : RunsCommands Step commands (opened n) [] end live
   pub stations : MakesKept Step n live end
   pub fold : FoldsTo Step n live (here end).node
 

@@ -15,7 +15,7 @@ pub struct KeptAnswer {
 
 impl Model for KeptAnswer {
     ghost use Rattle.std.specs.Coded.{codes};
-    ghost use Rattle.erl_forms.specs.contracts.module.Module as forms;
+    ghost use Rattle.erl_ir.specs.contracts.module.Module as forms;
     ghost use Rattle.erl_term.specs.contracts.term.Terms as terms;
     ghost use Rattle.node_types.specs.declared.event.Answer.{Answer as EventAnswer};
     ghost use Rattle.node_history.specs.Kept.{answer_of};

@@ -61,7 +61,7 @@ pub enum Said {
     Releases(Shared<Row<Listed>>),
 }
 
-/// Why a command is refused; never for want of memory.
+/// Why a command is refused; never for lack of memory.
 #[derive(Drop)]
 pub enum Fault {
     /// The node refuses it.

@@ -14,7 +14,7 @@ use Rattle.node_laws.proofs.Evaluated.{evaluated, tree_back}
 use Rattle.node_laws.proofs.Starting.{AppStartsOrNot, app_starts}
 use Rattle.process_effects.specs.Begins.{acts_begun, begun_told}
 use Rattle.process_effects.specs.Ends.{all_vacated}
-use Rattle.process_effects.specs.Kills.{all_downs}
+use Rattle.process_effects.specs.Kills.{downs_of_each}
 use Rattle.process_effects.specs.declared.told.Reply.{Reply}
 use Rattle.process_store.specs.Table.{Table}
 use Rattle.script_children.specs.Applying.{Applied, AppliedAs, NotApplied, NotAppliedAs}
@@ -70,7 +70,7 @@ module _ (code : List Instance) (m f : List ℕ) (args : Trees) (s : Supervised)
       stop_refusal name s.apps ≡ refusal → AppliesAs (Some (calls.Stop, named)) code m f args s
   stops_as named name is None unrefused = inl (
     record { apps = stopped_app name s.apps; processes = all_vacated (app_pids name s.apps) s.processes },
-    all_downs shutdown (app_pids name s.apps) s.processes,
+    downs_of_each shutdown (app_pids name s.apps) s.processes,
     Prim.rw is (record { unrefused = unrefused; apps = refl; processes = refl; tells = refl }),
   )
   stops_as named name is (Some e) refused = inr (reason_of named e, (e, Prim.rw is refused, refl))

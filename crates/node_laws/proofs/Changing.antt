@@ -39,7 +39,7 @@ use Rattle.process_effects.specs.declared.told.Reply.{Reply}
 use Rattle.process_store.proofs.Slots.{living_changed, living_elsewhere}
 use Rattle.process_store.specs.Changes.{restate_living}
 use Rattle.process_store.specs.Table.{Table, living}
-use Rattle.process_store.specs.declared.living.Living.{Living}
+use Rattle.process_store.specs.declared.living.ProcessEntry.{ProcessEntry}
 use Rattle.suspensions.specs.Suspending.{is_changed, is_server}
 use Rattle.suspensions.specs.Versions.{old_vsn}
 use Rattle.sys_protocol.specs.AppStarts.{GivesSupervision, InitGives, children_in, init_fault}
@@ -64,7 +64,7 @@ messages_only (a ∷ acts) messages = (
 abbrev Served : List Change → Table → Type 0
 Served cs t = AllByRecursion (λ c. is_server (living c.pid t) ≡ true) cs
 
-same_by_seen : (l m : Option Living) → seen l ≡ seen m → is_server l ≡ is_server m
+same_by_seen : (l m : Option ProcessEntry) → seen l ≡ seen m → is_server l ≡ is_server m
 same_by_seen None None same = refl
 same_by_seen None (Some m) same = absurd (none-some (m.process.place, m.process.turn) same)
 same_by_seen (Some l) None same = absurd (none-some (l.process.place, l.process.turn) (sym same))
@@ -76,7 +76,7 @@ server_with : (state : Term) (at : Place) → is_server_at (process.with_state s
 server_with state (Server m s) = refl
 server_with state (Loop m serial f args) = refl
 
-server_restated : (state : Term) (l : Option Living) → is_server (option_map (restate_living state 1) l) ≡ is_server l
+server_restated : (state : Term) (l : Option ProcessEntry) → is_server (option_map (restate_living state 1) l) ≡ is_server l
 server_restated state None = refl
 server_restated state (Some l) = server_with state l.process.place
 
@@ -112,7 +112,7 @@ OneChanges code c t =
     ((o : Outcome) × (state : Term) × Changes code c t o state × MessagesOnly o.acts) ⊎
     ((reason : Term) × FailsToChange code c t reason)
 
-abbrev Given : List Instance → Change → Option Living → Type 0
+abbrev Given : List Instance → Change → Option ProcessEntry → Type 0
 Given code c l = (o : Outcome) × Gives code c l o × MessagesOnly o.acts
 
 given_at : (code : List Instance) (c : Change) (at : Place) → is_server_at at ≡ true →
@@ -125,7 +125,7 @@ given_at code c (Server m s) served =
     (e.0, e.1, messages_only e.0.acts (kept.messages refl))
 given_at code c (Loop m serial f args) served = absurd (true≢false (sym served))
 
-given : (code : List Instance) (c : Change) (l : Option Living) → is_server l ≡ true → Given code c l
+given : (code : List Instance) (c : Change) (l : Option ProcessEntry) → is_server l ≡ true → Given code c l
 given code c None served = absurd (true≢false (sym served))
 given code c (Some l) served = given_at code c l.process.place served
 
@@ -308,11 +308,11 @@ below a b is = search rules
 not_below : (a b : ℕ) → nat_lt a b ≡ false → a < b → ⊥
 not_below a b is less = search rules
 
-turn_by : (l : Living) (b : Bool) → nat_lt l.process.turn (2 ^ 64) ≡ b → HasTurnLeft (Some l) ⊎ (HasTurnLeft (Some l) → ⊥)
+turn_by : (l : ProcessEntry) (b : Bool) → nat_lt l.process.turn (2 ^ 64) ≡ b → HasTurnLeft (Some l) ⊎ (HasTurnLeft (Some l) → ⊥)
 turn_by l true is = inl (below l.process.turn (2 ^ 64) is)
 turn_by l false is = inr (not_below l.process.turn (2 ^ 64) is)
 
-turn_left : (l : Option Living) → HasTurnLeft l ⊎ (HasTurnLeft l → ⊥)
+turn_left : (l : Option ProcessEntry) → HasTurnLeft l ⊎ (HasTurnLeft l → ⊥)
 turn_left None = inl tt
 turn_left (Some l) = turn_by l (nat_lt l.process.turn (2 ^ 64)) refl
 

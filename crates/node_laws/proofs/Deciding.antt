@@ -9,9 +9,9 @@ use Rattle.std.proofs.lemmas.Bool.{eq-eqb, eqb-true, true≢false}
 use Rattle.std.proofs.lemmas.Cmp.{tied_itself}
 use Rattle.std.proofs.lemmas.Option.{none-some, same_Some}
 use Rattle.std.proofs.lemmas.Slice.Eq.{bytes_eq-Decides}
-use Rattle.erl_forms.proofs.ModuleBytes.{bytes_tell}
-use Rattle.erl_forms.specs.FormsCode.{forms_bytes}
-use Rattle.erl_forms.specs.Module.{Forms}
+use Rattle.erl_ir.proofs.ModuleBytes.{bytes_tell}
+use Rattle.erl_ir.specs.FormsCode.{forms_bytes}
+use Rattle.erl_ir.specs.Module.{Forms}
 use Rattle.erl_semantics.specs.declared.acts.Place.{Place}
 use Rattle.erl_semantics.specs.declared.acts.Place.TheVariants.{Loop, Server}
 use Rattle.erl_semantics.specs.declared.instance.Instance.{Instance}

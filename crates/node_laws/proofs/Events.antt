@@ -27,7 +27,7 @@ use Rattle.node_laws.proofs.Taking.{takes}
 use Rattle.node_laws.specs.Laws.{EachEventHasAnOutcome}
 use Rattle.node_restart.specs.Restart.{lacks_serials, restart_refusal}
 use Rattle.node_rules.proofs.Accepting.{Acceptance}
-use Rattle.node_rules.specs.Node.{IsInstalling, IsKept, NodeState, RunsScript}
+use Rattle.node_rules.specs.Node.{IsInstalling, IsSoundNode, NodeState, RunsScript}
 use Rattle.node_rules.specs.Scripts.{Advances, FallsBack, GoesOn, GoesOnBy, Installs, IsRestarted, MakesPermanent, Outcome, RebootsOld}
 use Rattle.node_rules.specs.Scripts.{Sweeps, UnlessInstalling, begun_as, finished_as, is_past, next_in, parts_in, permanent_as, permanent_in}
 use Rattle.node_rules.specs.Scripts.{reboot_refused, reboot_wants, reboots_refused, recovered_as, reporting, swept_as, target_in, with_parts}
@@ -42,7 +42,7 @@ use Rattle.process_effects.specs.Commits.{IsRunning, job_at}
 use Rattle.process_effects.specs.declared.told.Reply.{Reply}
 use Rattle.process_store.specs.Changes.{CanTurn, CanTurnAt}
 use Rattle.process_store.specs.Table.{living, next_pid}
-use Rattle.process_store.specs.declared.living.Living.{Living}
+use Rattle.process_store.specs.declared.living.ProcessEntry.{ProcessEntry}
 use Rattle.std.specs.Bool.{Decides}
 use Rattle.std.specs.Prelude.{◌<◌, ◌^◌, ◌+◌, nat_lt, IfSome}
 use Rattle.std.proofs.Common.{rules}
@@ -79,7 +79,7 @@ commits_by done n (inl runs) (inl turns) = (Ok _, ((runs, turns), refl))
 commits_by done n (inl runs) (inr never) = (Err (refusal.OfProcesses proc.CounterEnd), (proc.CounterEnd, (runs, never), refl))
 commits_by done n (inr never) turns = (Err (refusal.OfProcesses proc.Stale), (proc.Stale, never, refl))
 
-turn_or_not : (l : Option Living) → IsDecided (IfSome l CanTurn)
+turn_or_not : (l : Option ProcessEntry) → IsDecided (IfSome l CanTurn)
 turn_or_not None = inl tt
 turn_or_not (Some l) = by_test (nat_lt (l.process.turn + 1) (2 ^ 64)) (below (l.process.turn + 1) (2 ^ 64))
 
@@ -162,14 +162,14 @@ installs_by vsn n None is =
 
 -- Make permanent, and sweep
 
-permanent_by : (vsn : List ℕ) (n : NodeState) → IsKept n → (why : Option RelError) → permanent_refusal vsn n.releases ≡ why →
+permanent_by : (vsn : List ℕ) (n : NodeState) → IsSoundNode n → (why : Option RelError) → permanent_refusal vsn n.releases ≡ why →
     SomeOutcome (MakesPermanent vsn n)
 permanent_by vsn n kept (Some it) is = (Err (refusal.OfReleases it), (it, is, refl))
 permanent_by vsn n kept None is =
     let names = purged_names (is_permanent (status_of vsn n.releases)) n kept.consistent.sound in
     (Ok (permanent_as vsn names.0 n), (is, names.0, names.1, refl))
 
-sweeps : (n : NodeState) → IsKept n → SomeOutcome (Sweeps n)
+sweeps : (n : NodeState) → IsSoundNode n → SomeOutcome (Sweeps n)
 sweeps n kept =
     let names = swept n.modules n.processes n.unpurged kept.consistent.sound in
     (Ok (swept_as names.0 n), (names.0, names.1, refl))
@@ -295,14 +295,14 @@ module _ (r : Release) (give_up : Bool) (i : Low) (s : RunnerState) (n : NodeSta
   goes_by permanent (inr (inl (reason, fails))) = fails_by reason fails permanent (is_past s) refl
   goes_by permanent (inr (inr ends)) = (Err refusal.CounterEnd, (waits, inl ends))
 
-advance_waits : (r : Release) (give_up : Bool) (i : Low) (s : RunnerState) (n : NodeState) → IsKept n →
+advance_waits : (r : Release) (give_up : Bool) (i : Low) (s : RunnerState) (n : NodeState) → IsSoundNode n →
     (p : Release) × (permanent_in n ≡ Some p) → (busy : Option ℕ) → busy_of give_up i (parts_in s n) ≡ busy →
     SomeOutcome (GoesOnBy (Some i) r give_up s n)
 advance_waits r give_up i s n kept permanent (Some pid) is = (Err (refusal.Busy pid), is)
 advance_waits r give_up i s n kept permanent None is =
     goes_by r give_up i s n is permanent (comes r i (parts_in s n) kept.consistent.sound)
 
-advance_next : (r : Release) (give_up : Bool) (next : Option Low) (s : RunnerState) (n : NodeState) → IsKept n →
+advance_next : (r : Release) (give_up : Bool) (next : Option Low) (s : RunnerState) (n : NodeState) → IsSoundNode n →
     (p : Release) × (permanent_in n ≡ Some p) → SomeOutcome (GoesOnBy next r give_up s n)
 advance_next r give_up None s n kept permanent = (Ok (finished_as s n), refl)
 advance_next r give_up (Some i) s n kept permanent =
@@ -316,14 +316,14 @@ place_known : (o : Option ℕ) → IsSome o → (place : ℕ) × (o ≡ Some pla
 place_known None known = absurd (true≢false (sym known))
 place_known (Some place) known = (place, refl)
 
-advance_target : (give_up : Bool) (s : RunnerState) (n : NodeState) → IsKept n → HasPermanent n.releases →
+advance_target : (give_up : Bool) (s : RunnerState) (n : NodeState) → IsSoundNode n → HasPermanent n.releases →
     (target : Listed) × (listed s.target n.releases ≡ Some target) → SomeOutcome (GoesOn (target_in s n) give_up s n)
 advance_target give_up s n kept has (target, found) =
     let permanent = permanent_at n (place_with Permanent n.releases) refl has (some_listed n.releases has) in
     subst (λ o. SomeOutcome (GoesOn (option_map (λ it. it.release) o) give_up s n)) (sym found)
     (advance_next target.release give_up (next_in s) s n kept permanent)
 
-advances_by : (give_up : Bool) (o : Option RunnerState) (n : NodeState) → n.runner ≡ o → IsKept n → HasPermanent n.releases →
+advances_by : (give_up : Bool) (o : Option RunnerState) (n : NodeState) → n.runner ≡ o → IsSoundNode n → HasPermanent n.releases →
     SomeOutcome (Advances give_up o n)
 advances_by give_up None n is kept has = (Err refusal.NotInstalling, refl)
 advances_by give_up (Some s) n is kept has =

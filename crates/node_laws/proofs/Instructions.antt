@@ -7,13 +7,13 @@ use Rattle.code_changes.specs.Changing.{AllUpgrade, RefusesCodeChange, Upgraded}
 use Rattle.code_changes.specs.declared.changing.CodeChangeError.{CodeChangeError}
 use Rattle.code_changes.specs.declared.changing.CodeChangeError.TheVariants as change_error
 use Rattle.code_loading.specs.Current.{current_code}
-use Rattle.code_loading.specs.Loading.{purge_told}
-use Rattle.code_loading.specs.Purging.{all_purge_told}
+use Rattle.code_loading.specs.Loading.{downs_of_purge}
+use Rattle.code_loading.specs.Purging.{downs_of_purges}
 use Rattle.code_replacement.specs.Replacing.{all_without, code_loaded, code_removed}
 use Rattle.code_server.proofs.Reloads.{refusal-purged}
-use Rattle.code_server.specs.Modules.{IsSound, load_refusal, purged}
+use Rattle.code_server.specs.Modules.{IsModuleTable, load_refusal, purged}
 use Rattle.code_server.specs.declared.error.CodeError.TheVariants as code_error
-use Rattle.erl_forms.specs.Module.{Forms}
+use Rattle.erl_ir.specs.Module.{Forms}
 use Rattle.erl_term.specs.Tree.{Trees}
 use Rattle.erl_term.specs.declared.term.Term.{Term}
 use Rattle.low_instructions.specs.declared.low.Low.{Low}
@@ -23,7 +23,7 @@ use Rattle.low_instructions.specs.declared.modules.ModuleChange.{ModuleChange}
 use Rattle.node_laws.proofs.Applying.{applied_or_not}
 use Rattle.node_laws.proofs.Changing.{AllUpgradeOr, all_upgrade, counted_or_not, refuses}
 use Rattle.node_laws.proofs.Starting.{ChildrenStart, children_start}
-use Rattle.process_effects.specs.Kills.{all_downs}
+use Rattle.process_effects.specs.Kills.{downs_of_each}
 use Rattle.process_effects.specs.declared.told.Reply.{Reply}
 use Rattle.release_table.specs.declared.table.Release.{Release}
 use Rattle.release_words.specs.declared.purge.Purge.{Purge as Kind}
@@ -31,7 +31,7 @@ use Rattle.script_children.specs.Applying.{Applied, NotApplied}
 use Rattle.script_children.specs.Calls.{start_failed}
 use Rattle.script_children.specs.Children.{Supervised}
 use Rattle.script_runner.specs.Failures.{code_change_failed, no_object_code}
-use Rattle.script_runner.specs.Instructions.{Does, Fails, IsAtEnd, all_resumed_in, all_stopped_in, all_suspended_in, running_of, script_of}
+use Rattle.script_runner.specs.Instructions.{RunsInstruction, Fails, IsAtEnd, all_resumed_in, all_stopped_in, all_suspended_in, running_of, script_of}
 use Rattle.script_runner.specs.Instructions.{supervised_of, with_running, with_supervised, with_unpurged}
 use Rattle.script_runner.specs.Parts.{Parts}
 use Rattle.script_state.specs.ObjectCode.{all_noted, code_at_hand, files_of, missing_object_code}
@@ -41,7 +41,7 @@ use Rattle.upgrade_calls.specs.Changing.{AreCounted}
 
 -- What comes of an instruction, where nobody has to be waited for.
 abbrev pub Comes : Release → Low → Parts → Type 0
-Comes r i p = ((q : Parts) × (told : List Reply) × Does r i p q told) ⊎ (((reason : Term) × Fails r i p reason) ⊎ IsAtEnd r i p)
+Comes r i p = ((q : Parts) × (told : List Reply) × RunsInstruction r i p q told) ⊎ (((reason : Term) × Fails r i p reason) ⊎ IsAtEnd r i p)
 
 -- Object code is read.
 reads : (r : Release) (app vsn : List ℕ) (ms : List (List ℕ)) (p : Parts) (missing : Option (List ℕ)) →
@@ -58,12 +58,12 @@ loads_by : (r : Release) (m : List ℕ) (pre post : Kind) (p : Parts) (source : 
     Comes r (Load m pre post) p
 loads_by r m pre post p source is false unrefused = inl (
   with_unpurged source.name post (with_running (code_loaded source (running_of p)) p),
-  purge_told source.name p.modules p.processes,
+  downs_of_purge source.name p.modules p.processes,
   (source, is, unrefused, refl, refl),
 )
 loads_by r m pre post p source is true refused = inr (inr (source, is, refused))
 
-loads : (r : Release) (m : List ℕ) (pre post : Kind) (p : Parts) → IsSound p.modules → (source : Option Forms) →
+loads : (r : Release) (m : List ℕ) (pre post : Kind) (p : Parts) → IsModuleTable p.modules → (source : Option Forms) →
     code_at_hand m p.versions r ≡ source → Comes r (Load m pre post) p
 loads r m pre post p sound None is = inr (inl (no_object_code m, (is, refl)))
 loads r m pre post p sound (Some source) is =
@@ -120,23 +120,23 @@ applies_by : (r : Release) (m f : List ℕ) (args : Trees) (p : Parts) →
 applies_by r m f args p (inl (after, told, is)) = inl (with_supervised after p, told, (after, refl, is))
 applies_by r m f args p (inr (reason, fails)) = inr (inl (reason, fails))
 
-pub comes : (r : Release) (i : Low) (p : Parts) → IsSound p.modules → Comes r i p
+pub comes : (r : Release) (i : Low) (p : Parts) → IsModuleTable p.modules → Comes r i p
 comes r (LoadObjectCode app vsn ms) p sound = reads r app vsn ms p (missing_object_code app vsn ms r) refl
 comes r PointOfNoReturn p sound = inl (p, [], (refl, refl))
 comes r (Load m pre post) p sound = loads r m pre post p sound (code_at_hand m p.versions r) refl
 comes r (Remove m pre post) p sound =
     inl (
       with_unpurged m post (with_running (code_removed m (running_of p)) p),
-      purge_told m p.modules p.processes,
+      downs_of_purge m p.modules p.processes,
       (refl, refl),
     )
 comes r (Purge ms) p sound =
-    inl (with_running (all_without ms (running_of p)) p, all_purge_told ms p.modules p.processes, (refl, refl))
+    inl (with_running (all_without ms (running_of p)) p, downs_of_purges ms p.modules p.processes, (refl, refl))
 comes r (Suspend ms) p sound = inl (all_suspended_in (to_suspend (names ms) p.apps p.processes) p, [], (refl, refl))
 comes r (Resume ms) p sound = inl (all_resumed_in ms p, [], (refl, refl))
 comes r (CodeChange direction changes) p sound =
     changes_by r direction changes p (all_upgrade (current_code p.modules) (script_of direction p) changes p.apps p.processes)
-comes r (Stop ms) p sound = inl (all_stopped_in ms p, all_downs shutdown (to_stop ms p.apps) p.processes, (refl, refl))
+comes r (Stop ms) p sound = inl (all_stopped_in ms p, downs_of_each shutdown (to_stop ms p.apps) p.processes, (refl, refl))
 comes r (Start ms) p sound = starts_by r ms p (children_start (current_code p.modules) (to_start p.stopped ms p.apps)
     p.processes)
 comes r (Apply m f args) p sound = applies_by r m f args p (applied_or_not (current_code p.modules) m f args (supervised_of p))

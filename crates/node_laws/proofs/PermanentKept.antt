@@ -4,7 +4,7 @@ use Rattle.std.proofs.Common.{inl, inr, ap, sym, subst, ◌∙◌}
 use Rattle.std.proofs.lemmas.List.Folds.{list_any-append}
 use Rattle.erl_term.specs.declared.term.Term.{Term}
 use Rattle.low_instructions.specs.declared.low.Low.{Low}
-use Rattle.code_loading.specs.Loading.{is_lingered_in, purge_told}
+use Rattle.code_loading.specs.Loading.{is_lingered_in, downs_of_purge}
 use Rattle.code_replacement.specs.Replacing.{without_lingering}
 use Rattle.code_server.specs.Modules.{delete_refusal, deleted, purged}
 use Rattle.node_laws.specs.Laws.{NodesKeepAPermanentRelease}
@@ -113,7 +113,7 @@ keeps n (Purge name) a is has =
     let made : Acceptance = record {
       node = with_running (without_lingering name (running_in n)) n;
       answer = answer.Killed (is_lingered_in name n.modules n.processes);
-      note = reporting (purge_told name n.modules n.processes);
+      note = reporting (downs_of_purge name n.modules n.processes);
     } in
     moved a made (same_ok a made (no_runner n.runner (λ it. it ≡ purges name n) a is).1) has
 keeps n (SoftPurge name) a is has =

@@ -3,8 +3,8 @@ use Rattle.std.specs.Prelude.{◌≡◌, ◌+◌, ℕ, zero, suc, Bool, true, fa
 use Rattle.std.proofs.Common.{arith, subst}
 use Rattle.std.proofs.lemmas.List.{take_all}
 use Rattle.std.specs.List.{filter}
-use Rattle.code_server.specs.Modules.{Entry, IsSound, Table as Loaded}
-use Rattle.erl_forms.specs.Module.{Forms}
+use Rattle.code_server.specs.Modules.{Entry, IsModuleTable, Table as Loaded}
+use Rattle.erl_ir.specs.Module.{Forms}
 use Rattle.node_rules.specs.Node.{NodeState}
 use Rattle.node_rules.specs.Scripts.{ArePurged}
 use Rattle.process_store.specs.Table.{Table}
@@ -26,7 +26,7 @@ gathered kind unpurged es (suc place) =
           (gathered_next kind unpurged es place before.0 more refl before.1),
     )
 
-pub noted : (kind : Purge) (modules : Loaded Forms) (unpurged : List Unpurged) → IsSound modules →
+pub noted : (kind : Purge) (modules : Loaded Forms) (unpurged : List Unpurged) → IsModuleTable modules →
     (names : List (List ℕ)) × AreNoted kind modules unpurged names
 noted kind modules unpurged sound =
     let es = modules.entries in
@@ -36,13 +36,13 @@ noted kind modules unpurged sound =
           (subst (λ l. Gathered kind unpurged l all.0) (take_all (length es) es (omega arith)) all.1),
     )
 
-pub swept : (modules : Loaded Forms) (t : Table) (unpurged : List Unpurged) → IsSound modules →
+pub swept : (modules : Loaded Forms) (t : Table) (unpurged : List Unpurged) → IsModuleTable modules →
     (names : List (List ℕ)) × AreSwept modules t unpurged names
 swept modules t unpurged sound =
     let soft = noted Soft modules unpurged sound in
     let left = filter (is_left_alone modules t) soft.0 in
     (left, left_alone modules t unpurged soft.0 left soft.1 refl)
 
-pub purged_names : (b : Bool) (n : NodeState) → IsSound n.modules → (names : List (List ℕ)) × ArePurged b n names
+pub purged_names : (b : Bool) (n : NodeState) → IsModuleTable n.modules → (names : List (List ℕ)) × ArePurged b n names
 purged_names true n sound = ([], refl)
 purged_names false n sound = noted Brutal n.modules n.unpurged sound

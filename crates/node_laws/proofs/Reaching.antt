@@ -14,7 +14,7 @@ use Rattle.std.proofs.lemmas.Slice.Eq.{bytes_eq-Decides}
 use Rattle.std.proofs.lemmas.List.{length-append}
 use Rattle.code_server.specs.Modules.{Table as Loaded, current_of}
 use Rattle.code_server.specs.declared.modules.Instance as loaded
-use Rattle.erl_forms.specs.Module.{Forms, called_in_functions}
+use Rattle.erl_ir.specs.Module.{Forms, called_in_functions}
 use Rattle.node_laws.proofs.Deciding.{IsDecided}
 use Rattle.process.specs.JobCode.{IsNamed, IsReached, named, named_by}
 

@@ -6,7 +6,7 @@ use Rattle.app_table.specs.Applications.{Application}
 use Rattle.code_loading.specs.Current.{current_code}
 use Rattle.code_server.specs.Modules as code
 use Rattle.code_server.specs.Modules.{Table as Loaded}
-use Rattle.erl_forms.specs.Module.{Forms}
+use Rattle.erl_ir.specs.Module.{Forms}
 use Rattle.node_laws.proofs.Starting.{each_starts}
 use Rattle.node_restart.specs.Restart.{RestartsAs, TellsRestart, restart}
 use Rattle.process_effects.specs.Told.{down}
@@ -17,7 +17,7 @@ use Rattle.process_index.specs.declared.calls.Call.{Call}
 use Rattle.process_store.specs.Indexed.{is_asked_by}
 use Rattle.process_store.specs.Table as processes
 use Rattle.process_store.specs.Table.{Table}
-use Rattle.process_store.specs.declared.living.Living.{Living}
+use Rattle.process_store.specs.declared.living.ProcessEntry.{ProcessEntry}
 use Rattle.release_boot.specs.Boot.{boot_apps, boot_modules, to_start}
 use Rattle.release_table.specs.declared.table.Release.{Release}
 
@@ -50,11 +50,11 @@ with_all (d ∷ ds) test given =
     let more = with_one d others.0 (has d others.0) refl others.1 in
     (more.0, more.1, λ c. more.2 c ∙ ap (λ b. is_same c d || b) (others.2 c) ∙ or_over (is_same c d) (has c ds) (test c))
 
-with_slot : (l : Option Living) (test : Call → Bool) → Ordered test → Ordered (λ c. is_asked_by c l || test c)
+with_slot : (l : Option ProcessEntry) (test : Call → Bool) → Ordered test → Ordered (λ c. is_asked_by c l || test c)
 with_slot None test given = given
 with_slot (Some l) test given = with_all l.calls test given
 
-all_calls : (slots : List (Option Living)) → Ordered (λ c. list_any (is_asked_by c) slots)
+all_calls : (slots : List (Option ProcessEntry)) → Ordered (λ c. list_any (is_asked_by c) slots)
 all_calls [] = ([], tt, λ c. refl)
 all_calls (l ∷ slots) = with_slot l (λ c. list_any (is_asked_by c) slots) (all_calls slots)
 

@@ -18,8 +18,8 @@ use Rattle.process_effects.specs.declared.told.Reply.{Reply}
 use Rattle.process_store.specs.Table.{Table, next_pid}
 use Rattle.release_boot.specs.Boot.{EachStarts, StartsOrIsPassedOver, reason_of}
 use Rattle.sys_protocol.specs.AppStarts.{AppFails, AppStarts, InitGives, children_in, init_fault, initialized}
-use Rattle.sys_protocol.specs.ChildStarts.{AllStart, Fails, FirstFails, Gives, Starts, after_start, start_told}
-use Rattle.sys_protocol.specs.Refusals.{FailsToRun, RefusesStart, Runs, module_of, start_refusal}
+use Rattle.sys_protocol.specs.ChildStarts.{AllStart, Fails, FirstFails, Gives, StartsChild, after_start, start_told}
+use Rattle.sys_protocol.specs.Refusals.{FailsToRun, RefusesStart, RunsStartModule, module_of, start_refusal}
 use Rattle.sys_protocol.specs.RunningChildren.{all_running}
 use Rattle.sys_protocol.specs.StartResults.{start_fault}
 use Rattle.sys_protocol.specs.declared.app_error.AppError.{AppError}
@@ -28,7 +28,7 @@ use Rattle.sys_protocol.specs.declared.app_error.AppError.TheVariants as app_err
 -- One child
 
 abbrev pub ChildStarts : List Instance → ChildSpec → Table → Type 0
-ChildStarts code c t = ((o : Outcome) × Starts code c t o) ⊎ ((reason : Term) × Fails code c t reason)
+ChildStarts code c t = ((o : Outcome) × StartsChild code c t o) ⊎ ((reason : Term) × Fails code c t reason)
 
 child_by : (code : List Instance) (c : ChildSpec) (t : Table) (o : Outcome) → Gives code c t o → (fault : Option Term) →
     start_fault (next_pid t) o t ≡ fault → ChildStarts code c t
@@ -48,7 +48,7 @@ ChildrenStart code cs t =
     ((pids : List ℕ) × (after : Table) × (told : List Reply) × AllStart code cs t pids after told) ⊎
     ((c : ChildSpec) × (reason : Term) × FirstFails code cs t c reason)
 
-children_behind : (code : List Instance) (c : ChildSpec) (cs : List ChildSpec) (t : Table) (o : Outcome) → Starts code c t o →
+children_behind : (code : List Instance) (c : ChildSpec) (cs : List ChildSpec) (t : Table) (o : Outcome) → StartsChild code c t o →
     ChildrenStart code cs (after_start code o t) → ChildrenStart code (c ∷ cs) t
 children_behind code c cs t o starts (inl (pids, after, told, all)) =
     inl (next_pid t ∷ pids, after, start_told code o t ++ told, (refl, (o, told, starts, all, refl)))
@@ -103,7 +103,7 @@ app_runs code m t =
     app_by code m t e.0 e.1 (children_in e.0.end) refl
 
 abbrev pub IsRun : List Instance → Option StartModule → Table → Type 0
-IsRun code m t = ((children : List Child) × (after : Table) × (told : List Reply) × Runs code m t children after told) ⊎
+IsRun code m t = ((children : List Child) × (after : Table) × (told : List Reply) × RunsStartModule code m t children after told) ⊎
     ((e : AppError) × FailsToRun e code m t)
 
 pub runs : (code : List Instance) (m : Option StartModule) (t : Table) → IsRun code m t
@@ -115,7 +115,7 @@ runs code (Some m) t = app_runs code m t
 abbrev pub AppStartsOrNot : List Instance → List ℕ → List Application → Table → Type 0
 AppStartsOrNot code name apps t =
     ((start_refusal name apps ≡ None) × (children : List Child) × (after : Table) × (told : List Reply) ×
-    Runs code (module_of name apps) t children after told) ⊎
+    RunsStartModule code (module_of name apps) t children after told) ⊎
     ((e : AppError) × RefusesStart e code name apps t)
 
 started_or : (code : List Instance) (name : List ℕ) (apps : List Application) (t : Table) → start_refusal name apps ≡ None →

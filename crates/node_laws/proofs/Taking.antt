@@ -6,7 +6,7 @@ use Rattle.std.proofs.lemmas.Option.{none-some, slice_get-get_or}
 use Rattle.std.specs.List.{slice_index_or}
 use Rattle.code_server.specs.Modules.{Entry, Table as Loaded}
 use Rattle.code_server.specs.declared.modules.Instance as loaded
-use Rattle.erl_forms.specs.Module.{Forms}
+use Rattle.erl_ir.specs.Module.{Forms}
 use Rattle.erl_semantics.specs.State as state
 use Rattle.erl_semantics.specs.Views.{instance}
 use Rattle.erl_semantics.specs.declared.instance.Instance.{Instance}
@@ -23,13 +23,13 @@ use Rattle.node_types.specs.declared.event.Answer.{Answer}
 use Rattle.node_types.specs.declared.event.Answer.TheVariants as answer
 use Rattle.node_types.specs.declared.event.Refusal.TheVariants.{OfProcesses}
 use Rattle.process.specs.JobCode.{AreReached, IsJobCode, IsReached, instance_of, job_code, none, not_reached, reached, without_code}
-use Rattle.process.specs.Process.{can_take, can_take_by, first_taken, takes_at}
+use Rattle.process.specs.Process.{next_message, next_message_by, first_taken, takes_at}
 use Rattle.process.specs.declared.activity.Activity.{Activity}
 use Rattle.process.specs.declared.activity.Activity.TheVariants as activity
 use Rattle.process_store.proofs.Slots.{living_changed}
 use Rattle.process_store.specs.Living.{run}
 use Rattle.process_store.specs.Table.{changed, living}
-use Rattle.process_store.specs.declared.living.Living.{Living}
+use Rattle.process_store.specs.declared.living.ProcessEntry.{ProcessEntry}
 use Rattle.process_table.proofs.Jobs.{job_is, taken_is}
 use Rattle.process_table.specs.Steps.{IsCode, IsCodeOf, entered, resting_refusal, take_refusal, take_refusal_of, taken}
 use Rattle.process_table.specs.declared.error.ProcError.{ProcError}
@@ -80,7 +80,7 @@ code_of t (Some i) = code_for t i (all_reached t i.«module» t.entries)
 
 -- The message that is next stands in the mailbox.
 
-taken_first : (a : Activity) (first : Option ℕ) (place : ℕ) → can_take_by a first ≡ Some place → first ≡ Some place
+taken_first : (a : Activity) (first : Option ℕ) (place : ℕ) → next_message_by a first ≡ Some place → first ≡ Some place
 taken_first activity.Idle first place is = is
 taken_first activity.Suspended first place is = absurd (none-some place is)
 taken_first (activity.Runs r) first place is = absurd (none-some place is)
@@ -91,7 +91,7 @@ resting_takes (activity.Runs r) first unrefused = absurd (none-some Running (sym
 resting_takes activity.Idle None unrefused = absurd (none-some Idle (sym unrefused))
 resting_takes activity.Idle (Some place) unrefused = (place, refl)
 
-message_there : (l : Living) (place : ℕ) → can_take l.process ≡ Some place → (m : Term) ×
+message_there : (l : ProcessEntry) (place : ℕ) → next_message l.process ≡ Some place → (m : Term) ×
     (slice_get l.process.mailbox place ≡ Some m)
 message_there l place takes =
     let p = l.process in
@@ -105,8 +105,8 @@ message_there l place takes =
 abbrev Taken : ℕ → NodeState → Type 0
 Taken pid n = (r : Outcome) × Takes pid n r
 
-taken_by : (pid : ℕ) (n : NodeState) (l : Living) (place : ℕ) (message : Term) → living pid n.processes ≡ Some l →
-    take_refusal_of (Some l) ≡ None → can_take l.process ≡ Some place → slice_get l.process.mailbox place ≡ Some message →
+taken_by : (pid : ℕ) (n : NodeState) (l : ProcessEntry) (place : ℕ) (message : Term) → living pid n.processes ≡ Some l →
+    take_refusal_of (Some l) ≡ None → next_message l.process ≡ Some place → slice_get l.process.mailbox place ≡ Some message →
     Code n.modules (entered n.modules l.process.place l.process.rests_in) → Taken pid n
 taken_by pid n l place message lives unrefused takes at (serial, code, is) =
     let job : Job = record {
@@ -135,10 +135,10 @@ taken_by pid n l place message lives unrefused takes at (serial, code, is) =
       ),
     )
 
-take_unrefused : (pid : ℕ) (n : NodeState) (l : Living) → living pid n.processes ≡ Some l → take_refusal_of (Some l) ≡ None →
+take_unrefused : (pid : ℕ) (n : NodeState) (l : ProcessEntry) → living pid n.processes ≡ Some l → take_refusal_of (Some l) ≡ None →
     Taken pid n
 take_unrefused pid n l lives unrefused =
-    let first = resting_takes l.process.activity (can_take l.process) unrefused in
+    let first = resting_takes l.process.activity (next_message l.process) unrefused in
     let message = message_there l first.0 first.1 in
     taken_by pid n l first.0 message.0 lives unrefused first.1 message.1
     (code_of n.modules (entered n.modules l.process.place l.process.rests_in))
@@ -146,12 +146,12 @@ take_unrefused pid n l lives unrefused =
 take_refused : (pid : ℕ) (n : NodeState) (e : ProcError) → take_refusal pid n.processes ≡ Some e → Taken pid n
 take_refused pid n e is = (Err (OfProcesses e), (e, is, refl))
 
-take_living : (pid : ℕ) (n : NodeState) (l : Living) (refusal : Option ProcError) → living pid n.processes ≡ Some l →
+take_living : (pid : ℕ) (n : NodeState) (l : ProcessEntry) (refusal : Option ProcError) → living pid n.processes ≡ Some l →
     take_refusal_of (Some l) ≡ refusal → Taken pid n
 take_living pid n l None lives is = take_unrefused pid n l lives is
 take_living pid n l (Some e) lives is = take_refused pid n e (ap take_refusal_of lives ∙ is)
 
-take_at : (pid : ℕ) (n : NodeState) (o : Option Living) → living pid n.processes ≡ o → Taken pid n
+take_at : (pid : ℕ) (n : NodeState) (o : Option ProcessEntry) → living pid n.processes ≡ o → Taken pid n
 take_at pid n None is = take_refused pid n NoProc (ap take_refusal_of is)
 take_at pid n (Some l) is = take_living pid n l (take_refusal_of (Some l)) is refl
 

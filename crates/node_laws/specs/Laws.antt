@@ -1,7 +1,7 @@
--- Each event has an outcome at each node that is kept: it is accepted or refused, so that want of memory never stands in place
+-- Each event has an outcome at each node that is kept: it is accepted or refused, so that lack of memory never stands in place
 -- of a rule.
 use Rattle.std.specs.Prelude.{Ok}
-use Rattle.node_rules.specs.Node.{IsKept, NodeState}
+use Rattle.node_rules.specs.Node.{IsSoundNode, NodeState}
 use Rattle.node_rules.specs.Scripts.{Outcome}
 use Rattle.node_rules.specs.Step.{Step}
 use Rattle.node_types.specs.Note.{Note}
@@ -14,7 +14,7 @@ use Rattle.undo_journal.specs.Reversible.{Accepted}
 -- An event is accepted, or refused for a reason, at each node that keeps what every node keeps, one of whose releases is
 -- permanent.
 abbrev pub EachEventHasAnOutcome : Type 0
-EachEventHasAnOutcome = (n : NodeState) (e : Event) → IsKept n → HasPermanent n.releases → (r : Outcome) × Step n e r
+EachEventHasAnOutcome = (n : NodeState) (e : Event) → IsSoundNode n → HasPermanent n.releases → (r : Outcome) × Step n e r
 
 -- One release at least is permanent where a node boots, and behind each event that is accepted where one was before.
 pub record NodesKeepAPermanentRelease : Type 0 where

@@ -17,7 +17,7 @@
 //!
 //! A case that no rule is for: an instruction that is neither carried out nor halted, a child that neither starts nor fails to,
 //! an end of evaluation that no reading of a result knows. A function whose contract gives the outcomes of the rule could
-//! answer nothing but want of memory there.
+//! answer nothing but lack of memory there.
 #![tactic(auto)]
 
 ghost use Rattle.node_laws.specs.Laws.{EachEventHasAnOutcome, NodesKeepAPermanentRelease};

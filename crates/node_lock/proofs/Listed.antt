@@ -5,7 +5,7 @@ use Rattle.undo_journal.specs.declared.error.JournalError.TheVariants as error
 use Rattle.node_types.specs.Note.{Note}
 use Rattle.node_types.specs.declared.event.Event.{Event}
 use Rattle.node_types.specs.declared.event.Event.TheVariants as event
-use Rattle.process_table.specs.declared.body.Body.TheVariants as body
+use Rattle.process_table.specs.declared.body.ClientMessage.TheVariants as body
 use Rattle.node_history.specs.History.{Gives, LacksStation, NodeTimeline, RefusesBy, TakesOf}
 use Rattle.node_history.specs.declared.command.Command.{Command}
 use Rattle.node_history.specs.declared.command.Command.TheVariants as command

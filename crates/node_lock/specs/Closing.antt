@@ -42,9 +42,10 @@ pub record IsLegal (release : Release) (history : List Entry) (end : NodeTimelin
   pub booted : IsBooted release node
   pub legal : Legal (opened node) [] history end
 
--- A node is closed: its history is legal and leads to where its journal stands, each seat has what it keeps of its own entries, and
--- there is no entry of anybody else.
-pub record IsClosed (release : Release) (count : ℕ) (seats : List SeatState) (history : List Entry) (end : NodeTimeline) : Type 0 where
+-- A node is closed: its history is legal and leads to where its journal stands, each seat has what it keeps of its own
+-- entries, and there is no entry of anybody else.
+pub record IsClosed (release : Release) (count : ℕ) (seats : List SeatState) (history : List Entry) (end : NodeTimeline)
+    : Type 0 where
   pub legal : IsLegal release history end
   pub all : AreAll count seats
   pub lists : All (IsListOf history) seats

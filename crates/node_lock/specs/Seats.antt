@@ -57,7 +57,8 @@ IsFaultOf (command.Retake pid) why = (refusal : Refusal) × (why ≡ fault.Refus
 IsFaultOf (command.Replies from) why = ⊥
 IsFaultOf command.Which why = ⊥
 
--- An undo that found no memory after it had cut stations: it's listed as the undo to the mark where it stands, with what it has cut.
+-- An undo that found no memory after it had cut stations: it's listed as the undo to the mark where it stands, with what it
+-- has cut.
 pub record ListsStop (c : Command) (reached : ℕ) (reports : List (Report Note)) (seat after : SeatState) : Type 0 where
   pub mark : ℕ
   pub undo : c ≡ command.Undo mark
@@ -78,8 +79,8 @@ ListsFault c error.DeadMark seat after = ListsFaultOf c fault.DeadMark seat afte
 ListsFault c error.SerialEnd seat after = ListsFaultOf c fault.SerialEnd seat after
 ListsFault c (error.Memory reached reports) seat after = ListsStop c reached reports.items seat after
 
--- What a command adds to its seat's list: itself with its answer, or why it's refused. Where memory is wanting it's nothing, but for an
--- undo that has stopped.
+-- What a command adds to its seat's list: itself with its answer, or why it's refused. Where memory is wanting it's
+-- nothing, but for an undo that has stopped.
 abbrev pub Lists : Command → Result Said LockError → SeatState → SeatState → Type 0
 Lists c (Ok it) seat after = IsFor c it × AddsLine c (Ok it) seat after
 Lists c (Err (lock.Journal e)) seat after = ListsFault c e seat after

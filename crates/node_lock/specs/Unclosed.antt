@@ -23,7 +23,8 @@ abbrev pub HandsBack : {X : Type 0} {g : Ghosts X} → CoreState → CloseError 
 HandsBack core (refused.SeatCount node back) = ⊥
 HandsBack core (refused.Foreign closed back) = HandsOut core closed
 
--- The seats are not all, each once, and with the node they are handed back as they were; or they are, and a seat's list is foreign.
+-- The seats are not all, each once, and with the node they are handed back as they were; or they are, and a seat's list is
+-- foreign.
 abbrev pub FailsToClose : {X : Type 0} {g : Ghosts X} → SharedNode X g → Release → ℕ → List SeatState → CloseError X g → Type 0
 FailsToClose {X} {g} shared release count seats (refused.SeatCount node back) =
     (AreAll count seats → ⊥) × (node ≡ shared) × (back.items ≡ seats)

@@ -38,7 +38,7 @@ impl<N: Naming> Model for Core<N> {
     ghost use Rattle.std.specs.Coded.{codes};
     ghost use Rattle.std.specs.Prelude.{◌≡◌, ◌+◌, length};
     ghost use Rattle.erl_term.specs.contracts.term.Terms as terms;
-    ghost use Rattle.erl_forms.specs.contracts.module.Module as forms;
+    ghost use Rattle.erl_ir.specs.contracts.module.Module as forms;
     ghost use Rattle.node_lock.specs.Core.{CoreState, HasLegalHistory};
 
     ghost Value = { CoreState };

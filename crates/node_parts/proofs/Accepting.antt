@@ -2,7 +2,7 @@
 use Rattle.std.proofs.Common.{◌≡◌, ℕ, zero, suc, List, [], ◌∷◌, map, replicate, Option, None, Some, Ok, Err, IfOk, Result, MatchOption, option_map, refl, sym, ap, subst, ◌∙◌}
 use Rattle.process_store.specs.Table.{Table}
 use Rattle.process_table.specs.Undo.{TakesBack, TakesBackEnds}
-use Rattle.process_table.specs.declared.undo.Undo.{Undo}
+use Rattle.process_table.specs.declared.undo.ProcessesUndo.{ProcessesUndo}
 use Rattle.undo_journal.specs.Reversible.{Accepted}
 use Rattle.script_state.specs.Runner.{RunnerState}
 use Rattle.node_rules.specs.Node.{NodeState}
@@ -44,7 +44,7 @@ told_or_not of None a = refl
 told_or_not of (Some e) a = refl
 
 -- what takes a step back over any modules does so over those in which the instances stand that processes use
-pub ends_back : (undo : Undo) (before after : Table) → TakesBack undo before after → TakesBackEnds undo before after
+pub ends_back : (undo : ProcessesUndo) (before after : Table) → TakesBack undo before after → TakesBackEnds undo before after
 ends_back undo before after takes = λ modules. ((takes modules).0, λ sound stand. (takes modules).1)
 
 -- what holds of a success holds of it in other words

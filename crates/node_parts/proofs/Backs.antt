@@ -5,30 +5,30 @@ use Rattle.app_table.specs.Undo.{Fits}
 use Rattle.code_replacement.specs.Replacing.{HasItsCode, RunningSystem}
 use Rattle.code_replacement.specs.Undo as replacing
 use Rattle.code_replacement.specs.declared.undo.Purges.{Purges}
-use Rattle.code_replacement.specs.declared.undo.Undo as replacing_undo
+use Rattle.code_replacement.specs.declared.undo.ReplacementUndo as replacing_undo
 use Rattle.node_parts.specs.Record.{ReleasesBack, Undoes}
 use Rattle.node_parts.specs.declared.record.Record.TheVariants.{OfCode, OfInstall, OfInstruction, OfPurges}
-use Rattle.node_rules.specs.Node.{IsKept, NodeState}
+use Rattle.node_rules.specs.Node.{IsSoundNode, NodeState}
 use Rattle.node_rules.specs.Scripts.{parts_in, running_in}
 use Rattle.release_statuses.specs.declared.listed.Listed.{Listed}
-use Rattle.release_statuses.specs.declared.undo.Undo as releases_undo
+use Rattle.release_statuses.specs.declared.undo.ReleasesUndo as releases_undo
 use Rattle.script_runner.specs.Instructions.{running_of}
 use Rattle.script_runner.specs.Parts.{Parts}
 use Rattle.script_runner.specs.Undo as instructions
-use Rattle.script_runner.specs.declared.undo.Undo as instructions_undo
+use Rattle.script_runner.specs.declared.undo.InstructionUndo as instructions_undo
 use Rattle.script_state.specs.Runner.{RunnerState, runner_of}
 use Rattle.script_state.specs.declared.runner.Runner.{Runner}
 
 -- what a kept node runs has its code
-abbrev kept_code : (n : NodeState) → IsKept n → HasItsCode (running_in n)
+abbrev kept_code : (n : NodeState) → IsSoundNode n → HasItsCode (running_in n)
 kept_code n kept = record { sound = kept.consistent.sound; stand = kept.consistent.stand }
 
 -- code was replaced
-pub code_back : (u undo : replacing_undo.Undo) (before now : NodeState) (r : RunningSystem) → u ≡ undo → Undoes (OfCode undo) before now →
+pub code_back : (u undo : replacing_undo.ReplacementUndo) (before now : NodeState) (r : RunningSystem) → u ≡ undo → Undoes (OfCode undo) before now →
     ((b : RunningSystem) → HasItsCode b → replacing.TakesBack u b (running_in now) → r ≡ b) →
     record now { modules = r.modules; processes = r.processes; apps = r.apps } ≡ before
 code_back u undo before now r same (kept, (takes, others)) gives =
-    let takes_back = subst (λ (x : replacing_undo.Undo). replacing.TakesBack x (running_in before) (running_in now)) (sym same) takes in
+    let takes_back = subst (λ (x : replacing_undo.ReplacementUndo). replacing.TakesBack x (running_in before) (running_in now)) (sym same) takes in
     let ran = gives (running_in before) (kept_code before kept) takes_back in
     (λ i. record {
       modules = (ran i).modules;
@@ -40,7 +40,7 @@ code_back u undo before now r same (kept, (takes, others)) gives =
     })
 
 -- code was purged, and statuses were changed, or not
-pub purges_back : (u undo : Purges) (statuses : Option releases_undo.Undo) (before now : NodeState) (r : RunningSystem) (releases : List Listed) →
+pub purges_back : (u undo : Purges) (statuses : Option releases_undo.ReleasesUndo) (before now : NodeState) (r : RunningSystem) (releases : List Listed) →
     u ≡ undo → Undoes (OfPurges undo statuses) before now →
     ((b : RunningSystem) → HasItsCode b → replacing.PurgesBack u b (running_in now) → r ≡ b) →
     ((b : List Listed) → ReleasesBack statuses b now.releases → releases ≡ b) →
@@ -69,7 +69,7 @@ less_one : (a b : ℕ) → a + 1 ≡ b + 1 → a ≡ b
 less_one a b same = omega arith
 
 -- an instruction was carried out
-pub instruction_back : (u undo : instructions_undo.Undo) (before now : NodeState) (here : RunnerState) (p : Parts) (next : ℕ) →
+pub instruction_back : (u undo : instructions_undo.InstructionUndo) (before now : NodeState) (here : RunnerState) (p : Parts) (next : ℕ) →
     u ≡ undo → now.runner ≡ Some here → Undoes (OfInstruction undo) before now →
     ((b : Parts) → HasItsCode (running_of b) → instructions.TakesBack u b (parts_in here now) → p ≡ b) →
     next + 1 ≡ here.progress.next →
@@ -87,7 +87,7 @@ instruction_back u undo before now here p next same runs (kept, (s, at, back)) g
     let is : here ≡ at = same_Some here at (sym runs ∙ back.runs) in
     let takes : instructions.TakesBack undo (parts_in s before) (parts_in here now) =
     subst (λ (x : RunnerState). instructions.TakesBack undo (parts_in s before) (parts_in x now)) (sym is) back.back in
-    let takes_back = subst (λ (x : instructions_undo.Undo). instructions.TakesBack x (parts_in s before) (parts_in here now)) (sym same) takes in
+    let takes_back = subst (λ (x : instructions_undo.InstructionUndo). instructions.TakesBack x (parts_in s before) (parts_in here now)) (sym same) takes in
     let stood : p ≡ parts_in s before = gives (parts_in s before) (kept_code before kept) takes_back in
     let others : here ≡ record s { progress = at.progress } = is ∙ back.goes_on in
     let count : next ≡ s.progress.next =

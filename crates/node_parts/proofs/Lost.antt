@@ -8,14 +8,14 @@ use Rattle.app_table.specs.Pieces as apps
 use Rattle.code_loading.specs.Pieces.{CodeLost, among}
 use Rattle.code_server.specs.Modules.{Entry, Table as Loaded, emptied as without_code, in_entries, in_entry, in_slot}
 use Rattle.code_server.specs.declared.modules.Instance.{Instance}
-use Rattle.erl_forms.specs.Module.{Forms}
+use Rattle.erl_ir.specs.Module.{Forms}
 use Rattle.process_store.specs.Pieces as processes
 use Rattle.process_store.specs.Pieces.{AreNotAmong, Piece, pieces_at}
 use Rattle.process_store.specs.Table.{Table, empty_table}
 use Rattle.release_statuses.specs.Undo.{IsRemoval, TakesBack}
 use Rattle.release_statuses.specs.declared.listed.Listed.{Listed}
-use Rattle.release_statuses.specs.declared.undo.Undo as releases_undo
-use Rattle.release_statuses.specs.declared.undo.Undo.TheVariants.{Added, Removed, Statuses}
+use Rattle.release_statuses.specs.declared.undo.ReleasesUndo as releases_undo
+use Rattle.release_statuses.specs.declared.undo.ReleasesUndo.TheVariants.{Added, Removed, Statuses}
 use Rattle.script_ends.specs.Ends.{FinishBack, RecoveryBack}
 use Rattle.script_ends.specs.declared.ending.Finish.{Finish}
 use Rattle.script_ends.specs.declared.ending.Recovery.{Recovery}
@@ -31,18 +31,18 @@ use Rattle.node_parts.specs.declared.record.Record.TheVariants.{OfProcesses, OfC
 
 -- of releases
 
-releases_taken : (u : releases_undo.Undo) (before after : List Listed) → TakesBack u before after → ReleasesLost (removed_by u) before after
+releases_taken : (u : releases_undo.ReleasesUndo) (before after : List Listed) → TakesBack u before after → ReleasesLost (removed_by u) before after
 releases_taken Added before after takes = inl refl
 releases_taken (Removed place it) before after takes =
     inr (subst (λ (l : List Listed). IsPermutation (it ∷ after) l) takes.back (IsPermutation-insert after place it))
 releases_taken (Statuses former) before after takes = inl refl
 
-none_removed : (u : releases_undo.Undo) → (IsRemoval u → ⊥) → removed_by u ≡ []
+none_removed : (u : releases_undo.ReleasesUndo) → (IsRemoval u → ⊥) → removed_by u ≡ []
 none_removed Added kept = refl
 none_removed (Removed place it) kept = absurd (kept tt)
 none_removed (Statuses former) kept = refl
 
-none_if_any : (o : Option releases_undo.Undo) (before after : List Listed) → ReleasesBack o before after → removed_if_any o ≡ []
+none_if_any : (o : Option releases_undo.ReleasesUndo) (before after : List Listed) → ReleasesBack o before after → removed_if_any o ≡ []
 none_if_any None before after back = refl
 none_if_any (Some u) before after back = none_removed u back.1
 

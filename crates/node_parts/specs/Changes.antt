@@ -27,7 +27,8 @@ state_of p = record {
 }
 
 -- A step is made by a rule, and its record takes it back; or it is refused, or memory was, and nothing is changed.
-abbrev pub IsStepOf : (Outcome → Type 0) → Type 0 → ℕ → NodeState → NodeState → Result (Stepped Answer Note Record) (Failure Refusal) → Type 0
+abbrev pub IsStepOf : (Outcome → Type 0) → Type 0 → ℕ → NodeState → NodeState →
+    Result (Stepped Answer Note Record) (Failure Refusal) → Type 0
 IsStepOf IsRuled MayWant n before after (Ok done) = Accepts IsRuled after n done.told.items × Restores done.trace before after
 IsStepOf IsRuled MayWant n before after (Err failure) = Refuses IsRuled MayWant failure × (after ≡ before)
 

@@ -1,6 +1,6 @@
 -- What a record holds of a node, by the kinds of its pieces: the messages and places of processes, the instances of code, the
--- specifications of applications and of their children, the releases, and the script that runs, with its description and what is noted for
--- it. Besides pieces it holds numbers, names, statuses, flags and positions.
+-- specifications of applications and of their children, the releases, and the script that runs, with its description and
+-- what is noted for it. Besides pieces it holds numbers, names, statuses, flags and positions.
 use Rattle.std.specs.Prelude.{◌≡◌, ℕ, ◌⊎◌, ◌++◌, IsPermutation, List, [], ◌∷◌, Option, None, Some, option_map, option_to_list}
 use Rattle.std.specs.List.{flat_map}
 use Rattle.app_table.specs.Pieces as apps
@@ -10,14 +10,14 @@ use Rattle.code_replacement.specs.Undo as replacing
 use Rattle.code_server.specs.Modules.{Entry, Table as Loaded, emptied as without_code}
 use Rattle.code_server.specs.Undo as code
 use Rattle.code_server.specs.declared.modules.Instance.{Instance}
-use Rattle.erl_forms.specs.Module.{Forms}
+use Rattle.erl_ir.specs.Module.{Forms}
 use Rattle.process_store.specs.Pieces as processes
 use Rattle.process_store.specs.Pieces.{Piece, no_pieces, pieces_at}
 use Rattle.process_store.specs.Table.{Table, empty_table}
 use Rattle.process_table.specs.Undo.{held}
 use Rattle.release_statuses.specs.declared.listed.Listed.{Listed}
-use Rattle.release_statuses.specs.declared.undo.Undo as releases_undo
-use Rattle.release_statuses.specs.declared.undo.Undo.TheVariants.{Added, Removed, Statuses}
+use Rattle.release_statuses.specs.declared.undo.ReleasesUndo as releases_undo
+use Rattle.release_statuses.specs.declared.undo.ReleasesUndo.TheVariants.{Added, Removed, Statuses}
 use Rattle.script_ends.specs.Ends.{abandoned_of}
 use Rattle.script_runner.specs.Pieces as instructions
 use Rattle.script_state.specs.Runner.{RunnerState, runner_of}
@@ -69,8 +69,8 @@ specs_of n = specs_kept n.runner ++ apps.pieces n.apps
 abbrev pub AllTaken : List apps.Piece → List apps.Piece → List apps.Piece → Type 0
 AllTaken held before left = IsPermutation (held ++ left) before
 
--- Of specifications a record holds only what its step has taken: a finished script's former ones, where it was given up the new ones, and
--- all where the node has restarted.
+-- Of specifications a record holds only what its step has taken: a finished script's former ones, where it was given up the
+-- new ones, and all where the node has restarted.
 abbrev pub SpecsLost : Record → NodeState → NodeState → Type 0
 SpecsLost (OfProcesses undo) before after = Unit {0}
 SpecsLost (OfChildren undo ended) before after = apps.held ended after.apps ≡ []
@@ -82,15 +82,16 @@ SpecsLost (OfInstruction undo) before after = instructions.SpecsLost undo before
 SpecsLost (OfFinish undo) before after = AllTaken (apps.held_former undo.runner.former) (specs_of before) (specs_of after)
 SpecsLost (OfRecovery undo) before after = AllTaken (apps.held_back undo.specs) (specs_of before) (specs_of after)
 SpecsLost (OfPurges undo statuses) before after = replacing.held_of undo.ended after.apps ≡ []
-SpecsLost (OfRestart d) before after = AllTaken (specs_kept (option_map runner_of d.runner) ++ apps.pieces d.apps) (specs_of before) []
+SpecsLost (OfRestart d) before after = AllTaken (specs_kept (option_map runner_of d.runner) ++
+    apps.pieces d.apps) (specs_of before) []
 
 -- the releases
-abbrev pub removed_by : releases_undo.Undo → List Listed
+abbrev pub removed_by : releases_undo.ReleasesUndo → List Listed
 removed_by Added = []
 removed_by (Removed place it) = it ∷ []
 removed_by (Statuses former) = []
 
-abbrev pub removed_if_any : Option releases_undo.Undo → List Listed
+abbrev pub removed_if_any : Option releases_undo.ReleasesUndo → List Listed
 removed_if_any None = []
 removed_if_any (Some undo) = removed_by undo
 
@@ -107,8 +108,8 @@ held_releases (OfRecovery undo) = []
 held_releases (OfPurges undo statuses) = removed_if_any statuses
 held_releases (OfRestart d) = removed_by d.statuses
 
--- The script that it holds, with all that is noted for it: that which has ended, if one has. The specifications that a script which was given
--- up had kept are in the applications again.
+-- The script that it holds, with all that is noted for it: that which has ended, if one has. The specifications that a
+-- script which was given up had kept are in the applications again.
 abbrev pub held_script : Record → NodeState → Option RunnerState
 held_script (OfProcesses undo) after = None
 held_script (OfChildren undo ended) after = None

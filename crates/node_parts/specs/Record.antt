@@ -9,27 +9,27 @@ use Rattle.app_table.specs.Changes.{put_back}
 use Rattle.app_table.specs.Pieces as specs
 use Rattle.app_table.specs.Undo as apps
 use Rattle.app_table.specs.Undo.{Fits}
-use Rattle.app_table.specs.declared.undo.Undo as apps_undo
+use Rattle.app_table.specs.declared.undo.AppsUndo as apps_undo
 use Rattle.release_statuses.specs.Undo as of_releases
-use Rattle.release_statuses.specs.declared.undo.Undo as releases_undo
+use Rattle.release_statuses.specs.declared.undo.ReleasesUndo as releases_undo
 use Rattle.release_statuses.specs.declared.listed.Listed.{Listed}
 use Rattle.script_ends.specs.Ends.{FinishBack, RecoveryBack}
 use Rattle.script_runner.specs.Undo as instructions
-use Rattle.script_runner.specs.declared.undo.Undo as instructions_undo
+use Rattle.script_runner.specs.declared.undo.InstructionUndo as instructions_undo
 use Rattle.script_state.specs.Runner.{RunnerState, runner_of}
-use Rattle.node_rules.specs.Node.{IsKept, NodeState}
+use Rattle.node_rules.specs.Node.{IsSoundNode, NodeState}
 use Rattle.node_rules.specs.Scripts.{parts_in, running_in}
 use Rattle.node_parts.specs.declared.record.Displaced.{Displaced}
 use Rattle.node_parts.specs.declared.record.Record.{Record}
 use Rattle.node_parts.specs.declared.record.Record.TheVariants.{OfProcesses, OfChildren, OfCode, OfDeletion, OfReleases, OfInstall, OfInstruction, OfFinish, OfRecovery, OfPurges, OfRestart}
 
 -- of the applications, where any were changed
-abbrev pub AppsBack : Option apps_undo.Undo → List Application → List Application → Type 0
+abbrev pub AppsBack : Option apps_undo.AppsUndo → List Application → List Application → Type 0
 AppsBack None before after = after ≡ before
 AppsBack (Some undo) before after = apps.undone undo after ≡ before
 
 -- of the releases, where their statuses were changed
-abbrev pub ReleasesBack : Option releases_undo.Undo → List Listed → List Listed → Type 0
+abbrev pub ReleasesBack : Option releases_undo.ReleasesUndo → List Listed → List Listed → Type 0
 ReleasesBack None before after = after ≡ before
 ReleasesBack (Some undo) before after = of_releases.TakesBack undo before after × (of_releases.IsRemoval undo → ⊥)
 
@@ -42,7 +42,8 @@ pub record InstallBack (s : RunnerState) (before after : NodeState) : Type 0 whe
   pub is : after ≡ record before { apps = after.apps; runner = Some s }
 
 -- Of an instruction that was carried out: the script has come one instruction further.
-pub record InstructionBack (undo : instructions_undo.Undo) (s now : RunnerState) (before after : NodeState) : Type 0 where
+pub record InstructionBack (undo : instructions_undo.InstructionUndo) (s now : RunnerState) (before after : NodeState)
+    : Type 0 where
   pub ran : before.runner ≡ Some s
   pub runs : after.runner ≡ Some now
   pub back : instructions.TakesBack undo (parts_in s before) (parts_in now after)
@@ -93,4 +94,4 @@ Restores (OfRestart displaced) before after = RestartBack displaced before after
 
 -- It gives the node before, which kept what every node keeps.
 abbrev pub Undoes : Record → NodeState → NodeState → Type 0
-Undoes r before after = IsKept before × Restores r before after
+Undoes r before after = IsSoundNode before × Restores r before after

@@ -1,8 +1,8 @@
 //! What a node is made of, what a step of it gives, and what takes a step back.
 //!
 //! A step changes [`NodeParts`] and leaves a [`Record`], by which [`revert`] takes it back: the functions of `script_events` and
-//! `node_core` make the steps. What is told of a step is made in as many equal values as are asked for ([`tell`] and its like), before
-//! the first change.
+//! `node_core` make the steps. What is told of a step is made in as many equal values as are asked for ([`tell`] and its
+//! like), before the first change.
 //!
 //! # What is proved
 //!

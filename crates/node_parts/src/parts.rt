@@ -1,6 +1,6 @@
 // What a node is made of.
 use code_server::Modules;
-use erl_forms::Module;
+use erl_ir::Module;
 use process_table::Processes;
 use release_statuses::Releases;
 use script_state::{Runner, Unpurged};

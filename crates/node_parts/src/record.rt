@@ -1,6 +1,6 @@
 // What a step of a node gives, and what takes an event back.
 use code_server::Modules;
-use erl_forms::Module;
+use erl_ir::Module;
 use node_types::{Answer, Note, Refusal};
 use process_table::Processes;
 use script_ends::{Finish, Recovery};
@@ -26,33 +26,33 @@ pub struct Displaced {
     /// The script that ran, if one did.
     pub runner: Option<Runner>,
     /// What takes the change of statuses back.
-    pub statuses: release_statuses::Undo,
+    pub statuses: release_statuses::ReleasesUndo,
 }
 
 /// What takes an event back. What is large and seldom has memory of its own.
 #[derive(Drop)]
 pub enum Record {
     /// The processes were changed, and no children.
-    OfProcesses(process_table::Undo),
+    OfProcesses(process_table::ProcessesUndo),
     /// The processes were changed, and with them children.
-    OfChildren(process_table::Undo, Boxed<app_table::Undo>),
+    OfChildren(process_table::ProcessesUndo, Boxed<app_table::AppsUndo>),
     /// A module was loaded or purged, processes that lingered in it were killed, and with them children, if any.
-    OfCode(Boxed<code_replacement::Undo>),
+    OfCode(Boxed<code_replacement::ReplacementUndo>),
     /// A module was deleted.
-    OfDeletion(Boxed<code_server::Undo<Module>>),
+    OfDeletion(Boxed<code_server::ModulesUndo<Module>>),
     /// A release was set unpacked, or removed.
-    OfReleases(Boxed<release_statuses::Undo>),
+    OfReleases(Boxed<release_statuses::ReleasesUndo>),
     /// An install has begun. The script that runs keeps what takes it back.
     OfInstall,
     /// An instruction of the script was carried out.
-    OfInstruction(Boxed<script_runner::Undo>),
+    OfInstruction(Boxed<script_runner::InstructionUndo>),
     /// The script was finished.
     OfFinish(Boxed<Finish>),
     /// The script was given up before its point of no return.
     OfRecovery(Boxed<Recovery>),
     /// Several modules were purged, processes that lingered in them were killed, and with them children, if any; and statuses of
     /// releases were changed, or not.
-    OfPurges(Boxed<code_replacement::Purges>, Option<Boxed<release_statuses::Undo>>),
+    OfPurges(Boxed<code_replacement::Purges>, Option<Boxed<release_statuses::ReleasesUndo>>),
     /// The node has restarted.
     OfRestart(Boxed<Displaced>),
 }

@@ -11,7 +11,7 @@ use crate::parts::NodeParts;
 use crate::record::{Displaced, Record};
 use app_table::AppTable;
 use code_replacement::{Purges, revert as revert_code_change, revert_purges};
-use erl_forms::Module;
+use erl_ir::Module;
 use release_statuses::Releases;
 use script_ends::{Finish, Recovery, unfinish, unrecover};
 use script_steps::unstep;
@@ -19,7 +19,7 @@ use std::alloc::Global;
 use values::Boxed;
 
 /// Takes an end of children back, where any ended. Takes no memory.
-pub fn unend(apps: &mut AppTable, undo: Option<Boxed<app_table::Undo>>)
+pub fn unend(apps: &mut AppTable, undo: Option<Boxed<app_table::AppsUndo>>)
     ensures undone { IfSome undo (λ it. apps.new ≡ apps_before it apps.old) }
     ensures none { undo ≡ None → apps.new ≡ apps.old }
 {
@@ -30,7 +30,7 @@ pub fn unend(apps: &mut AppTable, undo: Option<Boxed<app_table::Undo>>)
 }
 
 /// Takes back what was done to processes alone.
-fn revert_processes(parts: &mut NodeParts, undo: process_table::Undo) -> Result<(), Record>
+fn revert_processes(parts: &mut NodeParts, undo: process_table::ProcessesUndo) -> Result<(), Record>
     requires { (before : NodeState) × Undoes (record_of.OfProcesses undo) before (state_of parts.old) }
     ensures { IsTakenBack (record_of.OfProcesses undo) (state_of parts.old) (state_of parts.new) result }
 {
@@ -43,8 +43,8 @@ fn revert_processes(parts: &mut NodeParts, undo: process_table::Undo) -> Result<
 /// Takes back what was done to processes and to their children.
 fn revert_children(
     parts: &mut NodeParts,
-    undo: process_table::Undo,
-    ended: Boxed<app_table::Undo>,
+    undo: process_table::ProcessesUndo,
+    ended: Boxed<app_table::AppsUndo>,
 ) -> Result<(), Record>
     requires { (before : NodeState) × Undoes (record_of.OfChildren undo ended) before (state_of parts.old) }
     ensures { IsTakenBack (record_of.OfChildren undo ended) (state_of parts.old) (state_of parts.new) result }
@@ -59,7 +59,10 @@ fn revert_children(
 }
 
 /// Takes back a load or a purge, and with it the kill of those who lingered, and what it did to their children.
-fn revert_code(parts: &mut NodeParts, undo: Boxed<code_replacement::Undo>) -> Result<(), Record>
+fn revert_code(
+    parts: &mut NodeParts,
+    undo: Boxed<code_replacement::ReplacementUndo>,
+) -> Result<(), Record>
     requires { (before : NodeState) × Undoes (record_of.OfCode undo) before (state_of parts.old) }
     ensures { IsTakenBack (record_of.OfCode undo) (state_of parts.old) (state_of parts.new) result }
 {
@@ -78,7 +81,7 @@ fn revert_code(parts: &mut NodeParts, undo: Boxed<code_replacement::Undo>) -> Re
 /// Takes back a delete.
 fn revert_deletion(
     parts: &mut NodeParts,
-    undo: Boxed<code_server::Undo<Module>>,
+    undo: Boxed<code_server::ModulesUndo<Module>>,
 ) -> Result<(), Record>
     requires { (before : NodeState) × Undoes (record_of.OfDeletion undo) before (state_of parts.old) }
     ensures { IsTakenBack (record_of.OfDeletion undo) (state_of parts.old) (state_of parts.new) result }
@@ -91,7 +94,10 @@ fn revert_deletion(
 }
 
 /// Takes back what was done to the releases.
-fn revert_releases(parts: &mut NodeParts, undo: Boxed<release_statuses::Undo>) -> Result<(), Record>
+fn revert_releases(
+    parts: &mut NodeParts,
+    undo: Boxed<release_statuses::ReleasesUndo>,
+) -> Result<(), Record>
     requires { (before : NodeState) × Undoes (record_of.OfReleases undo) before (state_of parts.old) }
     ensures { IsTakenBack (record_of.OfReleases undo) (state_of parts.old) (state_of parts.new) result }
 {
@@ -118,7 +124,7 @@ fn revert_install(parts: &mut NodeParts) -> Result<(), Record>
 fn revert_instruction(
     parts: &mut NodeParts,
     alloc: Global,
-    undo: Boxed<script_runner::Undo>,
+    undo: Boxed<script_runner::InstructionUndo>,
 ) -> Result<(), Record>
     requires { (before : NodeState) × Undoes (record_of.OfInstruction undo) before (state_of parts.old) }
     ensures { IsTakenBack (record_of.OfInstruction undo) (state_of parts.old) (state_of parts.new) result }
@@ -169,7 +175,10 @@ fn revert_recovery(parts: &mut NodeParts, undo: Boxed<Recovery>) -> Result<(), R
 }
 
 /// The releases have the statuses again that they had before, where these were changed. Takes no memory.
-fn put_statuses_back(releases: &mut Releases, statuses: Option<Boxed<release_statuses::Undo>>)
+fn put_statuses_back(
+    releases: &mut Releases,
+    statuses: Option<Boxed<release_statuses::ReleasesUndo>>,
+)
     requires { (before : List Listing) × ReleasesBack statuses before releases.old }
     ensures { (before : List Listing) → ReleasesBack statuses before releases.old → releases.new ≡ before }
 {
@@ -187,7 +196,7 @@ fn revert_all_purges(
     parts: &mut NodeParts,
     alloc: Global,
     undo: Boxed<Purges>,
-    statuses: Option<Boxed<release_statuses::Undo>>,
+    statuses: Option<Boxed<release_statuses::ReleasesUndo>>,
 ) -> Result<(), Record>
     requires { (before : NodeState) × Undoes (record_of.OfPurges undo statuses) before (state_of parts.old) }
     ensures { IsTakenBack (record_of.OfPurges undo statuses) (state_of parts.old) (state_of parts.new) result }
@@ -234,7 +243,8 @@ fn revert_restart(parts: &mut NodeParts, displaced: Boxed<Displaced>) -> Result<
     Ok(())
 }
 
-/// Takes a step back in the parts of a node. That the parts are those behind the step is the caller's condition; a journal keeps it.
+/// Takes a step back in the parts of a node. That the parts are those behind the step is the caller's condition; a journal
+/// keeps it.
 ///
 /// # Errors
 ///

@@ -90,7 +90,8 @@ pub fn tell_arrivals(
 ) -> Vec<Told<Answer, Note>>
     requires none { told.items ≡ [] }
     requires room { vec_len arrivals ≤ vec_capacity told }
-    ensures { result.items ≡ map (λ it. record { answer = answer.Unit; note = record { replies = []; arrival = Some it } }) arrivals.items }
+    ensures { result.items ≡ map (λ it. record { answer = answer.Unit; note = record { replies = []; arrival = Some it } })
+        arrivals.items }
 {
     let mut told = told;
     for arrival in arrivals {
@@ -111,7 +112,8 @@ pub fn tell_jobs(
 ) -> Vec<Told<Answer, Note>>
     requires none { told.items ≡ [] }
     requires room { vec_len jobs ≤ vec_capacity told }
-    ensures { result.items ≡ map (λ job. record { answer = answer.Job job; note = record { replies = []; arrival = None } }) jobs.items }
+    ensures { result.items ≡ map (λ job. record { answer = answer.Job job; note = record { replies = []; arrival = None } })
+        jobs.items }
 {
     let mut told = told;
     for job in jobs {
@@ -127,7 +129,8 @@ pub fn tell_jobs(
 pub fn tell_done(told: Vec<Told<Answer, Note>>, lists: Vec<Row<Reply>>) -> Vec<Told<Answer, Note>>
     requires none { told.items ≡ [] }
     requires room { vec_len lists ≤ vec_capacity told }
-    ensures { result.items ≡ map (λ replies. record { answer = answer.Unit; note = record { replies = replies; arrival = None } }) lists.items }
+    ensures { result.items ≡ map (λ replies. record
+        { answer = answer.Unit; note = record { replies = replies; arrival = None } }) lists.items }
 {
     let mut told = told;
     for sent in lists {
@@ -139,8 +142,8 @@ pub fn tell_done(told: Vec<Told<Answer, Note>>, lists: Vec<Row<Reply>>) -> Vec<T
     told
 }
 
-/// Tells, as often as there is such a list, that a child runs as the process of a pid, and that these replies were sent. There is room
-/// for it.
+/// Tells, as often as there is such a list, that a child runs as the process of a pid, and that these replies were sent.
+/// There is room for it.
 pub fn tell_revived(
     told: Vec<Told<Answer, Note>>,
     pid: u64,
@@ -148,7 +151,8 @@ pub fn tell_revived(
 ) -> Vec<Told<Answer, Note>>
     requires none { told.items ≡ [] }
     requires room { vec_len lists ≤ vec_capacity told }
-    ensures { result.items ≡ map (λ replies. record { answer = answer.Revived pid; note = record { replies = replies; arrival = None } }) lists.items }
+    ensures { result.items ≡ map (λ replies. record
+        { answer = answer.Revived pid; note = record { replies = replies; arrival = None } }) lists.items }
 {
     let mut told = told;
     for replies in lists {
@@ -160,8 +164,8 @@ pub fn tell_revived(
     told
 }
 
-/// Tells, as often as there is such a list, that an instruction was carried out, and these replies were sent. There is room for it, and
-/// an equal value of the instruction for each.
+/// Tells, as often as there is such a list, that an instruction was carried out, and these replies were sent. There is room
+/// for it, and an equal value of the instruction for each.
 pub fn tell_ran(
     told: Vec<Told<Answer, Note>>,
     instructions: Vec<Low>,
@@ -194,7 +198,8 @@ pub fn tell_swept(
     lists: Vec<Row<Reply>>,
 ) -> Result<Vec<Told<Answer, Note>>, AllocError>
     ensures { IfOk result (λ it. it.items ≡
-        map (λ replies. record { answer = answer.Swept names.now; note = record { replies = replies; arrival = None } }) lists.items) }
+        map (λ replies. record { answer = answer.Swept names.now; note = record { replies = replies; arrival = None } })
+        lists.items) }
 {
     let mut told = Vec::new(alloc);
     for replies in lists {

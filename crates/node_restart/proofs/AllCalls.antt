@@ -11,7 +11,7 @@ use Rattle.process_index.specs.Calls.{AreInOrder, has, is_before, is_same}
 use Rattle.process_index.specs.Standing.{alive_from}
 use Rattle.process_index.specs.declared.calls.Call.{Call}
 use Rattle.process_store.specs.Indexed.{is_asked_by}
-use Rattle.process_store.specs.declared.living.Living.{Living}
+use Rattle.process_store.specs.declared.living.ProcessEntry.{ProcessEntry}
 
 -- the order tells which call is meant, and which comes first
 compared : (c d : Call) → call_cmp c d ≡ cond (is_same c d) Equal (cond (is_before d c) Greater Less)
@@ -66,7 +66,7 @@ pub put_in : (c : Call) (xs : List Call) → AreInOrder xs → IsPutIn c xs (ins
 put_in c xs ordered = put_in_at c xs (has c xs) refl ordered
 
 -- Whoever is asked is one of those who live.
-pub alive_any : (c : Call) (from : ℕ) (slots : List (Option Living)) → list_any (λ (e : ℕ × Living). has c e.1.calls) (alive_from from slots) ≡ list_any (is_asked_by c) slots
+pub alive_any : (c : Call) (from : ℕ) (slots : List (Option ProcessEntry)) → list_any (λ (e : ℕ × ProcessEntry). has c e.1.calls) (alive_from from slots) ≡ list_any (is_asked_by c) slots
 alive_any c from [] = refl
 alive_any c from (None ∷ slots) = alive_any c (suc from) slots
 alive_any c from (Some l ∷ slots) = ap (λ b. has c l.calls || b) (alive_any c (suc from) slots)

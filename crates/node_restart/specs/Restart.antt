@@ -7,7 +7,7 @@ use Rattle.code_server.specs.Modules as code
 use Rattle.code_server.specs.Modules.{Table as Loaded}
 use Rattle.code_server.specs.declared.error.CodeError.{CodeError}
 use Rattle.code_server.specs.declared.error.CodeError.TheVariants.{CounterEnd}
-use Rattle.erl_forms.specs.Module.{Forms}
+use Rattle.erl_ir.specs.Module.{Forms}
 use Rattle.erl_term.specs.declared.term.Term.{Term}
 use Rattle.erl_term.specs.declared.term.Term.TheVariants.{Atom}
 use Rattle.process_effects.specs.Told.{down}

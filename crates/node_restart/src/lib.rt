@@ -7,10 +7,10 @@
 //!
 //! - What boots is the release: its modules, loaded behind the serials that were given, and its applications, started among the
 //!   pids that were given, but for those that fail to start (`RestartsAs`).
-//! - The client of each open call is told that its process has ended because of a restart, in order of client and number, whichever
-//!   process it asked (`AreOpenCalls`, `TellsRestart`).
-//! - A restart is refused just where fewer serials are left than the release has modules (`restart_refusal`), and else only for want
-//!   of memory.
+//! - The client of each open call is told that its process has ended because of a restart, in order of client and number,
+//!   whichever process it asked (`AreOpenCalls`, `TellsRestart`).
+//! - A restart is refused just where fewer serials are left than the release has modules (`restart_refusal`), and else only
+//!   for lack of memory.
 //! - By the rules clients are told one thing ([`restarts_tell_one_thing`]).
 //!
 //! # What no contract says

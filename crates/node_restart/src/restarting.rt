@@ -2,11 +2,11 @@
 ghost use Rattle.std.specs.Prelude.{◌≡◌, ◌+◌, ◌^◌, nat_lt, IfErr, IfOk, None, OnOk, length};
 ghost use Rattle.node_restart.specs.Restart.{RestartsAs, TellsRestart, restart_refusal};
 ghost use Rattle.release_boot.specs.Boot.{modules_of};
-ghost use Rattle.values.specs.Failure.{Tells};
+ghost use Rattle.values.specs.Failure.{TellsFailure};
 
 use crate::open_calls::restart_told;
 use code_server::{CodeError, Modules};
-use erl_forms::Module;
+use erl_ir::Module;
 use process_effects::Reply;
 use process_table::Processes;
 use release_boot::{Booted, restart};
@@ -38,7 +38,7 @@ fn has_serials(last: u64, apps: &[AppFiles]) -> bool
     true
 }
 
-/// Why a restart with a release is refused, but for want of memory: `CounterEnd` where fewer serials are left than the release
+/// Why a restart with a release is refused, but for lack of memory: `CounterEnd` where fewer serials are left than the release
 /// has modules. Takes no memory.
 pub fn restart_refusal(modules: &Modules<Module>, release: &Release) -> Option<CodeError>
     ensures { result ≡ restart_refusal release.now modules.now }
@@ -49,12 +49,13 @@ pub fn restart_refusal(modules: &Modules<Module>, release: &Release) -> Option<C
     Some(CodeError::CounterEnd)
 }
 
-/// What a restart with a release is made of: the release boots behind the serials and the pids that were given, and an application
-/// that fails to start is passed over; the clients of all open calls are told. What runs stays as it is.
+/// What a restart with a release is made of: the release boots behind the serials and the pids that were given, and an
+/// application that fails to start is passed over; the clients of all open calls are told. What runs stays as it is.
 ///
 /// # Errors
 ///
-/// In this order: `CounterEnd` where fewer serials are left than the release has modules, `Memory`, also where every pid was given.
+/// In this order: `CounterEnd` where fewer serials are left than the release has modules, `Memory`, also where every pid
+/// was given.
 pub fn prepare(
     modules: &Modules<Module>,
     processes: &Processes,
@@ -65,7 +66,7 @@ pub fn prepare(
     ensures told { IfOk result (λ it. TellsRestart processes.now it.told.items) }
     ensures boots { IfOk result (λ it.
         RestartsAs release.now modules.now processes.now it.booted.modules it.booted.processes it.booted.apps) }
-    ensures refused { IfErr result (λ failure. Tells failure (restart_refusal release.now modules.now)) }
+    ensures refused { IfErr result (λ failure. TellsFailure failure (restart_refusal release.now modules.now)) }
 {
     if let Some(refusal) = restart_refusal(modules, release) {
         return Err(Failure::Refused(refusal));

@@ -1,6 +1,6 @@
 -- What is accepted is what the rule makes of an event, where nothing stands against it.
 use Rattle.std.proofs.Common.{◌≡◌, Option, None, Some, Ok, Err, refl, sym, subst}
-use Rattle.node_rules.specs.Node.{IsKept, NodeState}
+use Rattle.node_rules.specs.Node.{IsSoundNode, NodeState}
 use Rattle.node_rules.specs.Scripts.{Outcome, UnlessInstalling}
 use Rattle.node_rules.specs.Step.{unless}
 use Rattle.node_types.specs.Note.{Note}
@@ -25,14 +25,14 @@ same_ok a b is = cc
 pub accepted_or_not : (a : Acceptance) (e : Refusal) → accepts a ≡ refuses e → ⊥
 accepted_or_not a e is = cc
 
-pub is_kept : (a b : Acceptance) → a ≡ b → IsKept b.node → IsKept a.node
-is_kept a b is kept = subst (λ (it : Acceptance). IsKept it.node) (sym is) kept
+pub is_kept : (a b : Acceptance) → a ≡ b → IsSoundNode b.node → IsSoundNode a.node
+is_kept a b is kept = subst (λ (it : Acceptance). IsSoundNode it.node) (sym is) kept
 
-pub always : (a b : Acceptance) → accepts a ≡ accepts b → IsKept b.node → IsKept a.node
+pub always : (a b : Acceptance) → accepts a ≡ accepts b → IsSoundNode b.node → IsSoundNode a.node
 always a b is kept = is_kept a b (same_ok a b is) kept
 
 pub accepted : {E : Type 0} (o : Option E) (of : E → Refusal) (b a : Acceptance) → accepts a ≡ unless o of b →
-    (o ≡ None → IsKept b.node) → IsKept a.node
+    (o ≡ None → IsSoundNode b.node) → IsSoundNode a.node
 accepted None of b a is kept = always a b is (kept refl)
 accepted (Some e) of b a is kept = absurd (accepted_or_not a (of e) is)
 

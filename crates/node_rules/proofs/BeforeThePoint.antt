@@ -12,7 +12,7 @@ use Rattle.low_instructions.specs.declared.low.Low.TheVariants.{LoadObjectCode, 
 use Rattle.process_effects.specs.declared.told.Reply.{Reply}
 use Rattle.release_table.specs.declared.table.Release.{Release}
 use Rattle.script_checks.specs.Checks.{any_faulty, bad_script, has_point, is_faulty, is_faulty_at, is_point, is_read, or_missing}
-use Rattle.script_runner.specs.Instructions.{Does}
+use Rattle.script_runner.specs.Instructions.{RunsInstruction}
 use Rattle.script_runner.specs.Parts.{Parts}
 
 -- No instruction of a script that was checked is faulty.
@@ -61,7 +61,7 @@ is_other true past before fine = absurd (behind past before fine)
 is_other false past before fine = refl
 
 leaves : (before : List Low) (r : Release) (i : Low) (p q : Parts) (told : List Reply) → has_point before ≡ false →
-    is_faulty before i ≡ false → Does r i p q told → q.apps ≡ p.apps
+    is_faulty before i ≡ false → RunsInstruction r i p q told → q.apps ≡ p.apps
 leaves before r (LoadObjectCode app vsn ms) p q told none fine does = ap (λ (it : Parts). it.apps) does.1
 leaves before r PointOfNoReturn p q told none fine does = ap (λ (it : Parts). it.apps) does.0
 leaves before r (Load m pre post) p q told none fine does =
@@ -78,7 +78,7 @@ pub record IsBefore (script : List Low) (place : ℕ) (p q : Parts) : Type 0 whe
 
 pub before_point : (r : Release) (script : List Low) (place : ℕ) (i : Low) (p q : Parts) (told : List Reply) →
     bad_script script ≡ None → slice_get script place ≡ Some i → has_point (take (place + 1) script) ≡ false →
-    Does r i p q told → IsBefore script place p q
+    RunsInstruction r i p q told → IsBefore script place p q
 before_point r script place i p q told checked at none does =
     let before = no_point script place i at none in
     record {

@@ -10,8 +10,8 @@ use Rattle.code_loading.specs.Consistent.{IsConsistent}
 use Rattle.code_loading.specs.Current.{current_code}
 use Rattle.code_loading.specs.Laws.{StartsIn}
 use Rattle.code_server.specs.Modules as code_tables
-use Rattle.code_server.specs.Modules.{IsSound, Table as Loaded, load_refusal, loaded, old_of, place_of, purged}
-use Rattle.erl_forms.specs.Module.{Forms}
+use Rattle.code_server.specs.Modules.{IsModuleTable, Table as Loaded, load_refusal, loaded, old_of, place_of, purged}
+use Rattle.erl_ir.specs.Module.{Forms}
 use Rattle.erl_semantics.specs.State.{World, plain, start_mode}
 use Rattle.erl_semantics.specs.Views.{instance}
 use Rattle.erl_semantics.specs.declared.instance.Instance.{Instance}
@@ -20,7 +20,7 @@ use Rattle.erl_term.specs.Term.{tree}
 use Rattle.erl_term.specs.Tree.{none, more}
 use Rattle.node_rules.proofs.Emptied.{IsVacant, emptied_is_vacant, nobody, restarted_is_sound, vacant_is_consistent}
 use Rattle.node_rules.proofs.Starting.{all_as_each, each_starts_live}
-use Rattle.node_rules.specs.Node.{IsKept, NodeState}
+use Rattle.node_rules.specs.Node.{IsSoundNode, NodeState}
 use Rattle.node_rules.specs.Scripts.{IsRestarted}
 use Rattle.otp_files.specs.declared.app.StartModule.{StartModule}
 use Rattle.process.specs.Named.{StandsIn}
@@ -34,7 +34,7 @@ use Rattle.release_table.specs.declared.table.Release.{Release}
 use Rattle.sys_protocol.specs.AppStarts.{InitGives, initialized}
 use Rattle.sys_protocol.specs.ChildStarts as children
 use Rattle.sys_protocol.specs.ChildStarts.{Gives, after_start, named_by}
-use Rattle.sys_protocol.specs.Refusals.{Runs, module_of}
+use Rattle.sys_protocol.specs.Refusals.{RunsStartModule, module_of}
 
 -- what a start function gives, and `init` of a callback module, is of the code in which it was evaluated
 
@@ -62,7 +62,7 @@ module _ (m : Loaded Forms) (code : List Instance) (stand : All (StandsIn m) (ma
       children_keep cs (after_start code o t) pids after others rest here
 
   runs_keep : (o : Option StartModule) (t : Table) (children : List Child) (after : Table) (told : List Reply) →
-      Runs code o t children after told → IsConsistent m t → IsConsistent m after
+      RunsStartModule code o t children after told → IsConsistent m t → IsConsistent m after
   runs_keep None t children after told runs kept = subst (λ (u : Table). IsConsistent m u) (sym runs.1) kept
   runs_keep (Some sm) t children after told runs kept =
       let begins = init_begins code sm runs.outcome runs.gives in
@@ -94,7 +94,7 @@ started_node m t apps releases = record {
 }
 
 started_is_kept : (r : Release) (before m : Loaded Forms) (t after : Table) (apps : List Application) (releases : List Listed) →
-    IsVacant t → Restarts r before t m after apps → IsSound m → IsKept (started_node m after apps releases)
+    IsVacant t → Restarts r before t m after apps → IsModuleTable m → IsSoundNode (started_node m after apps releases)
 started_is_kept r before m t after apps releases vacant restarts sound =
     let names = to_start r.rel.apps in
     let code = current_code m in
@@ -108,18 +108,18 @@ started_is_kept r before m t after apps releases vacant restarts sound =
     }
 
 pub booted_is_kept : (r : Release) (m : Loaded Forms) (t : Table) (apps : List Application) (releases : List Listed) →
-    Boots r m t apps → IsSound m → IsKept (started_node m t apps releases)
+    Boots r m t apps → IsModuleTable m → IsSoundNode (started_node m t apps releases)
 booted_is_kept r m t apps releases boots sound =
     let code = current_code (boot_modules r code_tables.empty_table) in
     let starts = all_as_each code (to_start r.rel.apps) (boot_apps r) no_processes apps t boots.1 in
     started_is_kept r code_tables.empty_table m no_processes t apps releases nobody (boots.0, starts) sound
 
-pub restarted_is_kept : (r : Release) (releases : List Listed) (n after : NodeState) (told : List Reply) → IsSound n.modules →
-    IsRestarted r releases n after told → IsKept after
+pub restarted_is_kept : (r : Release) (releases : List Listed) (n after : NodeState) (told : List Reply) → IsModuleTable n.modules →
+    IsRestarted r releases n after told → IsSoundNode after
 restarted_is_kept r releases n after told sound it =
     let m = code_tables.emptied n.modules in
     let t = process_tables.emptied n.processes in
-    let fresh = subst IsSound (sym it.boots.0) (restarted_is_sound r n.modules sound it.unrefused) in
+    let fresh = subst IsModuleTable (sym it.boots.0) (restarted_is_sound r n.modules sound it.unrefused) in
     let vacant = emptied_is_vacant n.processes in
     let kept = started_is_kept r m after.modules t after.processes after.apps releases vacant it.boots fresh in
-    subst IsKept (sym it.is) kept
+    subst IsSoundNode (sym it.is) kept

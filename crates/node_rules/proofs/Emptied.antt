@@ -10,16 +10,16 @@ use Rattle.code_loading.proofs.Consistency.{load_keeps, sound_purged}
 use Rattle.code_loading.proofs.Emptied.{own_purged}
 use Rattle.code_loading.specs.Consistent.{Enters, IsConsistent}
 use Rattle.code_server.specs.Modules as code_tables
-use Rattle.code_server.specs.Modules.{IsSound, Table as Loaded, load_refusal, loaded, old_of, place_of, purged}
+use Rattle.code_server.specs.Modules.{IsModuleTable, Table as Loaded, load_refusal, loaded, old_of, place_of, purged}
 use Rattle.code_server.specs.declared.error.CodeError.TheVariants.{CounterEnd, NotPurged}
 use Rattle.code_server.specs.declared.modules.Instance as held
-use Rattle.erl_forms.specs.Module.{Forms}
+use Rattle.erl_ir.specs.Module.{Forms}
 use Rattle.node_restart.specs.Restart.{restart_refusal}
 use Rattle.process_effects.specs.Ends.{Stands}
 use Rattle.process_store.proofs.Slots.{living_vacant}
 use Rattle.process_store.specs.Table as process_tables
 use Rattle.process_store.specs.Table.{Table, empty_table as no_processes, living, next_pid}
-use Rattle.process_store.specs.declared.living.Living.{Living}
+use Rattle.process_store.specs.declared.living.ProcessEntry.{ProcessEntry}
 use Rattle.release_boot.specs.Boot.{all_loaded, boot_modules, modules_of}
 use Rattle.release_table.specs.declared.table.Release.{Release}
 
@@ -28,10 +28,10 @@ use Rattle.release_table.specs.declared.table.Release.{Release}
 abbrev pub IsVacant : Table → Type 0
 IsVacant t = (pid : ℕ) → living pid t ≡ None
 
-of_nobody : (P : Living → Type 0) (t : Table) → IsVacant t → (pid : ℕ) → IfSome (living pid t) P
-of_nobody P t vacant pid = subst (λ (o : Option Living). IfSome o P) (sym (vacant pid)) tt
+of_nobody : (P : ProcessEntry → Type 0) (t : Table) → IsVacant t → (pid : ℕ) → IfSome (living pid t) P
+of_nobody P t vacant pid = subst (λ (o : Option ProcessEntry). IfSome o P) (sym (vacant pid)) tt
 
-pub vacant_is_consistent : (m : Loaded Forms) (t : Table) → IsVacant t → IsSound m → IsConsistent m t
+pub vacant_is_consistent : (m : Loaded Forms) (t : Table) → IsVacant t → IsModuleTable m → IsConsistent m t
 vacant_is_consistent m t vacant sound = record {
   sound = sound;
   stand = of_nobody (λ l. Stands m l.process) t vacant;
@@ -51,7 +51,7 @@ unrefused : (o : Option (held.Instance Forms)) (at_end : Bool) → o ≡ None �
     (if is_some o then Some NotPurged else (if at_end then Some CounterEnd else None)) ≡ None
 unrefused o at_end no_old left = (λ i. if is_some (no_old i) then Some NotPurged else (if left i then Some CounterEnd else None))
 
-loaded_is_sound : (m : Forms) (t : Loaded Forms) → IsSound t → t.next < 2 ^ 64 → IsSound (loaded m.name m (purged m.name t))
+loaded_is_sound : (m : Forms) (t : Loaded Forms) → IsModuleTable t → t.next < 2 ^ 64 → IsModuleTable (loaded m.name m (purged m.name t))
 loaded_is_sound m t sound below =
     let mid = purged m.name t in
     let kept = vacant_is_consistent mid no_processes nobody (sound_purged m.name t (place_of m.name t.entries) sound refl) in
@@ -59,7 +59,7 @@ loaded_is_sound m t sound below =
     let fine = unrefused (old_of m.name mid) (t.next == 2 ^ 64) (own_purged m.name t sound) left in
     (load_keeps m.name m mid no_processes kept fine).sound
 
-all_loaded_is_sound : (ms : List Forms) (t : Loaded Forms) → IsSound t → t.next + length ms ≤ 2 ^ 64 → IsSound (all_loaded ms t)
+all_loaded_is_sound : (ms : List Forms) (t : Loaded Forms) → IsModuleTable t → t.next + length ms ≤ 2 ^ 64 → IsModuleTable (all_loaded ms t)
 all_loaded_is_sound [] t sound room = sound
 all_loaded_is_sound (m ∷ ms) t sound room =
     let next = loaded m.name m (purged m.name t) in
@@ -73,7 +73,7 @@ within n max unrefused =
     fits true is = absurd (none-some CounterEnd (sym is))
     fits false is = refl
 
-emptied_is_sound : (m : Loaded Forms) → IsSound m → IsSound (code_tables.emptied m)
+emptied_is_sound : (m : Loaded Forms) → IsModuleTable m → IsModuleTable (code_tables.emptied m)
 emptied_is_sound m sound = record {
   distinct = IsDistinct-from_apart bytes_eq [] (λ i j d below within. absurd (omega (arith, within)));
   with_code = λ k d below. absurd (omega (arith, below));
@@ -82,8 +82,8 @@ emptied_is_sound m sound = record {
   counted = sound.counted;
 }
 
-pub restarted_is_sound : (r : Release) (m : Loaded Forms) → IsSound m → restart_refusal r m ≡ None →
-    IsSound (boot_modules r (code_tables.emptied m))
+pub restarted_is_sound : (r : Release) (m : Loaded Forms) → IsModuleTable m → restart_refusal r m ≡ None →
+    IsModuleTable (boot_modules r (code_tables.emptied m))
 restarted_is_sound r m sound unrefused =
     let room = within (m.next + length (modules_of r.apps)) (2 ^ 64) unrefused in
     all_loaded_is_sound (modules_of r.apps) (code_tables.emptied m) (emptied_is_sound m sound) room

@@ -28,16 +28,16 @@ pub committed_live : (done : Done) (t : Table) (apps : List Application) → Chi
 committed_live done t apps kept = concluded_live done.job done.outcome.acts done.outcome.end t apps kept
 
 -- What holds of what runs: each instance that a process uses is its module's, and each child that runs is a process of its own.
-pub record Runs (s : RunningSystem) : Type 0 where
+pub record IsSoundSystem (s : RunningSystem) : Type 0 where
   pub consistent : IsConsistent s.modules s.processes
   pub children : ChildrenLive s.apps s.processes
 
-pub one_without : (name : List ℕ) (s : RunningSystem) → Runs s → Runs (without_lingering name s)
+pub one_without : (name : List ℕ) (s : RunningSystem) → IsSoundSystem s → IsSoundSystem (without_lingering name s)
 one_without name s runs = record {
   consistent = loading_keeps_code.purges name s.modules s.processes runs.consistent;
   children = ends_keep_children.spares name s.modules s.apps s.processes runs.children;
 }
 
-pub purges_keep : (names : List (List ℕ)) (s : RunningSystem) → Runs s → Runs (all_without names s)
+pub purges_keep : (names : List (List ℕ)) (s : RunningSystem) → IsSoundSystem s → IsSoundSystem (all_without names s)
 purges_keep [] s runs = runs
 purges_keep (name ∷ names) s runs = purges_keep names (without_lingering name s) (one_without name s runs)

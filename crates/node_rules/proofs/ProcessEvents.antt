@@ -8,7 +8,7 @@ use Rattle.app_table.specs.Children.{is_due}
 use Rattle.app_table.specs.declared.child.Child.{Child}
 use Rattle.code_loading.specs.Current.{current_code}
 use Rattle.code_server.specs.Modules.{Table as Loaded}
-use Rattle.erl_forms.specs.Module.{Forms}
+use Rattle.erl_ir.specs.Module.{Forms}
 use Rattle.erl_semantics.specs.Views.{instance}
 use Rattle.erl_semantics.specs.declared.instance.Instance.{Instance}
 use Rattle.erl_semantics.specs.declared.jobs.Done.{Done}
@@ -27,13 +27,13 @@ use Rattle.process_effects.specs.Commits.{IsRunning, job_at}
 use Rattle.process_effects.specs.declared.told.Reply.{Reply}
 use Rattle.process_store.specs.Changes.{CanTurnAt}
 use Rattle.process_store.specs.Table.{Table, living}
-use Rattle.process_store.specs.declared.living.Living.{Living}
+use Rattle.process_store.specs.declared.living.ProcessEntry.{ProcessEntry}
 use Rattle.process_table.specs.Commit.{RefusesCommit}
 use Rattle.process_table.specs.Steps.{IsCode, IsCodeOf, entered, taken}
 use Rattle.process_table.specs.declared.error.ProcError.{ProcError}
 use Rattle.process_table.specs.declared.error.ProcError.TheVariants as proc
 use Rattle.sys_protocol.proofs.ChildrenOneWay.{fails-once, gives-once, never_starts}
-use Rattle.sys_protocol.specs.ChildStarts.{Fails, Restarts, Starts, after_start, start_told}
+use Rattle.sys_protocol.specs.ChildStarts.{Fails, Restarts, StartsChild, after_start, start_told}
 use Rattle.sys_protocol.specs.Refusals.{RefusesRevive}
 use Rattle.sys_protocol.specs.declared.error.SysError.{SysError}
 use Rattle.sys_protocol.specs.declared.error.SysError.TheVariants as sys
@@ -55,7 +55,7 @@ one_code m (Some i) s z c d first second =
     let same = IsJobCode-one m (instance i) (map instance c) (map instance d) first.1 second.1 in
     (first.0 ∙ sym second.0, same_code c d same)
 
-one_code_of : (m : Loaded Forms) (o : Option Living) (j k : Job) → IsCodeOf m o j → IsCodeOf m o k →
+one_code_of : (m : Loaded Forms) (o : Option ProcessEntry) (j k : Job) → IsCodeOf m o j → IsCodeOf m o k →
     (j.entry_serial ≡ k.entry_serial) × (j.code ≡ k.code)
 one_code_of m None j k first second = absurd first
 one_code_of m (Some l) j k first second =
@@ -173,7 +173,7 @@ one_unrevived code name id apps t _ _ (failed c reason here due fails) (failed d
 starts_or_fails : (code : List Instance) (c d : Child) (t after : Table) (pid : ℕ) (told : List Reply) (reason : Term) → c ≡ d →
     Restarts code c.spec t pid after told → Fails code d.spec t reason → ⊥
 starts_or_fails code c d t after pid told reason same restarts fails =
-    let starts = subst (λ x. Starts code x.spec t restarts.1.0) same restarts.1.1 in
+    let starts = subst (λ x. StartsChild code x.spec t restarts.1.0) same restarts.1.1 in
     never_starts code d.spec t restarts.1.0 reason starts fails
 
 never_revived : (app : List ℕ) (id : Term) (n : NodeState) (a : Accepted NodeState Answer Note) (e : SysError) →
@@ -189,7 +189,7 @@ never_revived app id n a _ it (failed d reason there due fails) =
 one_restart : (code : List Instance) (c d : Child) (t u v : Table) (p q : ℕ) (told other : List Reply) → c ≡ d →
     Restarts code c.spec t p u told → Restarts code d.spec t q v other → (p ≡ q) × (u ≡ v) × (told ≡ other)
 one_restart code c d t u v p q told other same first second =
-    let starts = subst (λ x. Starts code x.spec t first.1.0) same first.1.1 in
+    let starts = subst (λ x. StartsChild code x.spec t first.1.0) same first.1.1 in
     let o = gives-once code d.spec t first.1.0 second.1.0 starts.gives second.1.1.gives in (
       first.0 ∙ sym second.0,
       first.1.2 ∙ ap (λ x. after_start code x t) o ∙ sym second.1.2,

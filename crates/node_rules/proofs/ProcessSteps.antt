@@ -12,7 +12,7 @@ use Rattle.node_rules.proofs.Booting.{child_begins}
 use Rattle.node_rules.proofs.Keeping.{committed_live}
 use Rattle.node_rules.proofs.Scripts.{same_specs}
 use Rattle.node_rules.proofs.Specifications.{ended_by-specs, revived-specs}
-use Rattle.node_rules.specs.Node.{IsKept, NodeState, with_processes}
+use Rattle.node_rules.specs.Node.{IsSoundNode, NodeState, with_processes}
 use Rattle.node_rules.specs.Scripts.{reporting}
 use Rattle.node_rules.specs.Step.{Commits, IsRevived, Takes, arrived, ended_by, revived_as, run_taken}
 use Rattle.node_types.specs.Note.{Note}
@@ -22,11 +22,11 @@ use Rattle.process_store.specs.Table.{Table}
 use Rattle.process_table.specs.Commit.{commit_told, committed}
 use Rattle.process_table.specs.Messages.{arrival_of, message_of}
 use Rattle.process_table.specs.Steps.{after_arrival, arrive_refusal, kind_of}
-use Rattle.process_table.specs.declared.body.Body.{Body}
+use Rattle.process_table.specs.declared.body.ClientMessage.{ClientMessage}
 use Rattle.sys_protocol.specs.ChildStarts.{named_by}
 
-pub arrive_keeps : (client : ℕ) (name : List ℕ) (body : Body) (n : NodeState) (a : Acceptance) →
-    accepts a ≡ arrived client name body n → IsKept n → IsKept a.node
+pub arrive_keeps : (client : ℕ) (name : List ℕ) (body : ClientMessage) (n : NodeState) (a : Acceptance) →
+    accepts a ≡ arrived client name body n → IsSoundNode n → IsSoundNode a.node
 arrive_keeps client name body n a is kept =
     let note : Note = record { replies = []; arrival = arrival_of name (message_of body) } in
     let t = after_arrival client name body n.processes in
@@ -37,7 +37,7 @@ arrive_keeps client name body n a is kept =
       script = kept.script;
     })
 
-pub take_keeps : (pid : ℕ) (n : NodeState) (a : Acceptance) → Takes pid n (Ok a) → IsKept n → IsKept a.node
+pub take_keeps : (pid : ℕ) (n : NodeState) (a : Acceptance) → Takes pid n (Ok a) → IsSoundNode n → IsSoundNode a.node
 take_keeps pid n a (job, unrefused, code, runs, is) kept =
     let made : Acceptance = record { node = run_taken pid job n; answer = answer.Job job; note = reporting [] } in
     is_kept a made is (record {
@@ -46,7 +46,7 @@ take_keeps pid n a (job, unrefused, code, runs, is) kept =
       script = kept.script;
     })
 
-pub commit_keeps : (done : Done) (n : NodeState) (a : Acceptance) → Commits done n (Ok a) → IsKept n → IsKept a.node
+pub commit_keeps : (done : Done) (n : NodeState) (a : Acceptance) → Commits done n (Ok a) → IsSoundNode n → IsSoundNode a.node
 commit_keeps done n a (can, is) kept =
     let apps = ended_by done.job.pid done.outcome.end n.apps in
     let node : NodeState = record n { processes = committed done n.processes; apps = apps } in
@@ -58,7 +58,7 @@ commit_keeps done n a (can, is) kept =
       script = same_specs n.runner n.releases n.apps apps specs kept.script;
     })
 
-pub revive_keeps : (app : List ℕ) (id : Term) (n : NodeState) (a : Acceptance) → IsRevived app id n a → IsKept n → IsKept a.node
+pub revive_keeps : (app : List ℕ) (id : Term) (n : NodeState) (a : Acceptance) → IsRevived app id n a → IsSoundNode n → IsSoundNode a.node
 revive_keeps app id n a it kept =
     let m = n.modules in
     let t = n.processes in

@@ -4,7 +4,7 @@ use Rattle.std.proofs.lemmas.Option.{none-some, same_Some}
 use Rattle.app_table.specs.Applications.{Application}
 use Rattle.code_server.specs.Modules as code
 use Rattle.code_server.specs.Modules.{Table as Loaded}
-use Rattle.erl_forms.specs.Module.{Forms}
+use Rattle.erl_ir.specs.Module.{Forms}
 use Rattle.node_restart.proofs.Telling.{restarts_tell_one_thing}
 use Rattle.node_restart.specs.Restart.{restart_refusal}
 use Rattle.node_rules.proofs.Accepting.{Acceptance}

@@ -25,7 +25,7 @@ use Rattle.release_statuses.specs.declared.error.RelError.{RelError}
 use Rattle.release_statuses.specs.declared.listed.Listed.{Listed}
 use Rattle.release_table.specs.declared.table.Release.{Release}
 use Rattle.script_checks.specs.Checks.{bad_script}
-use Rattle.script_runner.specs.Instructions.{Does}
+use Rattle.script_runner.specs.Instructions.{RunsInstruction}
 use Rattle.script_runner.specs.Parts.{Parts}
 use Rattle.script_state.specs.Runner.{RunnerState, begun}
 use Rattle.undo_journal.specs.Reversible.{Accepted}
@@ -82,7 +82,7 @@ script_begins vsn n a it = record {
 
 -- It goes on by an instruction, which leaves applications as they are before the point.
 pub script_goes_on : (s : RunnerState) (r : Release) (i : Low) (n : NodeState) (p : Parts) (told : List Reply) →
-    next_in s ≡ Some i → Does r i (parts_in s n) p told → IsInstalling s n.releases n.apps →
+    next_in s ≡ Some i → RunsInstruction r i (parts_in s n) p told → IsInstalling s n.releases n.apps →
     IsInstalling (gone_on p s) n.releases p.apps
 script_goes_on s r i n p told next does runs = record {
   known = runs.known;

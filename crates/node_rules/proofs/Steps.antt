@@ -6,13 +6,13 @@ use Rattle.node_rules.proofs.CodeSteps.{delete_keeps, load_keeps, permanent_keep
 use Rattle.node_rules.proofs.ProcessSteps.{arrive_keeps, commit_keeps, revive_keeps, take_keeps}
 use Rattle.node_rules.proofs.ScriptSteps.{advance_keeps, install_keeps, reboot_keeps}
 use Rattle.node_rules.specs.Laws.{StepsKeep}
-use Rattle.node_rules.specs.Node.{IsKept, NodeState}
+use Rattle.node_rules.specs.Node.{IsSoundNode, NodeState}
 use Rattle.node_rules.specs.Scripts.{Installs, MakesPermanent, RebootsOld}
 use Rattle.node_rules.specs.Step.{Step, deletes, loads, purges, release_removed, soft_purges}
 use Rattle.node_types.specs.declared.event.Event.{Event}
 use Rattle.node_types.specs.declared.event.Event.TheVariants.{Arrive, Take, Commit, Revive, Load, Delete, Purge, SoftPurge, SetUnpacked, Remove, Install, Advance, MakePermanent, RebootOld, Sweep}
 
-pub step_keeps : (n : NodeState) (e : Event) (a : Acceptance) → Step n e (Ok a) → IsKept n → IsKept a.node
+pub step_keeps : (n : NodeState) (e : Event) (a : Acceptance) → Step n e (Ok a) → IsSoundNode n → IsSoundNode a.node
 step_keeps n (Arrive client name body) a step kept = arrive_keeps client name body n a step kept
 step_keeps n (Take pid) a step kept = take_keeps pid n a step kept
 step_keeps n (Commit done) a step kept = commit_keeps done n a step kept

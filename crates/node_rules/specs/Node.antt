@@ -1,7 +1,7 @@
 -- A node: its modules, its processes, its applications and its releases; the old code that is to be purged later, and the script
 -- that it runs, if it runs one.
 use Rattle.std.specs.Prelude.{◌≡◌, false, IsSome, List, take, Option, None, Some}
-use Rattle.erl_forms.specs.Module.{Forms}
+use Rattle.erl_ir.specs.Module.{Forms}
 use Rattle.children_live.specs.Children.{ChildrenLive}
 use Rattle.code_loading.specs.Consistent.{IsConsistent}
 use Rattle.code_server.specs.Modules.{Table as Loaded}
@@ -34,10 +34,10 @@ abbrev pub RunsScript : Option RunnerState → List Listed → List Application 
 RunsScript None releases apps = Unit {0}
 RunsScript (Some r) releases apps = IsInstalling r releases apps
 
--- What every node keeps: modules differ in name, each has one or two instances, whose serials differ, each instance that a process uses
--- is its module's current or old code, and one that rests in a loop function uses that which its place names; each child that runs is
--- a process that lives, and no two are one; and of a script that runs what stands above.
-pub record IsKept (n : NodeState) : Type 0 where
+-- What every node keeps: modules differ in name, each has one or two instances, whose serials differ, each instance that a
+-- process uses is its module's current or old code, and one that rests in a loop function uses that which its place names;
+-- each child that runs is a process that lives, and no two are one; and of a script that runs what stands above.
+pub record IsSoundNode (n : NodeState) : Type 0 where
   pub consistent : IsConsistent n.modules n.processes
   pub children : ChildrenLive n.apps n.processes
   pub script : RunsScript n.runner n.releases n.apps

@@ -1,9 +1,10 @@
--- Events of the release handler: a script begins, goes on by one instruction, and ends; the node restarts; old code that scripts have
--- left is purged (release_handler(3), install_release/1, make_permanent/1, reboot_old_release/1; relup(4); appup(4), PostPurge).
+-- Events of the release handler: a script begins, goes on by one instruction, and ends; the node restarts; old code that
+-- scripts have left is purged (release_handler(3), install_release/1, make_permanent/1, reboot_old_release/1; relup(4);
+-- appup(4), PostPurge).
 use Rattle.std.specs.Prelude.{◌≡◌, ◌⊎◌, ◌+◌, ℕ, Bool, true, false, IsSome, List, [], length, take, Option, None, Some, slice_get, option_map, Result, Ok, Err}
 use Rattle.app_table.specs.Changes.{specs_set}
 use Rattle.app_table.specs.Undo.{Fits}
-use Rattle.code_loading.specs.Purging.{all_purge_told}
+use Rattle.code_loading.specs.Purging.{downs_of_purges}
 use Rattle.code_replacement.specs.Replacing.{RunningSystem, all_without, running}
 use Rattle.erl_term.specs.declared.term.Term.{Term}
 use Rattle.install_checks.specs.Installing.{install_refusal, script_to}
@@ -23,7 +24,7 @@ use Rattle.release_table.specs.declared.table.Release.{Release}
 use Rattle.release_words.specs.declared.purge.Purge.TheVariants.{Brutal}
 use Rattle.script_checks.specs.Checks.{has_point}
 use Rattle.script_ends.specs.Ends.{apps_recovered, processes_finished, releases_finished}
-use Rattle.script_runner.specs.Instructions.{Does, Fails, IsAtEnd, busy_of}
+use Rattle.script_runner.specs.Instructions.{RunsInstruction, Fails, IsAtEnd, busy_of}
 use Rattle.script_runner.specs.Parts.{Parts}
 use Rattle.script_state.specs.Runner.{RunnerState, begun}
 use Rattle.script_steps.specs.declared.stepping.NoStep.{NoStep}
@@ -46,8 +47,8 @@ Outcome = Result (Accepted NodeState Answer Note) Refusal
 abbrev pub reporting : List Reply → Note
 reporting replies = record { replies = replies; arrival = None }
 
--- While a script runs these events are refused, whatever else stands against them: a removal of a release, loads, deletions and purges of
--- code, another install, a release that is made permanent, and a restart with an old one.
+-- While a script runs these events are refused, whatever else stands against them: a removal of a release, loads, deletions
+-- and purges of code, another install, a release that is made permanent, and a restart with an old one.
 
 abbrev pub UnlessInstalling : Option RunnerState → (Outcome → Type 0) → Outcome → Type 0
 UnlessInstalling None IsOutcome r = IsOutcome r
@@ -58,7 +59,8 @@ abbrev pub unless_installing : Option RunnerState → Option Refusal → Option 
 unless_installing None e = e
 unless_installing (Some s) e = Some refusal.Installing
 
--- Install: the script to the release is found and checked, the specifications of the release are put in place, and the script is to run.
+-- Install: the script to the release is found and checked, the specifications of the release are put in place, and the
+-- script is to run.
 
 abbrev pub begun_as : Release → Entry Term Low → NodeState → Accepted NodeState Answer Note
 begun_as r entry n = record {
@@ -120,8 +122,8 @@ next_in s = slice_get s.script s.progress.next
 abbrev pub target_in : RunnerState → NodeState → Option Release
 target_in s n = option_map (λ it. it.release) (listed s.target n.releases)
 
--- Restarted: a release boots in place of what runs, behind the serials and the pids that were given. No code is left to be purged, and no
--- script runs. The statuses of the releases are these.
+-- Restarted: a release boots in place of what runs, behind the serials and the pids that were given. No code is left to be
+-- purged, and no script runs. The statuses of the releases are these.
 pub record IsRestarted (r : Release) (releases : List Listed) (n after : NodeState) (told : List Reply) : Type 0 where
   pub unrefused : restart_refusal r n.modules ≡ None
   pub tells : TellsRestart n.processes told
@@ -135,10 +137,10 @@ pub record IsRestarted (r : Release) (releases : List Listed) (n after : NodeSta
     runner = None;
   }
 
--- Advance. Behind its last instruction the script is finished: the processes that it has suspended, and not resumed, are resumed, and the
--- release is current, or stays permanent. An instruction is carried out; or it fails. Before the point of no return the script is given
--- up then, and the specifications are as before the install; behind it the node restarts with the permanent release, and what was
--- current is old.
+-- Advance. Behind its last instruction the script is finished: the processes that it has suspended, and not resumed, are
+-- resumed, and the release is current, or stays permanent. An instruction is carried out; or it fails. Before the point of
+-- no return the script is given up then, and the specifications are as before the install; behind it the node restarts with
+-- the permanent release, and what was current is old.
 
 abbrev pub finished_as : RunnerState → NodeState → Accepted NodeState Answer Note
 finished_as s n = record {
@@ -179,10 +181,11 @@ GivesUp true reason s n a = FallsBack reason n a
 abbrev pub is_past : RunnerState → Bool
 is_past s = has_point (take s.progress.next s.script)
 
-pub record IsCarriedOut (r : Release) (i : Low) (s : RunnerState) (n : NodeState) (a : Accepted NodeState Answer Note) : Type 0 where
+pub record IsCarriedOut (r : Release) (i : Low) (s : RunnerState) (n : NodeState) (a : Accepted NodeState Answer Note)
+    : Type 0 where
   pub parts : Parts
   pub told : List Reply
-  pub does : Does r i (parts_in s n) parts told
+  pub does : RunsInstruction r i (parts_in s n) parts told
   pub is : a ≡ record { node = with_parts parts s n; answer = answer.Ran i; note = reporting told }
 
 pub record HasFailed (r : Release) (i : Low) (s : RunnerState) (n : NodeState) (a : Accepted NodeState Answer Note) : Type 0 where
@@ -190,8 +193,8 @@ pub record HasFailed (r : Release) (i : Low) (s : RunnerState) (n : NodeState) (
   pub fails : Fails r i (parts_in s n) reason
   pub gives_up : GivesUp (is_past s) reason s n a
 
--- Or the event is refused: a process runs that is to be suspended, unless waiting is given up; or a number can't be counted further, by
--- the instruction, or by the restart that its failure asks for.
+-- Or the event is refused: a process runs that is to be suspended, unless waiting is given up; or a number can't be counted
+-- further, by the instruction, or by the restart that its failure asks for.
 
 pub record CannotRestart (r : Release) (i : Low) (s : RunnerState) (n : NodeState) : Type 0 where
   pub reason : Term
@@ -247,8 +250,8 @@ CanHalt (Failed Before reason) s n = Fits s.former n.apps
 CanHalt (Failed Behind reason) s n = Unit {0}
 CanHalt no_step.CounterEnd s n = Unit {0}
 
--- Why it is refused, as that is told without memory: no script runs, or somebody has to be waited for. That what is evaluated fails is
--- told only after evaluating, which takes memory.
+-- Why it is refused, as that is told without memory: no script runs, or somebody has to be waited for. That what is
+-- evaluated fails is told only after evaluating, which takes memory.
 
 abbrev pub busy_by : Option Low → Bool → RunnerState → NodeState → Option ℕ
 busy_by None give_up s n = None
@@ -269,8 +272,8 @@ running_in n = running n.modules n.processes n.apps
 abbrev pub with_running : RunningSystem → NodeState → NodeState
 with_running s n = record n { modules = s.modules; processes = s.processes; apps = s.apps }
 
--- Make permanent: the modules are purged whose old code is noted to be purged brutally, one after the other in the order of their names,
--- and the release is permanent. Where it is permanent already nothing changes.
+-- Make permanent: the modules are purged whose old code is noted to be purged brutally, one after the other in the order of
+-- their names, and the release is permanent. Where it is permanent already nothing changes.
 
 abbrev pub ArePurged : Bool → NodeState → List (List ℕ) → Type 0
 ArePurged true n names = names ≡ []
@@ -280,7 +283,7 @@ abbrev pub permanent_as : List ℕ → List (List ℕ) → NodeState → Accepte
 permanent_as vsn names n = record {
   node = record (with_running (all_without names (running_in n)) n) { releases = made_permanent vsn n.releases };
   answer = answer.Unit;
-  note = reporting (all_purge_told names n.modules n.processes);
+  note = reporting (downs_of_purges names n.modules n.processes);
 }
 
 abbrev pub MakesPermanent : List ℕ → NodeState → Outcome → Type 0
@@ -288,14 +291,14 @@ MakesPermanent vsn n (Err e) = (it : RelError) × (permanent_refusal vsn n.relea
 MakesPermanent vsn n (Ok a) = (permanent_refusal vsn n.releases ≡ None) × (names : List (List ℕ)) ×
     ArePurged (is_permanent (status_of vsn n.releases)) n names × (a ≡ permanent_as vsn names n)
 
--- Sweep: the modules are purged whose old code is noted to be purged softly, and in which nobody lingers, in the order of their names. So
--- nobody is killed, and no client is told anything.
+-- Sweep: the modules are purged whose old code is noted to be purged softly, and in which nobody lingers, in the order of
+-- their names. So nobody is killed, and no client is told anything.
 
 abbrev pub swept_as : List (List ℕ) → NodeState → Accepted NodeState Answer Note
 swept_as names n = record {
   node = with_running (all_without names (running_in n)) n;
   answer = answer.Swept names;
-  note = reporting (all_purge_told names n.modules n.processes);
+  note = reporting (downs_of_purges names n.modules n.processes);
 }
 
 abbrev pub Sweeps : NodeState → Outcome → Type 0

@@ -1,6 +1,6 @@
 -- What an event does to a node, or why it is refused: one clause an event.
 use Rattle.std.specs.Prelude.{◌≡◌, ℕ, true, if◌then◌else◌, List, [], ◌∷◌, Option, None, Some, Ok, Err}
-use Rattle.erl_forms.specs.Module.{Forms}
+use Rattle.erl_ir.specs.Module.{Forms}
 use Rattle.erl_semantics.specs.declared.jobs.Done.{Done}
 use Rattle.erl_semantics.specs.declared.jobs.Job.{Job}
 use Rattle.erl_semantics.specs.declared.outcome.End.{End}
@@ -10,7 +10,7 @@ use Rattle.app_table.specs.Children.{is_due}
 use Rattle.app_table.specs.declared.child.Child.{Child}
 use Rattle.sys_protocol.specs.ChildStarts.{Restarts}
 use Rattle.code_loading.specs.Current.{current_code}
-use Rattle.code_loading.specs.Loading.{is_lingered_in, purge_told}
+use Rattle.code_loading.specs.Loading.{is_lingered_in, downs_of_purge}
 use Rattle.code_replacement.specs.Replacing.{code_loaded, without_lingering}
 use Rattle.code_server.specs.Modules.{delete_refusal, deleted, load_refusal, purged}
 use Rattle.code_server.specs.declared.error.CodeError.{CodeError}
@@ -21,7 +21,7 @@ use Rattle.process_store.specs.Table.{Table, living}
 use Rattle.process_table.specs.Commit.{CanCommit, RefusesCommit, commit_told, committed, normal}
 use Rattle.process_table.specs.Messages.{arrival_of, message_of}
 use Rattle.process_table.specs.Steps.{IsCodeOf, after_arrival, arrive_refusal, kind_of, take_refusal, taken}
-use Rattle.process_table.specs.declared.body.Body.{Body}
+use Rattle.process_table.specs.declared.body.ClientMessage.{ClientMessage}
 use Rattle.process_table.specs.declared.error.ProcError.{ProcError}
 use Rattle.app_table.specs.Applications.{Application, all_ended, child_of, revived}
 use Rattle.sys_protocol.specs.Refusals.{IsDue, RefusesRevive}
@@ -47,7 +47,7 @@ unless (Some e) of a = Err (of e)
 
 -- Arrive: a message of a client comes for the process of a name; it is reported.
 
-abbrev pub arrived : ℕ → List ℕ → Body → NodeState → Outcome
+abbrev pub arrived : ℕ → List ℕ → ClientMessage → NodeState → Outcome
 arrived client name body n = unless (arrive_refusal name (kind_of body) n.processes) OfProcesses (record {
   node = with_processes (after_arrival client name body n.processes) n;
   answer = answer.Unit;
@@ -112,7 +112,7 @@ abbrev pub loaded_as : Forms → NodeState → Accepted NodeState Answer Note
 loaded_as m n = record {
   node = with_running (code_loaded m (running_in n)) n;
   answer = answer.Unit;
-  note = reporting (purge_told m.name n.modules n.processes);
+  note = reporting (downs_of_purge m.name n.modules n.processes);
 }
 
 abbrev pub loads : Forms → NodeState → Outcome
@@ -122,7 +122,7 @@ abbrev pub purges : List ℕ → NodeState → Outcome
 purges name n = Ok (record {
   node = with_running (without_lingering name (running_in n)) n;
   answer = answer.Killed (is_lingered_in name n.modules n.processes);
-  note = reporting (purge_told name n.modules n.processes);
+  note = reporting (downs_of_purge name n.modules n.processes);
 })
 
 -- Delete: current code becomes old. Soft purge: a purge that is refused where somebody lingers.
@@ -178,8 +178,8 @@ Step n (MakePermanent vsn) r = UnlessInstalling n.runner (MakesPermanent vsn n) 
 Step n (RebootOld vsn) r = UnlessInstalling n.runner (RebootsOld vsn n) r
 Step n Sweep r = Sweeps n r
 
--- Memory may be wanting where nothing stands against an event that is told without memory. A child that fails is told only once its
--- start function was evaluated, which takes memory.
+-- Memory may be wanting where nothing stands against an event that is told without memory. A child that fails is told only
+-- once its start function was evaluated, which takes memory.
 abbrev pub MayRunOut : NodeState → Event → Type 0
 MayRunOut n (Arrive client name body) = arrive_refusal name (kind_of body) n.processes ≡ None
 MayRunOut n (Take pid) = take_refusal pid n.processes ≡ None

@@ -18,7 +18,7 @@ use Rattle.app_table.specs.contracts.specs.Replaced as Replaced
 use Rattle.app_table.specs.contracts.table.AppTable as AppTable
 use Rattle.app_table.specs.contracts.table.AppTable.TheInside as AppTableInside
 use Rattle.app_table.specs.contracts.undo.PutBack as PutBack
-use Rattle.app_table.specs.contracts.undo.Undo as Undo
+use Rattle.app_table.specs.contracts.undo.AppsUndo as AppsUndo
 use Rattle.app_table.specs.contracts.undo.Unloaded as Unloaded
 use Rattle.erl_term.proofs.atom.Atom.TheSendSync as atom
 use Rattle.node_sends.proofs.ChildSpecs as child_specs
@@ -166,8 +166,8 @@ child_edit_sync = variants_sync ChildEdit.enum (
   ),
 )
 
-pub undo_send : IsSend Undo.the_row
-undo_send = variants_send Undo.enum (
+pub undo_send : IsSend AppsUndo.the_row
+undo_send = variants_send AppsUndo.enum (
   (search sendable, (children_send, tt)),
   (
     (spot.the_send, tt),
@@ -217,8 +217,8 @@ undo_send = variants_send Undo.enum (
   ),
 )
 
-pub undo_sync : IsSync Undo.the_row
-undo_sync = variants_sync Undo.enum (
+pub undo_sync : IsSync AppsUndo.the_row
+undo_sync = variants_sync AppsUndo.enum (
   (search sendable, (children_sync, tt)),
   (
     (spot.the_sync, tt),

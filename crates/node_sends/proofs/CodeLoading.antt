@@ -3,16 +3,16 @@ use denote.Param.Send.{IsSend, IsSync, sendable}
 use denote.Param.SendFields.{declared_send, declared_sync}
 use Rattle.std.proofs.Crossing.{crosses}
 use Rattle.code_loading.specs.contracts.undo.Purges as Purges
-use Rattle.code_loading.specs.contracts.undo.Undo as Undo
-use Rattle.code_server.proofs.undo.Undo.TheSendSync as undo
-use Rattle.node_sends.proofs.ErlForms as erl_forms
+use Rattle.code_loading.specs.contracts.undo.LoadUndo as LoadUndo
+use Rattle.code_server.proofs.undo.ModulesUndo.TheSendSync as undo
+use Rattle.node_sends.proofs.ErlForms as erl_ir
 use Rattle.node_sends.proofs.ProcessTable as process_table
 use Rattle.values.proofs.row.Row.TheSendSync as row
 
-pub undo_send : IsSend Undo.the_row
-undo_send = declared_send Undo.the_type (
+pub undo_send : IsSend LoadUndo.the_row
+undo_send = declared_send LoadUndo.the_type (
   search (
-    erl_forms.module_send,
+    erl_ir.module_send,
     undo.the_send,
     crosses,
     sendable,
@@ -20,10 +20,10 @@ undo_send = declared_send Undo.the_type (
   (search (process_table.undo_send, crosses, sendable) depth 60 fits 20000, tt),
 )
 
-pub undo_sync : IsSync Undo.the_row
-undo_sync = declared_sync Undo.the_type (
+pub undo_sync : IsSync LoadUndo.the_row
+undo_sync = declared_sync LoadUndo.the_type (
   search (
-    erl_forms.module_sync,
+    erl_ir.module_sync,
     undo.the_sync,
     crosses,
     sendable,
@@ -34,7 +34,7 @@ undo_sync = declared_sync Undo.the_type (
 pub purges_send : IsSend Purges.the_row
 purges_send = declared_send Purges.the_type (
   search (
-    erl_forms.module_send,
+    erl_ir.module_send,
     undo.the_send,
     row.the_send,
     crosses,
@@ -46,7 +46,7 @@ purges_send = declared_send Purges.the_type (
 pub purges_sync : IsSync Purges.the_row
 purges_sync = declared_sync Purges.the_type (
   search (
-    erl_forms.module_sync,
+    erl_ir.module_sync,
     undo.the_sync,
     row.the_sync,
     crosses,

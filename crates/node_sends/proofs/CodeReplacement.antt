@@ -3,12 +3,12 @@ use denote.Param.Send.{IsSend, IsSync, sendable}
 use denote.Param.SendFields.{declared_send, declared_sync}
 use Rattle.std.proofs.Crossing.{crosses}
 use Rattle.code_replacement.specs.contracts.undo.Purges as Purges
-use Rattle.code_replacement.specs.contracts.undo.Undo as Undo
+use Rattle.code_replacement.specs.contracts.undo.ReplacementUndo as ReplacementUndo
 use Rattle.node_sends.proofs.AppTable as app_table
 use Rattle.node_sends.proofs.CodeLoading as code_loading
 
-pub undo_send : IsSend Undo.the_row
-undo_send = declared_send Undo.the_type (
+pub undo_send : IsSend ReplacementUndo.the_row
+undo_send = declared_send ReplacementUndo.the_type (
   code_loading.undo_send,
   (
     search (
@@ -20,8 +20,8 @@ undo_send = declared_send Undo.the_type (
   ),
 )
 
-pub undo_sync : IsSync Undo.the_row
-undo_sync = declared_sync Undo.the_type (
+pub undo_sync : IsSync ReplacementUndo.the_row
+undo_sync = declared_sync ReplacementUndo.the_type (
   code_loading.undo_sync,
   (
     search (

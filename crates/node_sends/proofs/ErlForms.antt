@@ -1,4 +1,4 @@
--- What of erl_forms may go to another thread.
+-- What of erl_ir may go to another thread.
 use denote.Param.Send.{IsSend, IsSync, view_send, view_sync, sendable}
 use denote.Param.SendFields.{declared_send, declared_sync, variants_send, variants_sync}
 use Rattle.std.proofs.Crossing.{crosses, Arc-send, Arc-sync}
@@ -7,19 +7,19 @@ use Rattle.erl_term.proofs.term.Terms.TheLaws.TheKnot as terms
 use Rattle.indexmap.proofs.map.IndexMap.TheSendSync as map
 use Rattle.indexmap.proofs.set.IndexSet.TheSendSync as set
 use Rattle.erl_term.proofs.atom.Atom.TheSendSync as atom
-use Rattle.erl_forms.proofs.expression.Clauses.TheLaws.TheKnot as expressions
-use Rattle.erl_forms.proofs.operation.Operation.TheSendSync as operation
-use Rattle.erl_forms.proofs.operation.Connective.TheSendSync as connective
-use Rattle.erl_forms.proofs.pattern.Patterns.TheLaws.TheKnot as patterns
-use Rattle.erl_forms.specs.contracts.module.Module as Module
-use Rattle.erl_forms.specs.contracts.module.Module.TheInside as ModuleInside
-use Rattle.erl_forms.specs.contracts.module.Parts as Parts
-use Rattle.erl_forms.specs.contracts.function.Function as Function
-use Rattle.erl_forms.specs.contracts.function.Definition as Definition
-use Rattle.erl_forms.specs.contracts.expression.Clauses as Clauses
-use Rattle.erl_forms.specs.contracts.expression.Guard as Guard
-use Rattle.erl_forms.specs.contracts.pattern.Pattern as Pattern
-use Rattle.erl_forms.specs.contracts.pattern.Patterns as Patterns
+use Rattle.erl_ir.proofs.expression.Clauses.TheLaws.TheKnot as expressions
+use Rattle.erl_ir.proofs.operation.Operation.TheSendSync as operation
+use Rattle.erl_ir.proofs.operation.Connective.TheSendSync as connective
+use Rattle.erl_ir.proofs.pattern.Patterns.TheLaws.TheKnot as patterns
+use Rattle.erl_ir.specs.contracts.module.Module as Module
+use Rattle.erl_ir.specs.contracts.module.Module.TheInside as ModuleInside
+use Rattle.erl_ir.specs.contracts.module.Parts as Parts
+use Rattle.erl_ir.specs.contracts.function.Function as Function
+use Rattle.erl_ir.specs.contracts.function.Definition as Definition
+use Rattle.erl_ir.specs.contracts.expression.Clauses as Clauses
+use Rattle.erl_ir.specs.contracts.expression.Guard as Guard
+use Rattle.erl_ir.specs.contracts.pattern.Pattern as Pattern
+use Rattle.erl_ir.specs.contracts.pattern.Patterns as Patterns
 
 pattern_send : IsSend Pattern.the_row
 pattern_send = search (crosses, terms.crosses, patterns.crosses, sendable) depth 60 fits 20000

@@ -11,15 +11,15 @@ use Rattle.erl_semantics.specs.contracts.jobs.Job as Job
 use Rattle.erl_semantics.specs.contracts.outcome.End as End
 use Rattle.erl_semantics.specs.contracts.outcome.Outcome as Outcome
 use Rattle.erl_term.proofs.atom.Atom.TheSendSync as atom
-use Rattle.node_sends.proofs.ErlForms as erl_forms
+use Rattle.node_sends.proofs.ErlForms as erl_ir
 use Rattle.node_sends.proofs.ErlTerm as erl_term
 use Rattle.values.proofs.row.Row.TheSendSync as row
 
 pub instance_send : IsSend Instance.the_row
-instance_send = declared_send Instance.the_type (atom.the_send, (search sendable, (erl_forms.module_send, tt)))
+instance_send = declared_send Instance.the_type (atom.the_send, (search sendable, (erl_ir.module_send, tt)))
 
 pub instance_sync : IsSync Instance.the_row
-instance_sync = declared_sync Instance.the_type (atom.the_sync, (search sendable, (erl_forms.module_sync, tt)))
+instance_sync = declared_sync Instance.the_type (atom.the_sync, (search sendable, (erl_ir.module_sync, tt)))
 
 pub place_send : IsSend Place.the_row
 place_send = variants_send Place.enum (

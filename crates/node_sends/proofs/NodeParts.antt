@@ -3,13 +3,13 @@ use denote.Param.Send.{IsSend, IsSync, sendable}
 use denote.Param.SendFields.{declared_send, declared_sync, variants_send, variants_sync}
 use Rattle.std.proofs.Crossing.{crosses}
 use Rattle.code_server.proofs.modules.Modules.TheSendSync as modules
-use Rattle.code_server.proofs.undo.Undo.TheSendSync as undo
+use Rattle.code_server.proofs.undo.ModulesUndo.TheSendSync as undo
 use Rattle.node_parts.specs.contracts.parts.NodeParts as NodeParts
 use Rattle.node_parts.specs.contracts.record.Displaced as Displaced
 use Rattle.node_parts.specs.contracts.record.Record as Record
 use Rattle.node_sends.proofs.AppTable as app_table
 use Rattle.node_sends.proofs.CodeReplacement as code_replacement
-use Rattle.node_sends.proofs.ErlForms as erl_forms
+use Rattle.node_sends.proofs.ErlForms as erl_ir
 use Rattle.node_sends.proofs.ProcessTable as process_table
 use Rattle.node_sends.proofs.ReleaseStatuses as release_statuses
 use Rattle.node_sends.proofs.ScriptEnds as script_ends
@@ -21,7 +21,7 @@ use Rattle.script_state.proofs.unpurged.Unpurged.TheSendSync as unpurged
 pub node_parts_send : IsSend NodeParts.the_row
 node_parts_send = declared_send NodeParts.the_type (
   search (
-    erl_forms.module_send,
+    erl_ir.module_send,
     modules.the_send,
     crosses,
     sendable,
@@ -44,7 +44,7 @@ node_parts_send = declared_send NodeParts.the_type (
 pub node_parts_sync : IsSync NodeParts.the_row
 node_parts_sync = declared_sync NodeParts.the_type (
   search (
-    erl_forms.module_sync,
+    erl_ir.module_sync,
     modules.the_sync,
     crosses,
     sendable,
@@ -67,7 +67,7 @@ node_parts_sync = declared_sync NodeParts.the_type (
 pub displaced_send : IsSend Displaced.the_row
 displaced_send = declared_send Displaced.the_type (
   search (
-    erl_forms.module_send,
+    erl_ir.module_send,
     modules.the_send,
     crosses,
     sendable,
@@ -94,7 +94,7 @@ displaced_send = declared_send Displaced.the_type (
 pub displaced_sync : IsSync Displaced.the_row
 displaced_sync = declared_sync Displaced.the_type (
   search (
-    erl_forms.module_sync,
+    erl_ir.module_sync,
     modules.the_sync,
     crosses,
     sendable,
@@ -129,7 +129,7 @@ record_send = variants_send Record.enum (
     (
       (search (code_replacement.undo_send, values.boxed_send, crosses, sendable) depth 60 fits 20000, tt),
       (
-        (search (erl_forms.module_send, undo.the_send, values.boxed_send, crosses, sendable) depth 60 fits 20000, tt),
+        (search (erl_ir.module_send, undo.the_send, values.boxed_send, crosses, sendable) depth 60 fits 20000, tt),
         (
           (search (release_statuses.undo_send, values.boxed_send, crosses, sendable) depth 60 fits 20000, tt),
           (
@@ -168,7 +168,7 @@ record_sync = variants_sync Record.enum (
     (
       (search (code_replacement.undo_sync, values.boxed_sync, crosses, sendable) depth 60 fits 20000, tt),
       (
-        (search (erl_forms.module_sync, undo.the_sync, values.boxed_sync, crosses, sendable) depth 60 fits 20000, tt),
+        (search (erl_ir.module_sync, undo.the_sync, values.boxed_sync, crosses, sendable) depth 60 fits 20000, tt),
         (
           (search (release_statuses.undo_sync, values.boxed_sync, crosses, sendable) depth 60 fits 20000, tt),
           (

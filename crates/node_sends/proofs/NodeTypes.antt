@@ -5,7 +5,7 @@ use Rattle.std.proofs.Crossing.{crosses}
 use Rattle.code_server.proofs.error.CodeError.TheSendSync as code_error
 use Rattle.erl_term.proofs.atom.Atom.TheSendSync as atom
 use Rattle.install_checks.proofs.installing.InstallError.TheSendSync as install_error
-use Rattle.node_sends.proofs.ErlForms as erl_forms
+use Rattle.node_sends.proofs.ErlForms as erl_ir
 use Rattle.node_sends.proofs.ErlSemantics as erl_semantics
 use Rattle.node_sends.proofs.ErlTerm as erl_term
 use Rattle.node_sends.proofs.LowInstructions as low_instructions
@@ -38,7 +38,7 @@ event_send = variants_send Event.enum (
       (
         (atom.the_send, (erl_term.term_send, tt)),
         (
-          (erl_forms.module_send, tt),
+          (erl_ir.module_send, tt),
           (
             (atom.the_send, tt),
             (
@@ -77,7 +77,7 @@ event_sync = variants_sync Event.enum (
       (
         (atom.the_sync, (erl_term.term_sync, tt)),
         (
-          (erl_forms.module_sync, tt),
+          (erl_ir.module_sync, tt),
           (
             (atom.the_sync, tt),
             (

@@ -5,14 +5,14 @@ use Rattle.std.proofs.Crossing.{crosses}
 use Rattle.erl_term.proofs.atom.Atom.TheSendSync as atom
 use Rattle.node_sends.proofs.ErlSemantics as erl_semantics
 use Rattle.node_sends.proofs.ErlTerm as erl_term
-use Rattle.process.proofs.named.NamedInstance.TheSendSync as named_instance
+use Rattle.process.proofs.named.CodeRef.TheSendSync as named_instance
 use Rattle.process.specs.contracts.activity.Activity as Activity
 use Rattle.process.specs.contracts.activity.Running as Running
 use Rattle.process.specs.contracts.process.Process as Process
 use Rattle.process.specs.contracts.process.Process.TheInside as ProcessInside
 use Rattle.process.specs.contracts.process.ending.Did as Did
-use Rattle.process.specs.contracts.process.ending.Ended as Ended
-use Rattle.process.specs.contracts.process.ending.Ended.TheInside as EndedInside
+use Rattle.process.specs.contracts.process.ending.DeadProcess as DeadProcess
+use Rattle.process.specs.contracts.process.ending.DeadProcess.TheInside as EndedInside
 use Rattle.process.specs.contracts.process.ending.NamedRunning as NamedRunning
 use Rattle.process.specs.contracts.process.rerunning.NamedRan as NamedRan
 use Rattle.values.proofs.row.Row.TheSendSync as row
@@ -221,7 +221,7 @@ ended_fields_send = declared_send EndedInside.the_type (
   ),
 )
 
-pub ended_send : IsSend Ended.the_row
+pub ended_send : IsSend DeadProcess.the_row
 ended_send = view_send _ _ _ _ _ ended_fields_send
 
 ended_fields_sync : IsSync EndedInside.the_row
@@ -260,5 +260,5 @@ ended_fields_sync = declared_sync EndedInside.the_type (
   ),
 )
 
-pub ended_sync : IsSync Ended.the_row
+pub ended_sync : IsSync DeadProcess.the_row
 ended_sync = view_sync _ _ _ _ _ ended_fields_sync

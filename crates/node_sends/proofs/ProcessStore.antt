@@ -7,18 +7,18 @@ use Rattle.process_index.proofs.calls.Calls.TheSendSync as calls
 use Rattle.process_index.proofs.names.NameIndex.TheSendSync as name_index
 use Rattle.process_index.proofs.numbers.CallIndex.TheSendSync as call_index
 use Rattle.process_index.proofs.slots.Slots.TheSendSync as slots
-use Rattle.process_store.specs.contracts.living.Living as Living
+use Rattle.process_store.specs.contracts.living.ProcessEntry as ProcessEntry
 use Rattle.process_store.specs.contracts.marked.MarkedSlots as MarkedSlots
 use Rattle.process_store.specs.contracts.marked.MarkedSlots.TheInside as MarkedSlotsInside
 use Rattle.process_store.specs.contracts.store.ProcessStore as ProcessStore
 use Rattle.process_store.specs.contracts.store.ProcessStore.TheInside as ProcessStoreInside
 use Rattle.ready_set.proofs.set.ReadySet.TheSendSync as ready_set
 
-pub living_send : IsSend Living.the_row
-living_send = declared_send Living.the_type (process.process_send, (calls.the_send, tt))
+pub living_send : IsSend ProcessEntry.the_row
+living_send = declared_send ProcessEntry.the_type (process.process_send, (calls.the_send, tt))
 
-pub living_sync : IsSync Living.the_row
-living_sync = declared_sync Living.the_type (process.process_sync, (calls.the_sync, tt))
+pub living_sync : IsSync ProcessEntry.the_row
+living_sync = declared_sync ProcessEntry.the_type (process.process_sync, (calls.the_sync, tt))
 
 marked_slots_fields_send : IsSend MarkedSlotsInside.the_row
 marked_slots_fields_send = declared_send MarkedSlotsInside.the_type (

@@ -8,11 +8,11 @@ use Rattle.node_sends.proofs.ProcessStore as process_store
 use Rattle.node_sends.proofs.Values as values
 use Rattle.process_effects.proofs.batch.Batched.TheSendSync as batched
 use Rattle.process_index.proofs.calls.Call.TheSendSync as call
-use Rattle.process_table.specs.contracts.body.Body as Body
+use Rattle.process_table.specs.contracts.body.ClientMessage as ClientMessage
 use Rattle.process_table.specs.contracts.processes.Processes as Processes
 use Rattle.process_table.specs.contracts.processes.Processes.TheInside as ProcessesInside
 use Rattle.process_table.specs.contracts.states.StateChange as StateChange
-use Rattle.process_table.specs.contracts.undo.Undo as Undo
+use Rattle.process_table.specs.contracts.undo.ProcessesUndo as ProcessesUndo
 use Rattle.values.proofs.row.Row.TheSendSync as row
 
 processes_fields_send : IsSend ProcessesInside.the_row
@@ -39,8 +39,8 @@ processes_fields_sync = declared_sync ProcessesInside.the_type (
 pub processes_sync : IsSync Processes.the_row
 processes_sync = view_sync _ _ _ _ _ processes_fields_sync
 
-pub body_send : IsSend Body.the_row
-body_send = variants_send Body.enum (
+pub body_send : IsSend ClientMessage.the_row
+body_send = variants_send ClientMessage.enum (
   (search sendable, (erl_term.term_send, tt)),
   (
     (erl_term.term_send, tt),
@@ -48,8 +48,8 @@ body_send = variants_send Body.enum (
   ),
 )
 
-pub body_sync : IsSync Body.the_row
-body_sync = variants_sync Body.enum (
+pub body_sync : IsSync ClientMessage.the_row
+body_sync = variants_sync ClientMessage.enum (
   (search sendable, (erl_term.term_sync, tt)),
   (
     (erl_term.term_sync, tt),
@@ -57,8 +57,8 @@ body_sync = variants_sync Body.enum (
   ),
 )
 
-pub undo_send : IsSend Undo.the_row
-undo_send = variants_send Undo.enum (
+pub undo_send : IsSend ProcessesUndo.the_row
+undo_send = variants_send ProcessesUndo.enum (
   tt,
   (
     (
@@ -119,8 +119,8 @@ undo_send = variants_send Undo.enum (
   ),
 )
 
-pub undo_sync : IsSync Undo.the_row
-undo_sync = variants_sync Undo.enum (
+pub undo_sync : IsSync ProcessesUndo.the_row
+undo_sync = variants_sync ProcessesUndo.enum (
   tt,
   (
     (

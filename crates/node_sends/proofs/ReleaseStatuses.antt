@@ -7,7 +7,7 @@ use Rattle.release_statuses.proofs.status.Status.TheSendSync as status
 use Rattle.release_statuses.specs.contracts.listed.Listed as Listed
 use Rattle.release_statuses.specs.contracts.releases.Releases as Releases
 use Rattle.release_statuses.specs.contracts.releases.Releases.TheInside as ReleasesInside
-use Rattle.release_statuses.specs.contracts.undo.Undo as Undo
+use Rattle.release_statuses.specs.contracts.undo.ReleasesUndo as ReleasesUndo
 use Rattle.values.proofs.row.Row.TheSendSync as row
 
 pub listed_send : IsSend Listed.the_row
@@ -48,8 +48,8 @@ releases_fields_sync = declared_sync ReleasesInside.the_type (
 pub releases_sync : IsSync Releases.the_row
 releases_sync = view_sync _ _ _ _ _ releases_fields_sync
 
-pub undo_send : IsSend Undo.the_row
-undo_send = variants_send Undo.enum (
+pub undo_send : IsSend ReleasesUndo.the_row
+undo_send = variants_send ReleasesUndo.enum (
   tt,
   (
     (search sendable, (listed_send, tt)),
@@ -68,8 +68,8 @@ undo_send = variants_send Undo.enum (
   ),
 )
 
-pub undo_sync : IsSync Undo.the_row
-undo_sync = variants_sync Undo.enum (
+pub undo_sync : IsSync ReleasesUndo.the_row
+undo_sync = variants_sync ReleasesUndo.enum (
   tt,
   (
     (search sendable, (listed_sync, tt)),

@@ -2,7 +2,7 @@
 use denote.Param.Send.{IsSend, IsSync, sendable}
 use denote.Param.SendFields.{declared_send, declared_sync}
 use Rattle.std.proofs.Crossing.{crosses}
-use Rattle.node_sends.proofs.ErlForms as erl_forms
+use Rattle.node_sends.proofs.ErlForms as erl_ir
 use Rattle.node_sends.proofs.ErlTerm as erl_term
 use Rattle.node_sends.proofs.Instructions as instructions
 use Rattle.node_sends.proofs.LowInstructions as low_instructions
@@ -25,7 +25,7 @@ app_files_send = declared_send AppFiles.the_type (
     ) depth 60 fits 20000,
     (
       search (
-        erl_forms.module_send,
+        erl_ir.module_send,
         row.the_send,
         crosses,
         sendable,
@@ -47,7 +47,7 @@ app_files_sync = declared_sync AppFiles.the_type (
     ) depth 60 fits 20000,
     (
       search (
-        erl_forms.module_sync,
+        erl_ir.module_sync,
         row.the_sync,
         crosses,
         sendable,

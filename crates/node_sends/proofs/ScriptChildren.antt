@@ -4,10 +4,10 @@ use denote.Param.SendFields.{variants_send, variants_sync}
 use Rattle.std.proofs.Crossing.{crosses}
 use Rattle.node_sends.proofs.AppTable as app_table
 use Rattle.node_sends.proofs.ProcessTable as process_table
-use Rattle.script_children.specs.contracts.undo.Undo as Undo
+use Rattle.script_children.specs.contracts.undo.ChildrenUndo as ChildrenUndo
 
-pub undo_send : IsSend Undo.the_row
-undo_send = variants_send Undo.enum (
+pub undo_send : IsSend ChildrenUndo.the_row
+undo_send = variants_send ChildrenUndo.enum (
   (
     search (process_table.undo_send, crosses, sendable) depth 60 fits 20000,
     (search (app_table.undo_send, crosses, sendable) depth 60 fits 20000, tt),
@@ -15,8 +15,8 @@ undo_send = variants_send Undo.enum (
   ((app_table.unloaded_send, tt), tt),
 )
 
-pub undo_sync : IsSync Undo.the_row
-undo_sync = variants_sync Undo.enum (
+pub undo_sync : IsSync ChildrenUndo.the_row
+undo_sync = variants_sync ChildrenUndo.enum (
   (
     search (process_table.undo_sync, crosses, sendable) depth 60 fits 20000,
     (search (app_table.undo_sync, crosses, sendable) depth 60 fits 20000, tt),

@@ -4,11 +4,11 @@ use denote.Param.SendFields.{variants_send, variants_sync}
 use Rattle.node_sends.proofs.CodeChanges as code_changes
 use Rattle.node_sends.proofs.CodeReplacement as code_replacement
 use Rattle.node_sends.proofs.ScriptChildren as script_children
-use Rattle.script_runner.specs.contracts.undo.Undo as Undo
+use Rattle.script_runner.specs.contracts.undo.InstructionUndo as InstructionUndo
 use Rattle.suspensions.proofs.suspending.ResumeUndo.TheSendSync as resume_undo
 
-pub undo_send : IsSend Undo.the_row
-undo_send = variants_send Undo.enum (
+pub undo_send : IsSend InstructionUndo.the_row
+undo_send = variants_send InstructionUndo.enum (
   tt,
   (
     (search sendable, tt),
@@ -28,8 +28,8 @@ undo_send = variants_send Undo.enum (
   ),
 )
 
-pub undo_sync : IsSync Undo.the_row
-undo_sync = variants_sync Undo.enum (
+pub undo_sync : IsSync InstructionUndo.the_row
+undo_sync = variants_sync InstructionUndo.enum (
   tt,
   (
     (search sendable, tt),

@@ -1,6 +1,6 @@
 // Modules and instances of them.
 ghost use denote.Param.Send.{IsSend};
-ghost use Rattle.erl_forms.specs.contracts.module.Module as Module;
+ghost use Rattle.erl_ir.specs.contracts.module.Module as Module;
 ghost use Rattle.code_server.specs.contracts.modules.Modules as Modules;
 ghost use Rattle.erl_semantics.specs.contracts.instance.Instance as Instance;
 

@@ -1,9 +1,9 @@
 //! Which values of a node may go to another thread.
 //!
 //! Each function here tells one fact: a value of a type may go to another thread (`IsSend`), or be shared by threads (`IsSync`).
-//! It does nothing. Who starts threads calls it right before, and the fact is then known there. For a struct or an enum of its own, a
-//! crate cites the lemmas of `proofs/`, one for each type that has no such fact of its own: a module holds what it shares behind a
-//! count, and terms, patterns and expressions hold one another, which no search finds through.
+//! It does nothing. Who starts threads calls it right before, and the fact is then known there. For a struct or an enum of
+//! its own, a crate cites the lemmas of `proofs/`, one for each type that has no such fact of its own: a module holds what
+//! it shares behind a count, and terms, patterns and expressions hold one another, which no search finds through.
 //!
 //! # What is proved
 //!

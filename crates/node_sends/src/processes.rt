@@ -3,7 +3,7 @@ ghost use denote.Param.Send.{IsSend};
 ghost use Rattle.erl_semantics.specs.contracts.jobs.Job as Job;
 ghost use Rattle.erl_semantics.specs.contracts.jobs.Done as Done;
 ghost use Rattle.process_table.specs.contracts.processes.Processes as Processes;
-ghost use Rattle.process_table.specs.contracts.undo.Undo as Undo;
+ghost use Rattle.process_table.specs.contracts.undo.ProcessesUndo as Undo;
 ghost use Rattle.app_table.specs.contracts.table.AppTable as AppTable;
 
 /// A job may go to another thread.

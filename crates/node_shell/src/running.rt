@@ -1,13 +1,13 @@
 // From the bytes of commands to the bytes of answers.
 ghost use Rattle.std.specs.Prelude.{◌≡◌, ℕ, List, IfErr, IfOk, None, Some, false};
-ghost use Rattle.node_shell.specs.Run.{Runs, RunsWhole, StartFails};
-ghost use Rattle.shell_deeds.specs.State.{opened_shell};
+ghost use Rattle.node_shell.specs.Run.{RunsShell, RunsWhole, StartFails};
+ghost use Rattle.shell_exec.specs.State.{opened_shell};
 
 use crate::fault::StartFault;
-use crate::shell::Shell;
-use line_server::{Ended, serve};
+use crate::shell::ShellSession;
+use line_server::{ServeEnd, serve};
 use release_files::{Files, read_release};
-use shell_deeds::Node;
+use shell_exec::Node;
 use std::alloc::Global;
 use std::hash::RandomState;
 use std::io::{Read, Write};
@@ -19,13 +19,13 @@ use std::mem::{drop, forget};
 ///
 /// What the shell holds in the end is left to the end of the program, and not let go of piece by piece.
 ///
-/// The fault of the end, if there is one, says what was written: after a fault of the reader the answers of the lines that a newline
-/// ended; after a fault of the writer, and where no memory was left to answer with, a front of the answers.
+/// The fault of the end, if there is one, says what was written: after a fault of the reader the answers of the lines that
+/// a newline ended; after a fault of the writer, and where no memory was left to answer with, a front of the answers.
 ///
 /// # Errors
 ///
-/// Why no node has started: `OfFiles` with the first fault of the release's files, and all files, `OfBoot` with why it doesn't boot, and
-/// want of memory, which may hide another fault. Nothing was read then, and nothing written.
+/// Why no node has started: `OfFiles` with the first fault of the release's files, and all files, `OfBoot` with why it
+/// doesn't boot, and lack of memory, which may hide another fault. Nothing was read then, and nothing written.
 pub fn run<R: Read, W: Write>(
     alloc: Global,
     hashing: RandomState,
@@ -33,18 +33,20 @@ pub fn run<R: Read, W: Write>(
     vsn: &str,
     reader: &mut R,
     writer: &mut W,
-) -> Result<Ended, StartFault>
-    ensures ran { IfOk result (Runs files vsn.now (R.remaining reader.old) (R.remaining reader.new)
+) -> Result<ServeEnd, StartFault>
+    ensures ran { IfOk result (RunsShell files vsn.now (R.remaining reader.old) (R.remaining reader.new)
         (W.contents writer.old) (W.contents writer.new)) }
 
-    // Where reader and writer tell their bytes, no fault came and no memory was refused: all that the reader had was read, and the text
-    // of its lines was written behind what the writer held.
-    ensures whole { IfOk result (λ ended. (input before : List ℕ) → R.remaining reader.old ≡ Some input → W.contents writer.old ≡ Some before
+    // Where reader and writer tell their bytes, no fault came and no memory was refused: all that the reader had was read,
+    // and the text of its lines was written behind what the writer held.
+    ensures whole { IfOk result (λ ended. (input before : List ℕ) → R.remaining reader.old ≡ Some input →
+        W.contents writer.old ≡ Some before
         → ended.fault ≡ None → ended.is_refused ≡ false
         → RunsWhole files vsn.now input before (W.contents writer.new)) }
 
     ensures failed { IfErr result (λ fault. StartFails fault files vsn.now) }
-    ensures unread { IfErr result (λ fault. (R.remaining reader.new ≡ R.remaining reader.old) × (W.contents writer.new ≡ W.contents writer.old)) }
+    ensures unread { IfErr result (λ fault. (R.remaining reader.new ≡ R.remaining reader.old) ×
+        (W.contents writer.new ≡ W.contents writer.old)) }
 {
     let release = match read_release(alloc, &files, vsn) {
         Ok(release) => release,
@@ -56,7 +58,7 @@ pub fn run<R: Read, W: Write>(
     };
     // What the node keeps of the release it has a copy of.
     drop(release);
-    let Ok(mut shell) = Shell::new(alloc, hashing, files, node) else {
+    let Ok(mut shell) = ShellSession::new(alloc, hashing, files, node) else {
         return Err(StartFault::NoMemory);
     };
     let ended = serve(alloc, &mut shell, reader, writer);

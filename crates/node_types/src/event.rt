@@ -1,11 +1,11 @@
 // What happens to a node, and what is told of it.
 use code_server::CodeError;
-use erl_forms::Module;
+use erl_ir::Module;
 use erl_semantics::{Done, Job};
 use erl_term::{Atom, Term};
 use install_checks::InstallError;
 use low_instructions::Low;
-use process_table::{Body, ProcError};
+use process_table::{ClientMessage, ProcError};
 use release_statuses::{RelError, Vsn};
 use release_table::Release;
 use release_words::Version;
@@ -25,7 +25,7 @@ pub enum Event {
         /// The name.
         name: Atom,
         /// What comes.
-        body: Body,
+        body: ClientMessage,
     },
     /// The process of a pid takes its next message, and runs it.
     Take(u64),
@@ -100,7 +100,7 @@ pub enum Answer {
     Unit,
 }
 
-/// Why an event is refused; never for want of memory.
+/// Why an event is refused; never for lack of memory.
 #[derive(Drop, Error)]
 pub enum Refusal {
     /// The processes refuse it.

@@ -12,7 +12,7 @@ use Rattle.otp_files.specs.declared.upgrade.Entry.{Entry}
 use Rattle.otp_files.specs.declared.upgrade.Upgrades.{Upgrades}
 use Rattle.otp_files.specs.declared.upgrade.drafts.Draft.{Draft}
 use Rattle.otp_files.specs.Parts.{Each}
-use Rattle.otp_files.specs.Upgrades.{AreEntries, IsKept, IsRelup, IsRelupDraft, IsRelupInstruction, relup_entry_tree, relup_tree}
+use Rattle.otp_files.specs.Upgrades.{AreEntries, IsWritable, IsRelup, IsRelupDraft, IsRelupInstruction, relup_entry_tree, relup_tree}
 
 abbrev IsFine : Low → Type 0
 IsFine low = is_low low ≡ true
@@ -25,18 +25,18 @@ script_kept (l ∷ ls) all =
 abbrev draft : Entry Term Low → Draft Term
 draft e = record { vsn = e.vsn; description = e.description; instructions = rows low_tree e.instructions }
 
-drafts_kept : (es : List (Entry Term Low)) → All IsKept es → Each IsRelupDraft (rows relup_entry_tree es) (map draft es)
+drafts_kept : (es : List (Entry Term Low)) → All IsWritable es → Each IsRelupDraft (rows relup_entry_tree es) (map draft es)
 drafts_kept [] all = tt
 drafts_kept (e ∷ es) all =
-    let kept = All-head IsKept e es all in
-    (record { first = _; second = _; third = _; is = refl; a = (refl, kept.vsn); b = refl; c = refl }, drafts_kept es (All-tail IsKept e es all))
+    let kept = All-head IsWritable e es all in
+    (record { first = _; second = _; third = _; is = refl; a = (refl, kept.vsn); b = refl; c = refl }, drafts_kept es (All-tail IsWritable e es all))
 
-entries_kept : (es : List (Entry Term Low)) → All IsKept es → AreEntries IsRelupInstruction (map draft es) es
+entries_kept : (es : List (Entry Term Low)) → All IsWritable es → AreEntries IsRelupInstruction (map draft es) es
 entries_kept [] all = tt
 entries_kept (e ∷ es) all =
-    (record { vsn = refl; description = refl; instructions = script_kept e.instructions (All-head IsKept e es all).instructions }, entries_kept es (All-tail IsKept e es all))
+    (record { vsn = refl; description = refl; instructions = script_kept e.instructions (All-head IsWritable e es all).instructions }, entries_kept es (All-tail IsWritable e es all))
 
-pub relup_kept : (r : Upgrades Term Low) → is_version r.vsn ≡ true → All IsKept r.up → All IsKept r.down → IsRelup (relup_tree r) r
+pub relup_kept : (r : Upgrades Term Low) → is_version r.vsn ≡ true → All IsWritable r.up → All IsWritable r.down → IsRelup (relup_tree r) r
 relup_kept r vsn up down =
     record {
       ups = map draft r.up;

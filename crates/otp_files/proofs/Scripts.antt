@@ -12,13 +12,13 @@ use Rattle.otp_files.specs.Reading.{after, count_in, entries_from, entry_of, num
 use Rattle.otp_files.specs.Upgrades.{AreEntries, IsEntry, IsFaultAt, IsFirstWrong, instructions_in, terms_in}
 
 -- what is read of a term as an instruction is what it is
-abbrev pub Told : {I : Type 0} → (Tree → I → Type 0) → (Tree → Type 0) → Tree → Result I InstructionFault → Type 0
-Told Is IsOut t (Ok i) = Is t i
-Told Is IsOut t (Err Bad) = (IsOut t → ⊥) × (Says Is t → ⊥)
-Told Is IsOut t (Err Excluded) = IsOut t
+abbrev pub IsReadAs : {I : Type 0} → (Tree → I → Type 0) → (Tree → Type 0) → Tree → Result I InstructionFault → Type 0
+IsReadAs Is IsOut t (Ok i) = Is t i
+IsReadAs Is IsOut t (Err Bad) = (IsOut t → ⊥) × (Says Is t → ⊥)
+IsReadAs Is IsOut t (Err Excluded) = IsOut t
 
-pub record Tells {I : Type 0} (read : Tree → Result I InstructionFault) (Is : Tree → I → Type 0) (IsOut : Tree → Type 0) : Type 0 where
-  pub told : (t : Tree) → Told Is IsOut t (read t)
+pub record ReadsAll {I : Type 0} (read : Tree → Result I InstructionFault) (Is : Tree → I → Type 0) (IsOut : Tree → Type 0) : Type 0 where
+  pub told : (t : Tree) → IsReadAs Is IsOut t (read t)
   pub right : (t : Tree) (i : I) → Is t i → read t ≡ Ok i
   pub out : (t : Tree) → IsOut t → read t ≡ Err Excluded
 
@@ -33,26 +33,26 @@ then_judged P (Err e) f Is IsWrong judged right wrong = wrong e judged
 
 -- One instruction
 
-one_judged : {I : Type 0} (Is : Tree → I → Type 0) (IsOut : Tree → Type 0) (n : ℕ) (t : Tree) (r : Result I InstructionFault) → Told Is IsOut t r → Judges (Is t) (IsFaultAt (Says Is) IsOut n t) (numbered n r)
+one_judged : {I : Type 0} (Is : Tree → I → Type 0) (IsOut : Tree → Type 0) (n : ℕ) (t : Tree) (r : Result I InstructionFault) → IsReadAs Is IsOut t r → Judges (Is t) (IsFaultAt (Says Is) IsOut n t) (numbered n r)
 one_judged Is IsOut n t (Ok i) told = told
 one_judged Is IsOut n t (Err Bad) told = inr (told.0, told.1, refl)
 one_judged Is IsOut n t (Err Excluded) told = inl (told, refl)
 
-bad_read : {I : Type 0} (read : Tree → Result I InstructionFault) (Is : Tree → I → Type 0) (IsOut : Tree → Type 0) → Tells read Is IsOut → (t : Tree) → (IsOut t → ⊥) → (Says Is t → ⊥) → read t ≡ Err Bad
+bad_read : {I : Type 0} (read : Tree → Result I InstructionFault) (Is : Tree → I → Type 0) (IsOut : Tree → Type 0) → ReadsAll read Is IsOut → (t : Tree) → (IsOut t → ⊥) → (Says Is t → ⊥) → read t ≡ Err Bad
 bad_read {I} read Is IsOut tells t not_out not_right = by (read t) refl (tells.told t)
   where
-    by : (r : Result I InstructionFault) → read t ≡ r → Told Is IsOut t r → read t ≡ Err Bad
+    by : (r : Result I InstructionFault) → read t ≡ r → IsReadAs Is IsOut t r → read t ≡ Err Bad
     by (Ok i) e told = absurd (not_right (record { value = i; is = told }))
     by (Err Bad) e told = e
     by (Err Excluded) e told = absurd (not_out told)
 
-one_wrong : {I : Type 0} (read : Tree → Result I InstructionFault) (Is : Tree → I → Type 0) (IsOut : Tree → Type 0) → Tells read Is IsOut → (n : ℕ) (t : Tree) (e : FileError) → IsFaultAt (Says Is) IsOut n t e → numbered n (read t) ≡ Err e
+one_wrong : {I : Type 0} (read : Tree → Result I InstructionFault) (Is : Tree → I → Type 0) (IsOut : Tree → Type 0) → ReadsAll read Is IsOut → (n : ℕ) (t : Tree) (e : FileError) → IsFaultAt (Says Is) IsOut n t e → numbered n (read t) ≡ Err e
 one_wrong read Is IsOut tells n t e (inl out) = ap (numbered n) (tells.out t out.0) ∙ ap Err (sym out.1)
 one_wrong read Is IsOut tells n t e (inr bad) = ap (numbered n) (bad_read read Is IsOut tells t bad.0 bad.1) ∙ ap Err (sym bad.2)
 
 -- Rows of instructions
 
-pub script_judged : {I : Type 0} (read : Tree → Result I InstructionFault) (Is : Tree → I → Type 0) (IsOut : Tree → Type 0) → Tells read Is IsOut → (n : ℕ) (ts : Trees) → Judges (Each Is ts) (IsFirstWrong (Says Is) IsOut n (terms_in ts)) (script_from read n ts)
+pub script_judged : {I : Type 0} (read : Tree → Result I InstructionFault) (Is : Tree → I → Type 0) (IsOut : Tree → Type 0) → ReadsAll read Is IsOut → (n : ℕ) (ts : Trees) → Judges (Each Is ts) (IsFirstWrong (Says Is) IsOut n (terms_in ts)) (script_from read n ts)
 script_judged read Is IsOut tells n none = tt
 script_judged {I} read Is IsOut tells n (more t ts) =
     let P : Result (List I) FileError → Type 0 = λ r. Judges (Each Is (more t ts)) (IsFirstWrong (Says Is) IsOut n (t ∷ terms_in ts)) r in
@@ -60,14 +60,14 @@ script_judged {I} read Is IsOut tells n (more t ts) =
     (λ i is. then_judged P (script_from read (n + 1) ts) (λ is'. Ok (i ∷ is')) (Each Is ts) (IsFirstWrong (Says Is) IsOut (n + 1) (terms_in ts)) (script_judged read Is IsOut tells (n + 1) ts) (λ is' are. (is, are)) (λ e wrong. inr (record { value = i; is = is }, wrong)))
     (λ e wrong. inl wrong)
 
-pub script_done : {I : Type 0} (read : Tree → Result I InstructionFault) (Is : Tree → I → Type 0) (IsOut : Tree → Type 0) → Tells read Is IsOut → (n : ℕ) (ts : Trees) (is' : List I) → Each Is ts is' → script_from read n ts ≡ Ok is'
+pub script_done : {I : Type 0} (read : Tree → Result I InstructionFault) (Is : Tree → I → Type 0) (IsOut : Tree → Type 0) → ReadsAll read Is IsOut → (n : ℕ) (ts : Trees) (is' : List I) → Each Is ts is' → script_from read n ts ≡ Ok is'
 script_done read Is IsOut tells n none [] are = refl
 script_done read Is IsOut tells n none (i ∷ is') are = absurd are
 script_done read Is IsOut tells n (more t ts) [] are = absurd are
 script_done read Is IsOut tells n (more t ts) (i ∷ is') are =
     ap (λ r. after (numbered n r) (λ x. after (script_from read (n + 1) ts) (λ xs. Ok (x ∷ xs)))) (tells.right t i are.0) ∙ ap (λ r. after r (λ xs. Ok (i ∷ xs))) (script_done read Is IsOut tells (n + 1) ts is' are.1)
 
-pub script_wrong : {I : Type 0} (read : Tree → Result I InstructionFault) (Is : Tree → I → Type 0) (IsOut : Tree → Type 0) → Tells read Is IsOut → (n : ℕ) (ts : Trees) (e : FileError) → IsFirstWrong (Says Is) IsOut n (terms_in ts) e → script_from read n ts ≡ Err e
+pub script_wrong : {I : Type 0} (read : Tree → Result I InstructionFault) (Is : Tree → I → Type 0) (IsOut : Tree → Type 0) → ReadsAll read Is IsOut → (n : ℕ) (ts : Trees) (e : FileError) → IsFirstWrong (Says Is) IsOut n (terms_in ts) e → script_from read n ts ≡ Err e
 script_wrong read Is IsOut tells n none e wrong = absurd wrong
 script_wrong read Is IsOut tells n (more t ts) e (inl here) =
     ap (λ r. after r (λ x. after (script_from read (n + 1) ts) (λ xs. Ok (x ∷ xs)))) (one_wrong read Is IsOut tells n t e here)
@@ -155,7 +155,7 @@ made_of d e vsn description =
 say_entry : {D I : Type 0} (Is : Tree → I → Type 0) (d : Draft D) (e : Entry D I) → IsEntry Is d e → AllSay Is (terms_in d.instructions)
 say_entry Is d e is = all_say Is d.instructions e.instructions is.instructions
 
-pub entries_judged : {D I : Type 0} (read : Tree → Result I InstructionFault) (Is : Tree → I → Type 0) (IsOut : Tree → Type 0) → Tells read Is IsOut → (n : ℕ) (ds : List (Draft D)) → Judges (AreEntries Is ds) (IsFirstWrong (Says Is) IsOut n (instructions_in ds)) (entries_from read n ds)
+pub entries_judged : {D I : Type 0} (read : Tree → Result I InstructionFault) (Is : Tree → I → Type 0) (IsOut : Tree → Type 0) → ReadsAll read Is IsOut → (n : ℕ) (ds : List (Draft D)) → Judges (AreEntries Is ds) (IsFirstWrong (Says Is) IsOut n (instructions_in ds)) (entries_from read n ds)
 entries_judged read Is IsOut tells n [] = tt
 entries_judged {D} {I} read Is IsOut tells n (d ∷ ds) =
     let here = terms_in d.instructions in
@@ -166,11 +166,11 @@ entries_judged {D} {I} read Is IsOut tells n (d ∷ ds) =
     (λ e is. then_judged P (entries_from read (n + len) ds) (λ es. Ok (e ∷ es)) (AreEntries Is ds) (IsFirstWrong (Says Is) IsOut (n + len) others) (entries_judged read Is IsOut tells (n + len) ds) (λ es are. (is, are)) (λ f wrong. back_wrong Is IsOut n here others f (say_entry Is d e is) (subst (λ m. IsFirstWrong (Says Is) IsOut (n + m) others f) (count_terms d.instructions) wrong)))
     (λ f wrong. front_wrong Is IsOut n here others f wrong)
 
-entry_done : {D I : Type 0} (read : Tree → Result I InstructionFault) (Is : Tree → I → Type 0) (IsOut : Tree → Type 0) → Tells read Is IsOut → (n : ℕ) (d : Draft D) (e : Entry D I) → IsEntry Is d e → entry_of read n d ≡ Ok e
+entry_done : {D I : Type 0} (read : Tree → Result I InstructionFault) (Is : Tree → I → Type 0) (IsOut : Tree → Type 0) → ReadsAll read Is IsOut → (n : ℕ) (d : Draft D) (e : Entry D I) → IsEntry Is d e → entry_of read n d ≡ Ok e
 entry_done read Is IsOut tells n d e is =
     ap (λ r. after r (λ script. Ok (record { vsn = d.vsn; description = d.description; instructions = script }))) (script_done read Is IsOut tells n d.instructions e.instructions is.instructions) ∙ made_of d e is.vsn is.description
 
-pub entries_done : {D I : Type 0} (read : Tree → Result I InstructionFault) (Is : Tree → I → Type 0) (IsOut : Tree → Type 0) → Tells read Is IsOut → (n : ℕ) (ds : List (Draft D)) (es : List (Entry D I)) → AreEntries Is ds es → entries_from read n ds ≡ Ok es
+pub entries_done : {D I : Type 0} (read : Tree → Result I InstructionFault) (Is : Tree → I → Type 0) (IsOut : Tree → Type 0) → ReadsAll read Is IsOut → (n : ℕ) (ds : List (Draft D)) (es : List (Entry D I)) → AreEntries Is ds es → entries_from read n ds ≡ Ok es
 entries_done read Is IsOut tells n [] [] are = refl
 entries_done read Is IsOut tells n [] (e ∷ es) are = absurd are
 entries_done read Is IsOut tells n (d ∷ ds) [] are = absurd are
@@ -183,7 +183,7 @@ unfolding AllSay
 all_read Is none say = ([], tt)
 all_read Is (more t ts) say = let others = all_read Is ts say.1 in (say.0.value ∷ others.0, (say.0.is, others.1))
 
-pub entries_wrong : {D I : Type 0} (read : Tree → Result I InstructionFault) (Is : Tree → I → Type 0) (IsOut : Tree → Type 0) → Tells read Is IsOut → (n : ℕ) (ds : List (Draft D)) (f : FileError) → IsFirstWrong (Says Is) IsOut n (instructions_in ds) f → entries_from read n ds ≡ Err f
+pub entries_wrong : {D I : Type 0} (read : Tree → Result I InstructionFault) (Is : Tree → I → Type 0) (IsOut : Tree → Type 0) → ReadsAll read Is IsOut → (n : ℕ) (ds : List (Draft D)) (f : FileError) → IsFirstWrong (Says Is) IsOut n (instructions_in ds) f → entries_from read n ds ≡ Err f
 entries_wrong read Is IsOut tells n [] f wrong = absurd wrong
 entries_wrong {D} {I} read Is IsOut tells n (d ∷ ds) f wrong =
     let others : Result (List (Entry D I)) FileError = entries_from read (n + count d.instructions) ds in
@@ -218,7 +218,7 @@ pub up_wrong : {D I : Type 0} (Is : Tree → I → Type 0) (IsOut : Tree → Typ
 up_wrong Is IsOut ups downs f wrong = front_wrong Is IsOut 0 (instructions_in ups) (instructions_in downs) f wrong
 
 -- what the entries up are, where all that their instructions are is said
-pub ups_or_downs : {D I : Type 0} (read : Tree → Result I InstructionFault) (Is : Tree → I → Type 0) (IsOut : Tree → Type 0) → Tells read Is IsOut → (ups downs : List (Draft D)) (f : FileError) → IsFirstWrong (Says Is) IsOut 0 (instructions_in ups ++ instructions_in downs) f → (entries_from {D = D} read 0 ups ≡ Err f) ⊎ ((es : List (Entry D I)) × (entries_from read 0 ups ≡ Ok es) × (entries_from {D = D} read (count_in ups) downs ≡ Err f))
+pub ups_or_downs : {D I : Type 0} (read : Tree → Result I InstructionFault) (Is : Tree → I → Type 0) (IsOut : Tree → Type 0) → ReadsAll read Is IsOut → (ups downs : List (Draft D)) (f : FileError) → IsFirstWrong (Says Is) IsOut 0 (instructions_in ups ++ instructions_in downs) f → (entries_from {D = D} read 0 ups ≡ Err f) ⊎ ((es : List (Entry D I)) × (entries_from read 0 ups ≡ Ok es) × (entries_from {D = D} read (count_in ups) downs ≡ Err f))
 unfolding AllSay
 ups_or_downs {D} {I} read Is IsOut tells ups downs f wrong =
     elim (split Is IsOut 0 (instructions_in ups) (instructions_in downs) f wrong) [

@@ -15,9 +15,9 @@ use Rattle.low_instructions.specs.Reading.{low_of, low_result}
 use Rattle.high_instructions.specs.Reading.{high_of}
 use Rattle.instructions.specs.Instructions.{InstructionTable, IsInstruction, instruction_result, is_instruction, of_high, of_low}
 use Rattle.otp_files.specs.Upgrades.{IsAppupInstruction, IsExcluded, IsRelupInstruction}
-use Rattle.otp_files.proofs.Scripts.{Tells, Told}
+use Rattle.otp_files.proofs.Scripts.{ReadsAll, IsReadAs}
 
-told_so : {I : Type 0} (IsForm : Tree → I → Type 0) (is_so : I → Bool) (IsOut : Tree → Type 0) (t : Tree) (r : Result I InstructionFault) → ReadsAs IsForm is_so IsOut t r → Told (λ t i. IsForm t i × (is_so i ≡ true)) IsOut t r
+told_so : {I : Type 0} (IsForm : Tree → I → Type 0) (is_so : I → Bool) (IsOut : Tree → Type 0) (t : Tree) (r : Result I InstructionFault) → ReadsAs IsForm is_so IsOut t r → IsReadAs (λ t i. IsForm t i × (is_so i ≡ true)) IsOut t r
 told_so IsForm is_so IsOut t (Ok i) reads = reads
 told_so IsForm is_so IsOut t (Err Bad) reads = (reads.0, λ says. reads.1 says.value says.is.1 says.is.0)
 told_so IsForm is_so IsOut t (Err OutOfProfile) reads = reads
@@ -28,7 +28,7 @@ low_out : (t : Tree) → is_out_of_profile t ≡ true → low_result t ≡ Err O
 unfolding low_result
 low_out t out = ap (λ b. result_of b (low_of t)) out
 
-pub low_tells : LowTable → Tells low_result IsRelupInstruction IsExcluded
+pub low_tells : LowTable → ReadsAll low_result IsRelupInstruction IsExcluded
 low_tells table = record {
   told = λ t. told_so IsLow is_low IsExcluded t (low_result t) (table.sound t);
   right = λ t l is. table.complete t l is.1 is.0;
@@ -70,7 +70,7 @@ instruction_out : (t : Tree) → is_out_of_profile t ≡ true → instruction_re
 unfolding instruction_result
 instruction_out t out = ap (λ r. of_high r (low_result t)) (out_not_high t out) ∙ ap of_low (low_out t out)
 
-pub instruction_tells : InstructionTable → Tells instruction_result IsAppupInstruction IsExcluded
+pub instruction_tells : InstructionTable → ReadsAll instruction_result IsAppupInstruction IsExcluded
 instruction_tells table = record {
   told = λ t. told_so IsInstruction is_instruction IsExcluded t (instruction_result t) (table.sound t);
   right = λ t i is. table.complete t i is.1 is.0;

@@ -17,7 +17,7 @@ use Rattle.otp_files.specs.Parts.{IsAny, IsList, IsListOf, IsPair, IsTriple, IsV
 use Rattle.otp_files.specs.Reading.{after, appup_draft_of, count_in, entries_from, relup_draft_of, upgrades_of, upgrades_with}
 use Rattle.otp_files.specs.Upgrades.{AreEntries, AreUpgrades, HasUpgradeParts, IsAppupDraft, IsFirstWrong, IsRelupDraft, UpgradesRefused, instruction, instructions_in, misshapen}
 use Rattle.otp_files.proofs.Sayings.{Reads, any_reads, list_reads, pair_reads, rows_reads, triple_reads, version_reads}
-use Rattle.otp_files.proofs.Scripts.{Judges, Tells, down_wrong, entries_done, entries_judged, then_judged, up_wrong, ups_or_downs}
+use Rattle.otp_files.proofs.Scripts.{Judges, ReadsAll, down_wrong, entries_done, entries_judged, then_judged, up_wrong, ups_or_downs}
 use Rattle.otp_files.proofs.Shapes.{three_done, three_judged, three_misshapen}
 
 -- Drafts
@@ -46,7 +46,7 @@ relup_draft_reads = record { found = found; back = λ t d is. ap (option_map (λ
 
 -- Files
 
-pub upgrades_judged : {D I : Type 0} (draft : Tree → Option (Draft D)) (read : Tree → Result I InstructionFault) (IsDraft : Tree → Draft D → Type 0) (Is : Tree → I → Type 0) (IsOut : Tree → Type 0) → Reads draft IsDraft → Tells read Is IsOut → (t : Tree) → Judges (AreUpgrades IsDraft Is t) (UpgradesRefused IsDraft Is IsOut t) (upgrades_of draft read t)
+pub upgrades_judged : {D I : Type 0} (draft : Tree → Option (Draft D)) (read : Tree → Result I InstructionFault) (IsDraft : Tree → Draft D → Type 0) (Is : Tree → I → Type 0) (IsOut : Tree → Type 0) → Reads draft IsDraft → ReadsAll read Is IsOut → (t : Tree) → Judges (AreUpgrades IsDraft Is t) (UpgradesRefused IsDraft Is IsOut t) (upgrades_of draft read t)
 unfolding upgrades_of
 upgrades_judged {D} {I} draft read IsDraft Is IsOut drafts tells t =
     three_judged version_of (rows_of draft) (rows_of draft) IsVersion (IsListOf IsDraft) (IsListOf IsDraft) (λ vsn ups downs. upgrades_with read vsn ups downs) P t version_reads (rows_reads draft IsDraft drafts) (rows_reads draft IsDraft drafts) (λ n wrong. misshapen n wrong refl) made
@@ -62,12 +62,12 @@ upgrades_judged {D} {I} draft read IsDraft Is IsOut drafts tells t =
         (λ f wrong. instruction vsn ups downs parts (down_wrong Is IsOut ups downs up f are_up wrong)))
         (λ f wrong. instruction vsn ups downs parts (up_wrong Is IsOut ups downs f wrong))
 
-pub upgrades_done : {D I : Type 0} (draft : Tree → Option (Draft D)) (read : Tree → Result I InstructionFault) (IsDraft : Tree → Draft D → Type 0) (Is : Tree → I → Type 0) (IsOut : Tree → Type 0) → Reads draft IsDraft → Tells read Is IsOut → (t : Tree) (file : Upgrades D I) → AreUpgrades IsDraft Is t file → upgrades_of draft read t ≡ Ok file
+pub upgrades_done : {D I : Type 0} (draft : Tree → Option (Draft D)) (read : Tree → Result I InstructionFault) (IsDraft : Tree → Draft D → Type 0) (Is : Tree → I → Type 0) (IsOut : Tree → Type 0) → Reads draft IsDraft → ReadsAll read Is IsOut → (t : Tree) (file : Upgrades D I) → AreUpgrades IsDraft Is t file → upgrades_of draft read t ≡ Ok file
 unfolding upgrades_of
 upgrades_done draft read IsDraft Is IsOut drafts tells t file is =
     three_done version_of (rows_of draft) (rows_of draft) IsVersion (IsListOf IsDraft) (IsListOf IsDraft) (λ vsn ups downs. upgrades_with read vsn ups downs) t version_reads (rows_reads draft IsDraft drafts) (rows_reads draft IsDraft drafts) file.vsn is.ups is.downs is.parts ∙ ap (λ r. after r (λ up. after (entries_from read (count_in is.ups) is.downs) (λ down. Ok (record { vsn = file.vsn; up = up; down = down })))) (entries_done read Is IsOut tells 0 is.ups file.up is.up) ∙ ap (λ r. after r (λ down. Ok (record { vsn = file.vsn; up = file.up; down = down }))) (entries_done read Is IsOut tells (count_in is.ups) is.downs file.down is.down)
 
-pub upgrades_refused : {D I : Type 0} (draft : Tree → Option (Draft D)) (read : Tree → Result I InstructionFault) (IsDraft : Tree → Draft D → Type 0) (Is : Tree → I → Type 0) (IsOut : Tree → Type 0) → Reads draft IsDraft → Tells read Is IsOut → (t : Tree) (f : FileError) → UpgradesRefused IsDraft Is IsOut t f → upgrades_of draft read t ≡ Err f
+pub upgrades_refused : {D I : Type 0} (draft : Tree → Option (Draft D)) (read : Tree → Result I InstructionFault) (IsDraft : Tree → Draft D → Type 0) (Is : Tree → I → Type 0) (IsOut : Tree → Type 0) → Reads draft IsDraft → ReadsAll read Is IsOut → (t : Tree) (f : FileError) → UpgradesRefused IsDraft Is IsOut t f → upgrades_of draft read t ≡ Err f
 unfolding upgrades_of
 upgrades_refused draft read IsDraft Is IsOut drafts tells t f (misshapen n wrong is) =
     three_misshapen version_of (rows_of draft) (rows_of draft) IsVersion (IsListOf IsDraft) (IsListOf IsDraft) (λ vsn ups downs. upgrades_with read vsn ups downs) t version_reads (rows_reads draft IsDraft drafts) (rows_reads draft IsDraft drafts) n wrong ∙ ap Err (sym is)

@@ -119,7 +119,7 @@ RelupRefused = UpgradesRefused IsRelupDraft IsRelupInstruction IsExcluded
 -- How a relup is printed: each instruction in its printed form
 
 -- what holds of an entry whatever it is: its version is one, and its instructions are some that can be written
-pub record IsKept (entry : Entry Term Low) : Type 0 where
+pub record IsWritable (entry : Entry Term Low) : Type 0 where
   pub vsn : is_version entry.vsn ≡ true
   pub instructions : All (λ low. is_low low ≡ true) entry.instructions
 

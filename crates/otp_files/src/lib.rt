@@ -7,7 +7,7 @@
 //! # What is proved
 //!
 //! - [`read_app`], [`read_rel`], [`read_appup`] and [`read_relup`] answer the record that the bytes' one term says by the
-//!   manuals' forms, or, want of memory aside, what is wrong with the text or with the term, in the order of
+//!   manuals' forms, or, lack of memory aside, what is wrong with the text or with the term, in the order of
 //!   [`FileError`]: of a term the first element of the outer tuple that is wrong, then a key that stands twice, then the
 //!   first instruction of the file that is none.
 //! - [`terms_say_one_record_or_have_one_fault`]: by those forms a term says one record, or has one fault where it says

@@ -19,7 +19,8 @@ use std::alloc::{AllocError, Global};
 /// `Text` with the text's first fault, `NoTerm` or `ManyTerms` where it has not one term, `Memory` where memory is
 /// refused.
 pub(crate) fn read_one(alloc: Global, text: &[u8]) -> Result<Term, FileError>
-    ensures { MatchResult result (λ term. IsTextOf text.now (more (tree term) none)) (λ e. (e ≡ refused) ⊎ IsTextError text.now e) }
+    ensures { MatchResult result (λ term. IsTextOf text.now (more (tree term) none)) (λ e. (e ≡ refused) ⊎
+        IsTextError text.now e) }
 {
     let mut terms = match read_terms(alloc, text) {
         Ok(terms) => terms,

@@ -4,7 +4,7 @@ ghost use Rattle.erl_term.specs.RoundTrip.{is_bounded, is_readable};
 ghost use Rattle.erl_term.specs.Term.{tree};
 ghost use Rattle.otp_files.specs.Laws.{relup_text};
 ghost use Rattle.otp_files.specs.Texts.{IsFile, IsFileError};
-ghost use Rattle.otp_files.specs.Upgrades.{IsKept, IsRelup, RelupRefused, relup_entry_tree, relup_tree};
+ghost use Rattle.otp_files.specs.Upgrades.{IsWritable, IsRelup, RelupRefused, relup_entry_tree, relup_tree};
 ghost use Rattle.otp_files.specs.declared.error.FileError.TheVariants.{Memory as refused};
 
 use crate::error::FileError;
@@ -42,7 +42,7 @@ pub fn read_relup(alloc: Global, text: &[u8]) -> Result<Relup, FileError>
 impl ToTerm for Entry<Term, Low> {
     ghost writing = { relup_entry_tree };
 
-    ghost holds = { IsKept };
+    ghost holds = { IsWritable };
 
     fn to_term(&self, alloc: Global) -> Result<Term, AllocError> {
         (&self.vsn, &self.description, &self.instructions).to_term(alloc)
@@ -71,7 +71,8 @@ pub fn relup_term(alloc: Global, relup: &Relup) -> Result<Term, AllocError>
 /// `AllocError` where memory is refused; the output is then as it was.
 pub fn print_relup(relup: &Relup, out: &mut Vec<u8>) -> Result<(), AllocError>
     ensures printed { OnOk result (out.new.items ≡ out.old.items ++ relup_text relup.now) }
-    ensures read_back { OnOk result (is_readable (relup_tree relup.now) ≡ true → IsFile IsRelup (relup_text relup.now) relup.now) }
+    ensures read_back { OnOk result (is_readable (relup_tree relup.now) ≡ true →
+        IsFile IsRelup (relup_text relup.now) relup.now) }
     ensures err { OnErr result (out.new.items ≡ out.old.items) }
 {
     printed_terms_are_read();

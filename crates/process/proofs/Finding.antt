@@ -9,7 +9,7 @@ use Rattle.std.proofs.lemmas.List.Elements.{All-weaker, Contains-append_left, Co
 use Rattle.std.proofs.lemmas.Map.Lookups.{exact_unsigned}
 use Rattle.std.proofs.lemmas.Map.Views.{All-set_contains, length-le_from_below}
 use Rattle.std.proofs.lemmas.Option.{none-some, same_Some, slice_get_within, get_or_from_slice_get, slice_get_read}
-use Rattle.erl_forms.specs.Module.{Forms, AreNamesOf, called_in_functions}
+use Rattle.erl_ir.specs.Module.{Forms, AreNamesOf, called_in_functions}
 use Rattle.code_server.specs.Modules.{Entry, Table, place_of}
 use Rattle.code_server.specs.Places.{current_at}
 use Rattle.code_server.specs.declared.modules.Instance as loaded

@@ -5,9 +5,9 @@ use Rattle.std.proofs.lemmas.Bool.{eq-eqb, eqb-true}
 use Rattle.std.proofs.lemmas.List.Elements.{All-cons, All-head, All-nil, All-tail}
 use Rattle.std.proofs.lemmas.List.Sums.{get_or-le-sum_by}
 use Rattle.std.proofs.lemmas.Option.{get_or_from_slice_get}
-use Rattle.erl_forms.specs.Module.{Forms}
+use Rattle.erl_ir.specs.Module.{Forms}
 use Rattle.erl_semantics.specs.State.{Instance}
-use Rattle.code_server.specs.Modules.{Entry, IsSound, Table, current_of, in_entry, in_entries, in_slot, old_of}
+use Rattle.code_server.specs.Modules.{Entry, IsModuleTable, Table, current_of, in_entry, in_entries, in_slot, old_of}
 use Rattle.code_server.specs.declared.modules.Instance as loaded
 use Rattle.code_server.proofs.Changes.{current_of-slots, old_of-slots}
 use Rattle.code_server.proofs.Standing.{Stands-place}
@@ -25,7 +25,7 @@ prefixed xs (Some ys) = Some (xs ++ ys)
 slot_of : (i : loaded.Instance Forms) (serial : ℕ) (o : Option (loaded.Instance Forms)) → o ≡ Some i → i.serial ≡ serial → in_slot serial o ≡ 1
 slot_of i serial o is same = ap (in_slot serial) is ∙ ap (λ b. cond b 1 0) (eq-eqb i.serial serial same)
 
-apart : (t : Table Forms) (name : List ℕ) (c l : loaded.Instance Forms) → IsSound t → current_of name t ≡ Some c → old_of name t ≡ Some l → c.serial ≡ l.serial → ⊥
+apart : (t : Table Forms) (name : List ℕ) (c l : loaded.Instance Forms) → IsModuleTable t → current_of name t ≡ Some c → old_of name t ≡ Some l → c.serial ≡ l.serial → ⊥
 apart t name c l sound at at_old same =
     let place = placed name t c at in
     let stands = Stands-place name t.entries place.0 place.1 in
@@ -44,11 +44,11 @@ if_other : (c : loaded.Instance Forms) (serial : ℕ) (b : Bool) → eqb c.seria
 if_other c serial true is other = absurd (other (eqb-true c.serial serial is))
 if_other c serial false is other = ap (λ b. cond b (Some c) None) is
 
-current_passed : (t : Table Forms) (name : List ℕ) (l : loaded.Instance Forms) (o : Option (loaded.Instance Forms)) → IsSound t → current_of name t ≡ o → old_of name t ≡ Some l → if_serial l.serial (current_of name t) ≡ None
+current_passed : (t : Table Forms) (name : List ℕ) (l : loaded.Instance Forms) (o : Option (loaded.Instance Forms)) → IsModuleTable t → current_of name t ≡ o → old_of name t ≡ Some l → if_serial l.serial (current_of name t) ≡ None
 current_passed t name l None sound is at = ap (if_serial l.serial) is
 current_passed t name l (Some c) sound is at = ap (if_serial l.serial) is ∙ if_other c l.serial (eqb c.serial l.serial) refl (apart t name c l sound is at)
 
-pub found_again : (t : Table Forms) (i : Instance) → IsSound t → StandsIn t i → found i.name i.serial t ≡ Some i
+pub found_again : (t : Table Forms) (i : Instance) → IsModuleTable t → StandsIn t i → found i.name i.serial t ≡ Some i
 found_again t _ sound (as_current {name} {i} at) =
     ap (λ o. option_map (instance_of name) (option_or o (if_serial i.serial (old_of name t)))) (ap (if_serial i.serial) at ∙ if_same i)
 found_again t _ sound (as_old {name} {i} at) =

@@ -1,7 +1,7 @@
 -- A job has one code.
 use Rattle.std.proofs.Common.{◌≡◌, List, ◌∷◌, refl, sym, ap, ◌∙◌}
 use Rattle.std.proofs.lemmas.Option.{none-some, same_Some}
-use Rattle.erl_forms.specs.Module.{Forms}
+use Rattle.erl_ir.specs.Module.{Forms}
 use Rattle.code_server.specs.Modules.{Entry, Table}
 use Rattle.erl_semantics.specs.State.{Instance}
 use Rattle.process.specs.JobCode.{AreReached, IsJobCode, none, reached, without_code, not_reached, job_code, instance_of}

@@ -8,11 +8,11 @@ use Rattle.std.specs.Str.{bytes_eq}
 use Rattle.std.proofs.lemmas.Bool.{cases_lt, false≢true}
 use Rattle.std.proofs.lemmas.Map.Keys.{sorted_head, sorted_tail}
 use Rattle.std.proofs.lemmas.Option.{none-some}
-use Rattle.erl_forms.specs.Module.{Forms}
+use Rattle.erl_ir.specs.Module.{Forms}
 use Rattle.erl_semantics.specs.State.{Instance}
 use Rattle.erl_semantics.specs.Views.{instance}
 use Rattle.erl_semantics.specs.declared.instance.Instance as held
-use Rattle.code_server.specs.Modules.{Entry, Table, IsSound}
+use Rattle.code_server.specs.Modules.{Entry, Table, IsModuleTable}
 use Rattle.code_server.specs.declared.modules.Instance as loaded
 use Rattle.code_server.proofs.Standing.{Stands-place}
 use Rattle.process.specs.JobCode.{IsReached, AreReached, IsJobCode, none, reached, without_code, not_reached, job_code, instance_of}
@@ -136,12 +136,12 @@ module _ (t : Table Forms) (from : Forms) (distinct : IsDistinct bytes_eq (keys_
             ]
       ]
 
-pub AreReached-places : (t : Table Forms) (from : Forms) (places : BTreeSet ℕ) → IsSound t → AreReachedPlaces t from places → AreReached t from t.entries (current_code t.entries places.keys)
+pub AreReached-places : (t : Table Forms) (from : Forms) (places : BTreeSet ℕ) → IsModuleTable t → AreReachedPlaces t from places → AreReached t from t.entries (current_code t.entries places.keys)
 AreReached-places t from places sound is =
     listed t from sound.distinct t.entries 0 places.keys (λ j. ap (slice_get t.entries) (omega arith)) (rise_from-sorted places.keys is.ordered)
     (λ p here. is.reached p (set_has p places.keys here)) (λ p above there. in_set p places.keys (is.all p there))
 
-pub IsJobCode-places : (t : Table Forms) (entered : Instance) (places : BTreeSet ℕ) (code : List Instance) → IsSound t → AreReachedPlaces t entered.forms places → code ≡ entered ∷ current_code t.entries places.keys → IsJobCode t entered code
+pub IsJobCode-places : (t : Table Forms) (entered : Instance) (places : BTreeSet ℕ) (code : List Instance) → IsModuleTable t → AreReachedPlaces t entered.forms places → code ≡ entered ∷ current_code t.entries places.keys → IsJobCode t entered code
 IsJobCode-places t entered places code sound is made =
     let P : List Instance → Type 0 = λ l. IsJobCode t entered l in subst P (sym made) (job_code (AreReached-places t entered.forms places sound is))
 

@@ -1,15 +1,15 @@
 -- A process that was taken out whole, with its instances told by names and serials, and the process that is made of it again.
 use Rattle.std.specs.Prelude.{◌≡◌, ℕ, All, List, [], map, Option, None, Some}
 use Rattle.std.specs.Option.{option_map}
-use Rattle.erl_forms.specs.Module.{Forms}
+use Rattle.erl_ir.specs.Module.{Forms}
 use Rattle.erl_term.specs.declared.term.Term.{Term}
 use Rattle.erl_semantics.specs.declared.acts.Place.{Place}
 use Rattle.erl_semantics.specs.State as state
 use Rattle.erl_semantics.specs.Views.{instance}
 use Rattle.erl_semantics.specs.declared.instance.Instance.{Instance}
-use Rattle.code_server.specs.Modules.{IsSound, Table}
+use Rattle.code_server.specs.Modules.{IsModuleTable, Table}
 use Rattle.process.specs.Named.{StandsIn, all_found, found, named_instance}
-use Rattle.process.specs.declared.named.NamedInstance.{NamedInstance}
+use Rattle.process.specs.declared.named.CodeRef.{CodeRef}
 use Rattle.process.specs.declared.activity.Activity.{Activity}
 use Rattle.process.specs.declared.activity.Activity.TheVariants as activity
 use Rattle.process.specs.declared.process.ending.Did.{Did}
@@ -21,7 +21,7 @@ pub record EndedState : Type 0 where
   pub pid : ℕ
   pub name : Option (List ℕ)
   pub place : Place
-  pub rests_in : Option NamedInstance
+  pub rests_in : Option CodeRef
   pub did : Did
   pub turn : ℕ
   pub mailbox : List Term
@@ -29,22 +29,22 @@ pub record EndedState : Type 0 where
 -- Taking out.
 
 -- what tells an instance
-abbrev pub named : Instance → NamedInstance
+abbrev pub named : Instance → CodeRef
 named i = named_instance (instance i)
 
 -- what tells the code that is run
-abbrev pub code_named : Activity → List NamedInstance
+abbrev pub code_named : Activity → List CodeRef
 code_named activity.Idle = []
 code_named activity.Suspended = []
 code_named (activity.Runs r) = map named_instance (map instance r.code)
 
-abbrev pub did_by : List NamedInstance → Activity → Did
+abbrev pub did_by : List CodeRef → Activity → Did
 did_by code activity.Idle = did.Idle
 did_by code activity.Suspended = did.Suspended
 did_by code (activity.Runs r) = did.Ran (record { entry_serial = r.entry_serial; message = r.message; code = code })
 
 -- with the instances told so
-abbrev pub ended_with : Option NamedInstance → List NamedInstance → ProcessState → EndedState
+abbrev pub ended_with : Option CodeRef → List CodeRef → ProcessState → EndedState
 ended_with rests_in code p = record {
   pid = p.pid;
   name = p.name;
@@ -63,7 +63,7 @@ ended p = ended_with (option_map named p.rests_in) (code_named p.activity) p
 abbrev pub held : state.Instance → Instance
 held i = record { name = i.name; serial = i.serial; «module» = i.forms }
 
-abbrev pub rests_found : Table Forms → Option NamedInstance → Option (Option Instance)
+abbrev pub rests_found : Table Forms → Option CodeRef → Option (Option Instance)
 rests_found t None = Some None
 rests_found t (Some n) = option_map (λ i. Some (held i)) (found n.name n.serial t)
 
@@ -111,5 +111,5 @@ CodeStands t (activity.Runs r) = All (StandsIn t) (map instance r.code)
 
 -- A process that was taken out lives again where they do.
 abbrev pub EndedProcessesLive : Type 0
-EndedProcessesLive = (t : Table Forms) (p : ProcessState) → IsSound t → PlaceStands t p.rests_in → CodeStands t p.activity →
+EndedProcessesLive = (t : Table Forms) (p : ProcessState) → IsModuleTable t → PlaceStands t p.rests_in → CodeStands t p.activity →
     lives t (ended p) ≡ Some p

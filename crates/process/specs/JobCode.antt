@@ -2,7 +2,7 @@
 -- can be reached from there by remote calls that are written (Erlang Reference Manual, Compilation and Code Loading: a
 -- remote call always goes to the current code).
 use Rattle.std.specs.Prelude.{◌≡◌, ℕ, List, [], ◌∷◌, Any, Some, None}
-use Rattle.erl_forms.specs.Module.{Forms, called_in_functions}
+use Rattle.erl_ir.specs.Module.{Forms, called_in_functions}
 use Rattle.code_server.specs.Modules.{Entry, Table, current_of}
 use Rattle.code_server.specs.declared.modules.Instance as loaded
 use Rattle.erl_semantics.specs.State.{Instance}

@@ -1,15 +1,15 @@
 -- Instances that are told by names and serials, and found again in the table.
 use Rattle.std.specs.Prelude.{◌≡◌, ℕ, ◌==◌, if◌then◌else◌, All, List, [], ◌∷◌, map, Option, None, Some}
 use Rattle.std.specs.Option.{option_map, option_or}
-use Rattle.erl_forms.specs.Module.{Forms}
+use Rattle.erl_ir.specs.Module.{Forms}
 use Rattle.erl_semantics.specs.State.{Instance}
-use Rattle.code_server.specs.Modules.{IsSound, Table, current_of, old_of}
+use Rattle.code_server.specs.Modules.{IsModuleTable, Table, current_of, old_of}
 use Rattle.code_server.specs.declared.modules.Instance as loaded
-use Rattle.process.specs.declared.named.NamedInstance.{NamedInstance}
+use Rattle.process.specs.declared.named.CodeRef.{CodeRef}
 use Rattle.process.specs.JobCode.{IsJobCode, instance_of}
 
 -- what tells an instance
-abbrev pub named_instance : Instance → NamedInstance
+abbrev pub named_instance : Instance → CodeRef
 named_instance i = record { name = i.name; serial = i.serial }
 
 abbrev pub if_serial : ℕ → Option (loaded.Instance Forms) → Option (loaded.Instance Forms)
@@ -30,7 +30,7 @@ and_others (Some i) None = None
 and_others (Some i) (Some others) = Some (i ∷ others)
 
 -- all of them, where each is found
-abbrev pub all_found : List NamedInstance → Table Forms → Option (List Instance)
+abbrev pub all_found : List CodeRef → Table Forms → Option (List Instance)
 all_found [] t = Some []
 all_found (n ∷ ns) t = and_others (found n.name n.serial t) (all_found ns t)
 
@@ -41,10 +41,10 @@ pub data StandsIn (t : Table Forms) : Instance → Type 0 where
 
 -- Instances that stand in the table are found by their names and serials.
 abbrev pub AreFoundAgain : Type 0
-AreFoundAgain = (t : Table Forms) (instances : List Instance) → IsSound t → All (StandsIn t) instances →
+AreFoundAgain = (t : Table Forms) (instances : List Instance) → IsModuleTable t → All (StandsIn t) instances →
     all_found (map named_instance instances) t ≡ Some instances
 
 -- The code of a job that is entered in such an instance stands in the table.
 abbrev pub JobCodeStands : Type 0
-JobCodeStands = (t : Table Forms) (entered : Instance) (code : List Instance) → IsSound t → StandsIn t entered →
+JobCodeStands = (t : Table Forms) (entered : Instance) (code : List Instance) → IsModuleTable t → StandsIn t entered →
     IsJobCode t entered code → All (StandsIn t) code

@@ -64,13 +64,13 @@ awaited p = awaited_by p.activity (first_taken p.pid p.place p.rests_in p.mailbo
 
 -- the position of the message that it would take now: of none also while it is suspended
 
-abbrev pub can_take_by : Activity → Option ℕ → Option ℕ
-can_take_by Idle first = first
-can_take_by Suspended first = None
-can_take_by (Runs r) first = None
+abbrev pub next_message_by : Activity → Option ℕ → Option ℕ
+next_message_by Idle first = first
+next_message_by Suspended first = None
+next_message_by (Runs r) first = None
 
-abbrev pub can_take : ProcessState → Option ℕ
-can_take p = can_take_by p.activity (first_taken p.pid p.place p.rests_in p.mailbox)
+abbrev pub next_message : ProcessState → Option ℕ
+next_message p = next_message_by p.activity (first_taken p.pid p.place p.rests_in p.mailbox)
 
 -- whether it is suspended
 

@@ -1,18 +1,18 @@
 -- What a job leaves behind when its process rests again, with no code: its instances are told by names and serials.
 use Rattle.std.specs.Prelude.{◌≡◌, All, List, map, Option, None, Some}
 use Rattle.std.specs.Option.{option_map}
-use Rattle.erl_forms.specs.Module.{Forms}
+use Rattle.erl_ir.specs.Module.{Forms}
 use Rattle.erl_semantics.specs.Views.{instance}
 use Rattle.erl_semantics.specs.declared.instance.Instance.{Instance}
-use Rattle.code_server.specs.Modules.{IsSound, Table}
+use Rattle.code_server.specs.Modules.{IsModuleTable, Table}
 use Rattle.process.specs.Named.{StandsIn, all_found, named_instance}
-use Rattle.process.specs.declared.named.NamedInstance.{NamedInstance}
+use Rattle.process.specs.declared.named.CodeRef.{CodeRef}
 use Rattle.process.specs.declared.process.Ran.{Ran}
 use Rattle.process.specs.declared.process.rerunning.NamedRan.{NamedRan}
 use Rattle.process.specs.Ended.{PlaceStands, held, named, rests_found}
 
 -- with the instances told so
-abbrev pub ran_with : Option NamedInstance → List NamedInstance → Ran → NamedRan
+abbrev pub ran_with : Option CodeRef → List CodeRef → Ran → NamedRan
 ran_with rests_in code ran = record {
   place = ran.place;
   rests_in = rests_in;
@@ -41,5 +41,5 @@ runs_again t n = runs_by (rests_found t n.rests_in) (option_map (map held) (all_
 
 -- What a job has left behind is made whole again where the instances stand in the table that its process used.
 abbrev pub JobsRunAgain : Type 0
-JobsRunAgain = (t : Table Forms) (ran : Ran) → IsSound t → PlaceStands t ran.rests_in →
+JobsRunAgain = (t : Table Forms) (ran : Ran) → IsModuleTable t → PlaceStands t ran.rests_in →
     All (StandsIn t) (map instance ran.running.code) → runs_again t (ran_named ran) ≡ Some ran

@@ -5,7 +5,7 @@ ghost use Rattle.erl_semantics.specs.Views.{instance};
 ghost use Rattle.process.specs.Named.{AreFoundAgain, JobCodeStands, all_found, found, loaded_with, named_instance};
 
 use code_server::Modules;
-use erl_forms::Module;
+use erl_ir::Module;
 use erl_semantics::Instance;
 use erl_term::Atom;
 use std::alloc::{AllocError, Global};
@@ -13,22 +13,22 @@ use values::{Duplicate, Same};
 
 /// An instance of a module, told by its name and its serial alone. It holds no code.
 #[derive(Drop)]
-pub struct NamedInstance {
+pub struct CodeRef {
     /// The name under which it is loaded.
     pub name: Atom,
     /// The serial of its load.
     pub serial: u64,
 }
 
-impl Same for NamedInstance {
-    fn same(&self, other: &NamedInstance) -> bool {
+impl Same for CodeRef {
+    fn same(&self, other: &CodeRef) -> bool {
         self.serial == other.serial && self.name.same(&other.name)
     }
 }
 
-impl Duplicate for NamedInstance {
-    fn copy(&self, alloc: Global) -> Result<NamedInstance, AllocError> {
-        Ok(NamedInstance {
+impl Duplicate for CodeRef {
+    fn copy(&self, alloc: Global) -> Result<CodeRef, AllocError> {
+        Ok(CodeRef {
             name: self.name.copy(alloc)?,
             serial: self.serial,
         })
@@ -40,12 +40,12 @@ impl Duplicate for NamedInstance {
 /// # Errors
 ///
 /// `AllocError` where memory is refused.
-pub fn named_of(alloc: Global, instances: &[Instance]) -> Result<Vec<NamedInstance>, AllocError>
+pub fn named_of(alloc: Global, instances: &[Instance]) -> Result<Vec<CodeRef>, AllocError>
     ensures { IfOk result (λ named. named.items ≡ map named_instance (map instance instances.now)) }
 {
     let mut named = Vec::with_capacity(alloc, instances.len())?;
     for it in instances {
-        named.push(NamedInstance {
+        named.push(CodeRef {
             name: it.name.copy(alloc)?,
             serial: it.serial,
         })?;
@@ -56,7 +56,7 @@ pub fn named_of(alloc: Global, instances: &[Instance]) -> Result<Vec<NamedInstan
 /// The current or the old code of a module, whichever has the serial.
 fn loaded<'a>(
     modules: &'a Modules<Module>,
-    told: &NamedInstance,
+    told: &CodeRef,
 ) -> Option<&'a code_server::Instance<Module>>
     ensures { option_copied result ≡ loaded_with told.now.name told.now.serial modules.now }
 {
@@ -79,7 +79,7 @@ fn loaded<'a>(
 pub fn instance_of(
     alloc: Global,
     modules: &Modules<Module>,
-    told: &NamedInstance,
+    told: &CodeRef,
 ) -> Result<Option<Instance>, AllocError>
     ensures { IfOk result (λ it. option_map instance it ≡ found told.now.name told.now.serial modules.now) }
 {
@@ -101,7 +101,7 @@ pub fn instance_of(
 pub fn instances_of(
     alloc: Global,
     modules: &Modules<Module>,
-    named: &[NamedInstance],
+    named: &[CodeRef],
 ) -> Result<Option<Vec<Instance>>, AllocError>
     ensures { IfOk result (λ all. option_map (λ instances. map instance instances.items) all ≡ all_found named.now modules.now) }
 {

@@ -1,7 +1,7 @@
 // A process.
 ghost use Rattle.std.specs.Prelude.{◌≡◌, ◌<◌, ◌≤◌, ◌+◌, ◌++◌, ◌^◌, ◌↔◌, IfOk, OnOk, OnErr, IsTrue, None, Some, length, slice_get};
 ghost use Rattle.std.specs.Option.{option_copied};
-ghost use Rattle.process.specs.Process.{awaited, IsRunning, can_take, delivered, first_taken, job_of, rested, resumed, run_at, started, suspended, takes_at, undelivered, unrested, untaken};
+ghost use Rattle.process.specs.Process.{awaited, IsRunning, next_message, delivered, first_taken, job_of, rested, resumed, run_at, started, suspended, takes_at, undelivered, unrested, untaken};
 
 mod ending;
 mod reading;
@@ -9,7 +9,7 @@ mod rerunning;
 mod restating;
 
 use crate::activity::{Activity, Running};
-pub use ending::{Did, Ended, NamedRunning, Told, ended_processes_live};
+pub use ending::{CodeRefs, DeadProcess, Did, NamedRunning, ended_processes_live};
 use erl_semantics::{Instance, Job, Place, matches};
 use erl_term::{Atom, Term};
 pub use rerunning::{NamedRan, Used, jobs_run_again};
@@ -38,16 +38,33 @@ impl Model for Process {
     ghost use Rattle.std.specs.Prelude.{◌≡◌};
     ghost use Rattle.std.specs.Coded.{codes};
     ghost use Rattle.erl_term.specs.contracts.term.Terms as terms;
-    ghost use Rattle.erl_forms.specs.contracts.module.Module as modules;
+    ghost use Rattle.erl_ir.specs.contracts.module.Module as modules;
     ghost use Rattle.process.specs.Process.{ProcessState, awaited};
 
     ghost Value = { ProcessState };
 
     ghost coded = { Prim.hlevel (codes, terms.the_row.coded, modules.the_row.coded) };
 
-    ghost view = { λ p. record { pid = p.pid; name = p.name; place = p.place; rests_in = p.rests_in; activity = p.activity; turn = p.turn; mailbox = p.mailbox.items } };
+    ghost view = { λ p. record {
+      pid = p.pid;
+      name = p.name;
+      place = p.place;
+      rests_in = p.rests_in;
+      activity = p.activity;
+      turn = p.turn;
+      mailbox = p.mailbox.items;
+    } };
 
-    ghost invariant = { λ p. p.next ≡ awaited (record { pid = p.pid; name = p.name; place = p.place; rests_in = p.rests_in; activity = p.activity; turn = p.turn; mailbox = p.mailbox.items }) };
+    ghost invariant = { λ p. p.next ≡ awaited (record {
+      pid = p.pid;
+      name = p.name;
+      place = p.place;
+      rests_in = p.rests_in;
+      activity = p.activity;
+      turn = p.turn;
+      mailbox =
+          p.mailbox.items;
+    }) };
 }
 
 /// What a job leaves behind when its process rests again: where it rested before, and what it ran.
@@ -177,7 +194,8 @@ impl Process {
         self.mailbox.get(position)
     }
 
-    /// The messages of its mailbox, first come first: those of the first row, and behind them those of the second. Takes no memory.
+    /// The messages of its mailbox, first come first: those of the first row, and behind them those of the second. Takes no
+    /// memory.
     pub fn messages(&self) -> (&[Term], &[Term])
         ensures { result.0.now ++ result.1.now ≡ self.now.mailbox }
     {
@@ -186,8 +204,8 @@ impl Process {
 
     /// The position of the message that it would take now: none while it runs, while it is suspended, and where it takes
     /// no message. Evaluates nothing, and takes no memory.
-    pub fn can_take(&self) -> Option<usize>
-        ensures { result ≡ can_take self.now }
+    pub fn next_message(&self) -> Option<usize>
+        ensures { result ≡ next_message self.now }
     {
         match &self.activity {
             Activity::Idle => self.next,
@@ -359,8 +377,8 @@ impl Process {
         first_of(alloc, self.pid, place, rests_in, &self.mailbox)
     }
 
-    /// The process rests at a place, one turn on, and takes next the message that [`Process::next_at`] tells. What it ran is handed
-    /// out. Takes no memory.
+    /// The process rests at a place, one turn on, and takes next the message that [`Process::next_at`] tells. What it ran
+    /// is handed out. Takes no memory.
     pub fn rest_next(
         &mut self,
         place: Place,

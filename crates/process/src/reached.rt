@@ -4,13 +4,13 @@ ghost use Rattle.std.specs.Map.Iter.{deref_pair};
 ghost use Rattle.std.specs.Option.{option_map};
 ghost use Rattle.erl_semantics.specs.State.{Instance as InstanceOf};
 ghost use Rattle.code_server.specs.Modules.{Table};
-ghost use Rattle.erl_forms.specs.Module.{Forms};
+ghost use Rattle.erl_ir.specs.Module.{Forms};
 ghost use Rattle.erl_semantics.specs.Views.{instance};
 ghost use Rattle.process.specs.JobCode.{IsJobCode};
 ghost use Rattle.process.specs.Places.{AreFound, AreFoundFrom, AreReachedPlaces, Grows, Has, IsNamedAt, IsNamedFrom, current_code, named_current_at};
 
 use code_server::Modules;
-use erl_forms::Module;
+use erl_ir::Module;
 use erl_semantics::Instance;
 use erl_term::Atom;
 use std::alloc::{AllocError, Global};
@@ -105,7 +105,8 @@ fn push_current(
     places: &BTreeSet<usize>,
     code: &mut Vec<Instance>,
 ) -> Result<(), AllocError>
-    ensures { OnOk result (map instance code.new.items ≡ map instance code.old.items ++ current_code modules.now.entries places.now.keys) }
+    ensures { OnOk result (map instance code.new.items ≡ map instance code.old.items ++
+        current_code modules.now.entries places.now.keys) }
 {
     for place in places {
         if let Some((name, current)) = current_at(modules, *place) {
@@ -156,5 +157,6 @@ pub fn job_code(
 
 /// A law: a job that is entered in an instance has one code.
 pub fn job_code_is_one()
-    ensures { (t : Table Forms) (entered : InstanceOf) (some others : List InstanceOf) → IsJobCode t entered some → IsJobCode t entered others → some ≡ others }
+    ensures { (t : Table Forms) (entered : InstanceOf) (some others : List InstanceOf) → IsJobCode t entered some →
+        IsJobCode t entered others → some ≡ others }
 {}

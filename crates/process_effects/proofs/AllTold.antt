@@ -13,7 +13,7 @@ use Rattle.process_effects.specs.Parted.{acts_sent, all_answered, answers_of, an
 use Rattle.process_effects.specs.declared.answers.Answer.{Answer}
 use Rattle.process_effects.specs.Told.{down, downs, killed}
 use Rattle.process_index.specs.declared.calls.Call.{Call}
-use Rattle.process_store.specs.declared.living.Living.{Living}
+use Rattle.process_store.specs.declared.living.ProcessEntry.{ProcessEntry}
 use Rattle.process_store.specs.Table.{Table, living}
 use Rattle.process_effects.specs.Telling.{IsToldBy}
 
@@ -41,11 +41,11 @@ by_rest acts t = record {
 
 -- Answers, and then a reason for each open call.
 
-abbrev calls_in : Option Living → List Call
+abbrev calls_in : Option ProcessEntry → List Call
 calls_in None = []
 calls_in (Some l) = l.calls
 
-downs_are : (reason : Term) (o : Option Living) → downs reason o ≡ map (down reason) (calls_in o)
+downs_are : (reason : Term) (o : Option ProcessEntry) → downs reason o ≡ map (down reason) (calls_in o)
 downs_are reason None = refl
 downs_are reason (Some l) = refl
 
@@ -53,15 +53,15 @@ abbrev many_in : Option (List Call) → ℕ
 many_in None = 0
 many_in (Some cs) = length cs
 
-many_at : (o : Option Living) → many_in (calls_at o) ≡ length (calls_in o)
+many_at : (o : Option ProcessEntry) → many_in (calls_at o) ≡ length (calls_in o)
 many_at None = refl
 many_at (Some l) = refl
 
-counted : (o : Option Living) → count_of o ≡ many_in (calls_at o)
+counted : (o : Option ProcessEntry) → count_of o ≡ many_in (calls_at o)
 counted None = refl
 counted (Some l) = refl
 
-as_many : (o : Option Living) (n : ℕ) → IsSome o → IfSome o (λ l. length l.calls ≡ n) → count_of o ≡ n
+as_many : (o : Option ProcessEntry) (n : ℕ) → IsSome o → IfSome o (λ l. length l.calls ≡ n) → count_of o ≡ n
 as_many None n some all = absurd (true≢false (sym some))
 as_many (Some l) n some all = all
 

@@ -10,11 +10,11 @@ use Rattle.erl_semantics.specs.declared.acts.Act.TheVariants as act
 use Rattle.erl_semantics.specs.declared.acts.Place.{Place}
 use Rattle.erl_semantics.specs.declared.jobs.Job.{Job}
 use Rattle.erl_semantics.specs.declared.instance.Instance.{Instance}
-use Rattle.process.specs.declared.named.NamedInstance.{NamedInstance}
+use Rattle.process.specs.declared.named.CodeRef.{CodeRef}
 use Rattle.process.specs.Rerun.{ran_with}
 use Rattle.process.specs.declared.process.Ran.{Ran}
 use Rattle.process_index.specs.declared.calls.Call.{Call}
-use Rattle.process_store.specs.declared.living.Living.{Living}
+use Rattle.process_store.specs.declared.living.ProcessEntry.{ProcessEntry}
 use Rattle.process_store.specs.Changes.{closed_living, owner_of, rest_living, unrest_living}
 use Rattle.process_store.specs.Living.{arrived}
 use Rattle.process_store.specs.Pieces.{AreLost, AreNotAmong, HoldsLost, IsNotAmong, Piece, at_place, in_job, in_mailbox, living_pieces, pieces_at, pieces_of, waiting}
@@ -39,7 +39,7 @@ none_lost held before after none = subst (λ h. AreLost h before after) (sym non
 
 -- acts leave the turn of a process as it is
 
-abbrev turn_read : Option Living → Option ℕ
+abbrev turn_read : Option ProcessEntry → Option ℕ
 turn_read None = None
 turn_read (Some l) = Some l.process.turn
 
@@ -88,20 +88,20 @@ later_pieces turn at place message messages = (
 -- A job is committed, and its process rests.
 
 -- a process that runs a job lives
-pub running_lives : (o : Option Living) (job : Job) → job_at o ≡ Some job → (l : Living) × (o ≡ Some l)
+pub running_lives : (o : Option ProcessEntry) (job : Job) → job_at o ≡ Some job → (l : ProcessEntry) × (o ≡ Some l)
 running_lives None job runs = absurd (none-some job runs)
 running_lives (Some l) job runs = (l, refl)
 
 -- the process before, as what ran tells it
-ran_before : (ran : Ran) (o : Option Living) (l : Living) → option_map (unrest_living ran) o ≡ Some l →
+ran_before : (ran : Ran) (o : Option ProcessEntry) (l : ProcessEntry) → option_map (unrest_living ran) o ≡ Some l →
     (others : List Piece) × (pieces_of l.process ≡ (at_place l.process.turn ran.place ∷ in_job l.process.turn ran.running.message ∷ []) ++ others)
 ran_before ran None l is = absurd (none-some l is)
 ran_before ran (Some x) l is =
     let same : unrest_living ran x ≡ l = same_Some (unrest_living ran x) l is in
-    subst (λ (k : Living). (others : List Piece) × (pieces_of k.process ≡ (at_place k.process.turn ran.place ∷ in_job k.process.turn ran.running.message ∷ []) ++ others)) same (waiting x.process.mailbox, refl)
+    subst (λ (k : ProcessEntry). (others : List Piece) × (pieces_of k.process ≡ (at_place k.process.turn ran.place ∷ in_job k.process.turn ran.running.message ∷ []) ++ others)) same (waiting x.process.mailbox, refl)
 
 -- the process after
-rested_pieces : (at : Place) (r : Option Instance) (turn : ℕ) (ran : Ran) (o : Option Living) → turn_read o ≡ Some turn →
+rested_pieces : (at : Place) (r : Option Instance) (turn : ℕ) (ran : Ran) (o : Option ProcessEntry) → turn_read o ≡ Some turn →
     (turn_of (option_map (rest_living at r) o) - 1 ≡ turn) × AreNotAmong (living_pieces (option_map (rest_living at r) o)) (at_place turn ran.place ∷ in_job turn ran.running.message ∷ [])
 rested_pieces at r turn ran None told = absurd (none-some turn told)
 rested_pieces at r turn ran (Some m) told =
@@ -109,7 +109,7 @@ rested_pieces at r turn ran (Some m) told =
     let long : m.process.turn + 1 - 1 ≡ m.process.turn = omega arith in
     (long ∙ same, subst (λ n. AreNotAmong (at_place (m.process.turn + 1) at ∷ waiting m.process.mailbox) (at_place n ran.place ∷ in_job n ran.running.message ∷ [])) same (later_pieces m.process.turn at ran.place ran.running.message m.process.mailbox))
 
-rested_here : (at : Place) (r : Option Instance) (rests_in : Option NamedInstance) (code : List NamedInstance) (ran : Ran) (acts : List Act) (t mid final : Table) (pid : ℕ) (l : Living) → living pid t ≡ Some l → changed (unrest_living ran) pid mid ≡ t → final ≡ changed (rest_living at r) pid (acts_done acts t) → AreLost (ran_at (turn_of (living pid final) - 1) (ran_with rests_in code ran)) (pieces_at pid t) (pieces_at pid final)
+rested_here : (at : Place) (r : Option Instance) (rests_in : Option CodeRef) (code : List CodeRef) (ran : Ran) (acts : List Act) (t mid final : Table) (pid : ℕ) (l : ProcessEntry) → living pid t ≡ Some l → changed (unrest_living ran) pid mid ≡ t → final ≡ changed (rest_living at r) pid (acts_done acts t) → AreLost (ran_at (turn_of (living pid final) - 1) (ran_with rests_in code ran)) (pieces_at pid t) (pieces_at pid final)
 rested_here at r rests_in code ran acts t mid final pid l lives back done =
     let f = rest_living at r in
     let o = living pid (acts_done acts t) in
@@ -117,10 +117,10 @@ rested_here at r rests_in code ran acts t mid final pid l lives back done =
     let (others, is) = ran_before ran (living pid mid) l before in
     let now : living pid final ≡ option_map f o = ap (living pid) done ∙ living_changed f (acts_done acts t).slots pid in
     let (turn, apart) = rested_pieces at r l.process.turn ran o (turn_kept acts t pid ∙ ap turn_read lives) in
-    subst (λ (x : Option Living). AreLost (ran_at (turn_of x - 1) (ran_with rests_in code ran)) (pieces_at pid t) (living_pieces x)) (sym now)
+    subst (λ (x : Option ProcessEntry). AreLost (ran_at (turn_of x - 1) (ran_with rests_in code ran)) (pieces_at pid t) (living_pieces x)) (sym now)
     (subst (λ n. AreLost (ran_at n (ran_with rests_in code ran)) (pieces_at pid t) (living_pieces (option_map f o))) (sym turn) ((others, ap living_pieces lives ∙ is), apart))
 
-pub rested_lost : (u : Rested) (at : Place) (r : Option Instance) (rests_in : Option NamedInstance) (code : List NamedInstance) (ran : Ran) (acts : List Act) (t mid final : Table) (pid : ℕ) (l : Living) → living pid t ≡ Some l → changed (unrest_living ran) pid mid ≡ t → final ≡ changed (rest_living at r) pid (acts_done acts t) → u.pid ≡ pid → u.ran ≡ ran_with rests_in code ran → HoldsLost (held_of u final) t final
+pub rested_lost : (u : Rested) (at : Place) (r : Option Instance) (rests_in : Option CodeRef) (code : List CodeRef) (ran : Ran) (acts : List Act) (t mid final : Table) (pid : ℕ) (l : ProcessEntry) → living pid t ≡ Some l → changed (unrest_living ran) pid mid ≡ t → final ≡ changed (rest_living at r) pid (acts_done acts t) → u.pid ≡ pid → u.ran ≡ ran_with rests_in code ran → HoldsLost (held_of u final) t final
 rested_lost u at r rests_in code ran acts t mid final pid l lives back done same_pid same_ran q = elim (eqb_tells u.pid q) [
   | inl here ↦
       let held : held_of u final pid ≡ ran_at (turn_of (living pid final) - 1) (ran_with rests_in code ran) =
@@ -132,13 +132,13 @@ rested_lost u at r rests_in code ran acts t mid final pid l lives back done same
 
 -- A job is committed, and its process ends.
 
-same_living : (o p : Option Living) → process_of o ≡ process_of p → living_pieces o ≡ living_pieces p
+same_living : (o p : Option ProcessEntry) → process_of o ≡ process_of p → living_pieces o ≡ living_pieces p
 same_living None None is = refl
 same_living None (Some l) is = absurd (none-some l.process is)
 same_living (Some k) None is = absurd (none-some k.process (sym is))
 same_living (Some k) (Some l) is = ap pieces_of (same_Some k.process l.process is)
 
-pub exited_lost : (e : EndedProcess) (rests_in : Option NamedInstance) (code : List NamedInstance) (t mid after : Table) (pid : ℕ) (l : Living) → e ≡ ended_as pid rests_in code l → living pid mid ≡ Some l → process_of (living pid mid) ≡ process_of (living pid t) → after ≡ vacated pid mid → HoldsLost (held_by e) t after
+pub exited_lost : (e : EndedProcess) (rests_in : Option CodeRef) (code : List CodeRef) (t mid after : Table) (pid : ℕ) (l : ProcessEntry) → e ≡ ended_as pid rests_in code l → living pid mid ≡ Some l → process_of (living pid mid) ≡ process_of (living pid t) → after ≡ vacated pid mid → HoldsLost (held_by e) t after
 exited_lost e rests_in code t mid after pid l is lives same gone q = elim (eqb_tells e.pid q) [
   | inl here ↦
       let own : e.pid ≡ pid = ap (λ x. x.pid) is in

@@ -3,12 +3,12 @@ use Rattle.std.proofs.Common.{◌≡◌, ℕ, ◌⊎◌, true, false, cond, inl,
 use Rattle.std.proofs.lemmas.Bool.Decides.{eqb_tells}
 use Rattle.std.proofs.lemmas.List.{append-nil, append_assoc}
 use Rattle.std.proofs.lemmas.Option.{none-some, same_Some}
-use Rattle.process.specs.declared.named.NamedInstance.{NamedInstance}
+use Rattle.process.specs.declared.named.CodeRef.{CodeRef}
 use Rattle.process.specs.Ended.{did_by, ended_with}
 use Rattle.process.specs.Process.{ProcessState}
 use Rattle.process.specs.declared.activity.Activity.{Activity}
 use Rattle.process.specs.declared.activity.Activity.TheVariants.{Idle, Suspended, Runs}
-use Rattle.process_store.specs.declared.living.Living.{Living}
+use Rattle.process_store.specs.declared.living.ProcessEntry.{ProcessEntry}
 use Rattle.process_store.specs.Pieces.{AreLost, AreNotAmong, HoldsLost, Piece, living_pieces, pieces_at, pieces_of, ran_pieces, waiting, at_place}
 use Rattle.process_store.specs.Table.{Table, living}
 use Rattle.process_store.specs.Vacating.{vacated}
@@ -20,12 +20,12 @@ use Rattle.process_effects.specs.declared.ending.ToldProcess.{ToldProcess}
 
 -- a process has the same pieces when it has ended
 
-ran_and_did : (code : List NamedInstance) (turn : ℕ) (a : Activity) (others : List Piece) → did_pieces turn (did_by code a) others ≡ ran_pieces turn a others
+ran_and_did : (code : List CodeRef) (turn : ℕ) (a : Activity) (others : List Piece) → did_pieces turn (did_by code a) others ≡ ran_pieces turn a others
 ran_and_did code turn Idle others = refl
 ran_and_did code turn Suspended others = refl
 ran_and_did code turn (Runs r) others = refl
 
-pub same_pieces : (rests_in : Option NamedInstance) (code : List NamedInstance) (p : ProcessState) → ended_pieces (ended_with rests_in code p) ≡ pieces_of p
+pub same_pieces : (rests_in : Option CodeRef) (code : List CodeRef) (p : ProcessState) → ended_pieces (ended_with rests_in code p) ≡ pieces_of p
 same_pieces rests_in code p = ap (λ ps. at_place p.turn p.place ∷ ps) (ran_and_did code p.turn p.activity (waiting p.mailbox))
 
 -- among none there is nothing
@@ -61,7 +61,7 @@ held_by_more [] e pid = append-nil (held_by e pid)
 held_by_more (x ∷ es) e pid = ap (λ ps. held_by x pid ++ ps) (held_by_more es e pid) ∙ sym (append_assoc (held_by x pid) (held_by_all es pid) (held_by e pid))
 
 -- what is told of a process that has ended
-ended_is : (p : ToldProcess) (o : Option Living) (e : EndedProcess) → Some e ≡ ended_of p o → (e.pid ≡ p.pid) × (ended_pieces e.process ≡ living_pieces o)
+ended_is : (p : ToldProcess) (o : Option ProcessEntry) (e : EndedProcess) → Some e ≡ ended_of p o → (e.pid ≡ p.pid) × (ended_pieces e.process ≡ living_pieces o)
 ended_is p None e is = absurd (none-some e (sym is))
 ended_is p (Some l) e is =
     let same : e ≡ ended_as p.pid p.told.rests_in p.told.code l = same_Some e (ended_as p.pid p.told.rests_in p.told.code l) is in
@@ -69,7 +69,7 @@ ended_is p (Some l) e is =
 
 -- one more has left
 
-was_alive : (p : ToldProcess) (o : Option Living) (e : EndedProcess) → Some e ≡ ended_of p o → o ≡ None → ⊥
+was_alive : (p : ToldProcess) (o : Option ProcessEntry) (e : EndedProcess) → Some e ≡ ended_of p o → o ≡ None → ⊥
 was_alive p None e is none = none-some e (sym is)
 was_alive p (Some l) e is none = none-some l (sym none)
 

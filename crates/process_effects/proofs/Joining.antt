@@ -15,7 +15,7 @@ use Rattle.process_index.specs.declared.calls.Call.{Call}
 use Rattle.process_store.proofs.Slots.{living_before}
 use Rattle.process_store.specs.Changes.{call_at, closed_living, owner_at, owner_of}
 use Rattle.process_store.specs.Table.{Table, added, changed, changed_slots, is_asked, living}
-use Rattle.process_store.specs.declared.living.Living.{Living}
+use Rattle.process_store.specs.declared.living.ProcessEntry.{ProcessEntry}
 
 -- who is found, where the last is not
 
@@ -34,7 +34,7 @@ found_later a b =
     let next : 1 + a ≡ suc a = omega arith in
     (λ i. cond (same_lt a b i) (Some (next i)) None) ∙ sym (map_found (nat_lt a b) a)
 
-pub found_before : (test : Option Living → Bool) (s : Option Living) → test s ≡ false → (slots : List (Option Living)) → position test (slots ++ s ∷ []) ≡ position test slots
+pub found_before : (test : Option ProcessEntry → Bool) (s : Option ProcessEntry) → test s ≡ false → (slots : List (Option ProcessEntry)) → position test (slots ++ s ∷ []) ≡ position test slots
 found_before test s fails [] = ap (λ b. cond (nat_lt (cond (not b) 1 0) 1) (Some (cond (not b) 1 0)) None) fails
 found_before test s fails (x ∷ xs) =
     let more = xs ++ s ∷ [] in
@@ -44,16 +44,16 @@ found_before test s fails (x ∷ xs) =
     ]
 
 -- a change of one of the others
-changed_before : (f : Living → Living) (slots : List (Option Living)) (s : Option Living) (p : ℕ) → p < length slots → changed_slots f p (slots ++ s ∷ []) ≡ changed_slots f p slots ++ s ∷ []
+changed_before : (f : ProcessEntry → ProcessEntry) (slots : List (Option ProcessEntry)) (s : Option ProcessEntry) (p : ℕ) → p < length slots → changed_slots f p (slots ++ s ∷ []) ≡ changed_slots f p slots ++ s ∷ []
 changed_before f [] s p within = absurd (omega (arith, within))
 changed_before f (x ∷ xs) s zero within = refl
 changed_before f (x ∷ xs) s (suc p) within = ap (λ ys. x ∷ ys) (changed_before f xs s p (omega (arith, within)))
 
 module _ (name : Option (List ℕ)) (at : Place) (rests : Option Instance) where
-  abbrev newcomer : ℕ → Option Living
+  abbrev newcomer : ℕ → Option ProcessEntry
   newcomer pid = Some (record { process = started pid name at rests; calls = [] })
 
-  changed_added : (f : Living → Living) (t : Table) (p : ℕ) → p < length t.slots → changed f p (added name at rests t) ≡ added name at rests (changed f p t)
+  changed_added : (f : ProcessEntry → ProcessEntry) (t : Table) (p : ℕ) → p < length t.slots → changed f p (added name at rests t) ≡ added name at rests (changed f p t)
   changed_added f t p within =
       ap (λ xs. record { slots = xs }) (changed_before f t.slots (newcomer (length t.slots)) p within ∙ ap (λ n. changed_slots f p t.slots ++ newcomer n ∷ []) (sym (length-changed_at (option_map f) t.slots p)))
 

@@ -4,7 +4,7 @@ use Rattle.std.specs.List.{filter, range_with_len}
 use Rattle.process_effects.specs.Ends.{all_vacated}
 use Rattle.process_effects.specs.Kills.{unless_uses, without_users}
 use Rattle.process_effects.specs.Uses.{users, uses}
-use Rattle.process_store.specs.declared.living.Living.{Living}
+use Rattle.process_store.specs.declared.living.ProcessEntry.{ProcessEntry}
 use Rattle.process_store.specs.Table.{Table, living_at}
 use Rattle.process_store.specs.Vacating.{vacated}
 
@@ -24,15 +24,15 @@ filter_suc test (x ∷ xs) =
       | false ↦ filter_suc test xs
     ]
 
-vacated_behind : (pids : List ℕ) (s : Option Living) (ss : List (Option Living)) → all_vacated (map suc pids) (record { slots = s ∷ ss }) ≡ record { slots = s ∷ (all_vacated pids (record { slots = ss })).slots }
+vacated_behind : (pids : List ℕ) (s : Option ProcessEntry) (ss : List (Option ProcessEntry)) → all_vacated (map suc pids) (record { slots = s ∷ ss }) ≡ record { slots = s ∷ (all_vacated pids (record { slots = ss })).slots }
 vacated_behind [] s ss = refl
 vacated_behind (pid ∷ pids) s ss = ap (vacated (suc pid)) (vacated_behind pids s ss)
 
-first_killed : (b : Bool) (pids : List ℕ) (s : Option Living) (ss rest : List (Option Living)) → all_vacated pids (record { slots = s ∷ ss }) ≡ record { slots = s ∷ rest } → all_vacated (cond b (0 ∷ pids) pids) (record { slots = s ∷ ss }) ≡ record { slots = cond b None s ∷ rest }
+first_killed : (b : Bool) (pids : List ℕ) (s : Option ProcessEntry) (ss rest : List (Option ProcessEntry)) → all_vacated pids (record { slots = s ∷ ss }) ≡ record { slots = s ∷ rest } → all_vacated (cond b (0 ∷ pids) pids) (record { slots = s ∷ ss }) ≡ record { slots = cond b None s ∷ rest }
 first_killed true pids s ss rest is = ap (vacated 0) is
 first_killed false pids s ss rest is = is
 
-users_leave_slots : (serial : ℕ) (slots : List (Option Living)) → all_vacated (filter (λ pid. uses serial (living_at slots pid)) (range_with_len 0 (length slots))) (record { slots = slots }) ≡ record { slots = map (unless_uses serial) slots }
+users_leave_slots : (serial : ℕ) (slots : List (Option ProcessEntry)) → all_vacated (filter (λ pid. uses serial (living_at slots pid)) (range_with_len 0 (length slots))) (record { slots = slots }) ≡ record { slots = map (unless_uses serial) slots }
 users_leave_slots serial [] = refl
 users_leave_slots serial (s ∷ ss) =
     let left = filter (λ pid. uses serial (living_at ss pid)) (range_with_len 0 (length ss)) in

@@ -3,15 +3,15 @@ use Rattle.std.proofs.Common.{◌≡◌, ℕ, zero, suc, ◌+◌, ◌≤◌, tru
 use Rattle.std.proofs.lemmas.Bool.{eq-eqb, true≢false}
 use Rattle.std.proofs.lemmas.Option.{none-some, same_Some}
 use Rattle.std.proofs.lemmas.List.{append_assoc, get_or_push, length_push}
-use Rattle.erl_forms.specs.Module.{Forms}
-use Rattle.code_server.specs.Modules.{IsSound, Table as Loaded}
+use Rattle.erl_ir.specs.Module.{Forms}
+use Rattle.code_server.specs.Modules.{IsModuleTable, Table as Loaded}
 use Rattle.erl_term.specs.declared.term.Term.{Term}
 use Rattle.erl_semantics.specs.declared.acts.Act.{Act}
 use Rattle.erl_semantics.specs.declared.acts.Act.TheVariants as act
 use Rattle.process.proofs.Living.{ended_processes_live}
 use Rattle.process.specs.Ended.{ended, ended_with, lives}
 use Rattle.process.specs.Process.{ProcessState}
-use Rattle.process.specs.declared.process.ending.Told.{Told}
+use Rattle.process.specs.declared.process.ending.CodeRefs.{CodeRefs}
 use Rattle.process_effects.proofs.Commuting.{read_kept}
 use Rattle.process_effects.proofs.OwnMessages.{calls_at}
 use Rattle.process_effects.proofs.Reopening.{returned_reopens}
@@ -31,10 +31,10 @@ use Rattle.process_store.proofs.Slots.{living_elsewhere}
 use Rattle.process_store.specs.Changes.{closed_living, owner_of}
 use Rattle.process_store.specs.Living.{arrived}
 use Rattle.process_store.specs.Table.{Table, changed_slots, living, living_at}
-use Rattle.process_store.specs.declared.living.Living.{Living}
+use Rattle.process_store.specs.declared.living.ProcessEntry.{ProcessEntry}
 
 -- what is told of open calls depends on them alone
-pub downs_by_calls : (reason : Term) (o p : Option Living) → calls_at o ≡ calls_at p → downs reason o ≡ downs reason p
+pub downs_by_calls : (reason : Term) (o p : Option ProcessEntry) → calls_at o ≡ calls_at p → downs reason o ≡ downs reason p
 downs_by_calls reason None None same = refl
 downs_by_calls reason None (Some l) same = absurd (none-some l.calls same)
 downs_by_calls reason (Some k) None same = absurd (none-some k.calls (sym same))
@@ -42,7 +42,7 @@ downs_by_calls reason (Some k) (Some l) same = ap (map (down reason)) (same_Some
 
 -- The process itself is others it was.
 
-abbrev pub process_of : Option Living → Option ProcessState
+abbrev pub process_of : Option ProcessEntry → Option ProcessState
 process_of None = None
 process_of (Some l) = Some l.process
 
@@ -78,7 +78,7 @@ same_process pid acts others t =
 
 -- No call comes to it.
 
-abbrev pub count_of : Option Living → ℕ
+abbrev pub count_of : Option ProcessEntry → ℕ
 count_of None = 0
 count_of (Some l) = length l.calls
 
@@ -90,7 +90,7 @@ without_fewer c (d ∷ ds) =
       | false ↦ let fewer = without_fewer c ds in omega (arith, fewer)
     ]
 
-closed_fewer_at : (c : Call) (slots : List (Option Living)) (q p : ℕ) → count_of (living_at (changed_slots (closed_living c) q slots) p) ≤ count_of (living_at slots p)
+closed_fewer_at : (c : Call) (slots : List (Option ProcessEntry)) (q p : ℕ) → count_of (living_at (changed_slots (closed_living c) q slots) p) ≤ count_of (living_at slots p)
 closed_fewer_at c [] q p = omega arith
 closed_fewer_at c (None ∷ ss) zero zero = omega arith
 closed_fewer_at c (Some l ∷ ss) zero zero = without_fewer c l.calls
@@ -127,7 +127,7 @@ module _ (pid : ℕ) (acts : List Act) (answers : List Answer) (t mid : Table) (
         | Some l ↦ λ some same. none-some l.process (ap process_of gone ∙ same)
       ] lives process_here
 
-  pub enough_reasons : (l : Living) (calls : List Call) (n : ℕ) → Some l ≡ living pid mid → calls ≡ l.calls → IsSome (living pid t) → IfSome (living pid t) (λ k. length k.calls ≡ n) → length calls ≤ n
+  pub enough_reasons : (l : ProcessEntry) (calls : List Call) (n : ℕ) → Some l ≡ living pid mid → calls ≡ l.calls → IsSome (living pid t) → IfSome (living pid t) (λ k. length k.calls ≡ n) → length calls ≤ n
   enough_reasons l calls n there same_calls lives counted =
       let fewer = fewer_calls pid acts answers t in
       let here : count_of (living pid (all_answered answers (acts_sent (Some pid) acts t))) ≡ length l.calls = ap (λ x. count_of (living pid x)) (sym is) ∙ ap count_of (sym there) in
@@ -139,7 +139,7 @@ module _ (pid : ℕ) (acts : List Act) (answers : List Answer) (t mid : Table) (
       omega (arith, fewer, here, counts, long)
 
   -- and lives again where the instances that it used stand in the table of modules
-  pub leaver_lives : (modules : Loaded Forms) (l : Living) (told : Told) → Some l ≡ living pid mid → IsSome (living pid t) → IfSome (living pid t) (λ k. ended_with told.rests_in told.code k.process ≡ ended k.process) → IsSound modules → AllStand modules t → lives modules (ended_with told.rests_in told.code l.process) ≡ Some l.process
+  pub leaver_lives : (modules : Loaded Forms) (l : ProcessEntry) (told : CodeRefs) → Some l ≡ living pid mid → IsSome (living pid t) → IfSome (living pid t) (λ k. ended_with told.rests_in told.code k.process ≡ ended k.process) → IsModuleTable modules → AllStand modules t → lives modules (ended_with told.rests_in told.code l.process) ≡ Some l.process
   leaver_lives modules l told there some telling sound stand =
       elim (living pid t) as (λ o. IsSome o → IfSome o (λ k. ended_with told.rests_in told.code k.process ≡ ended k.process) → IfSome o (λ k. Stands modules k.process) → Some l.process ≡ process_of o → lives modules (ended_with told.rests_in told.code l.process) ≡ Some l.process) [
         | None ↦ λ here tells stands same. absurd (true≢false (sym here))
@@ -149,13 +149,13 @@ module _ (pid : ℕ) (acts : List Act) (answers : List Answer) (t mid : Table) (
       ] some telling (stand pid) (ap process_of there ∙ process_here)
 
 -- what takes it back
-pub exited_back : (modules : Loaded Forms) (pid : ℕ) (t mid after : Table) (l : Living) (told : Told) (receivers : List ℕ) (closed : List Closed) → lives modules (ended_with told.rests_in told.code l.process) ≡ Some l.process → occupied pid l after ≡ mid → all_unsent receivers (all_reopened closed mid) ≡ t → unexited modules (record { ended = ended_as pid told.rests_in told.code l; receivers = receivers; closed = closed }) after ≡ t
+pub exited_back : (modules : Loaded Forms) (pid : ℕ) (t mid after : Table) (l : ProcessEntry) (told : CodeRefs) (receivers : List ℕ) (closed : List Closed) → lives modules (ended_with told.rests_in told.code l.process) ≡ Some l.process → occupied pid l after ≡ mid → all_unsent receivers (all_reopened closed mid) ≡ t → unexited modules (record { ended = ended_as pid told.rests_in told.code l; receivers = receivers; closed = closed }) after ≡ t
 exited_back modules pid t mid after l told receivers closed alive back acted =
     let again : returned modules (ended_as pid told.rests_in told.code l) after ≡ mid = ap (λ o. with_returned o pid l.calls after) alive ∙ back in
     ap (λ x. all_unsent receivers (all_reopened closed x)) again ∙ acted
 
 -- and that it can be asked for, over whatever table of modules
-pub exited_fits : (modules : Loaded Forms) (pid : ℕ) (mid after : Table) (l : Living) (told : Told) (receivers : List ℕ) (closed : List Closed) → CanReturn pid l after → occupied pid l after ≡ mid → AllReopen closed mid → CanUnexit modules (record { ended = ended_as pid told.rests_in told.code l; receivers = receivers; closed = closed }) after
+pub exited_fits : (modules : Loaded Forms) (pid : ℕ) (mid after : Table) (l : ProcessEntry) (told : CodeRefs) (receivers : List ℕ) (closed : List Closed) → CanReturn pid l after → occupied pid l after ≡ mid → AllReopen closed mid → CanUnexit modules (record { ended = ended_as pid told.rests_in told.code l; receivers = receivers; closed = closed }) after
 exited_fits modules pid mid after l told receivers closed can back fits = (
   ended_fits modules after l (ended_with told.rests_in told.code l.process) pid refl refl can,
   returned_reopens modules pid told.rests_in told.code l after mid closed back fits,

@@ -13,7 +13,7 @@ use Rattle.process_index.specs.declared.calls.Call.{Call}
 use Rattle.process_store.specs.Living.{arrived}
 use Rattle.process_store.specs.Table.{Table, changed, living}
 use Rattle.process_store.specs.Vacating.{vacated}
-use Rattle.process_store.specs.declared.living.Living.{Living}
+use Rattle.process_store.specs.declared.living.ProcessEntry.{ProcessEntry}
 
 -- the messages that acts send to one process, and they alone sent
 
@@ -36,7 +36,7 @@ own_sent pid [] t = t
 own_sent pid (m ∷ ms) t = own_sent pid ms (changed (arrived m None) pid t)
 
 -- what comes for a process goes behind what is sent to the others
-module _ (pid : ℕ) (f : Living → Living) (same_name : (l : Living) → (f l).process.name ≡ l.process.name) where
+module _ (pid : ℕ) (f : ProcessEntry → ProcessEntry) (same_name : (l : ProcessEntry) → (f l).process.name ≡ l.process.name) where
   spared_later : (message : Term) (r : Option ℕ) (t : Table) → sent message (other_than (Some pid) r) (changed f pid t) ≡ changed f pid (sent message (other_than (Some pid) r) t)
   spared_later message None t = refl
   spared_later message (Some q) t =
@@ -91,7 +91,7 @@ own_gone pid [] t = refl
 own_gone pid (m ∷ ms) t = own_gone pid ms (changed (arrived m None) pid t) ∙ vacated_changed (arrived m None) t pid
 
 -- the open calls of a process
-abbrev pub calls_at : Option Living → Option (List Call)
+abbrev pub calls_at : Option ProcessEntry → Option (List Call)
 calls_at None = None
 calls_at (Some l) = Some l.calls
 

@@ -4,7 +4,7 @@ use Rattle.std.proofs.lemmas.Bool.Decides.{nat_tests}
 use Rattle.std.proofs.lemmas.Grind.{common_steps}
 use Rattle.process_index.specs.declared.calls.Call.{Call}
 use Rattle.process_store.specs.Changes.{call_at, numbered, owner_at, owner_of}
-use Rattle.process_store.specs.declared.living.Living.{Living}
+use Rattle.process_store.specs.declared.living.ProcessEntry.{ProcessEntry}
 use Rattle.process_store.specs.Table.{Table, is_asked, living_at}
 
 numbered_is : (number : ℕ) (cs : List Call) (c : Call) → numbered number cs ≡ Some c → c.number ≡ number
@@ -15,7 +15,7 @@ numbered_is number (d ∷ ds) c is =
       | false ↦ λ e later. numbered_is number ds c later
     ] refl is
 
-in_process : (number : ℕ) (o : Option Living) (c : Call) → call_at number o ≡ Some c → c.number ≡ number
+in_process : (number : ℕ) (o : Option ProcessEntry) (c : Call) → call_at number o ≡ Some c → c.number ≡ number
 in_process number None c is = absurd (grind (arith, common_steps, is))
 in_process number (Some l) c is = numbered_is number l.calls c is
 

@@ -13,10 +13,10 @@ use Rattle.process_index.specs.declared.calls.Call.{Call}
 use Rattle.process_store.specs.Changes.{closed_living, owner_of}
 use Rattle.process_store.specs.Living.{arrived}
 use Rattle.process_store.specs.Table.{Table, changed, pid_of}
-use Rattle.process_store.specs.declared.living.Living.{Living}
+use Rattle.process_store.specs.declared.living.ProcessEntry.{ProcessEntry}
 
 -- A change that touches no calls goes before an answer, or behind it.
-module _ (f : Living → Living) (same_calls : (l : Living) → (f l).calls ≡ l.calls) (same : (c : Call) (l : Living) → closed_living c (f l) ≡ f (closed_living c l)) where
+module _ (f : ProcessEntry → ProcessEntry) (same_calls : (l : ProcessEntry) → (f l).calls ≡ l.calls) (same : (c : Call) (l : ProcessEntry) → closed_living c (f l) ≡ f (closed_living c l)) where
   closed_later : (o : Option (ℕ × Call)) (t : Table) (p : ℕ) → closed_at o (changed f p t) ≡ changed f p (closed_at o t)
   closed_later None t p = refl
   closed_later (Some it) t p = changes_commute (closed_living it.1) f (same it.1) t it.0 p
@@ -49,7 +49,7 @@ pub receiver_answered : (to : Receiver) (number : ℕ) (t : Table) → receiver_
 receiver_answered (Named name) number t = closed_names name (owner_of number t) t
 receiver_answered (Process pid) number t = refl
 
-pub receiver_kept : (f : Living → Living) → ((l : Living) → (f l).process.name ≡ l.process.name) → (to : Receiver) (t : Table) (p : ℕ) → receiver_of to (changed f p t) ≡ receiver_of to t
+pub receiver_kept : (f : ProcessEntry → ProcessEntry) → ((l : ProcessEntry) → (f l).process.name ≡ l.process.name) → (to : Receiver) (t : Table) (p : ℕ) → receiver_of to (changed f p t) ≡ receiver_of to t
 receiver_kept f same (Named name) t p = names_kept f same name t p
 receiver_kept f same (Process pid) t p = refl
 
@@ -94,7 +94,7 @@ parted_told (act.Start place ∷ others) t = parted_told others t
 parted_told (act.Name name by_register ∷ others) t = parted_told others t
 
 -- A change that touches neither names, calls nor mailboxes goes before all acts, or behind them.
-module _ (f : Living → Living) (same_name : (l : Living) → (f l).process.name ≡ l.process.name) (same_calls : (l : Living) → (f l).calls ≡ l.calls) (closes : (c : Call) (l : Living) → closed_living c (f l) ≡ f (closed_living c l)) (arrives : (m : Term) (l : Living) → arrived m None (f l) ≡ f (arrived m None l)) where
+module _ (f : ProcessEntry → ProcessEntry) (same_name : (l : ProcessEntry) → (f l).process.name ≡ l.process.name) (same_calls : (l : ProcessEntry) → (f l).calls ≡ l.calls) (closes : (c : Call) (l : ProcessEntry) → closed_living c (f l) ≡ f (closed_living c l)) (arrives : (m : Term) (l : ProcessEntry) → arrived m None (f l) ≡ f (arrived m None l)) where
   sent_later : (message : Term) (r : Option ℕ) (t : Table) (p : ℕ) → sent message r (changed f p t) ≡ changed f p (sent message r t)
   sent_later message None t p = refl
   sent_later message (Some q) t p = changes_commute (arrived message None) f (arrives message) t q p

@@ -5,9 +5,9 @@ use Rattle.std.proofs.lemmas.Bool.{true≢false}
 use Rattle.std.proofs.lemmas.Option.{none-some}
 use Rattle.std.specs.List.{position_or_len}
 use Rattle.values.specs.Edits.{changed_at}
-use Rattle.erl_forms.specs.Module.{Forms}
+use Rattle.erl_ir.specs.Module.{Forms}
 use Rattle.code_server.specs.Modules.{Table as Loaded}
-use Rattle.process.specs.declared.named.NamedInstance.{NamedInstance}
+use Rattle.process.specs.declared.named.CodeRef.{CodeRef}
 use Rattle.process.specs.Ended.{ended_with, lives}
 use Rattle.process_effects.proofs.OwnMessages.{calls_at}
 use Rattle.process_effects.specs.Parted.{AllReopen, all_reopened}
@@ -18,18 +18,18 @@ use Rattle.process_index.specs.declared.calls.Call.{Call}
 use Rattle.process_store.specs.Changes.{reopened, reopened_living}
 use Rattle.process_store.specs.Table.{Table, changed_slots, has_number, is_asked, is_open, living, living_at}
 use Rattle.process_store.specs.Vacating.{occupied, occupied_slots}
-use Rattle.process_store.specs.declared.living.Living.{Living}
+use Rattle.process_store.specs.declared.living.ProcessEntry.{ProcessEntry}
 
 -- Two tables in which the same pids live, with the same open calls.
 abbrev SameCalls : Table → Table → Type 0
 SameCalls t u = map calls_at t.slots ≡ map calls_at u.slots
 
-calls_found : (slots : List (Option Living)) (pid : ℕ) → calls_at (living_at slots pid) ≡ option_and_then (λ (o : Option (List Call)). o) (slice_get (map calls_at slots) pid)
+calls_found : (slots : List (Option ProcessEntry)) (pid : ℕ) → calls_at (living_at slots pid) ≡ option_and_then (λ (o : Option (List Call)). o) (slice_get (map calls_at slots) pid)
 calls_found [] pid = refl
 calls_found (s ∷ ss) zero = refl
 calls_found (s ∷ ss) (suc pid) = calls_found ss pid
 
-some_calls : (o p : Option Living) → calls_at o ≡ calls_at p → IsSome o → IsSome p
+some_calls : (o p : Option ProcessEntry) → calls_at o ≡ calls_at p → IsSome o → IsSome p
 some_calls None p same some = absurd (true≢false (sym some))
 some_calls (Some l) None same some = absurd (none-some l.calls (sym same))
 some_calls (Some l) (Some k) same some = refl
@@ -43,11 +43,11 @@ abbrev asks : ℕ → Option (List Call) → Bool
 asks number None = false
 asks number (Some cs) = has_number number cs
 
-asked_by_calls : (number : ℕ) (o : Option Living) → is_asked number o ≡ asks number (calls_at o)
+asked_by_calls : (number : ℕ) (o : Option ProcessEntry) → is_asked number o ≡ asks number (calls_at o)
 asked_by_calls number None = refl
 asked_by_calls number (Some l) = refl
 
-before_by_calls : (number : ℕ) (slots : List (Option Living)) → position_or_len (is_asked number) slots ≡ position_or_len (asks number) (map calls_at slots)
+before_by_calls : (number : ℕ) (slots : List (Option ProcessEntry)) → position_or_len (is_asked number) slots ≡ position_or_len (asks number) (map calls_at slots)
 before_by_calls number [] = refl
 before_by_calls number (s ∷ ss) =
     ap (λ b. cond (not b) (1 + position_or_len (is_asked number) ss) 0) (asked_by_calls number s) ∙ ap (λ n. cond (not (asks number (calls_at s))) (1 + n) 0) (before_by_calls number ss)
@@ -62,7 +62,7 @@ same_open : (t u : Table) (number : ℕ) → SameCalls t u → is_open number t 
 same_open t u number same =
     open_by_calls number t ∙ ap (λ xs. is_some (position (asks number) xs)) same ∙ sym (open_by_calls number u)
 
-reopened_calls : (c : Call) (slots : List (Option Living)) (pid : ℕ) → map calls_at (changed_slots (reopened_living c) pid slots) ≡ changed_at (option_map (with_call c)) (map calls_at slots) pid
+reopened_calls : (c : Call) (slots : List (Option ProcessEntry)) (pid : ℕ) → map calls_at (changed_slots (reopened_living c) pid slots) ≡ changed_at (option_map (with_call c)) (map calls_at slots) pid
 reopened_calls c [] pid = refl
 reopened_calls c (None ∷ ss) zero = refl
 reopened_calls c (Some l ∷ ss) zero = refl
@@ -85,13 +85,13 @@ reopens_same (c ∷ cs) t u same all =
       (same_lives (all_reopened cs t) (all_reopened cs u) c.pid then_same all.1.0, sym (same_open (all_reopened cs t) (all_reopened cs u) c.call.number then_same) ∙ all.1.1),
     )
 
-occupied_calls : (k l : Living) → k.calls ≡ l.calls → (slots : List (Option Living)) (pid : ℕ) → map calls_at (occupied_slots pid k slots) ≡ map calls_at (occupied_slots pid l slots)
+occupied_calls : (k l : ProcessEntry) → k.calls ≡ l.calls → (slots : List (Option ProcessEntry)) (pid : ℕ) → map calls_at (occupied_slots pid k slots) ≡ map calls_at (occupied_slots pid l slots)
 occupied_calls k l same [] pid = refl
 occupied_calls k l same (s ∷ ss) zero = ap (λ cs. Some cs ∷ map calls_at ss) same
 occupied_calls k l same (s ∷ ss) (suc pid) = ap (λ xs. calls_at s ∷ xs) (occupied_calls k l same ss pid)
 
 -- a process that lives again, over whatever table of modules, has the calls that it had
-pub returned_reopens : (modules : Loaded Forms) (pid : ℕ) (rests_in : Option NamedInstance) (code : List NamedInstance) (l : Living) (after mid : Table) (closed : List Closed) → occupied pid l after ≡ mid → AllReopen closed mid → Lives modules (ended_as pid rests_in code l) → AllReopen closed (returned modules (ended_as pid rests_in code l) after)
+pub returned_reopens : (modules : Loaded Forms) (pid : ℕ) (rests_in : Option CodeRef) (code : List CodeRef) (l : ProcessEntry) (after mid : Table) (closed : List Closed) → occupied pid l after ≡ mid → AllReopen closed mid → Lives modules (ended_as pid rests_in code l) → AllReopen closed (returned modules (ended_as pid rests_in code l) after)
 returned_reopens modules pid rests_in code l after mid closed back fits alive =
     elim (lives modules (ended_with rests_in code l.process)) as (λ o. IsSome o → AllReopen closed (with_returned o pid l.calls after)) [
       | None ↦ λ some. absurd (true≢false (sym some))

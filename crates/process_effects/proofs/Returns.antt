@@ -3,13 +3,13 @@ use Rattle.std.proofs.Common.{◌≡◌, ℕ, All, List, [], ◌∷◌, ◌++◌
 use Rattle.std.proofs.lemmas.List.{append-nil, append_assoc}
 use Rattle.std.proofs.lemmas.List.Elements.{All-pop}
 use Rattle.std.proofs.lemmas.Option.{none-some, same_Some}
-use Rattle.erl_forms.specs.Module.{Forms}
+use Rattle.erl_ir.specs.Module.{Forms}
 use Rattle.code_server.specs.Modules.{Table as Loaded}
 use Rattle.process.specs.Ended.{ended, ended_with}
-use Rattle.process_store.specs.declared.living.Living.{Living}
+use Rattle.process_store.specs.declared.living.ProcessEntry.{ProcessEntry}
 use Rattle.process_store.specs.Table.{Table, living}
 use Rattle.process_store.specs.Vacating.{vacated}
-use Rattle.process_effects.specs.Ends.{AllReturn, AllStand, EndsAs, EndsBack, IsTold, KillsBack, Returns, all_ended, all_vacated, ended_as, ended_of, returned}
+use Rattle.process_effects.specs.Ends.{AllReturn, AllStand, EndsAs, EndsBack, HasCodeRefs, UndoesEnds, Returns, all_ended, all_vacated, ended_as, ended_of, returned}
 use Rattle.process_effects.specs.declared.ending.EndedProcess.{EndedProcess}
 use Rattle.process_effects.specs.declared.ending.ToldProcess.{ToldProcess}
 use Rattle.process_store.proofs.Vacating.{vacated_nobody}
@@ -36,7 +36,7 @@ all_return_less modules (x ∷ es) e t all =
     (rest.0, (rest.1, subst (Returns modules x) (all_returned_more modules es e t) all.1))
 
 -- what came back is what had ended, once it leaves again
-pub leaves_again : (e : EndedProcess) (p : ToldProcess) (o : Option Living) → p.pid ≡ e.pid → EndsAs e p.told o → ended_of p o ≡ Some e
+pub leaves_again : (e : EndedProcess) (p : ToldProcess) (o : Option ProcessEntry) → p.pid ≡ e.pid → EndsAs e p.told o → ended_of p o ≡ Some e
 leaves_again e p None same is = absurd is
 leaves_again e p (Some l) same is = (λ i. ended_of (record p { pid = same i }) (Some l)) ∙ ap (λ x. Some x) is
 
@@ -54,7 +54,7 @@ ended_last ps others p t after o out now is gone ends more =
 
 -- where nobody lives nothing changes
 
-gone_is : (p : ToldProcess) (o : Option Living) → None ≡ ended_of p o → o ≡ None
+gone_is : (p : ToldProcess) (o : Option ProcessEntry) → None ≡ ended_of p o → o ≡ None
 gone_is p None is = refl
 gone_is p (Some l) is = absurd (none-some (ended_as p.pid p.told.rests_in p.told.code l) is)
 
@@ -63,28 +63,28 @@ nobody_leaves p t after is gone = gone ∙ ap (λ x. record { slots = x }) (vaca
 
 -- the instances of the others are told as before
 
-told_still : (ps : List ToldProcess) (pid : ℕ) (t : Table) → All (λ p. IsTold p.told (living p.pid t)) ps → All (λ p. IsTold p.told (living p.pid (vacated pid t))) ps
+told_still : (ps : List ToldProcess) (pid : ℕ) (t : Table) → All (λ p. HasCodeRefs p.told (living p.pid t)) ps → All (λ p. HasCodeRefs p.told (living p.pid (vacated pid t))) ps
 told_still ps pid t told k d within =
     let q = get_or ps k d in
     others_stay (λ l. ended_with q.told.rests_in q.told.code l.process ≡ ended l.process) t.slots pid q.pid (told k d within)
 
-pub told_others : (ps others : List ToldProcess) (p : ToldProcess) (t after : Table) → ps ≡ others ++ p ∷ [] → after ≡ vacated p.pid t → All (λ q. IsTold q.told (living q.pid t)) ps → All (λ q. IsTold q.told (living q.pid after)) others
+pub told_others : (ps others : List ToldProcess) (p : ToldProcess) (t after : Table) → ps ≡ others ++ p ∷ [] → after ≡ vacated p.pid t → All (λ q. HasCodeRefs q.told (living q.pid t)) ps → All (λ q. HasCodeRefs q.told (living q.pid after)) others
 told_others ps others p t after is gone told =
-    subst (λ x. All (λ q. IsTold q.told (living q.pid x)) others) (sym gone) (told_still others p.pid t (All-pop (λ q. IsTold q.told (living q.pid t)) ps others (Some p) is told).0)
+    subst (λ x. All (λ q. HasCodeRefs q.told (living q.pid x)) others) (sym gone) (told_still others p.pid t (All-pop (λ q. HasCodeRefs q.told (living q.pid t)) ps others (Some p) is told).0)
 
-pub told_last : (ps others : List ToldProcess) (p : ToldProcess) (t : Table) → ps ≡ others ++ p ∷ [] → All (λ q. IsTold q.told (living q.pid t)) ps → IsTold p.told (living p.pid t)
-told_last ps others p t is told = (All-pop (λ q. IsTold q.told (living q.pid t)) ps others (Some p) is told).1
+pub told_last : (ps others : List ToldProcess) (p : ToldProcess) (t : Table) → ps ≡ others ++ p ∷ [] → All (λ q. HasCodeRefs q.told (living q.pid t)) ps → HasCodeRefs p.told (living p.pid t)
+told_last ps others p t is told = (All-pop (λ q. HasCodeRefs q.told (living q.pid t)) ps others (Some p) is told).1
 
 pub still_stand : (before t after : Table) (pid : ℕ) → after ≡ vacated pid t → ((modules : Loaded Forms) → AllStand modules before → AllStand modules t) → (modules : Loaded Forms) → AllStand modules before → AllStand modules after
 still_stand before t after pid gone stands modules all = subst (AllStand modules) (sym gone) (stand_still modules t pid (stands modules all))
 
 -- who has left can live again, and those before it
 
-who_leaves : (o : Option Living) (before t after : Table) (es : List EndedProcess) (e : EndedProcess) (p : ToldProcess) → living p.pid t ≡ o → Some e ≡ ended_of p o → after ≡ vacated p.pid t → ((modules : Loaded Forms) → AllStand modules before → AllStand modules t) → EndsBack e t after → KillsBack es before t → KillsBack (es ++ e ∷ []) before after
+who_leaves : (o : Option ProcessEntry) (before t after : Table) (es : List EndedProcess) (e : EndedProcess) (p : ToldProcess) → living p.pid t ≡ o → Some e ≡ ended_of p o → after ≡ vacated p.pid t → ((modules : Loaded Forms) → AllStand modules before → AllStand modules t) → EndsBack e t after → UndoesEnds es before t → UndoesEnds (es ++ e ∷ []) before after
 who_leaves None before t after es e p there is gone stands one all = absurd (none-some e (sym is))
 who_leaves (Some l) before t after es e p there is gone stands one all =
     kills_more before t after es e p.pid p.told.rests_in p.told.code l there (sym (same_Some e (ended_as p.pid p.told.rests_in p.told.code l) is)) gone stands one all
 
-pub kills_back : (before t after : Table) (es now : List EndedProcess) (e : EndedProcess) (p : ToldProcess) → Some e ≡ ended_of p (living p.pid t) → after ≡ vacated p.pid t → now ≡ es ++ e ∷ [] → ((modules : Loaded Forms) → AllStand modules before → AllStand modules t) → EndsBack e t after → KillsBack es before t → KillsBack now before after
+pub kills_back : (before t after : Table) (es now : List EndedProcess) (e : EndedProcess) (p : ToldProcess) → Some e ≡ ended_of p (living p.pid t) → after ≡ vacated p.pid t → now ≡ es ++ e ∷ [] → ((modules : Loaded Forms) → AllStand modules before → AllStand modules t) → EndsBack e t after → UndoesEnds es before t → UndoesEnds now before after
 kills_back before t after es now e p is gone more stands one all =
-    subst (λ x. KillsBack x before after) (sym more) (who_leaves (living p.pid t) before t after es e p refl is gone stands one all)
+    subst (λ x. UndoesEnds x before after) (sym more) (who_leaves (living p.pid t) before t after es e p refl is gone stands one all)

@@ -1,5 +1,5 @@
--- What evaluating has done, done to the processes: its acts in order, among them the start of a process, which gets the name that the
--- acts ask for, if they ask for one (gen_server(3), start_link; Erlang Reference Manual, Processes).
+-- What evaluating has done, done to the processes: its acts in order, among them the start of a process, which gets the
+-- name that the acts ask for, if they ask for one (gen_server(3), start_link; Erlang Reference Manual, Processes).
 use Rattle.std.specs.Prelude.{◌≡◌, ℕ, List, [], ◌∷◌, ◌++◌, Option, None}
 use Rattle.erl_semantics.specs.declared.acts.Act.{Act}
 use Rattle.erl_semantics.specs.declared.acts.Act.TheVariants as act
@@ -49,13 +49,14 @@ abbrev pub acts_made : Option (List ℕ) → List Instance → List Act → Tabl
 acts_made name code [] t = t
 acts_made name code (a ∷ others) t = acts_made (name_left name a) code others (act_made name code a t)
 
--- Changes are under way: taken back they give the processes before, and with the answers that are left to give they make the processes
--- that the acts in order make, and tell what those tell.
+-- Changes are under way: taken back they give the processes before, and with the answers that are left to give they make
+-- the processes that the acts in order make, and tell what those tell.
 
 abbrev pub CanGiveUp : List Change → Table → Table → Type 0
 CanGiveUp changes before now = AllFit changes now × (all_undone changes now ≡ before)
 
-pub record IsUnderWay (changes : List Change) (answers : List Answer) (before now after : Table) (told : List Reply) : Type 0 where
+pub record IsUnderWay (changes : List Change) (answers : List Answer) (before now after : Table) (told : List Reply)
+    : Type 0 where
   pub back : CanGiveUp changes before now
   pub makes : after ≡ all_answered answers now
   pub tells : told ≡ answers_told answers now

@@ -1,14 +1,14 @@
--- The pieces that a record of a commit holds: of a process that rests again those of its job, and of one that has ended those of the
--- process.
+-- The pieces that a record of a commit holds: of a process that rests again those of its job, and of one that has ended
+-- those of the process.
 use Rattle.std.specs.Prelude.{ℕ, ◌-◌, ◌==◌, if◌then◌else◌, List, [], ◌∷◌, Option, None, Some}
 use Rattle.process.specs.declared.process.rerunning.NamedRan.{NamedRan}
-use Rattle.process_store.specs.declared.living.Living.{Living}
+use Rattle.process_store.specs.declared.living.ProcessEntry.{ProcessEntry}
 use Rattle.process_store.specs.Pieces.{Piece, at_place, in_job}
 use Rattle.process_store.specs.Table.{Table, living}
 use Rattle.process_effects.specs.declared.resting.Rested.{Rested}
 
 -- the turn of a process, where it lives
-abbrev pub turn_of : Option Living → ℕ
+abbrev pub turn_of : Option ProcessEntry → ℕ
 turn_of None = 0
 turn_of (Some l) = l.process.turn
 

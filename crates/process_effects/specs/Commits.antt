@@ -5,10 +5,10 @@ use Rattle.std.specs.Str.{bytes_eq}
 use Rattle.erl_semantics.specs.declared.acts.Act.{Act}
 use Rattle.erl_semantics.specs.declared.acts.Place.{Place}
 use Rattle.erl_semantics.specs.declared.acts.Place.TheVariants.{Server, Loop}
-use Rattle.erl_forms.specs.Module.{Forms}
+use Rattle.erl_ir.specs.Module.{Forms}
 use Rattle.erl_semantics.specs.declared.jobs.Job.{Job}
 use Rattle.erl_semantics.specs.declared.instance.Instance.{Instance}
-use Rattle.code_server.specs.Modules.{IsSound, Table as Loaded}
+use Rattle.code_server.specs.Modules.{IsModuleTable, Table as Loaded}
 use Rattle.process.specs.Process.{job_of}
 use Rattle.process.specs.Rerun.{runs_again}
 use Rattle.process.specs.declared.process.Ran.{Ran}
@@ -18,7 +18,7 @@ use Rattle.process_effects.specs.declared.resting.Rested.{Rested}
 use Rattle.process_effects.specs.Ends.{AllStand}
 use Rattle.process_store.specs.Changes.{HasTurned, rest_living, unrest_living}
 use Rattle.process_store.specs.Table.{Table, changed, living}
-use Rattle.process_store.specs.declared.living.Living.{Living}
+use Rattle.process_store.specs.declared.living.ProcessEntry.{ProcessEntry}
 
 -- the instance that a loop function's place names, among the code in which it came to rest
 
@@ -34,7 +34,7 @@ rests_in (Loop m serial f args) code = loaded_as m serial code
 
 -- A process runs a job: equal by value, code included.
 
-abbrev pub job_at : Option Living → Option Job
+abbrev pub job_at : Option ProcessEntry → Option Job
 job_at None = None
 job_at (Some l) = job_of l.process
 
@@ -60,4 +60,4 @@ CanUnrest u t = AllReopen u.closed t × HasTurned u.pid (all_unsent u.receivers 
 -- it can be asked for, and gives the table before where the instances that processes used there stand in the table of modules
 abbrev pub RestsBack : Rested → Table → Table → Type 0
 RestsBack u before after = (modules : Loaded Forms) → CanUnrest u after ×
-    (IsSound modules → AllStand modules before → unrested modules u after ≡ before)
+    (IsModuleTable modules → AllStand modules before → unrested modules u after ≡ before)

@@ -1,20 +1,20 @@
 -- Processes that have ended, and live again.
 use Rattle.std.specs.Prelude.{◌≡◌, ℕ, List, [], ◌∷◌, ◌++◌, map, Option, None, Some, IfSome, IsSome, option_map, option_to_list}
-use Rattle.erl_forms.specs.Module.{Forms}
-use Rattle.code_server.specs.Modules.{IsSound, Table as Loaded}
-use Rattle.process.specs.declared.named.NamedInstance.{NamedInstance}
+use Rattle.erl_ir.specs.Module.{Forms}
+use Rattle.code_server.specs.Modules.{IsModuleTable, Table as Loaded}
+use Rattle.process.specs.declared.named.CodeRef.{CodeRef}
 use Rattle.process.specs.Ended.{CodeStands, PlaceStands, ended, ended_with, lives}
 use Rattle.process.specs.Process.{ProcessState}
-use Rattle.process.specs.declared.process.ending.Told.{Told}
+use Rattle.process.specs.declared.process.ending.CodeRefs.{CodeRefs}
 use Rattle.process_index.specs.declared.calls.Call.{Call}
 use Rattle.process_store.specs.Table.{Table, living}
 use Rattle.process_store.specs.Vacating.{CanReturn, occupied, vacated}
-use Rattle.process_store.specs.declared.living.Living.{Living}
+use Rattle.process_store.specs.declared.living.ProcessEntry.{ProcessEntry}
 use Rattle.process_effects.specs.declared.ending.EndedProcess.{EndedProcess}
 use Rattle.process_effects.specs.declared.ending.ToldProcess.{ToldProcess}
 
 -- a process as it is when it has ended, with its instances told so
-abbrev pub ended_as : ℕ → Option NamedInstance → List NamedInstance → Living → EndedProcess
+abbrev pub ended_as : ℕ → Option CodeRef → List CodeRef → ProcessEntry → EndedProcess
 ended_as pid rests_in code l = record { pid = pid; process = ended_with rests_in code l.process; calls = l.calls }
 
 -- a process that lives again, with its open calls, in the slot of its pid
@@ -51,7 +51,7 @@ abbrev pub Lives : Loaded Forms → EndedProcess → Type 0
 Lives modules e = IsSome (lives modules e.process)
 
 -- A process lives, and is the one that has ended once its instances are told so.
-abbrev pub EndsAs : EndedProcess → Told → Option Living → Type 0
+abbrev pub EndsAs : EndedProcess → CodeRefs → Option ProcessEntry → Type 0
 EndsAs e told None = ⊥
 EndsAs e told (Some l) = ended_as e.pid told.rests_in told.code l ≡ e
 
@@ -64,8 +64,8 @@ abbrev pub AllStand : Loaded Forms → Table → Type 0
 AllStand modules t = (pid : ℕ) → IfSome (living pid t) (λ l. Stands modules l.process)
 
 -- What tells instances tells those of a process, where it lives.
-abbrev pub IsTold : Told → Option Living → Type 0
-IsTold told o = IfSome o (λ l. ended_with told.rests_in told.code l.process ≡ ended l.process)
+abbrev pub HasCodeRefs : CodeRefs → Option ProcessEntry → Type 0
+HasCodeRefs told o = IfSome o (λ l. ended_with told.rests_in told.code l.process ≡ ended l.process)
 
 -- what becomes of processes that leave, the last first: the table without them, and what they are then
 
@@ -73,7 +73,7 @@ abbrev pub all_vacated : List ℕ → Table → Table
 all_vacated [] t = t
 all_vacated (pid ∷ pids) t = vacated pid (all_vacated pids t)
 
-abbrev pub ended_of : ToldProcess → Option Living → Option EndedProcess
+abbrev pub ended_of : ToldProcess → Option ProcessEntry → Option EndedProcess
 ended_of p o = option_map (ended_as p.pid p.told.rests_in p.told.code) o
 
 abbrev pub all_ended : List ToldProcess → Table → List EndedProcess
@@ -85,8 +85,8 @@ all_ended (p ∷ ps) t = all_ended ps t ++ option_to_list (ended_of p (living p.
 
 abbrev pub EndsBack : EndedProcess → Table → Table → Type 0
 EndsBack e before after = (modules : Loaded Forms) →
-    Returns modules e after × (IsSound modules → AllStand modules before → returned modules e after ≡ before)
+    Returns modules e after × (IsModuleTable modules → AllStand modules before → returned modules e after ≡ before)
 
-abbrev pub KillsBack : List EndedProcess → Table → Table → Type 0
-KillsBack es before after = (modules : Loaded Forms) →
-    AllReturn modules es after × (IsSound modules → AllStand modules before → all_returned modules es after ≡ before)
+abbrev pub UndoesEnds : List EndedProcess → Table → Table → Type 0
+UndoesEnds es before after = (modules : Loaded Forms) →
+    AllReturn modules es after × (IsModuleTable modules → AllStand modules before → all_returned modules es after ≡ before)

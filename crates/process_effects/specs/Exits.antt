@@ -2,8 +2,8 @@
 use Rattle.std.specs.Prelude.{◌≡◌, ℕ, List, ◌++◌}
 use Rattle.erl_term.specs.declared.term.Term.{Term}
 use Rattle.erl_semantics.specs.declared.acts.Act.{Act}
-use Rattle.erl_forms.specs.Module.{Forms}
-use Rattle.code_server.specs.Modules.{IsSound, Table as Loaded}
+use Rattle.erl_ir.specs.Module.{Forms}
+use Rattle.code_server.specs.Modules.{IsModuleTable, Table as Loaded}
 use Rattle.process_effects.specs.Acts.{acts_done, acts_told}
 use Rattle.process_effects.specs.Parted.{AllReopen, all_reopened, all_unsent}
 use Rattle.process_effects.specs.declared.exiting.Exited.{Exited}
@@ -32,4 +32,4 @@ CanUnexit modules u t = Returns modules u.ended t × (Lives modules u.ended → 
 -- it can be asked for, and gives the table before where the instances that processes used there stand in the table of modules
 abbrev pub ExitsBack : Exited → Table → Table → Type 0
 ExitsBack u before after = (modules : Loaded Forms) → CanUnexit modules u after ×
-    (IsSound modules → AllStand modules before → unexited modules u after ≡ before)
+    (IsModuleTable modules → AllStand modules before → unexited modules u after ≡ before)

@@ -27,8 +27,8 @@ pub record IsReady (answers : List Answer) (reasons : List Term) (n : ℕ) (t : 
   pub none : t.lists.items ≡ []
   pub room : n ≤ vec_capacity t.lists
 
--- What is told is what these answers tell of some processes, and then that calls are down, by one of these reasons each, which are
--- all the same.
+-- What is told is what these answers tell of some processes, and then that calls are down, by one of these reasons each,
+-- which are all the same.
 pub record IsToldBy (answers : List Answer) (reasons : List Term) (told : List Reply) : Type 0 where
   pub table : Table
   pub calls : List Call

@@ -5,7 +5,7 @@ use Rattle.std.specs.List.{filter, list_any, range_with_len}
 use Rattle.erl_semantics.specs.declared.instance.Instance.{Instance}
 use Rattle.process.specs.declared.activity.Activity.{Activity}
 use Rattle.process.specs.declared.activity.Activity.TheVariants.{Idle, Suspended, Runs}
-use Rattle.process_store.specs.declared.living.Living.{Living}
+use Rattle.process_store.specs.declared.living.ProcessEntry.{ProcessEntry}
 use Rattle.process_store.specs.Table.{Table, living, next_pid}
 
 abbrev pub is_of : ℕ → Option Instance → Bool
@@ -21,7 +21,7 @@ uses_by serial rests Idle = is_of serial rests
 uses_by serial rests Suspended = is_of serial rests
 uses_by serial rests (Runs r) = is_among serial r.code
 
-abbrev pub uses : ℕ → Option Living → Bool
+abbrev pub uses : ℕ → Option ProcessEntry → Bool
 uses serial None = false
 uses serial (Some l) = uses_by serial l.process.rests_in l.process.activity
 

@@ -21,8 +21,8 @@ pub(crate) struct Acted {
     pub(crate) closed: Row<Closed>,
 }
 
-/// Does acts, in order: first the messages, but for those to one process, if one is spared, and then the replies. There is room for
-/// more replies then.
+/// Does acts, in order: first the messages, but for those to one process, if one is spared, and then the replies. There is
+/// room for more replies then.
 ///
 /// # Errors
 ///
@@ -35,7 +35,8 @@ pub(crate) fn act_all(
     more: usize,
 ) -> Result<Acted, AllocError>
     ensures table { OnOk result (store.new ≡ all_answered (answers_of acts.now) (acts_sent spared acts.now store.old)) }
-    ensures told { IfOk result (λ it. it.replies.items ≡ answers_told (answers_of acts.now) (acts_sent spared acts.now store.old)) }
+    ensures told { IfOk result (λ it. it.replies.items ≡ answers_told (answers_of acts.now)
+        (acts_sent spared acts.now store.old)) }
     ensures fits { IfOk result (λ it. AllReopen it.closed store.new) }
     ensures back { IfOk result (λ it. all_unsent it.receivers.items (all_reopened it.closed store.new) ≡ store.old) }
     ensures room { IfOk result (λ it. vec_len it.replies + more ≤ vec_capacity it.replies) }

@@ -73,7 +73,8 @@ fn answer_call(
     ensures told { replies.new.items ≡ replies.old.items ++ reply_of answer.reply (owner_of answer.number store.old) }
     ensures fits { AllReopen closed.old.items store.old → AllReopen closed.new.items store.new }
     ensures back { all_reopened closed.new.items store.new ≡ all_reopened closed.old.items store.old }
-    ensures replies_room { (vec_len replies.new ≤ vec_len replies.old + 1) × (vec_capacity replies.new ≡ vec_capacity replies.old) }
+    ensures replies_room { (vec_len replies.new ≤ vec_len replies.old + 1) ×
+        (vec_capacity replies.new ≡ vec_capacity replies.old) }
     ensures closed_room { (vec_len closed.new ≤ vec_len closed.old + 1) × (vec_capacity closed.new ≡ vec_capacity closed.old) }
 {
     let Answer { number, reply } = answer;
@@ -101,7 +102,8 @@ pub fn answer_all(
     ensures told { replies.new.items ≡ replies.old.items ++ answers_told answers.items store.old }
     ensures fits { AllReopen closed.new.items store.new }
     ensures back { all_reopened closed.new.items store.new ≡ store.old }
-    ensures room { (vec_len replies.new ≤ vec_len replies.old + vec_len answers) × (vec_capacity replies.new ≡ vec_capacity replies.old) }
+    ensures room { (vec_len replies.new ≤ vec_len replies.old + vec_len answers) ×
+        (vec_capacity replies.new ≡ vec_capacity replies.old) }
 {
     for each in answers {
         answer_call(store, replies, closed, each);

@@ -46,8 +46,8 @@ impl Batch {
     }
 }
 
-/// Does what evaluating has done: its acts, in order, but for its replies, which clients are told when the batch is finished. What it
-/// starts rests in an instance of this code, and has this name, which is free, if it is to have one.
+/// Does what evaluating has done: its acts, in order, but for its replies, which clients are told when the batch is
+/// finished. What it starts rests in an instance of this code, and has this name, which is free, if it is to have one.
 ///
 /// # Errors
 ///
@@ -61,8 +61,12 @@ pub fn begin(
     acts: Row<Act>,
 ) -> Result<(), AllocError>
     requires { is_taken name store.old ≡ false }
-    ensures ok { OnOk result ((before after : Table) (told : List ReplyValue) → IsUnderWay batch.old.changes.items batch.old.answers.items before store.old after told → IsUnderWay batch.new.changes.items batch.new.answers.items before store.new (acts_begun name code.now acts after) (told ++ begun_told name code.now acts after)) }
-    ensures err { (before : Table) → CanGiveUp batch.old.changes.items before store.old → CanGiveUp batch.new.changes.items before store.new }
+    ensures ok { OnOk result ((before after : Table) (told : List ReplyValue) →
+        IsUnderWay batch.old.changes.items batch.old.answers.items before store.old after told →
+        IsUnderWay batch.new.changes.items batch.new.answers.items before store.new (acts_begun name code.now acts after)
+        (told ++ begun_told name code.now acts after)) }
+    ensures err { (before : Table) → CanGiveUp batch.old.changes.items before store.old →
+        CanGiveUp batch.new.changes.items before store.new }
 {
     let acts = acts.into_vec();
     make_all(

@@ -3,14 +3,14 @@ ghost use Rattle.std.specs.Prelude.{◌≡◌, IfErr, IfOk, IfSome, OnErr, OnOk}
 ghost use Rattle.process_store.specs.Pieces.{HoldsLost};
 ghost use Rattle.process_store.specs.Table.{living};
 ghost use Rattle.process_store.specs.Vacating.{vacated};
-ghost use Rattle.process_effects.specs.Ends.{EndsAs, EndsBack, IsTold, Lives, Returns, ended_as, ended_of, returned};
+ghost use Rattle.process_effects.specs.Ends.{EndsAs, EndsBack, HasCodeRefs, Lives, Returns, ended_as, ended_of, returned};
 ghost use Rattle.process_effects.specs.EndedPieces.{held_by};
 
 use code_server::Modules;
-use erl_forms::Module;
-use process::{Ended, Told};
+use erl_ir::Module;
+use process::{CodeRefs, DeadProcess};
 use process_index::{Call, Calls};
-use process_store::{Living, ProcessStore};
+use process_store::{ProcessEntry, ProcessStore};
 use std::alloc::Global;
 
 /// A process that has ended, with the calls that were open to it.
@@ -19,7 +19,7 @@ pub struct EndedProcess {
     /// Its pid.
     pub pid: u64,
     /// The process, whole.
-    pub process: Ended,
+    pub process: DeadProcess,
     /// The calls that clients made to it, and that were not answered.
     pub calls: Calls,
 }
@@ -30,14 +30,14 @@ pub(crate) struct ToldProcess {
     /// Its pid.
     pub(crate) pid: u64,
     /// What tells its instances.
-    pub(crate) told: Told,
+    pub(crate) told: CodeRefs,
 }
 
 /// A process that was taken out of its slot, as it was, but with its instances told so. Takes no memory.
-pub fn ended_process(pid: u64, living: Living, told: Told) -> EndedProcess
+pub fn ended_process(pid: u64, living: ProcessEntry, told: CodeRefs) -> EndedProcess
     ensures { result ≡ ended_as pid told.rests_in told.code living }
 {
-    let Living { process, calls } = living;
+    let ProcessEntry { process, calls } = living;
     EndedProcess {
         pid,
         process: process.into_ended(told),
@@ -49,7 +49,7 @@ pub fn ended_process(pid: u64, living: Living, told: Told) -> EndedProcess
 pub(crate) fn take_out(store: &mut ProcessStore, leaves: ToldProcess) -> Option<EndedProcess>
     ensures table { store.new ≡ vacated leaves.pid store.old }
     ensures process { result ≡ ended_of leaves (living leaves.pid store.old) }
-    ensures back { IsTold leaves.told (living leaves.pid store.old) → IfSome result (λ e. EndsBack e store.old store.new) }
+    ensures back { HasCodeRefs leaves.told (living leaves.pid store.old) → IfSome result (λ e. EndsBack e store.old store.new) }
     ensures pieces { IfSome result (λ e. HoldsLost (held_by e) store.old store.new) }
 {
     let ToldProcess { pid, told } = leaves;
@@ -59,8 +59,9 @@ pub(crate) fn take_out(store: &mut ProcessStore, leaves: ToldProcess) -> Option<
     }
 }
 
-/// A process that has ended lives again, in its slot, with its name and its open calls, and with the instances that it used, as they
-/// stand in the table of modules. What tells them is handed out, so that it can be taken out again without memory.
+/// A process that has ended lives again, in its slot, with its name and its open calls, and with the instances that it
+/// used, as they stand in the table of modules. What tells them is handed out, so that it can be taken out again without
+/// memory.
 ///
 /// # Errors
 ///
@@ -71,7 +72,7 @@ pub fn return_ended(
     alloc: Global,
     modules: &Modules<Module>,
     ended: EndedProcess,
-) -> Result<Told, EndedProcess>
+) -> Result<CodeRefs, EndedProcess>
     requires { Returns modules.now ended store.old }
     ensures ok { OnOk result (store.new ≡ returned modules.now ended store.old) }
     ensures lives { OnOk result (Lives modules.now ended) }
@@ -95,7 +96,7 @@ pub fn return_ended(
             });
         }
     };
-    match store.restore(pid, Living { process, calls }) {
+    match store.restore(pid, ProcessEntry { process, calls }) {
         Ok(()) => Ok(told),
         Err(living) => Err(ended_process(pid, living, told)),
     }

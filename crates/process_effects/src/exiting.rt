@@ -15,7 +15,7 @@ use crate::resting::told_of;
 use crate::sends::unsend_all;
 use crate::told::{Reply, ReplyBody};
 use code_server::Modules;
-use erl_forms::Module;
+use erl_ir::Module;
 use erl_semantics::Act;
 use erl_term::Term;
 use process_index::Calls;
@@ -67,12 +67,13 @@ pub fn reasons_for(
     }
 }
 
-/// Tells each of these calls that its process has ended, by a reason that is there as often as is needed. There is room for what is
-/// told.
+/// Tells each of these calls that its process has ended, by a reason that is there as often as is needed. There is room for
+/// what is told.
 fn tell_downs(replies: &mut Vec<Reply>, reasons: Vec<Term>, calls: &Calls)
     requires enough { length calls.now ≤ vec_len reasons }
     requires room { vec_len replies.old + length calls.now ≤ vec_capacity replies.old }
-    ensures { (reason : Term) → All (λ r. r ≡ reason) reasons.items → replies.new.items ≡ replies.old.items ++ map (down reason) calls.now }
+    ensures { (reason : Term) → All (λ r. r ≡ reason) reasons.items →
+        replies.new.items ≡ replies.old.items ++ map (down reason) calls.now }
 {
     let mut reasons = reasons;
     for call in calls.iter() {
@@ -87,8 +88,8 @@ fn tell_downs(replies: &mut Vec<Reply>, reasons: Vec<Term>, calls: &Calls)
     }
 }
 
-/// Commits a job whose process, which lives, ends for a reason: its acts are done, in order, and then it leaves, with its name, its
-/// mailbox and its open calls. What clients are told is handed out.
+/// Commits a job whose process, which lives, ends for a reason: its acts are done, in order, and then it leaves, with its
+/// name, its mailbox and its open calls. What clients are told is handed out.
 ///
 /// # Errors
 ///
@@ -129,13 +130,13 @@ pub fn commit_exit(
     }
 }
 
-/// Takes the commit of a job back whose process has ended: the process lives again, with the instances that it used, as they stand in
-/// the table of modules, the calls are open again, and the messages go.
+/// Takes the commit of a job back whose process has ended: the process lives again, with the instances that it used, as
+/// they stand in the table of modules, the calls are open again, and the messages go.
 ///
 /// # Errors
 ///
-/// What takes it back, where memory is refused, and where one of the instances is not in the table. The processes are then as they
-/// were.
+/// What takes it back, where memory is refused, and where one of the instances is not in the table. The processes are then
+/// as they were.
 pub fn revert_exit(
     store: &mut ProcessStore,
     alloc: Global,

@@ -2,8 +2,8 @@
 ghost use Rattle.std.specs.Prelude.{◌≡◌, ◌+◌, ◌++◌, ◌≤◌, [], All, IfOk, OnErr, OnOk, map, vec_capacity, vec_len};
 ghost use Rattle.process_store.specs.Pieces.{HoldsLost};
 ghost use Rattle.process_store.specs.Table.{living};
-ghost use Rattle.process_effects.specs.Ends.{IsTold, KillsBack, all_vacated};
-ghost use Rattle.process_effects.specs.Kills.{all_downs, told_by_kill, without_users};
+ghost use Rattle.process_effects.specs.Ends.{HasCodeRefs, UndoesEnds, all_vacated};
+ghost use Rattle.process_effects.specs.Kills.{downs_of_each, downs_of_users, without_users};
 ghost use Rattle.process_effects.specs.EndedPieces.{held_by_all};
 ghost use Rattle.process_effects.specs.Told.{downs, killed};
 
@@ -28,7 +28,7 @@ fn told_processes(
     pids: &[u64],
 ) -> Result<Vec<ToldProcess>, AllocError>
     ensures leave { IfOk result (λ it. all_vacated (map (λ p. p.pid) it.items) store.now ≡ all_vacated pids.now store.now) }
-    ensures told { IfOk result (λ it. All (λ p. IsTold p.told (living p.pid store.now)) it.items) }
+    ensures told { IfOk result (λ it. All (λ p. HasCodeRefs p.told (living p.pid store.now)) it.items) }
 {
     let mut leaving = Vec::new(alloc);
     for pid in pids {
@@ -62,13 +62,13 @@ fn tell_of(
 /// # Errors
 ///
 /// `AllocError` where memory is refused.
-pub fn all_downs(
+pub fn downs_of_each(
     store: &ProcessStore,
     alloc: Global,
     pids: &[u64],
     reason: &Term,
 ) -> Result<Vec<Reply>, AllocError>
-    ensures { IfOk result (λ it. it.items ≡ all_downs reason.now pids.now store.now) }
+    ensures { IfOk result (λ it. it.items ≡ downs_of_each reason.now pids.now store.now) }
 {
     let mut replies = Vec::new(alloc);
     for pid in pids {
@@ -83,15 +83,15 @@ pub fn all_downs(
 /// # Errors
 ///
 /// `AllocError` where memory is refused.
-pub fn told_by_kill(
+pub fn downs_of_users(
     store: &ProcessStore,
     alloc: Global,
     serial: u64,
 ) -> Result<Vec<Reply>, AllocError>
-    ensures { IfOk result (λ it. it.items ≡ told_by_kill serial store.now) }
+    ensures { IfOk result (λ it. it.items ≡ downs_of_users serial store.now) }
 {
     let pids = users(store, alloc, serial)?;
-    all_downs(store, alloc, pids.as_slice(), &killed())
+    downs_of_each(store, alloc, pids.as_slice(), &killed())
 }
 
 /// Takes processes out, the last first. There is room for what they are then, which takes no memory.
@@ -102,9 +102,9 @@ fn take_all_out(
 ) -> Vec<EndedProcess>
     requires none { ended.items ≡ [] }
     requires room { vec_len ended + vec_len leaving ≤ vec_capacity ended }
-    requires told { All (λ p. IsTold p.told (living p.pid store.old)) leaving.items }
+    requires told { All (λ p. HasCodeRefs p.told (living p.pid store.old)) leaving.items }
     ensures table { store.new ≡ all_vacated (map (λ p. p.pid) leaving.items) store.old }
-    ensures back { KillsBack result.items store.old store.new }
+    ensures back { UndoesEnds result.items store.old store.new }
     ensures pieces { HoldsLost (held_by_all result.items) store.old store.new }
 {
     while let Some(leaves) = leaving.pop() {
@@ -116,7 +116,7 @@ fn take_all_out(
 }
 
 /// Processes end together: each of them that lives leaves, with its name, its mailbox and its open calls. What their clients are
-/// told is made of their calls before ([`all_downs`]).
+/// told is made of their calls before ([`downs_of_each`]).
 ///
 /// # Errors
 ///
@@ -127,7 +127,7 @@ pub fn end_all(
     pids: &[u64],
 ) -> Result<Vec<EndedProcess>, AllocError>
     ensures ended { OnOk result (store.new ≡ all_vacated pids.now store.old) }
-    ensures inverse { IfOk result (λ it. KillsBack it.items store.old store.new) }
+    ensures inverse { IfOk result (λ it. UndoesEnds it.items store.old store.new) }
     ensures pieces { IfOk result (λ it. HoldsLost (held_by_all it.items) store.old store.new) }
     ensures err { OnErr result (store.new ≡ store.old) }
 {
@@ -148,13 +148,13 @@ pub fn kill_users(
     serial: u64,
 ) -> Result<(Vec<Reply>, Vec<EndedProcess>), AllocError>
     ensures killed { OnOk result (store.new ≡ without_users serial store.old) }
-    ensures told { IfOk result (λ it. it.0.items ≡ told_by_kill serial store.old) }
-    ensures inverse { IfOk result (λ it. KillsBack it.1.items store.old store.new) }
+    ensures told { IfOk result (λ it. it.0.items ≡ downs_of_users serial store.old) }
+    ensures inverse { IfOk result (λ it. UndoesEnds it.1.items store.old store.new) }
     ensures pieces { IfOk result (λ it. HoldsLost (held_by_all it.1.items) store.old store.new) }
     ensures err { OnErr result (store.new ≡ store.old) }
 {
     let pids = users(store, alloc, serial)?;
-    let replies = all_downs(store, alloc, pids.as_slice(), &killed())?;
+    let replies = downs_of_each(store, alloc, pids.as_slice(), &killed())?;
     let ended = end_all(store, alloc, pids.as_slice())?;
     Ok((replies, ended))
 }

@@ -59,8 +59,8 @@ fn send(
     }
 }
 
-/// Starts a process at a place, under a name that is free, if it is to have one, and notes it. It fails where memory is refused, and
-/// where every pid was given.
+/// Starts a process at a place, under a name that is free, if it is to have one, and notes it. It fails where memory is
+/// refused, and where every pid was given.
 fn start(
     store: &mut ProcessStore,
     alloc: Global,

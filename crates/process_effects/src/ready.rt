@@ -38,8 +38,8 @@ impl Telling {
         Telling::new(alloc, answers.as_slice(), &[], n)
     }
 
-    /// Makes ready to tell, in `n` equal values, what clients are told where these acts are done and then the process of a pid, which
-    /// lives, ends for a reason.
+    /// Makes ready to tell, in `n` equal values, what clients are told where these acts are done and then the process of a
+    /// pid, which lives, ends for a reason.
     ///
     /// # Errors
     ///

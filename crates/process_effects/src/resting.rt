@@ -16,10 +16,10 @@ use crate::answers::{Closed, reopen_all};
 use crate::sends::unsend_all;
 use crate::told::Reply;
 use code_server::Modules;
-use erl_forms::Module;
+use erl_ir::Module;
 use erl_semantics::{Act, Instance, Job, Place};
 use erl_term::Atom;
-use process::{NamedRan, Told, Used};
+use process::{CodeRefs, NamedRan, Used};
 use process_store::ProcessStore;
 use std::alloc::{AllocError, Global};
 use values::{Boxed, Duplicate, Reserved, Row};
@@ -66,9 +66,10 @@ fn loaded_as<'a>(name: &Atom, serial: u64, code: &'a [Instance]) -> Option<&'a I
 }
 
 /// What tells the instances that a process uses, which lives.
-pub(crate) fn told_of(store: &ProcessStore, alloc: Global, pid: u64) -> Result<Told, AllocError>
+pub(crate) fn told_of(store: &ProcessStore, alloc: Global, pid: u64) -> Result<CodeRefs, AllocError>
     requires { IsSome (living pid store.now) }
-    ensures { IfOk result (λ told. IfSome (living pid store.now) (λ l. ended_with told.rests_in told.code l.process ≡ ended l.process)) }
+    ensures { IfOk result (λ told. IfSome (living pid store.now)
+        (λ l. ended_with told.rests_in told.code l.process ≡ ended l.process)) }
 {
     match store.get(pid) {
         Some(living) => living.process.told(alloc),
@@ -76,8 +77,8 @@ pub(crate) fn told_of(store: &ProcessStore, alloc: Global, pid: u64) -> Result<T
     }
 }
 
-/// Commits a job whose process rests again at a place: its acts are done, in order, and then it rests there, one turn on. What clients
-/// are told is handed out, and what takes this back, in memory of its own.
+/// Commits a job whose process rests again at a place: its acts are done, in order, and then it rests there, one turn on.
+/// What clients are told is handed out, and what takes this back, in memory of its own.
 ///
 /// # Errors
 ///
@@ -126,9 +127,9 @@ pub fn commit_rest(
     }
 }
 
-/// Makes ready what takes the commit of a job back whose process rests again: the instances that the process used are handed out, as
-/// they stand in the table of modules, and the calls are open again; or nothing, where memory is refused, and where one of the
-/// instances is not in the table.
+/// Makes ready what takes the commit of a job back whose process rests again: the instances that the process used are
+/// handed out, as they stand in the table of modules, and the calls are open again; or nothing, where memory is refused,
+/// and where one of the instances is not in the table.
 fn open_again(
     store: &mut ProcessStore,
     alloc: Global,
@@ -137,7 +138,8 @@ fn open_again(
 ) -> Option<Used>
     requires { CanUnrest rested.now store.old }
     ensures some { OnSome result (store.new ≡ all_reopened rested.now.closed store.old) }
-    ensures used { IfSome result (λ used. runs_again modules.now rested.now.ran ≡ Some (ran_in used.rests_in used.code rested.now.ran)) }
+    ensures used { IfSome result (λ used. runs_again modules.now rested.now.ran ≡ Some
+        (ran_in used.rests_in used.code rested.now.ran)) }
     ensures none { IfNone result (store.new ≡ store.old) }
 {
     let Ok(used) = rested.ran.used(alloc, modules) else {
@@ -155,7 +157,8 @@ fn open_again(
 /// The messages go, and the process runs again what it ran, with these instances. Takes no memory.
 fn take_back(store: &mut ProcessStore, rested: Rested, used: Used)
     requires { HasTurned rested.pid (all_unsent rested.receivers store.old) }
-    ensures { store.new ≡ changed (unrest_living (ran_in used.rests_in used.code rested.ran)) rested.pid (all_unsent rested.receivers store.old) }
+    ensures { store.new ≡ changed (unrest_living (ran_in used.rests_in used.code rested.ran)) rested.pid
+        (all_unsent rested.receivers store.old) }
 {
     let Rested {
         pid,
@@ -167,13 +170,13 @@ fn take_back(store: &mut ProcessStore, rested: Rested, used: Used)
     store.unrest(pid, ran.run_with(used));
 }
 
-/// Takes the commit of a job back whose process rests again: the calls are open again, the messages go, and the process runs again
-/// what it ran, with the instances that it used, as they stand in the table of modules.
+/// Takes the commit of a job back whose process rests again: the calls are open again, the messages go, and the process
+/// runs again what it ran, with the instances that it used, as they stand in the table of modules.
 ///
 /// # Errors
 ///
-/// What takes it back, where memory is refused, and where one of the instances is not in the table. The processes are then as they
-/// were.
+/// What takes it back, where memory is refused, and where one of the instances is not in the table. The processes are then
+/// as they were.
 pub fn revert_rest(
     store: &mut ProcessStore,
     alloc: Global,

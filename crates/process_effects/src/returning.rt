@@ -4,7 +4,7 @@ ghost use Rattle.process_effects.specs.Ends.{AllReturn, Lives, all_ended, all_re
 
 use crate::ending::{EndedProcess, ToldProcess, return_ended, take_out};
 use code_server::Modules;
-use erl_forms::Module;
+use erl_ir::Module;
 use process_store::ProcessStore;
 use std::alloc::Global;
 
@@ -30,8 +30,8 @@ fn take_again(
 ///
 /// # Errors
 ///
-/// All of them, in order, where memory is refused, and where an instance of one is not in the table of modules. The processes of the
-/// node are then as they were: those that lived again already are taken out again, which takes no memory.
+/// All of them, in order, where memory is refused, and where an instance of one is not in the table of modules. The
+/// processes of the node are then as they were: those that lived again already are taken out again, which takes no memory.
 pub fn return_all(
     store: &mut ProcessStore,
     alloc: Global,

@@ -96,7 +96,8 @@ pub(crate) fn unsend_all(store: &mut ProcessStore, receivers: &[u64])
     }
 }
 
-/// Sends the messages among these acts, in order, but for those to one process, if one is spared. Whom they went to is handed out.
+/// Sends the messages among these acts, in order, but for those to one process, if one is spared. Whom they went to is
+/// handed out.
 ///
 /// # Errors
 ///

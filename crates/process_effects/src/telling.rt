@@ -166,7 +166,8 @@ fn tell_echo(echo: Echo, told: &[Reply]) -> Row<Reply>
 
 /// Tells once more what was told, with each of these.
 fn tell_echoes(lists: &mut Vec<Row<Reply>>, told: &[Reply], echoes: Vec<Echo>)
-    requires ready { (answers : List Answer) × (reasons : List Term) × All (IsEcho answers reasons) echoes.items × IsToldBy answers reasons told.now }
+    requires ready { (answers : List Answer) × (reasons : List Term) × All (IsEcho answers reasons) echoes.items ×
+        IsToldBy answers reasons told.now }
     requires room { vec_len lists.old + vec_len echoes ≤ vec_capacity lists.old }
     ensures told { lists.new.items ≡ lists.old.items ++ replicate (vec_len echoes) told.now }
     ensures room { vec_capacity lists.new ≡ vec_capacity lists.old }
@@ -177,8 +178,8 @@ fn tell_echoes(lists: &mut Vec<Row<Reply>>, told: &[Reply], echoes: Vec<Echo>)
 }
 
 impl Telling {
-    /// Makes ready to tell, in `n` equal values, what replies to these answers a step gives, and that calls are down, of which there are
-    /// no more than these reasons.
+    /// Makes ready to tell, in `n` equal values, what replies to these answers a step gives, and that calls are down, of
+    /// which there are no more than these reasons.
     ///
     /// # Errors
     ///

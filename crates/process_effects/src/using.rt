@@ -25,8 +25,8 @@ fn is_among(serial: u64, code: &[Instance]) -> bool
     code.iter().any(|instance| instance.serial == serial)
 }
 
-/// Whether a process uses the instance of a serial: while it runs the code of its job, and while it rests the instance in which it
-/// rests, where this is a loop function. Takes no memory.
+/// Whether a process uses the instance of a serial: while it runs the code of its job, and while it rests the instance in
+/// which it rests, where this is a loop function. Takes no memory.
 pub fn uses(process: &Process, serial: u64) -> bool
     ensures { result ≡ uses_by serial process.now.rests_in process.now.activity }
 {

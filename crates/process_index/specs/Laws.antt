@@ -14,7 +14,8 @@ CallsAreOne =
 -- a call that was put in is taken back by taking it out, and the other way round
 abbrev pub CallsComeBack : Type 0
 CallsComeBack =
-    (c : Call) (cs : List Call) → AreInOrder cs → (has c cs ≡ false → without c (with_call c cs) ≡ cs) × (has c cs ≡ true → with_call c (without c cs) ≡ cs)
+    (c : Call) (cs : List Call) → AreInOrder cs → (has c cs ≡ false → without c (with_call c cs) ≡ cs) ×
+    (has c cs ≡ true → with_call c (without c cs) ≡ cs)
 
 -- Indexes by an order of keys, with the test of which keys are one: under each key there is what was put there last, two
 -- indexes that have the same under each key are one, of two changes under a key the later counts, and what was there

@@ -6,19 +6,19 @@
 //!
 //! Contracts see each as a value that says what there is and nothing more: calls as the list in order, slots as the list of what
 //! lives at each place, an index as a finite map (`FinMap` of std), from a name's characters to a pid, or from a number to the
-//! call's [`Owner`]. Two that mean the same are equal: no order of entries, no capacity, no hash is seen. An index is a finite map
-//! and not a function from keys, since that is one value for all that it says, where contracts would have to tell two functions
-//! apart.
+//! call's [`Owner`]. Two that mean the same are equal: no order of entries, no capacity, no hash is seen. An index is a
+//! finite map and not a function from keys, since that is one value for all that it says, where contracts would have to
+//! tell two functions apart.
 //!
 //! # What is proved
 //!
 //! - [`Calls::insert`] puts a call in by that order, or leaves all as it was; [`Calls::remove`] takes out just that call, where
 //!   it is there. [`Calls::iter`] gives the calls, each before all behind it.
-//! - `get` of an index gives what there is under a key, a name being asked for by its text; `insert` puts a value there, or leaves
-//!   all as it was; `remove` puts nothing there. Nothing else changes.
+//! - `get` of an index gives what there is under a key, a name being asked for by its text; `insert` puts a value there, or
+//!   leaves all as it was; `remove` puts nothing there. Nothing else changes.
 //! - [`Slots::get`] and [`Slots::get_mut`] give what lives at a place, and what is written there stands there afterwards;
-//!   [`Slots::push`], [`Slots::pop`], [`Slots::take`] and [`Slots::put`] change one place, or leave all as it was; [`Slots::iter`]
-//!   gives just what lives, in order of place.
+//!   [`Slots::push`], [`Slots::pop`], [`Slots::take`] and [`Slots::put`] change one place, or leave all as it was;
+//!   [`Slots::iter`] gives just what lives, in order of place.
 //! - [`calls_in_order_are_one`], [`calls_come_back`], [`names_are_indexed`], [`numbers_are_indexed`]: values that say the same
 //!   are equal; a change is taken back, whole, by the one that puts back what was there.
 //!
@@ -26,8 +26,8 @@
 //!
 //! That there is memory, and what a call costs. An index is asked and changed by key, in a time that does not grow with it,
 //! but for an insertion that makes it grow; keys are hashed by secrets that come from outside, so nobody who picks names or
-//! numbers can make that slow. Calls and slots are kept in trees: one is found, put in and taken out in a time that is logarithmic
-//! in how many there are, and slots of which nothing lives take neither memory nor time.
+//! numbers can make that slow. Calls and slots are kept in trees: one is found, put in and taken out in a time that is
+//! logarithmic in how many there are, and slots of which nothing lives take neither memory nor time.
 #![tactic(auto)]
 
 mod calls;

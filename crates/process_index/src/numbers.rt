@@ -19,8 +19,8 @@ pub struct Owner {
 
 /// The open calls by their numbers, and whose they are.
 ///
-/// Contracts see it as a finite map from a number to an owner. Numbers are hashed by keys that nobody outside knows: so nobody can
-/// pick numbers that collide.
+/// Contracts see it as a finite map from a number to an owner. Numbers are hashed by keys that nobody outside knows: so
+/// nobody can pick numbers that collide.
 #[derive(Drop)]
 pub struct CallIndex {
     owners: HashMap<u64, Owner, RandomState>,

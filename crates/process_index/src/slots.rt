@@ -12,8 +12,8 @@ use std::marker::Model;
 
 /// What is kept by number, of which few may live: numbers are given one after another, and one is not given again.
 ///
-/// Contracts see it as a list: at each place, from 0 on, what lives there, or nothing. Memory and time hang on what lives alone, and
-/// not on how many numbers were given.
+/// Contracts see it as a list: at each place, from 0 on, what lives there, or nothing. Memory and time hang on what lives
+/// alone, and not on how many numbers were given.
 #[derive(Drop)]
 pub struct Slots<T> {
     /// What lives, by its place.

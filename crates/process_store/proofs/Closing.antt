@@ -11,7 +11,7 @@ use Rattle.process_index.specs.declared.calls.Call.{Call}
 use Rattle.process_index.specs.declared.numbers.Owner.{Owner}
 use Rattle.process_index.specs.Index.{Names, put}
 use Rattle.process_index.specs.Numbers.{Owners}
-use Rattle.process_store.specs.declared.living.Living.{Living}
+use Rattle.process_store.specs.declared.living.ProcessEntry.{ProcessEntry}
 use Rattle.process_store.specs.Changes.{CanReopen, call_at, closed_living, numbered, owner_at, owner_of, reopened_living}
 use Rattle.process_store.specs.Indexed.{IsIndexed, answered, asked_of, is_asked_by, is_owner}
 use Rattle.process_store.specs.Table.{Table, changed_slots, is_asked, living_at}
@@ -32,7 +32,7 @@ numbered_one (c ∷ cs) number client there only =
     ] refl
 
 -- The open call of a number, as the index tells it.
-module _ (names : Names) (open_calls : Owners) (slots : List (Option Living)) (number : ℕ) (o : Owner) (indexed : IsIndexed names open_calls slots) (at : get open_calls number ≡ Some o) where
+module _ (names : Names) (open_calls : Owners) (slots : List (Option ProcessEntry)) (number : ℕ) (o : Owner) (indexed : IsIndexed names open_calls slots) (at : get open_calls number ≡ Some o) where
   told : (client pid : ℕ) → is_asked_by (record { client = client; number = number }) (living_at slots pid) ≡ (nat_eq o.pid pid && nat_eq o.client client)
   told client pid = sym (indexed.asked number client pid) ∙ ap (is_owner pid client) at
 
@@ -61,18 +61,18 @@ module _ (names : Names) (open_calls : Owners) (slots : List (Option Living)) (n
       sym (found ∙ ap (option_map (λ (c : Call). (o.pid, c))) owner_call) ∙ ap (owner_of number) is
 
 -- a number that is not open is nobody's
-pub no_owner : (names : Names) (open_calls : Owners) (slots : List (Option Living)) (t : Table) (number : ℕ) → IsIndexed names open_calls slots → record { slots = slots } ≡ t → get open_calls number ≡ None → None ≡ owner_of number t
+pub no_owner : (names : Names) (open_calls : Owners) (slots : List (Option ProcessEntry)) (t : Table) (number : ℕ) → IsIndexed names open_calls slots → record { slots = slots } ≡ t → get open_calls number ≡ None → None ≡ owner_of number t
 no_owner names open_calls slots t number indexed is at =
     let none = nobody (is_asked number) refl slots (λ pid. unasked (living_at slots pid) number (λ client. sym (indexed.asked number client pid) ∙ ap (is_owner pid client) at)) in
     sym (ap (λ p. owner_at number p (record { slots = slots })) none) ∙ ap (owner_of number) is
 
 -- The call is closed.
 
-asked_lives : (c : Call) (o : Option Living) → is_asked_by c o ≡ true → (f : Living → Living) → IsSome (option_map f o)
+asked_lives : (c : Call) (o : Option ProcessEntry) → is_asked_by c o ≡ true → (f : ProcessEntry → ProcessEntry) → IsSome (option_map f o)
 asked_lives c None asked f = absurd (true≢false (sym asked))
 asked_lives c (Some l) asked f = refl
 
-pub closed_indexed : (names : Names) (open_calls after : Owners) (slots now : List (Option Living)) (c : Call) (pid : ℕ) → IsIndexed names open_calls slots → is_asked_by c (living_at slots pid) ≡ true → after ≡ put c.number None open_calls → now ≡ changed_slots (closed_living c) pid slots → IsIndexed names after now
+pub closed_indexed : (names : Names) (open_calls after : Owners) (slots now : List (Option ProcessEntry)) (c : Call) (pid : ℕ) → IsIndexed names open_calls slots → is_asked_by c (living_at slots pid) ≡ true → after ≡ put c.number None open_calls → now ≡ changed_slots (closed_living c) pid slots → IsIndexed names after now
 closed_indexed names open_calls after slots now c pid indexed asked was is =
     elim (living_at slots pid) as (λ o. living_at slots pid ≡ o → is_asked_by c o ≡ true → IsIndexed names after now) [
       | None ↦ λ e none. absurd (true≢false (sym none))
@@ -80,7 +80,7 @@ closed_indexed names open_calls after slots now c pid indexed asked was is =
     ] refl asked
 
 -- it can be open again
-pub closed_returns : (names : Names) (open_calls after : Owners) (slots now : List (Option Living)) (c : Call) (pid : ℕ) → IsIndexed names open_calls slots → is_asked_by c (living_at slots pid) ≡ true → after ≡ put c.number None open_calls → now ≡ changed_slots (closed_living c) pid slots → CanReopen pid c (record { slots = now })
+pub closed_returns : (names : Names) (open_calls after : Owners) (slots now : List (Option ProcessEntry)) (c : Call) (pid : ℕ) → IsIndexed names open_calls slots → is_asked_by c (living_at slots pid) ≡ true → after ≡ put c.number None open_calls → now ≡ changed_slots (closed_living c) pid slots → CanReopen pid c (record { slots = now })
 closed_returns names open_calls after slots now c pid indexed asked was is =
     let f = closed_living c in
     let right = closed_indexed names open_calls after slots now c pid indexed asked was is in
@@ -90,7 +90,7 @@ closed_returns names open_calls after slots now c pid indexed asked was is =
     )
 
 -- and is then as it was
-pub closed_back : (names : Names) (open_calls : Owners) (slots now : List (Option Living)) (t : Table) (c : Call) (pid : ℕ) → IsIndexed names open_calls slots → is_asked_by c (living_at slots pid) ≡ true → now ≡ changed_slots (closed_living c) pid slots → record { slots = slots } ≡ t → ◌≡◌ {A = Table} (record { slots = changed_slots (reopened_living c) pid now }) t
+pub closed_back : (names : Names) (open_calls : Owners) (slots now : List (Option ProcessEntry)) (t : Table) (c : Call) (pid : ℕ) → IsIndexed names open_calls slots → is_asked_by c (living_at slots pid) ≡ true → now ≡ changed_slots (closed_living c) pid slots → record { slots = slots } ≡ t → ◌≡◌ {A = Table} (record { slots = changed_slots (reopened_living c) pid now }) t
 closed_back names open_calls slots now t c pid indexed asked is was =
     let back = slots_back (closed_living c) (reopened_living c) slots pid (λ l e.
     let ordered : AreInOrder l.calls = subst (λ o. IfSome o (λ x. AreInOrder x.calls)) e (indexed.ordered pid) in
@@ -100,26 +100,26 @@ closed_back names open_calls slots now t c pid indexed asked is was =
 
 -- The call is open again.
 
-pub reopened_indexed : (names : Names) (open_calls after : Owners) (slots now : List (Option Living)) (c : Call) (pid : ℕ) → IsIndexed names open_calls slots → IsSome (living_at slots pid) → get open_calls c.number ≡ None → after ≡ asked_of pid (Some c) open_calls → now ≡ changed_slots (reopened_living c) pid slots → IsIndexed names after now
+pub reopened_indexed : (names : Names) (open_calls after : Owners) (slots now : List (Option ProcessEntry)) (c : Call) (pid : ℕ) → IsIndexed names open_calls slots → IsSome (living_at slots pid) → get open_calls c.number ≡ None → after ≡ asked_of pid (Some c) open_calls → now ≡ changed_slots (reopened_living c) pid slots → IsIndexed names after now
 reopened_indexed names open_calls after slots now c pid indexed lives free was is =
     elim (living_at slots pid) as (λ o. living_at slots pid ≡ o → IsSome o → IsIndexed names after now) [
       | None ↦ λ e none. absurd (true≢false (sym none))
       | Some l ↦ λ e some. subst (λ o. IsIndexed names o now) (sym was) (subst (IsIndexed names (asked_of pid (Some c) open_calls)) (sym is) (IsIndexed-opened (reopened_living c) c (λ x. refl) (λ x. refl) (λ x. refl) names open_calls slots pid l indexed e free))
     ] refl lives
 
-pub slots_reopened_back : (slots : List (Option Living)) (c : Call) (pid : ℕ) → IfSome (living_at slots pid) (λ l. has c l.calls ≡ false) → changed_slots (closed_living c) pid (changed_slots (reopened_living c) pid slots) ≡ slots
+pub slots_reopened_back : (slots : List (Option ProcessEntry)) (c : Call) (pid : ℕ) → IfSome (living_at slots pid) (λ l. has c l.calls ≡ false) → changed_slots (closed_living c) pid (changed_slots (reopened_living c) pid slots) ≡ slots
 slots_reopened_back slots c pid free = slots_back (reopened_living c) (closed_living c) slots pid (λ l e.
     let absent : has c l.calls ≡ false = subst (λ o. IfSome o (λ x. has c x.calls ≡ false)) e free in
     λ i. record l { calls = without-with_call c l.calls absent i })
 
 -- it is its process's
-pub reopened_owner : (names : Names) (open_calls after : Owners) (slots now : List (Option Living)) (c : Call) (pid : ℕ) → IsIndexed names open_calls slots → IsSome (living_at slots pid) → get open_calls c.number ≡ None → after ≡ asked_of pid (Some c) open_calls → now ≡ changed_slots (reopened_living c) pid slots → owner_of c.number (record { slots = now }) ≡ Some (pid, c)
+pub reopened_owner : (names : Names) (open_calls after : Owners) (slots now : List (Option ProcessEntry)) (c : Call) (pid : ℕ) → IsIndexed names open_calls slots → IsSome (living_at slots pid) → get open_calls c.number ≡ None → after ≡ asked_of pid (Some c) open_calls → now ≡ changed_slots (reopened_living c) pid slots → owner_of c.number (record { slots = now }) ≡ Some (pid, c)
 reopened_owner names open_calls after slots now c pid indexed lives free was is =
     let o : Owner = record { pid = pid; client = c.client } in
     let at : get after c.number ≡ Some o = ap (λ m. get m c.number) was ∙ numbers_read open_calls c.number (Some o) c.number ∙ ap (λ b. cond b (Some o) (get open_calls c.number)) (eq-eqb c.number c.number refl) in
     sym (owner_is names after now c.number o (reopened_indexed names open_calls after slots now c pid indexed lives free was is) at (record { slots = now }) refl)
 
 -- and to close it takes that back
-pub reopened_back : (slots now : List (Option Living)) (t : Table) (c : Call) (pid : ℕ) → IfSome (living_at slots pid) (λ l. has c l.calls ≡ false) → now ≡ changed_slots (reopened_living c) pid slots → record { slots = slots } ≡ t → ◌≡◌ {A = Table} (record { slots = changed_slots (closed_living c) pid now }) t
+pub reopened_back : (slots now : List (Option ProcessEntry)) (t : Table) (c : Call) (pid : ℕ) → IfSome (living_at slots pid) (λ l. has c l.calls ≡ false) → now ≡ changed_slots (reopened_living c) pid slots → record { slots = slots } ≡ t → ◌≡◌ {A = Table} (record { slots = changed_slots (closed_living c) pid now }) t
 reopened_back slots now t c pid free is was =
     ap (λ x. record { slots = x }) (ap (changed_slots (closed_living c) pid) is ∙ slots_reopened_back slots c pid free) ∙ was

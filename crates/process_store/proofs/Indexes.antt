@@ -18,7 +18,7 @@ use Rattle.process_index.specs.declared.calls.Call.{Call}
 use Rattle.process_index.specs.Index.{Names}
 use Rattle.process_index.specs.Numbers.{Owners}
 use Rattle.process_index.specs.declared.numbers.Owner.{Owner}
-use Rattle.process_store.specs.declared.living.Living.{Living}
+use Rattle.process_store.specs.declared.living.ProcessEntry.{ProcessEntry}
 use Rattle.process_store.specs.Indexed.{HasPid, IsIndexed, answered, asked_of, is_pid, is_owner, is_asked_by, registered, unregistered}
 use Rattle.process_store.specs.Table.{Table, changed_slots, has_number, is_asked, is_name, is_named, is_open, living_at, pid_of}
 use Rattle.process_store.proofs.Slots.{changed_nobody, kept, kept_all, kept_behind, living_before, living_changed, living_elsewhere, living_given, living_last, living_past, living_within, nobody_before, nobody_given}
@@ -28,10 +28,10 @@ or_false a b e = grind (arith, common_steps, e)
 
 -- a test that nobody passes, or that just the process of a pid passes
 
-pub nobody : (test : Option Living → Bool) → test None ≡ false → (slots : List (Option Living)) → ((pid : ℕ) → test (living_at slots pid) ≡ false) → position test slots ≡ None
+pub nobody : (test : Option ProcessEntry → Bool) → test None ≡ false → (slots : List (Option ProcessEntry)) → ((pid : ℕ) → test (living_at slots pid) ≡ false) → position test slots ≡ None
 nobody test none slots fails = position_nowhere test slots (λ k d within. ap test (sym (living_within slots k d within)) ∙ fails k)
 
-pub somebody : (test : Option Living → Bool) → test None ≡ false → (slots : List (Option Living)) (p : ℕ) → ((pid : ℕ) → nat_eq p pid ≡ test (living_at slots pid)) → position test slots ≡ Some p
+pub somebody : (test : Option ProcessEntry → Bool) → test None ≡ false → (slots : List (Option ProcessEntry)) (p : ℕ) → ((pid : ℕ) → nat_eq p pid ≡ test (living_at slots pid)) → position test slots ≡ Some p
 somebody test none slots p only =
     let passes : test (living_at slots p) ≡ true = sym (only p) ∙ grind (arith, common_steps) in
     elim (living_at slots p) as (λ o. living_at slots p ≡ o → position test slots ≡ Some p) [
@@ -44,7 +44,7 @@ somebody test none slots p only =
     ] refl
 
 -- somebody passes
-pub is_found : (test : Option Living → Bool) → test None ≡ false → (slots : List (Option Living)) (p : ℕ) → test (living_at slots p) ≡ true → is_some (position test slots) ≡ true
+pub is_found : (test : Option ProcessEntry → Bool) → test None ≡ false → (slots : List (Option ProcessEntry)) (p : ℕ) → test (living_at slots p) ≡ true → is_some (position test slots) ≡ true
 is_found test none slots p passes =
     elim (living_at slots p) as (λ o. living_at slots p ≡ o → is_some (position test slots) ≡ true) [
       | None ↦ λ is. let clash : true ≡ false = sym passes ∙ ap test is ∙ none in absurd (grind (arith, common_steps, clash))
@@ -74,16 +74,16 @@ asked_calls (c ∷ cs) number client is =
       | false ↦ λ e. asked_calls cs number client (grind (arith, common_steps, is, e))
     ] refl
 
-pub unasked : (o : Option Living) (number : ℕ) → ((client : ℕ) → is_asked_by (record { client = client; number = number }) o ≡ false) → is_asked number o ≡ false
+pub unasked : (o : Option ProcessEntry) (number : ℕ) → ((client : ℕ) → is_asked_by (record { client = client; number = number }) o ≡ false) → is_asked number o ≡ false
 unasked None number never = refl
 unasked (Some l) number never = unasked_calls l.calls number never
 
-pub asked_once : (o : Option Living) (number client : ℕ) → is_asked_by (record { client = client; number = number }) o ≡ true → is_asked number o ≡ true
+pub asked_once : (o : Option ProcessEntry) (number client : ℕ) → is_asked_by (record { client = client; number = number }) o ≡ true → is_asked number o ≡ true
 asked_once None number client is = is
 asked_once (Some l) number client is = asked_calls l.calls number client is
 
 -- the index finds who has a name
-pub named_by_index : (names : Names) (open_calls : Owners) (slots : List (Option Living)) (t : Table) (name : List ℕ) → IsIndexed names open_calls slots → record { slots = slots } ≡ t → get names name ≡ pid_of name t
+pub named_by_index : (names : Names) (open_calls : Owners) (slots : List (Option ProcessEntry)) (t : Table) (name : List ℕ) → IsIndexed names open_calls slots → record { slots = slots } ≡ t → get names name ≡ pid_of name t
 named_by_index names open_calls slots t name indexed is =
     elim (get names name) as (λ o. get names name ≡ o → o ≡ position (is_named name) slots) [
       | None ↦ λ at. sym (nobody (is_named name) refl slots (λ pid. sym (indexed.named name pid) ∙ ap (is_pid pid) at))
@@ -91,7 +91,7 @@ named_by_index names open_calls slots t name indexed is =
     ] refl ∙ ap (pid_of name) is
 
 -- and whether a call of a number is open
-pub asked_by_index : (names : Names) (open_calls : Owners) (slots : List (Option Living)) (t : Table) (number : ℕ) → IsIndexed names open_calls slots → record { slots = slots } ≡ t → is_some (get open_calls number) ≡ is_open number t
+pub asked_by_index : (names : Names) (open_calls : Owners) (slots : List (Option ProcessEntry)) (t : Table) (number : ℕ) → IsIndexed names open_calls slots → record { slots = slots } ≡ t → is_some (get open_calls number) ≡ is_open number t
 asked_by_index names open_calls slots t number indexed is =
     elim (get open_calls number) as (λ o. get open_calls number ≡ o → is_some o ≡ is_some (position (is_asked number) slots)) [
       | None ↦ λ at. sym (ap is_some (nobody (is_asked number) refl slots (λ pid.
@@ -104,7 +104,7 @@ asked_by_index names open_calls slots t number indexed is =
 
 -- nobody is there
 -- where nobody lives
-pub IsIndexed-nobody : (slots : List (Option Living)) → ((pid : ℕ) → living_at slots pid ≡ None) → slice_get slots 0 ≡ Some None → IsIndexed empty empty slots
+pub IsIndexed-nobody : (slots : List (Option ProcessEntry)) → ((pid : ℕ) → living_at slots pid ≡ None) → slice_get slots 0 ≡ Some None → IsIndexed empty empty slots
 IsIndexed-nobody slots none first = record {
   named = λ name pid. ap (is_pid pid) (get-empty (slice_cmp nat_cmp) name) ∙ sym (ap (is_named name) (none pid));
   asked = λ number client pid. ap (is_owner pid client) (get-empty nat_cmp number) ∙ sym (ap (is_asked_by (record { client = client; number = number })) (none pid));
@@ -117,7 +117,7 @@ pub IsIndexed-empty : IsIndexed empty empty (None ∷ [])
 IsIndexed-empty = IsIndexed-nobody (None ∷ []) (λ pid. elim pid as (λ p. living_at (None ∷ []) p ≡ None) [ zero ↦ refl | suc p ↦ refl ]) refl
 
 -- a change of a process that leaves its name and its calls alone
-pub IsIndexed-kept : (f : Living → Living) → ((l : Living) → (f l).process.name ≡ l.process.name) → ((l : Living) → (f l).process.pid ≡ l.process.pid) → ((l : Living) → (f l).calls ≡ l.calls) → (names : Names) (open_calls : Owners) (slots : List (Option Living)) (pid : ℕ) → IsIndexed names open_calls slots → IsIndexed names open_calls (changed_slots f pid slots)
+pub IsIndexed-kept : (f : ProcessEntry → ProcessEntry) → ((l : ProcessEntry) → (f l).process.name ≡ l.process.name) → ((l : ProcessEntry) → (f l).process.pid ≡ l.process.pid) → ((l : ProcessEntry) → (f l).calls ≡ l.calls) → (names : Names) (open_calls : Owners) (slots : List (Option ProcessEntry)) (pid : ℕ) → IsIndexed names open_calls slots → IsIndexed names open_calls (changed_slots f pid slots)
 IsIndexed-kept f same_name same_pid same_calls names open_calls slots pid indexed = record {
   named = λ name q. indexed.named name q ∙ sym (kept (is_named name) f (λ l. ap (is_name name) (same_name l)) slots pid q);
   asked = λ number client q. indexed.asked number client q ∙ sym (kept (is_asked_by (record { client = client; number = number })) f (λ l. ap (has (record { client = client; number = number })) (same_calls l)) slots pid q);
@@ -152,7 +152,7 @@ pub other_pid : (there : Option ℕ) (p q : ℕ) → is_pid p there ≡ true →
 other_pid None p q is apart = refl
 other_pid (Some r) p q is apart = let same = eqb-true r p is in ap (λ k. nat_eq k q) same ∙ apart
 
-pub IsIndexed-started : (names : Names) (open_calls : Owners) (slots : List (Option Living)) (name : Option (List ℕ)) (l : Living) → IsIndexed names open_calls slots → l.process.name ≡ name → l.process.pid ≡ length slots → l.calls ≡ [] → IfSome name (λ n. get names n ≡ None) → IsIndexed (registered name (length slots) names) open_calls (slots ++ Some l ∷ [])
+pub IsIndexed-started : (names : Names) (open_calls : Owners) (slots : List (Option ProcessEntry)) (name : Option (List ℕ)) (l : ProcessEntry) → IsIndexed names open_calls slots → l.process.name ≡ name → l.process.pid ≡ length slots → l.calls ≡ [] → IfSome name (λ n. get names n ≡ None) → IsIndexed (registered name (length slots) names) open_calls (slots ++ Some l ∷ [])
 IsIndexed-started names open_calls slots name l indexed named own uncalled untaken = record {
   named = λ n q. elim name as (λ o. l.process.name ≡ o → IfSome o (λ m. get names m ≡ None) → is_pid q (get (registered o (length slots) names) n) ≡ is_named n (living_at (slots ++ Some l ∷ []) q)) [
     | None ↦ λ e free. indexed.named n q ∙ sym (kept_behind (is_named n) refl slots (Some l) (ap (is_name n) e) q)
@@ -175,7 +175,7 @@ IsIndexed-started names open_calls slots name l indexed named own uncalled untak
 }
 
 -- and without the last process, which has no calls
-pub IsIndexed-unstarted : (names : Names) (open_calls : Owners) (slots : List (Option Living)) (l : Living) → IsIndexed names open_calls (slots ++ Some l ∷ []) → l.calls ≡ [] → 0 < length slots → IsIndexed (unregistered l.process.name names) open_calls slots
+pub IsIndexed-unstarted : (names : Names) (open_calls : Owners) (slots : List (Option ProcessEntry)) (l : ProcessEntry) → IsIndexed names open_calls (slots ++ Some l ∷ []) → l.calls ≡ [] → 0 < length slots → IsIndexed (unregistered l.process.name names) open_calls slots
 IsIndexed-unstarted names open_calls slots l indexed uncalled given = record {
   named = λ n q. elim l.process.name as (λ o. l.process.name ≡ o → is_pid q (get (unregistered o names) n) ≡ is_named n (living_at slots q)) [
     | None ↦ λ e. indexed.named n q ∙ kept_behind (is_named n) refl slots (Some l) (ap (is_name n) e) q
@@ -207,7 +207,7 @@ owner_told None pid q c client is = absurd (grind (arith, common_steps, is))
 owner_told (Some o) pid q c client is = grind (arith, nat_tests, is)
 
 -- a number that is not open is none of a process's calls
-pub unasked_now : (c : Call) (pid : ℕ) (there : Option Owner) → there ≡ None → (o : Option Living) (l : Living) → is_owner pid c.client there ≡ is_asked_by c o → o ≡ Some l → has c l.calls ≡ false
+pub unasked_now : (c : Call) (pid : ℕ) (there : Option Owner) → there ≡ None → (o : Option ProcessEntry) (l : ProcessEntry) → is_owner pid c.client there ≡ is_asked_by c o → o ≡ Some l → has c l.calls ≡ false
 unasked_now c pid there free o l told is = ap (is_asked_by c) (sym is) ∙ sym told ∙ ap (is_owner pid c.client) free
 
 -- A call is open, or is no more: what is told of it, and of others. `there` is who was told of the number before, and `before` and
@@ -243,7 +243,7 @@ told_closed c number client pid q there before after is here elsewhere owned =
       ] refl
     ] refl
 
-pub IsIndexed-opened : (f : Living → Living) (c : Call) → ((l : Living) → (f l).process.name ≡ l.process.name) → ((l : Living) → (f l).process.pid ≡ l.process.pid) → ((l : Living) → (f l).calls ≡ with_call c l.calls) → (names : Names) (open_calls : Owners) (slots : List (Option Living)) (pid : ℕ) (l : Living) → IsIndexed names open_calls slots → living_at slots pid ≡ Some l → get open_calls c.number ≡ None → IsIndexed names (asked_of pid (Some c) open_calls) (changed_slots f pid slots)
+pub IsIndexed-opened : (f : ProcessEntry → ProcessEntry) (c : Call) → ((l : ProcessEntry) → (f l).process.name ≡ l.process.name) → ((l : ProcessEntry) → (f l).process.pid ≡ l.process.pid) → ((l : ProcessEntry) → (f l).calls ≡ with_call c l.calls) → (names : Names) (open_calls : Owners) (slots : List (Option ProcessEntry)) (pid : ℕ) (l : ProcessEntry) → IsIndexed names open_calls slots → living_at slots pid ≡ Some l → get open_calls c.number ≡ None → IsIndexed names (asked_of pid (Some c) open_calls) (changed_slots f pid slots)
 IsIndexed-opened f c same_name same_pid one_more names open_calls slots pid l indexed lives free = record {
   named = λ name q. indexed.named name q ∙ sym (kept (is_named name) f (λ x. ap (is_name name) (same_name x)) slots pid q);
   asked = λ number client q.
@@ -261,7 +261,7 @@ IsIndexed-opened f c same_name same_pid one_more names open_calls slots pid l in
   nobody = changed_nobody f slots pid indexed.nobody;
 }
 
-pub IsIndexed-closed : (f : Living → Living) (c : Call) → ((l : Living) → (f l).process.name ≡ l.process.name) → ((l : Living) → (f l).process.pid ≡ l.process.pid) → ((l : Living) → (f l).calls ≡ without c l.calls) → (names : Names) (open_calls : Owners) (slots : List (Option Living)) (pid : ℕ) (l : Living) → IsIndexed names open_calls slots → living_at slots pid ≡ Some l → has c l.calls ≡ true → IsIndexed names (answered (Some c) open_calls) (changed_slots f pid slots)
+pub IsIndexed-closed : (f : ProcessEntry → ProcessEntry) (c : Call) → ((l : ProcessEntry) → (f l).process.name ≡ l.process.name) → ((l : ProcessEntry) → (f l).process.pid ≡ l.process.pid) → ((l : ProcessEntry) → (f l).calls ≡ without c l.calls) → (names : Names) (open_calls : Owners) (slots : List (Option ProcessEntry)) (pid : ℕ) (l : ProcessEntry) → IsIndexed names open_calls slots → living_at slots pid ≡ Some l → has c l.calls ≡ true → IsIndexed names (answered (Some c) open_calls) (changed_slots f pid slots)
 IsIndexed-closed f c same_name same_pid one_less names open_calls slots pid l indexed lives asked = record {
   named = λ name q. indexed.named name q ∙ sym (kept (is_named name) f (λ x. ap (is_name name) (same_name x)) slots pid q);
   asked = λ number client q.

@@ -7,7 +7,7 @@ use Rattle.std.proofs.lemmas.Option.{none-some}
 use Rattle.values.specs.Edits.{changed_at}
 use Rattle.values.proofs.Edits.{length-changed_at}
 use Rattle.ready_set.specs.Flags.{is_in}
-use Rattle.process_store.specs.declared.living.Living.{Living}
+use Rattle.process_store.specs.declared.living.ProcessEntry.{ProcessEntry}
 use Rattle.process_store.specs.Living.{is_runnable}
 use Rattle.process_store.specs.Ready.{IsReady, IsReadyBut, place_above, set_above}
 use Rattle.process_store.specs.Table.{changed_slots, living_at}
@@ -15,14 +15,14 @@ use Rattle.process_store.proofs.Slots.{living_past}
 
 -- An edit of the slot of one pid leaves the others alone; where nobody was, nobody is, unless the edit puts somebody there.
 
-living_other : (g : Option Living → Option Living) (slots : List (Option Living)) (pid q : ℕ) → (q ≡ pid → ⊥) → living_at (changed_at g slots pid) q ≡ living_at slots q
+living_other : (g : Option ProcessEntry → Option ProcessEntry) (slots : List (Option ProcessEntry)) (pid q : ℕ) → (q ≡ pid → ⊥) → living_at (changed_at g slots pid) q ≡ living_at slots q
 living_other g [] pid q apart = refl
 living_other g (s ∷ ss) zero zero apart = absurd (apart refl)
 living_other g (s ∷ ss) zero (suc q) apart = refl
 living_other g (s ∷ ss) (suc pid) zero apart = refl
 living_other g (s ∷ ss) (suc pid) (suc q) apart = living_other g ss pid q (λ e. apart (ap suc e))
 
-nobody_edited : (g : Option Living → Option Living) (slots : List (Option Living)) (pid q : ℕ) → (q ≡ pid → g None ≡ None) → living_at slots q ≡ None → living_at (changed_at g slots pid) q ≡ None
+nobody_edited : (g : Option ProcessEntry → Option ProcessEntry) (slots : List (Option ProcessEntry)) (pid q : ℕ) → (q ≡ pid → g None ≡ None) → living_at slots q ≡ None → living_at (changed_at g slots pid) q ≡ None
 nobody_edited g [] pid q none is = is
 nobody_edited g (None ∷ ss) zero zero none is = none refl
 nobody_edited g (Some l ∷ ss) zero zero none is = absurd (none-some l (sym is))
@@ -30,27 +30,27 @@ nobody_edited g (s ∷ ss) zero (suc q) none is = is
 nobody_edited g (s ∷ ss) (suc pid) zero none is = is
 nobody_edited g (s ∷ ss) (suc pid) (suc q) none is = nobody_edited g ss pid q (λ e. none (ap suc e)) is
 
-pub edited_but : (g : Option Living → Option Living) (flags : List Bool) (below : ℕ) (slots now : List (Option Living)) (pid : ℕ) → (pid ≤ below → g None ≡ None) → IsReady flags below slots → now ≡ changed_at g slots pid → IsReadyBut pid flags below now
+pub edited_but : (g : Option ProcessEntry → Option ProcessEntry) (flags : List Bool) (below : ℕ) (slots now : List (Option ProcessEntry)) (pid : ℕ) → (pid ≤ below → g None ≡ None) → IsReady flags below slots → now ≡ changed_at g slots pid → IsReadyBut pid flags below now
 edited_but g flags below slots now pid none ready is = subst (IsReadyBut pid flags below) (sym is) (record {
   places = ready.places ∙ sym (length-changed_at g slots pid);
   nobody = λ q within. nobody_edited g slots pid q (λ e. none (subst (λ k. k ≤ below) e within)) (ready.nobody q within);
   others = λ q above apart. ready.marked q above ∙ ap is_runnable (sym (living_other g slots pid q apart));
 })
 
-pub changed_but : (f : Living → Living) (flags : List Bool) (below : ℕ) (slots now : List (Option Living)) (pid : ℕ) → IsReady flags below slots → now ≡ changed_slots f pid slots → IsReadyBut pid flags below now
+pub changed_but : (f : ProcessEntry → ProcessEntry) (flags : List Bool) (below : ℕ) (slots now : List (Option ProcessEntry)) (pid : ℕ) → IsReady flags below slots → now ≡ changed_slots f pid slots → IsReadyBut pid flags below now
 changed_but f flags below slots now pid ready is =
     edited_but (option_map f) flags below slots now pid (λ _. refl) ready is
 
 -- Where the pid has no place, nothing is to be marked.
 
-pub no_place : (flags : List Bool) (below : ℕ) (slots : List (Option Living)) (pid : ℕ) → IsReadyBut pid flags below slots → pid ≤ below → IsReady flags below slots
+pub no_place : (flags : List Bool) (below : ℕ) (slots : List (Option ProcessEntry)) (pid : ℕ) → IsReadyBut pid flags below slots → pid ≤ below → IsReady flags below slots
 no_place flags below slots pid ready under = record {
   places = ready.places;
   nobody = ready.nobody;
   marked = λ q past. ready.others q past (λ e. omega (arith, e, past, under));
 }
 
-pub not_given : (flags : List Bool) (below : ℕ) (slots : List (Option Living)) (pid : ℕ) → IsReadyBut pid flags below slots → length slots ≤ pid → IsReady flags below slots
+pub not_given : (flags : List Bool) (below : ℕ) (slots : List (Option ProcessEntry)) (pid : ℕ) → IsReadyBut pid flags below slots → length slots ≤ pid → IsReady flags below slots
 not_given flags below slots pid ready behind = record {
   places = ready.places;
   nobody = ready.nobody;
@@ -72,13 +72,13 @@ in_above below flags pid above =
 
 -- The set as contracts see it.
 
-pub in_ready : (slots : List (Option Living)) (pid : ℕ) → is_in (map is_runnable slots) pid ≡ is_runnable (living_at slots pid)
+pub in_ready : (slots : List (Option ProcessEntry)) (pid : ℕ) → is_in (map is_runnable slots) pid ≡ is_runnable (living_at slots pid)
 in_ready [] pid = refl
 in_ready (None ∷ ss) zero = refl
 in_ready (Some l ∷ ss) zero = refl
 in_ready (s ∷ ss) (suc pid) = in_ready ss pid
 
-pub ready_set : (flags : List Bool) (below : ℕ) (slots : List (Option Living)) → IsReady flags below slots → set_above below flags ≡ map is_runnable slots
+pub ready_set : (flags : List Bool) (below : ℕ) (slots : List (Option ProcessEntry)) → IsReady flags below slots → set_above below flags ≡ map is_runnable slots
 ready_set flags below slots ready =
     ext_get_or false (set_above below flags) (map is_runnable slots) (omega (arith, ready.places, length-append (replicate (below + 1) false) flags, length-replicate (below + 1) false, length-map slots is_runnable))
     (λ k within. ⊎_elim (λ (above : below < k). in_above below flags k above ∙ ready.marked k above ∙ sym (in_ready slots k))
@@ -87,25 +87,25 @@ ready_set flags below slots ready =
 
 -- The start of the last process is taken back.
 
-nobody_lives : IsSome {T = Living} None → ⊥
+nobody_lives : IsSome {T = ProcessEntry} None → ⊥
 nobody_lives e = grind (arith, common_steps, e)
 
-somebody_above : (flags : List Bool) (below : ℕ) (slots : List (Option Living)) (pid : ℕ) → IsReady flags below slots → IsSome (living_at slots pid) → below < pid
+somebody_above : (flags : List Bool) (below : ℕ) (slots : List (Option ProcessEntry)) (pid : ℕ) → IsReady flags below slots → IsSome (living_at slots pid) → below < pid
 somebody_above flags below slots pid ready lives =
     ⊎_elim (λ (above : below < pid). above) (λ (under : pid ≤ below). absurd (nobody_lives (subst IsSome (ready.nobody pid under) lives))) (cases_lt below pid)
 
-last_place : (flags : List Bool) (below : ℕ) (slots : List (Option Living)) → IsReady flags below slots → IsSome (living_at slots (length slots - 1)) → 0 < length flags
+last_place : (flags : List Bool) (below : ℕ) (slots : List (Option ProcessEntry)) → IsReady flags below slots → IsSome (living_at slots (length slots - 1)) → 0 < length flags
 last_place flags below slots ready lives =
     let above = somebody_above flags below slots (length slots - 1) ready lives in
     omega (arith, above, ready.places)
 
-living_taken : (slots : List (Option Living)) (n q : ℕ) → q < n → living_at (take n slots) q ≡ living_at slots q
+living_taken : (slots : List (Option ProcessEntry)) (n q : ℕ) → q < n → living_at (take n slots) q ≡ living_at slots q
 living_taken slots zero q within = absurd (omega (arith, within))
 living_taken [] (suc n) q within = refl
 living_taken (s ∷ ss) (suc n) zero within = refl
 living_taken (s ∷ ss) (suc n) (suc q) within = living_taken ss n q (omega (arith, within))
 
-pub popped_ready : (flags next : List Bool) (below : ℕ) (slots now : List (Option Living)) → IsReady flags below slots → IsSome (living_at slots (length slots - 1)) → next ≡ take (length flags - 1) flags → now ≡ take (length slots - 1) slots → IsReady next below now
+pub popped_ready : (flags next : List Bool) (below : ℕ) (slots now : List (Option ProcessEntry)) → IsReady flags below slots → IsSome (living_at slots (length slots - 1)) → next ≡ take (length flags - 1) flags → now ≡ take (length slots - 1) slots → IsReady next below now
 popped_ready flags next below slots now ready lives less is =
     let some = last_place flags below slots ready lives in
     let fewer : length next ≡ length flags - 1 = ap length less ∙ length-take-le (length flags - 1) flags (omega arith) in

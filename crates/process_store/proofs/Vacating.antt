@@ -13,7 +13,7 @@ use Rattle.process_index.specs.declared.calls.Call.{Call}
 use Rattle.process_index.specs.Index.{Names, put}
 use Rattle.process_index.specs.Numbers.{Owners}
 use Rattle.process_index.specs.declared.numbers.Owner.{Owner}
-use Rattle.process_store.specs.declared.living.Living.{Living}
+use Rattle.process_store.specs.declared.living.ProcessEntry.{ProcessEntry}
 use Rattle.process_store.specs.Indexed.{HasPid, IsIndexed, is_asked_by, is_owner, is_pid, registered, unregistered}
 use Rattle.process_store.specs.Table.{Table, has_number, is_name, is_named, living_at, pid_of}
 use Rattle.process_store.specs.Vacating.{AreFreeNumbers, AreOfOwnNumbers, CanReturn, HasFreeCalls, HasFreeName, IsFreeName, IsSameElsewhere, all_answered, all_asked, occupied_slots, vacated_slots}
@@ -23,29 +23,29 @@ use Rattle.process_store.proofs.Indexes.{asked_by_index, asked_calls, named_by_i
 -- Slots
 
 -- where nobody lives, nothing changes
-pub vacated_nobody : (slots : List (Option Living)) (pid : ℕ) → living_at slots pid ≡ None → vacated_slots pid slots ≡ slots
+pub vacated_nobody : (slots : List (Option ProcessEntry)) (pid : ℕ) → living_at slots pid ≡ None → vacated_slots pid slots ≡ slots
 vacated_nobody [] pid is = refl
 vacated_nobody (s ∷ ss) zero is = ap (λ o. o ∷ ss) (sym is)
 vacated_nobody (s ∷ ss) (suc pid) is = ap (λ xs. s ∷ xs) (vacated_nobody ss pid is)
 
 -- who lives there then, and elsewhere
 
-pub living_vacated : (slots : List (Option Living)) (pid : ℕ) → living_at (vacated_slots pid slots) pid ≡ None
+pub living_vacated : (slots : List (Option ProcessEntry)) (pid : ℕ) → living_at (vacated_slots pid slots) pid ≡ None
 living_vacated [] pid = refl
 living_vacated (s ∷ ss) zero = refl
 living_vacated (s ∷ ss) (suc pid) = living_vacated ss pid
 
-pub vacant_within : (slots : List (Option Living)) (pid : ℕ) → slice_get slots pid ≡ Some None → pid < length slots
+pub vacant_within : (slots : List (Option ProcessEntry)) (pid : ℕ) → slice_get slots pid ≡ Some None → pid < length slots
 vacant_within [] pid vacant = absurd (none-some None vacant)
 vacant_within (s ∷ ss) zero vacant = omega arith
 vacant_within (s ∷ ss) (suc pid) vacant = let below = vacant_within ss pid vacant in omega (arith, below)
 
-pub living_occupied : (l : Living) (slots : List (Option Living)) (pid : ℕ) → slice_get slots pid ≡ Some None → living_at (occupied_slots pid l slots) pid ≡ Some l
+pub living_occupied : (l : ProcessEntry) (slots : List (Option ProcessEntry)) (pid : ℕ) → slice_get slots pid ≡ Some None → living_at (occupied_slots pid l slots) pid ≡ Some l
 living_occupied l [] pid vacant = absurd (none-some None vacant)
 living_occupied l (s ∷ ss) zero vacant = refl
 living_occupied l (s ∷ ss) (suc pid) vacant = living_occupied l ss pid vacant
 
-pub other_slot : (f : Option Living → Option Living) (slots : List (Option Living)) (pid q : ℕ) → (pid ≡ q → ⊥) → living_at (changed_at f slots pid) q ≡ living_at slots q
+pub other_slot : (f : Option ProcessEntry → Option ProcessEntry) (slots : List (Option ProcessEntry)) (pid q : ℕ) → (pid ≡ q → ⊥) → living_at (changed_at f slots pid) q ≡ living_at slots q
 other_slot f [] pid q apart = refl
 other_slot f (s ∷ ss) zero zero apart = absurd (apart refl)
 other_slot f (s ∷ ss) zero (suc q) apart = refl
@@ -54,34 +54,34 @@ other_slot f (s ∷ ss) (suc pid) (suc q) apart = other_slot f ss pid q (λ e. a
 
 -- one takes the other back
 
-vacated_slot : (slots : List (Option Living)) (pid : ℕ) (l : Living) → living_at slots pid ≡ Some l → slice_get (vacated_slots pid slots) pid ≡ Some None
+vacated_slot : (slots : List (Option ProcessEntry)) (pid : ℕ) (l : ProcessEntry) → living_at slots pid ≡ Some l → slice_get (vacated_slots pid slots) pid ≡ Some None
 vacated_slot [] pid l is = absurd (none-some l is)
 vacated_slot (s ∷ ss) zero l is = refl
 vacated_slot (s ∷ ss) (suc pid) l is = vacated_slot ss pid l is
 
-pub vacated_back : (slots : List (Option Living)) (pid : ℕ) (l : Living) → living_at slots pid ≡ Some l → occupied_slots pid l (vacated_slots pid slots) ≡ slots
+pub vacated_back : (slots : List (Option ProcessEntry)) (pid : ℕ) (l : ProcessEntry) → living_at slots pid ≡ Some l → occupied_slots pid l (vacated_slots pid slots) ≡ slots
 vacated_back [] pid l is = refl
 vacated_back (s ∷ ss) zero l is = ap (λ o. o ∷ ss) (sym is)
 vacated_back (s ∷ ss) (suc pid) l is = ap (λ xs. s ∷ xs) (vacated_back ss pid l is)
 
-pub occupied_back : (l : Living) (slots : List (Option Living)) (pid : ℕ) → slice_get slots pid ≡ Some None → vacated_slots pid (occupied_slots pid l slots) ≡ slots
+pub occupied_back : (l : ProcessEntry) (slots : List (Option ProcessEntry)) (pid : ℕ) → slice_get slots pid ≡ Some None → vacated_slots pid (occupied_slots pid l slots) ≡ slots
 occupied_back l [] pid vacant = refl
 occupied_back l (s ∷ ss) zero vacant = ap (λ o. o ∷ ss) (sym (same_Some s None vacant))
 occupied_back l (s ∷ ss) (suc pid) vacant = ap (λ xs. s ∷ xs) (occupied_back l ss pid vacant)
 
 -- nobody has pid 0
 
-nobody_vacated : (slots : List (Option Living)) (pid : ℕ) → slice_get slots 0 ≡ Some None → slice_get (vacated_slots pid slots) 0 ≡ Some None
+nobody_vacated : (slots : List (Option ProcessEntry)) (pid : ℕ) → slice_get slots 0 ≡ Some None → slice_get (vacated_slots pid slots) 0 ≡ Some None
 nobody_vacated [] pid is = is
 nobody_vacated (s ∷ ss) zero is = refl
 nobody_vacated (s ∷ ss) (suc pid) is = is
 
-nobody_occupied : (l : Living) (slots : List (Option Living)) (pid : ℕ) → 0 < pid → slice_get slots 0 ≡ Some None → slice_get (occupied_slots pid l slots) 0 ≡ Some None
+nobody_occupied : (l : ProcessEntry) (slots : List (Option ProcessEntry)) (pid : ℕ) → 0 < pid → slice_get slots 0 ≡ Some None → slice_get (occupied_slots pid l slots) 0 ≡ Some None
 nobody_occupied l [] pid late is = is
 nobody_occupied l (s ∷ ss) zero late is = absurd (omega (arith, late))
 nobody_occupied l (s ∷ ss) (suc pid) late is = is
 
-somebody_late : (slots : List (Option Living)) (pid : ℕ) (l : Living) → slice_get slots 0 ≡ Some None → living_at slots pid ≡ Some l → 0 < pid
+somebody_late : (slots : List (Option ProcessEntry)) (pid : ℕ) (l : ProcessEntry) → slice_get slots 0 ≡ Some None → living_at slots pid ≡ Some l → 0 < pid
 somebody_late [] pid l nobody is = absurd (none-some l is)
 somebody_late (s ∷ ss) zero l nobody is = absurd (none-some l (sym (same_Some s None nobody) ∙ is))
 somebody_late (s ∷ ss) (suc pid) l nobody is = omega arith
@@ -130,7 +130,7 @@ unasked_number cs number client none =
 
 -- A process is taken out.
 
-pub IsIndexed-vacated : (names : Names) (open_calls : Owners) (slots : List (Option Living)) (pid : ℕ) (l : Living) → IsIndexed names open_calls slots → living_at slots pid ≡ Some l → IsIndexed (unregistered l.process.name names) (all_answered l.calls open_calls) (vacated_slots pid slots)
+pub IsIndexed-vacated : (names : Names) (open_calls : Owners) (slots : List (Option ProcessEntry)) (pid : ℕ) (l : ProcessEntry) → IsIndexed names open_calls slots → living_at slots pid ≡ Some l → IsIndexed (unregistered l.process.name names) (all_answered l.calls open_calls) (vacated_slots pid slots)
 IsIndexed-vacated names open_calls slots pid l indexed lives = record {
   named = λ n q. ap (is_pid q) (read_unregistered l.process.name names n) ∙ elim (eqb_tells pid q) [
     | inl here ↦
@@ -166,7 +166,7 @@ IsIndexed-vacated names open_calls slots pid l indexed lives = record {
   nobody = nobody_vacated slots pid indexed.nobody;
 }
 
-pub vacated_indexed : (names after : Names) (open_calls left : Owners) (slots now : List (Option Living)) (pid : ℕ) (l : Living) → IsIndexed names open_calls slots → living_at slots pid ≡ Some l → after ≡ unregistered l.process.name names → left ≡ all_answered l.calls open_calls → now ≡ vacated_slots pid slots → IsIndexed after left now
+pub vacated_indexed : (names after : Names) (open_calls left : Owners) (slots now : List (Option ProcessEntry)) (pid : ℕ) (l : ProcessEntry) → IsIndexed names open_calls slots → living_at slots pid ≡ Some l → after ≡ unregistered l.process.name names → left ≡ all_answered l.calls open_calls → now ≡ vacated_slots pid slots → IsIndexed after left now
 vacated_indexed names after open_calls left slots now pid l indexed lives unnamed answered is =
     subst (λ n. IsIndexed n left now) (sym unnamed) (subst (λ o. IsIndexed (unregistered l.process.name names) o now) (sym answered)
     (subst (IsIndexed (unregistered l.process.name names) (all_answered l.calls open_calls)) (sym is) (IsIndexed-vacated names open_calls slots pid l indexed lives)))
@@ -177,18 +177,18 @@ name_gone : (name : Option (List ℕ)) (names : Names) → IsFreeName name (unre
 name_gone None names = tt
 name_gone (Some m) names = names_here names m None
 
-name_returns : (names : Names) (open_calls : Owners) (slots : List (Option Living)) (name : Option (List ℕ)) (t : Table) → IsIndexed names open_calls slots → record { slots = slots } ≡ t → IsFreeName name names → IfSome name (λ n. pid_of n t ≡ None)
+name_returns : (names : Names) (open_calls : Owners) (slots : List (Option ProcessEntry)) (name : Option (List ℕ)) (t : Table) → IsIndexed names open_calls slots → record { slots = slots } ≡ t → IsFreeName name names → IfSome name (λ n. pid_of n t ≡ None)
 name_returns names open_calls slots None t indexed is free = tt
 name_returns names open_calls slots (Some n) t indexed is free = sym (named_by_index names open_calls slots t n indexed is) ∙ free
 
-own_numbers : (names : Names) (open_calls : Owners) (slots : List (Option Living)) (pid : ℕ) (l : Living) → IsIndexed names open_calls slots → living_at slots pid ≡ Some l → AreOfOwnNumbers l.calls
+own_numbers : (names : Names) (open_calls : Owners) (slots : List (Option ProcessEntry)) (pid : ℕ) (l : ProcessEntry) → IsIndexed names open_calls slots → living_at slots pid ≡ Some l → AreOfOwnNumbers l.calls
 own_numbers names open_calls slots pid l indexed lives c d has_c has_d same =
     let one : is_owner pid c.client (get open_calls c.number) ≡ true = indexed.asked c.number c.client pid ∙ ap (is_asked_by c) lives ∙ has_c in
     let other : is_owner pid d.client (get open_calls c.number) ≡ true = ap (λ n. is_owner pid d.client (get open_calls n)) same ∙ indexed.asked d.number d.client pid ∙ ap (is_asked_by d) lives ∙ has_d in
     let told : (nat_eq pid pid && nat_eq c.client d.client) ≡ true = sym (owner_told (get open_calls c.number) pid pid c.client d.client one) ∙ other in
     grind (arith, nat_tests, told)
 
-pub vacated_returns : (names : Names) (open_calls : Owners) (slots : List (Option Living)) (pid : ℕ) (l : Living) (t : Table) → IsIndexed names open_calls slots → living_at slots pid ≡ Some l → record { slots = vacated_slots pid slots } ≡ t → CanReturn pid l t
+pub vacated_returns : (names : Names) (open_calls : Owners) (slots : List (Option ProcessEntry)) (pid : ℕ) (l : ProcessEntry) (t : Table) → IsIndexed names open_calls slots → living_at slots pid ≡ Some l → record { slots = vacated_slots pid slots } ≡ t → CanReturn pid l t
 vacated_returns names open_calls slots pid l t indexed lives is =
     let after = IsIndexed-vacated names open_calls slots pid l indexed lives in
     let left = all_answered l.calls open_calls in (
@@ -200,7 +200,7 @@ vacated_returns names open_calls slots pid l t indexed lives is =
 
 -- A process is put back.
 
-vacant_living : (slots : List (Option Living)) (pid : ℕ) → slice_get slots pid ≡ Some None → living_at slots pid ≡ None
+vacant_living : (slots : List (Option ProcessEntry)) (pid : ℕ) → slice_get slots pid ≡ Some None → living_at slots pid ≡ None
 vacant_living slots pid is = ap (option_and_then (λ l. l)) is
 
 spread : {A : Type 0} (f : A → Bool) (b : Bool) (x y : A) → f (cond b x y) ≡ cond b (f x) (f y)
@@ -236,7 +236,7 @@ read_asked pid (c ∷ cs) owners number client q own =
     (λ e. let apart : is_same d c ≡ false = grind (arith, nat_tests, e) in apart)
     (λ e. let is : is_same d c ≡ nat_eq c.client client = grind (arith, nat_tests, e) in is)
 
-pub IsIndexed-occupied : (names : Names) (open_calls : Owners) (slots : List (Option Living)) (pid : ℕ) (l : Living) → IsIndexed names open_calls slots → 0 < pid → slice_get slots pid ≡ Some None → IsFreeName l.process.name names → AreFreeNumbers l.calls open_calls → AreOfOwnNumbers l.calls → AreInOrder l.calls → HasPid pid l → IsIndexed (registered l.process.name pid names) (all_asked pid l.calls open_calls) (occupied_slots pid l slots)
+pub IsIndexed-occupied : (names : Names) (open_calls : Owners) (slots : List (Option ProcessEntry)) (pid : ℕ) (l : ProcessEntry) → IsIndexed names open_calls slots → 0 < pid → slice_get slots pid ≡ Some None → IsFreeName l.process.name names → AreFreeNumbers l.calls open_calls → AreOfOwnNumbers l.calls → AreInOrder l.calls → HasPid pid l → IsIndexed (registered l.process.name pid names) (all_asked pid l.calls open_calls) (occupied_slots pid l slots)
 IsIndexed-occupied names open_calls slots pid l indexed late vacant free unasked own in_order has_pid = record {
   named = λ n q. ap (is_pid q) (read_registered l.process.name pid names n) ∙ elim (eqb_tells pid q) [
     | inl here ↦
@@ -273,19 +273,19 @@ IsIndexed-occupied names open_calls slots pid l indexed late vacant free unasked
   nobody = nobody_occupied l slots pid late indexed.nobody;
 }
 
-pub name_is_free : (names : Names) (open_calls : Owners) (slots : List (Option Living)) (l : Living) (t : Table) → IsIndexed names open_calls slots → record { slots = slots } ≡ t → HasFreeName l t → IsFreeName l.process.name names
+pub name_is_free : (names : Names) (open_calls : Owners) (slots : List (Option ProcessEntry)) (l : ProcessEntry) (t : Table) → IsIndexed names open_calls slots → record { slots = slots } ≡ t → HasFreeName l t → IsFreeName l.process.name names
 name_is_free names open_calls slots l t indexed is free =
     elim l.process.name as (λ name. IfSome name (λ n. pid_of n t ≡ None) → IsFreeName name names) [
       | None ↦ λ _. tt
       | Some n ↦ λ nobody. named_by_index names open_calls slots t n indexed is ∙ nobody
     ] free
 
-pub calls_are_free : (names : Names) (open_calls : Owners) (slots : List (Option Living)) (l : Living) (t : Table) → IsIndexed names open_calls slots → record { slots = slots } ≡ t → HasFreeCalls l t → AreFreeNumbers l.calls open_calls
+pub calls_are_free : (names : Names) (open_calls : Owners) (slots : List (Option ProcessEntry)) (l : ProcessEntry) (t : Table) → IsIndexed names open_calls slots → record { slots = slots } ≡ t → HasFreeCalls l t → AreFreeNumbers l.calls open_calls
 calls_are_free names open_calls slots l t indexed is free number asked =
     let (client, there) = asker l.calls number asked in
     free_number names open_calls slots t number indexed is (free.0 (record { client = client; number = number }) there)
 
-pub occupied_indexed : (names after : Names) (open_calls left : Owners) (slots now : List (Option Living)) (pid : ℕ) (l : Living) (t : Table) → IsIndexed names open_calls slots → record { slots = slots } ≡ t → CanReturn pid l t → AreInOrder l.calls → after ≡ registered l.process.name pid names → left ≡ all_asked pid l.calls open_calls → now ≡ occupied_slots pid l slots → IsIndexed after left now
+pub occupied_indexed : (names after : Names) (open_calls left : Owners) (slots now : List (Option ProcessEntry)) (pid : ℕ) (l : ProcessEntry) (t : Table) → IsIndexed names open_calls slots → record { slots = slots } ≡ t → CanReturn pid l t → AreInOrder l.calls → after ≡ registered l.process.name pid names → left ≡ all_asked pid l.calls open_calls → now ≡ occupied_slots pid l slots → IsIndexed after left now
 occupied_indexed names after open_calls left slots now pid l t indexed view able in_order named asked is =
     subst (λ n. IsIndexed n left now) (sym named) (subst (λ o. IsIndexed (registered l.process.name pid names) o now) (sym asked)
     (subst (IsIndexed (registered l.process.name pid names) (all_asked pid l.calls open_calls)) (sym is)
@@ -318,7 +318,7 @@ pub asked_back : (pid : ℕ) (cs : List Call) (owners : Owners) → AreFreeNumbe
 asked_back pid cs owners free = answered_back cs owners (all_asked pid cs owners) free (asked_elsewhere pid cs owners)
 
 -- where the process does not come back, its name is free and none of its calls is open, as before
-pub left_again : (names entered again : Names) (open_calls asked left : Owners) (slots now : List (Option Living)) (pid : ℕ) (l back : Living) (t : Table) → IsIndexed names open_calls slots → record { slots = slots } ≡ t → CanReturn pid l t → entered ≡ registered l.process.name pid names → asked ≡ all_asked pid l.calls open_calls → back ≡ l → again ≡ unregistered back.process.name entered → left ≡ all_answered back.calls asked → now ≡ slots → IsIndexed again left now
+pub left_again : (names entered again : Names) (open_calls asked left : Owners) (slots now : List (Option ProcessEntry)) (pid : ℕ) (l back : ProcessEntry) (t : Table) → IsIndexed names open_calls slots → record { slots = slots } ≡ t → CanReturn pid l t → entered ≡ registered l.process.name pid names → asked ≡ all_asked pid l.calls open_calls → back ≡ l → again ≡ unregistered back.process.name entered → left ≡ all_answered back.calls asked → now ≡ slots → IsIndexed again left now
 left_again names entered again open_calls asked left slots now pid l back t indexed view able named opened whole unnamed closed same =
     let names_back : again ≡ names = unnamed ∙ (λ i. unregistered (whole i).process.name (named i)) ∙ unregistered_back l.process.name pid names (name_is_free names open_calls slots l t indexed view able.1) in
     let calls_back : left ≡ open_calls = closed ∙ (λ i. all_answered (whole i).calls (opened i)) ∙ asked_back pid l.calls open_calls (calls_are_free names open_calls slots l t indexed view able.2) in

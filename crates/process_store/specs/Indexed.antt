@@ -6,7 +6,7 @@ use Rattle.process_index.specs.Index.{Names, put}
 use Rattle.process_index.specs.Numbers.{Owners}
 use Rattle.process_index.specs.declared.calls.Call.{Call}
 use Rattle.process_index.specs.declared.numbers.Owner.{Owner}
-use Rattle.process_store.specs.declared.living.Living.{Living}
+use Rattle.process_store.specs.declared.living.ProcessEntry.{ProcessEntry}
 use Rattle.process_store.specs.Table.{is_named, living_at}
 
 abbrev pub is_pid : ℕ → Option ℕ → Bool
@@ -17,20 +17,21 @@ abbrev pub is_owner : ℕ → ℕ → Option Owner → Bool
 is_owner pid client None = false
 is_owner pid client (Some o) = o.pid == pid && o.client == client
 
-abbrev pub is_asked_by : Call → Option Living → Bool
+abbrev pub is_asked_by : Call → Option ProcessEntry → Bool
 is_asked_by c None = false
 is_asked_by c (Some l) = has c l.calls
 
 -- a process stands under its own pid
-abbrev pub HasPid : ℕ → Living → Type 0
+abbrev pub HasPid : ℕ → ProcessEntry → Type 0
 HasPid pid l = l.process.pid ≡ pid
 
--- Who has a name, and to whom the call of a number is open; a process stands under its own pid, and its calls are in order of client
--- and number; nobody has pid 0.
-pub record IsIndexed (names : Names) (open_calls : Owners) (slots : List (Option Living)) : Type 0 where
+-- Who has a name, and to whom the call of a number is open; a process stands under its own pid, and its calls are in order
+-- of client and number; nobody has pid 0.
+pub record IsIndexed (names : Names) (open_calls : Owners) (slots : List (Option ProcessEntry)) : Type 0 where
   pub named : (name : List ℕ) (pid : ℕ) → is_pid pid (get names name) ≡ is_named name (living_at slots pid)
   pub asked : (number client pid : ℕ) →
-      is_owner pid client (get open_calls number) ≡ is_asked_by (record { client = client; number = number }) (living_at slots pid)
+      is_owner pid client (get open_calls number) ≡ is_asked_by (record { client = client; number = number })
+      (living_at slots pid)
   pub ordered : (pid : ℕ) → IfSome (living_at slots pid) (λ l. AreInOrder l.calls)
   pub owned : (pid : ℕ) → IfSome (living_at slots pid) (HasPid pid)
   pub nobody : slice_get slots 0 ≡ Some None

@@ -1,11 +1,12 @@
--- Pieces: the messages and places of processes, each with whose it is. They tell how much of the processes a record of a step may hold.
+-- Pieces: the messages and places of processes, each with whose it is. They tell how much of the processes a record of a
+-- step may hold.
 use Rattle.std.specs.Prelude.{◌≡◌, ℕ, List, [], ◌∷◌, ◌++◌, map, Option, None, Some}
 use Rattle.erl_term.specs.declared.term.Term.{Term}
 use Rattle.erl_semantics.specs.declared.acts.Place.{Place}
 use Rattle.process.specs.declared.activity.Activity.{Activity}
 use Rattle.process.specs.declared.activity.Activity.TheVariants as activity
 use Rattle.process.specs.Process.{ProcessState}
-use Rattle.process_store.specs.declared.living.Living.{Living}
+use Rattle.process_store.specs.declared.living.ProcessEntry.{ProcessEntry}
 use Rattle.process_store.specs.Table.{Table, living}
 
 -- A piece of a process.
@@ -32,7 +33,7 @@ pieces_of p = at_place p.turn p.place ∷ ran_pieces p.turn p.activity (waiting 
 
 -- those of the process of a pid, and none where it has ended; so a table's pieces are these of every pid
 
-abbrev pub living_pieces : Option Living → List Piece
+abbrev pub living_pieces : Option ProcessEntry → List Piece
 living_pieces None = []
 living_pieces (Some l) = pieces_of l.process
 

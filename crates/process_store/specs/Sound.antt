@@ -7,7 +7,7 @@ use Rattle.process_store.specs.Table.{Table, is_named, living}
 
 -- A process stands under its own pid; a name is one process's, and a number the one of one open call of one process; the open
 -- calls of a process are in order of client and number; nobody has pid 0.
-pub record IsSound (t : Table) : Type 0 where
+pub record IsProcessTable (t : Table) : Type 0 where
   pub owned : (pid : ℕ) → IfSome (living pid t) (HasPid pid)
   pub named : (name : List ℕ) (pid other : ℕ) →
       is_named name (living pid t) ≡ true → is_named name (living other t) ≡ true → pid ≡ other

@@ -8,12 +8,12 @@ use Rattle.std.specs.Str.{bytes_eq}
 use Rattle.values.specs.Edits.{changed_at}
 use Rattle.process_index.specs.Standing.{vacant}
 use Rattle.process_index.specs.declared.calls.Call.{Call}
-use Rattle.process_store.specs.declared.living.Living.{Living}
+use Rattle.process_store.specs.declared.living.ProcessEntry.{ProcessEntry}
 
 -- The processes by pid: the one of each pid that was given, and none where it has ended. Nobody has pid 0, which stands for
 -- clients outside.
 pub record Table : Type 0 where
-  pub slots : List (Option Living)
+  pub slots : List (Option ProcessEntry)
 
 abbrev pub empty_table : Table
 empty_table = record { slots = None ∷ [] }
@@ -28,18 +28,18 @@ next_pid t = length t.slots
 
 -- the process of a pid, where it lives
 
-abbrev pub living_at : List (Option Living) → ℕ → Option Living
+abbrev pub living_at : List (Option ProcessEntry) → ℕ → Option ProcessEntry
 living_at slots pid = option_and_then (λ l. l) (slice_get slots pid)
 
-abbrev pub living : ℕ → Table → Option Living
+abbrev pub living : ℕ → Table → Option ProcessEntry
 living pid t = living_at t.slots pid
 
 -- the processes with the one of a pid changed, where it lives
 
-abbrev pub changed_slots : (Living → Living) → ℕ → List (Option Living) → List (Option Living)
+abbrev pub changed_slots : (ProcessEntry → ProcessEntry) → ℕ → List (Option ProcessEntry) → List (Option ProcessEntry)
 changed_slots f pid slots = changed_at (option_map f) slots pid
 
-abbrev pub changed : (Living → Living) → ℕ → Table → Table
+abbrev pub changed : (ProcessEntry → ProcessEntry) → ℕ → Table → Table
 changed f pid t = record { slots = changed_slots f pid t.slots }
 
 -- the process that is registered under a name
@@ -48,7 +48,7 @@ abbrev pub is_name : List ℕ → Option (List ℕ) → Bool
 is_name name None = false
 is_name name (Some n) = bytes_eq n name
 
-abbrev pub is_named : List ℕ → Option Living → Bool
+abbrev pub is_named : List ℕ → Option ProcessEntry → Bool
 is_named name None = false
 is_named name (Some l) = is_name name l.process.name
 
@@ -75,7 +75,7 @@ abbrev pub has_number : ℕ → List Call → Bool
 has_number number [] = false
 has_number number (c ∷ cs) = if c.number == number then true else has_number number cs
 
-abbrev pub is_asked : ℕ → Option Living → Bool
+abbrev pub is_asked : ℕ → Option ProcessEntry → Bool
 is_asked number None = false
 is_asked number (Some l) = has_number number l.calls
 

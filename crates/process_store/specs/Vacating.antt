@@ -6,41 +6,41 @@ use Rattle.process_index.specs.Calls.{has}
 use Rattle.process_index.specs.Index.{Names, put}
 use Rattle.process_index.specs.Numbers.{Owners}
 use Rattle.process_index.specs.declared.calls.Call.{Call}
-use Rattle.process_store.specs.declared.living.Living.{Living}
+use Rattle.process_store.specs.declared.living.ProcessEntry.{ProcessEntry}
 use Rattle.process_store.specs.Indexed.{HasPid}
 use Rattle.process_store.specs.Table.{Table, has_number, is_open, pid_of}
 
 -- the processes without the one of a pid, and with this one in its slot
 
-abbrev pub vacated_slots : ℕ → List (Option Living) → List (Option Living)
+abbrev pub vacated_slots : ℕ → List (Option ProcessEntry) → List (Option ProcessEntry)
 vacated_slots pid slots = changed_at (λ o. None) slots pid
 
 abbrev pub vacated : ℕ → Table → Table
 vacated pid t = record { slots = vacated_slots pid t.slots }
 
-abbrev pub occupied_slots : ℕ → Living → List (Option Living) → List (Option Living)
+abbrev pub occupied_slots : ℕ → ProcessEntry → List (Option ProcessEntry) → List (Option ProcessEntry)
 occupied_slots pid l slots = changed_at (λ o. Some l) slots pid
 
-abbrev pub occupied : ℕ → Living → Table → Table
+abbrev pub occupied : ℕ → ProcessEntry → Table → Table
 occupied pid l t = record { slots = occupied_slots pid l t.slots }
 
--- What a process needs to come back: the slot of its pid is empty, nobody has its name, and no call of the number of one of its own is
--- open. No two calls of its own have one number.
+-- What a process needs to come back: the slot of its pid is empty, nobody has its name, and no call of the number of one of
+-- its own is open. No two calls of its own have one number.
 
 abbrev pub IsVacant : ℕ → Table → Type 0
 IsVacant pid t = (0 < pid) × (slice_get t.slots pid ≡ Some None)
 
-abbrev pub HasFreeName : Living → Table → Type 0
+abbrev pub HasFreeName : ProcessEntry → Table → Type 0
 HasFreeName l t = IfSome l.process.name (λ name. pid_of name t ≡ None)
 
 abbrev pub AreOfOwnNumbers : List Call → Type 0
 AreOfOwnNumbers calls =
     (c d : Call) → has c calls ≡ true → has d calls ≡ true → c.number ≡ d.number → c.client ≡ d.client
 
-abbrev pub HasFreeCalls : Living → Table → Type 0
+abbrev pub HasFreeCalls : ProcessEntry → Table → Type 0
 HasFreeCalls l t = ((c : Call) → has c l.calls ≡ true → is_open c.number t ≡ false) × AreOfOwnNumbers l.calls
 
-abbrev pub CanReturn : ℕ → Living → Table → Type 0
+abbrev pub CanReturn : ℕ → ProcessEntry → Table → Type 0
 CanReturn pid l t = IsVacant pid t × HasFreeName l t × HasFreeCalls l t × HasPid pid l
 
 -- the index of open calls without these, and with these of one process

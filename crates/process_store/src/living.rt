@@ -13,14 +13,14 @@ use values::Row;
 
 /// A process that lives, and the calls that are open to it.
 #[derive(Drop)]
-pub struct Living {
+pub struct ProcessEntry {
     /// The process.
     pub process: Process,
     /// The calls that clients made to it, and that are not answered yet.
     pub calls: Calls,
 }
 
-impl Living {
+impl ProcessEntry {
     /// A message comes, and the call that it is, if it is one, is open.
     pub(crate) fn arrive(
         &mut self,

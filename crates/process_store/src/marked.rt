@@ -10,7 +10,7 @@ ghost use Rattle.process_store.specs.Table.{living_at};
 
 mod changing;
 
-use crate::living::Living;
+use crate::living::ProcessEntry;
 use crate::ready::Ready;
 pub(crate) use changing::{
     arrive_at, close_at, reopen_at, rest_at, restate_at, resume_at, run_at, suspend_at,
@@ -27,7 +27,7 @@ use std::marker::Model;
 /// Contracts see the slots alone.
 #[derive(Drop)]
 pub(crate) struct MarkedSlots {
-    slots: Slots<Living>,
+    slots: Slots<ProcessEntry>,
     /// For each pid above `below`, in order, whether its process could take a message now.
     ready: ReadySet,
     /// Nobody lives under this pid or one below it.
@@ -38,11 +38,11 @@ impl Model for MarkedSlots {
     ghost use Rattle.std.specs.Prelude.{List, Option};
     ghost use Rattle.std.specs.Coded.{codes};
     ghost use Rattle.erl_term.specs.contracts.term.Terms as terms;
-    ghost use Rattle.erl_forms.specs.contracts.module.Module as modules;
-    ghost use Rattle.process_store.specs.declared.living.Living.{Living};
+    ghost use Rattle.erl_ir.specs.contracts.module.Module as modules;
+    ghost use Rattle.process_store.specs.declared.living.ProcessEntry.{ProcessEntry};
     ghost use Rattle.process_store.specs.Ready.{IsReady};
 
-    ghost Value = { List (Option Living) };
+    ghost Value = { List (Option ProcessEntry) };
 
     ghost coded = { Prim.hlevel (codes, terms.the_row.coded, modules.the_row.coded) };
 
@@ -52,17 +52,17 @@ impl Model for MarkedSlots {
 }
 
 /// Whether a process could take a message now, where it lives.
-fn is_runnable(living: Option<&Living>) -> bool
+fn is_runnable(living: Option<&ProcessEntry>) -> bool
     ensures { result ≡ is_runnable (option_copied living.entry) }
 {
     match living {
-        Some(living) => living.process.can_take().is_some(),
+        Some(living) => living.process.next_message().is_some(),
         None => false,
     }
 }
 
 /// Puts a pid into the set, or takes it out, by what its process is.
-fn mark(ready: &mut ReadySet, below: u64, slots: &Slots<Living>, pid: u64)
+fn mark(ready: &mut ReadySet, below: u64, slots: &Slots<ProcessEntry>, pid: u64)
     requires { IsReadyBut pid ready.old below slots.now }
     ensures { IsReady ready.new below slots.now }
 {
@@ -75,7 +75,7 @@ fn mark(ready: &mut ReadySet, below: u64, slots: &Slots<Living>, pid: u64)
 fn reach(
     ready: &mut ReadySet,
     below: &mut u64,
-    slots: &Slots<Living>,
+    slots: &Slots<ProcessEntry>,
     pid: u64,
 ) -> Result<(), AllocError>
     requires given { 0 < pid }
@@ -121,16 +121,16 @@ impl MarkedSlots {
     }
 
     /// The process of a pid, where it lives. Takes no memory.
-    pub(crate) fn get(&self, pid: u64) -> Option<&Living>
+    pub(crate) fn get(&self, pid: u64) -> Option<&ProcessEntry>
         ensures { option_copied result ≡ living_at self.now pid }
     {
         self.slots.get(pid)
     }
 
     /// The processes that live, with their pids, in order. Takes no memory.
-    pub(crate) fn iter(&self) -> Iter<'_, u64, Living>
+    pub(crate) fn iter(&self) -> Iter<'_, u64, ProcessEntry>
         ensures rest { result ≡ alive self.now }
-        ensures runs { ShowsInOrder (deref_pair {K = ℕ} {X = Living}) }
+        ensures runs { ShowsInOrder (deref_pair {K = ℕ} {X = ProcessEntry}) }
     {
         self.slots.iter()
     }
@@ -149,7 +149,7 @@ impl MarkedSlots {
     /// # Errors
     ///
     /// The process, where memory is refused. All is then as it was.
-    pub(crate) fn push(&mut self, living: Living) -> Result<(), Living>
+    pub(crate) fn push(&mut self, living: ProcessEntry) -> Result<(), ProcessEntry>
         requires { length self.old < 2 ^ 64 }
         ensures ok { OnOk result (self.new ≡ self.old ++ Some living ∷ []) }
         ensures back { IfErr result (λ back. back ≡ living) }
@@ -169,7 +169,7 @@ impl MarkedSlots {
     }
 
     /// The pid that was given last is given no more. Its process is handed out, where it lives. Takes no memory.
-    pub(crate) fn pop(&mut self) -> Option<Living>
+    pub(crate) fn pop(&mut self) -> Option<ProcessEntry>
         requires { IsSome (living_at self.old (length self.old - 1)) }
         ensures last { result ≡ living_at self.old (length self.old - 1) }
         ensures rest { self.new ≡ take (length self.old - 1) self.old }
@@ -179,7 +179,7 @@ impl MarkedSlots {
     }
 
     /// The process of a pid lives no more, and is handed out. Takes no memory.
-    pub(crate) fn take(&mut self, pid: u64) -> Option<Living>
+    pub(crate) fn take(&mut self, pid: u64) -> Option<ProcessEntry>
         ensures taken { result ≡ living_at self.old pid }
         ensures rest { self.new ≡ taken_at pid self.old }
     {
@@ -193,7 +193,7 @@ impl MarkedSlots {
     /// # Errors
     ///
     /// The process, where memory is refused. All is then as it was.
-    pub(crate) fn put(&mut self, pid: u64, living: Living) -> Result<(), Living>
+    pub(crate) fn put(&mut self, pid: u64, living: ProcessEntry) -> Result<(), ProcessEntry>
         requires somebody { 0 < pid }
         requires given { pid < length self.old }
         ensures ok { OnOk result (self.new ≡ put_at pid living self.old) }

@@ -6,7 +6,7 @@ ghost use Rattle.process_store.specs.Inverses.{WasTaken};
 ghost use Rattle.process_store.specs.Living.{arrived, run, unarrived, untook};
 ghost use Rattle.process_store.specs.Table.{changed_slots, living_at};
 
-use crate::living::Living;
+use crate::living::ProcessEntry;
 use erl_semantics::{Instance, Place};
 use erl_term::Term;
 use process::Ran;
@@ -16,7 +16,7 @@ use values::Row;
 
 /// A message comes for a process, where it lives, and the call that it is, if it is one, is open.
 pub(crate) fn arrive_at(
-    slots: &mut Slots<Living>,
+    slots: &mut Slots<ProcessEntry>,
     pid: u64,
     alloc: Global,
     message: Term,
@@ -33,7 +33,7 @@ pub(crate) fn arrive_at(
 }
 
 /// The last message of a process goes, where it lives, and the call that it is, if it is one, was never made.
-pub(crate) fn unarrive_at(slots: &mut Slots<Living>, pid: u64, call: Option<Call>)
+pub(crate) fn unarrive_at(slots: &mut Slots<ProcessEntry>, pid: u64, call: Option<Call>)
     ensures { slots.new ≡ changed_slots (unarrived call) pid slots.old }
 {
     if let Some(living) = slots.get_mut(pid) {
@@ -43,7 +43,7 @@ pub(crate) fn unarrive_at(slots: &mut Slots<Living>, pid: u64, call: Option<Call
 
 /// The message at a position of a process is taken, and runs.
 pub(crate) fn run_at(
-    slots: &mut Slots<Living>,
+    slots: &mut Slots<ProcessEntry>,
     pid: u64,
     position: usize,
     entry_serial: u64,
@@ -58,7 +58,7 @@ pub(crate) fn run_at(
 
 /// The message that a process runs is back at its position.
 pub(crate) fn untake_at(
-    slots: &mut Slots<Living>,
+    slots: &mut Slots<ProcessEntry>,
     pid: u64,
     position: usize,
 ) -> Result<(), AllocError>
@@ -73,7 +73,7 @@ pub(crate) fn untake_at(
 }
 
 /// A process is suspended, where it is idle.
-pub(crate) fn suspend_at(slots: &mut Slots<Living>, pid: u64)
+pub(crate) fn suspend_at(slots: &mut Slots<ProcessEntry>, pid: u64)
     ensures { slots.new ≡ changed_slots suspend_living pid slots.old }
 {
     if let Some(living) = slots.get_mut(pid) {
@@ -82,7 +82,7 @@ pub(crate) fn suspend_at(slots: &mut Slots<Living>, pid: u64)
 }
 
 /// A process is idle again, where it is suspended.
-pub(crate) fn resume_at(slots: &mut Slots<Living>, pid: u64)
+pub(crate) fn resume_at(slots: &mut Slots<ProcessEntry>, pid: u64)
     ensures { slots.new ≡ changed_slots resume_living pid slots.old }
 {
     if let Some(living) = slots.get_mut(pid) {
@@ -92,7 +92,7 @@ pub(crate) fn resume_at(slots: &mut Slots<Living>, pid: u64)
 
 /// A process that lives and runs rests at a place, one turn on. What it ran is handed out.
 pub(crate) fn rest_at(
-    slots: &mut Slots<Living>,
+    slots: &mut Slots<ProcessEntry>,
     pid: u64,
     place: Place,
     rests_in: Option<Instance>,
@@ -111,7 +111,7 @@ pub(crate) fn rest_at(
 }
 
 /// A process runs again what it ran before it rested.
-pub(crate) fn unrest_at(slots: &mut Slots<Living>, pid: u64, ran: Ran)
+pub(crate) fn unrest_at(slots: &mut Slots<ProcessEntry>, pid: u64, ran: Ran)
     requires { IfSome (living_at slots.old pid) Turned }
     ensures { slots.new ≡ changed_slots (unrest_living ran) pid slots.old }
 {
@@ -121,7 +121,7 @@ pub(crate) fn unrest_at(slots: &mut Slots<Living>, pid: u64, ran: Ran)
 }
 
 /// A gen_server process gets another state, so many turns on. The one that it had is handed out.
-pub(crate) fn restate_at(slots: &mut Slots<Living>, pid: u64, state: Term, turns: u64) -> Term
+pub(crate) fn restate_at(slots: &mut Slots<ProcessEntry>, pid: u64, state: Term, turns: u64) -> Term
     requires { CanRestate turns (living_at slots.old pid) }
     ensures restated { slots.new ≡ changed_slots (restate_living state turns) pid slots.old }
     ensures back { changed_slots (unrestate_living result turns) pid slots.new ≡ slots.old }
@@ -133,7 +133,12 @@ pub(crate) fn restate_at(slots: &mut Slots<Living>, pid: u64, state: Term, turns
 }
 
 /// A gen_server process has its former state again, and so many turns less. The one that it had is handed out.
-pub(crate) fn unrestate_at(slots: &mut Slots<Living>, pid: u64, state: Term, turns: u64) -> Term
+pub(crate) fn unrestate_at(
+    slots: &mut Slots<ProcessEntry>,
+    pid: u64,
+    state: Term,
+    turns: u64,
+) -> Term
     requires { CanUnrestate turns (living_at slots.old pid) }
     ensures unrestated { slots.new ≡ changed_slots (unrestate_living state turns) pid slots.old }
     ensures back { changed_slots (restate_living result turns) pid slots.new ≡ slots.old }
@@ -145,7 +150,7 @@ pub(crate) fn unrestate_at(slots: &mut Slots<Living>, pid: u64, state: Term, tur
 }
 
 /// A call is open to a process no more.
-pub(crate) fn close_at(slots: &mut Slots<Living>, pid: u64, call: Call)
+pub(crate) fn close_at(slots: &mut Slots<ProcessEntry>, pid: u64, call: Call)
     ensures { slots.new ≡ changed_slots (closed_living call) pid slots.old }
 {
     if let Some(living) = slots.get_mut(pid) {
@@ -154,7 +159,11 @@ pub(crate) fn close_at(slots: &mut Slots<Living>, pid: u64, call: Call)
 }
 
 /// A call is open to a process.
-pub(crate) fn reopen_at(slots: &mut Slots<Living>, pid: u64, call: Call) -> Result<(), AllocError>
+pub(crate) fn reopen_at(
+    slots: &mut Slots<ProcessEntry>,
+    pid: u64,
+    call: Call,
+) -> Result<(), AllocError>
     requires { IfSome (living_at slots.old pid) (λ l. has call l.calls ≡ false) }
     ensures ok { OnOk result (slots.new ≡ changed_slots (reopened_living call) pid slots.old) }
     ensures err { OnErr result (slots.new ≡ slots.old) }

@@ -9,7 +9,7 @@ ghost use Rattle.process_store.specs.Indexed.{registered, unregistered};
 mod changing;
 mod vacating;
 
-use crate::living::Living;
+use crate::living::ProcessEntry;
 use crate::marked::{MarkedSlots, arrive_at, run_at, unarrive_at, untake_at};
 use crate::ready::Ready;
 use erl_semantics::{Instance, Place};
@@ -34,7 +34,7 @@ pub struct ProcessStore {
 impl Model for ProcessStore {
     ghost use Rattle.std.specs.Coded.{codes};
     ghost use Rattle.erl_term.specs.contracts.term.Terms as terms;
-    ghost use Rattle.erl_forms.specs.contracts.module.Module as modules;
+    ghost use Rattle.erl_ir.specs.contracts.module.Module as modules;
     ghost use Rattle.process_store.specs.Indexed.{IsIndexed};
     ghost use Rattle.process_store.specs.Table.{Table};
 
@@ -77,7 +77,7 @@ impl ProcessStore {
     ghost use Rattle.process_store.specs.Inverses.{WasCalled, WasStarted, WasTaken};
     ghost use Rattle.process_store.specs.Living.{arrived, run, takes_next, unarrived, untook};
     ghost use Rattle.process_store.specs.Ready.{ready};
-    ghost use Rattle.process_store.specs.Sound.{IsSound};
+    ghost use Rattle.process_store.specs.Sound.{IsProcessTable};
     ghost use Rattle.process_store.specs.Table.{added, changed, emptied, empty_table, is_open, is_taken, living, next_pid, pid_of, without_last};
 
     /// No process. Names and numbers are hashed by keys that nobody outside knows. Takes no memory.
@@ -107,22 +107,22 @@ impl ProcessStore {
     /// The pid that was given last, or 0. Takes no memory.
     pub fn last_pid(&self) -> u64
         ensures pid { result + 1 ≡ next_pid self.now }
-        ensures sound { IsSound self.now }
+        ensures sound { IsProcessTable self.now }
     {
         self.slots.last()
     }
 
     /// The process of a pid, where it lives, in logarithmic time. Takes no memory.
-    pub fn get(&self, pid: u64) -> Option<&Living>
+    pub fn get(&self, pid: u64) -> Option<&ProcessEntry>
         ensures { option_copied result ≡ living pid self.now }
     {
         self.slots.get(pid)
     }
 
     /// The processes that live, with their pids, in order of pid. Takes no memory.
-    pub fn iter(&self) -> Iter<'_, u64, Living>
+    pub fn iter(&self) -> Iter<'_, u64, ProcessEntry>
         ensures rest { result ≡ alive self.now.slots }
-        ensures runs { ShowsInOrder (deref_pair {K = ℕ} {X = Living}) }
+        ensures runs { ShowsInOrder (deref_pair {K = ℕ} {X = ProcessEntry}) }
     {
         self.slots.iter()
     }
@@ -170,7 +170,7 @@ impl ProcessStore {
     {
         let pid = self.slots.last() + 1;
         register(&mut self.names, self.alloc, name.as_ref(), pid)?;
-        let living = Living {
+        let living = ProcessEntry {
             process: Process::new(self.alloc, pid, name, place, rests_in),
             calls: Calls::new(self.alloc),
         };

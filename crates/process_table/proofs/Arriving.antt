@@ -7,8 +7,8 @@ use Rattle.process_store.proofs.Slots.{living_within}
 use Rattle.process_store.specs.Table.{Table, is_named, is_open, living, pid_of}
 use Rattle.process_table.specs.Steps.{arrive_refusal, call_of, kind_of}
 use Rattle.process_table.specs.declared.error.ProcError.TheVariants.{NoProc, DuplicateCall, CounterEnd}
-use Rattle.process_table.specs.declared.body.Body.{Body}
-use Rattle.process_table.specs.declared.body.Body.TheVariants as body
+use Rattle.process_table.specs.declared.body.ClientMessage.{ClientMessage}
+use Rattle.process_table.specs.declared.body.ClientMessage.TheVariants as body
 use Rattle.process_table.specs.declared.error.ProcError.{ProcError}
 
 -- no refusal
@@ -34,7 +34,7 @@ stands true false false is = absurd cc
 stands true true below is = absurd cc
 stands false asked below is = absurd cc
 
-pub unasked_call : (client : ℕ) (name : List ℕ) (what : Body) (t : Table) (call : Option Call) → call ≡ call_of client what → arrive_refusal name (kind_of what) t ≡ None → IfSome call (λ c. is_open c.number t ≡ false)
+pub unasked_call : (client : ℕ) (name : List ℕ) (what : ClientMessage) (t : Table) (call : Option Call) → call ≡ call_of client what → arrive_refusal name (kind_of what) t ≡ None → IfSome call (λ c. is_open c.number t ≡ false)
 unasked_call client name what t call is free =
     subst (λ o. IfSome o (λ c. is_open c.number t ≡ false)) (sym is) (elim what as (λ b. arrive_refusal name (kind_of b) t ≡ None → IfSome (call_of client b) (λ c. is_open c.number t ≡ false)) [
       | body.Call number term ↦ λ e. (stands (is_some (pid_of name t)) (is_open number t) (ltb number (2 ^ 63)) e).1

@@ -8,7 +8,7 @@ use Rattle.erl_semantics.specs.declared.acts.Place.{Place}
 use Rattle.process.specs.declared.activity.Activity.{Activity}
 use Rattle.process.specs.declared.activity.Activity.TheVariants.{Idle, Suspended, Runs}
 use Rattle.process.specs.Process.{with_state}
-use Rattle.process_store.specs.declared.living.Living.{Living}
+use Rattle.process_store.specs.declared.living.ProcessEntry.{ProcessEntry}
 use Rattle.process_store.specs.Changes.{CanRestate, CanUnrestate, restate_living, unrestate_living}
 use Rattle.process_store.specs.Pieces.{AreLost, HoldsLost, IsNotAmong, at_place, living_pieces, pieces_at, ran_pieces, waiting}
 use Rattle.process_store.specs.Table.{Table, changed, changed_slots, living}
@@ -23,22 +23,22 @@ IsFrom pid d = pid ≡ d.pid → ⊥
 abbrev pids : List StateChange → List ℕ
 pids cs = map (λ (c : StateChange). c.pid) cs
 
-abbrev back_of : StateChange → Living → Living
+abbrev back_of : StateChange → ProcessEntry → ProcessEntry
 back_of c l = unrestate_living c.state c.turns l
 
-abbrev table : List (Option Living) → Table
+abbrev table : List (Option ProcessEntry) → Table
 table slots = record { slots = slots }
 
 -- Changes of two processes, in either order.
 
-in_turn : (f g : Living → Living) (slots : List (Option Living)) (p q : ℕ) → (p ≡ q → ⊥) → changed_slots f p (changed_slots g q slots) ≡ changed_slots g q (changed_slots f p slots)
+in_turn : (f g : ProcessEntry → ProcessEntry) (slots : List (Option ProcessEntry)) (p q : ℕ) → (p ≡ q → ⊥) → changed_slots f p (changed_slots g q slots) ≡ changed_slots g q (changed_slots f p slots)
 in_turn f g [] p q apart = refl
 in_turn f g (s ∷ ss) zero zero apart = absurd (apart refl)
 in_turn f g (s ∷ ss) zero (suc q) apart = refl
 in_turn f g (s ∷ ss) (suc p) zero apart = refl
 in_turn f g (s ∷ ss) (suc p) (suc q) apart = ap (λ xs. s ∷ xs) (in_turn f g ss p q (λ e. apart (ap suc e)))
 
-one_first : (f : Living → Living) (pid : ℕ) (cs : List StateChange) (t : Table) → All (IsFrom pid) cs → all_unrestated cs (changed f pid t) ≡ changed f pid (all_unrestated cs t)
+one_first : (f : ProcessEntry → ProcessEntry) (pid : ℕ) (cs : List StateChange) (t : Table) → All (IsFrom pid) cs → all_unrestated cs (changed f pid t) ≡ changed f pid (all_unrestated cs t)
 one_first f pid [] t apart = refl
 one_first f pid (c ∷ cs) t apart =
     ap (λ ss. all_unrestated cs (table ss)) (in_turn (back_of c) f t.slots c.pid pid (λ e. All-head (IsFrom pid) c cs apart (sym e)))
@@ -56,7 +56,7 @@ living_still pid (c ∷ cs) t apart =
     living_still pid cs (changed (back_of c) c.pid t) (All-tail (IsFrom pid) c cs apart)
     ∙ living_elsewhere (back_of c) t.slots c.pid pid (λ e. All-head (IsFrom pid) c cs apart (sym e))
 
-can_still : (Can : ℕ → Option Living → Type 0) (f : Living → Living) (pid : ℕ) (cs : List StateChange) (t : Table) → All (IsFrom pid) cs → All (λ d. Can d.turns (living d.pid t)) cs → All (λ d. Can d.turns (living d.pid (changed f pid t))) cs
+can_still : (Can : ℕ → Option ProcessEntry → Type 0) (f : ProcessEntry → ProcessEntry) (pid : ℕ) (cs : List StateChange) (t : Table) → All (IsFrom pid) cs → All (λ d. Can d.turns (living d.pid t)) cs → All (λ d. Can d.turns (living d.pid (changed f pid t))) cs
 can_still Can f pid cs t apart can k d within =
     let x = get_or cs k d in
     subst (Can x.turns) (sym (living_elsewhere f t.slots pid x.pid (apart k d within))) (can k d within)
@@ -165,7 +165,7 @@ not_run turn (Runs r) ms at_turn at = ((λ e. cc), not_waiting ms at_turn at)
 turn_of : (m n : ℕ) (p q : Place) → at_place m p ≡ at_place n q → m ≡ n
 turn_of m n p q e = cc
 
-one_lost : (c : StateChange) (o : Option Living) → CanUnrestate c.turns o → AreLost (place_before c o) (living_pieces (option_map (back_of c) o)) (living_pieces o)
+one_lost : (c : StateChange) (o : Option ProcessEntry) → CanUnrestate c.turns o → AreLost (place_before c o) (living_pieces (option_map (back_of c) o)) (living_pieces o)
 one_lost c None can = absurd can
 one_lost c (Some l) can =
     let p = l.process in (

@@ -5,7 +5,7 @@ use Rattle.std.proofs.lemmas.List.Elements.{All-head, All-tail}
 use Rattle.process.specs.declared.activity.Activity.{Activity}
 use Rattle.process.specs.declared.activity.Activity.TheVariants.{Idle, Suspended, Runs}
 use Rattle.process.specs.Process.{resumed_by, suspended_by}
-use Rattle.process_store.specs.declared.living.Living.{Living}
+use Rattle.process_store.specs.declared.living.ProcessEntry.{ProcessEntry}
 use Rattle.process_store.specs.Changes.{resume_living, suspend_living, suspended_as}
 use Rattle.process_store.specs.Table.{Table, changed, changed_slots, living, living_at}
 use Rattle.process_table.specs.States.{IsIdle, IsIdleIn, all_resumed, all_suspended, all_unresumed}
@@ -13,14 +13,14 @@ use Rattle.process_table.specs.declared.states.Resumed.{Resumed}
 
 -- Changes of slots: of two in either order, and of one after the other.
 
-same_in_turn : (f : Living → Living) (slots : List (Option Living)) (p q : ℕ) → changed_slots f p (changed_slots f q slots) ≡ changed_slots f q (changed_slots f p slots)
+same_in_turn : (f : ProcessEntry → ProcessEntry) (slots : List (Option ProcessEntry)) (p q : ℕ) → changed_slots f p (changed_slots f q slots) ≡ changed_slots f q (changed_slots f p slots)
 same_in_turn f [] p q = refl
 same_in_turn f (s ∷ ss) zero zero = refl
 same_in_turn f (s ∷ ss) zero (suc q) = refl
 same_in_turn f (s ∷ ss) (suc p) zero = refl
 same_in_turn f (s ∷ ss) (suc p) (suc q) = ap (λ xs. s ∷ xs) (same_in_turn f ss p q)
 
-both : (f g h : Living → Living) → ((l : Living) → g (f l) ≡ h l) → (slots : List (Option Living)) (pid : ℕ) → changed_slots g pid (changed_slots f pid slots) ≡ changed_slots h pid slots
+both : (f g h : ProcessEntry → ProcessEntry) → ((l : ProcessEntry) → g (f l) ≡ h l) → (slots : List (Option ProcessEntry)) (pid : ℕ) → changed_slots g pid (changed_slots f pid slots) ≡ changed_slots h pid slots
 both f g h is [] pid = refl
 both f g h is (None ∷ ss) zero = refl
 both f g h is (Some l ∷ ss) zero = ap (λ x. Some x ∷ ss) (is l)
@@ -28,7 +28,7 @@ both f g h is (s ∷ ss) (suc pid) = ap (λ xs. s ∷ xs) (both f g h is ss pid)
 
 -- what the processes do
 
-abbrev with_activity : Living → Activity → Living
+abbrev with_activity : ProcessEntry → Activity → ProcessEntry
 with_activity l a = record l { process = record l.process { activity = a } }
 
 resumed_after : (a : Activity) → resumed_by (suspended_by a) ≡ resumed_by a
@@ -41,13 +41,13 @@ idle_resumed Idle is = refl
 idle_resumed Suspended is = absurd is
 idle_resumed (Runs r) is = absurd is
 
-idle_slots : (slots : List (Option Living)) (pid : ℕ) → IsIdle (living_at slots pid) → changed_slots resume_living pid slots ≡ slots
+idle_slots : (slots : List (Option ProcessEntry)) (pid : ℕ) → IsIdle (living_at slots pid) → changed_slots resume_living pid slots ≡ slots
 idle_slots [] pid is = refl
 idle_slots (None ∷ ss) zero is = refl
 idle_slots (Some l ∷ ss) zero is = ap (λ a. Some (with_activity l a) ∷ ss) (idle_resumed l.process.activity is)
 idle_slots (s ∷ ss) (suc pid) is = ap (λ xs. s ∷ xs) (idle_slots ss pid is)
 
-abbrev table : List (Option Living) → Table
+abbrev table : List (Option ProcessEntry) → Table
 table slots = record { slots = slots }
 
 -- one is resumed before the others, or behind them

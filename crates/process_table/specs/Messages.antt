@@ -4,8 +4,8 @@ use Rattle.erl_term.specs.Tree.{atom, int, pid, tuple, more, none}
 use Rattle.erl_term.specs.Term.{tree}
 use Rattle.erl_term.specs.declared.term.Term.{Term}
 use Rattle.erl_term.specs.declared.term.Term.TheVariants.{Tuple}
-use Rattle.process_table.specs.declared.body.Body.{Body}
-use Rattle.process_table.specs.declared.body.Body.TheVariants.{Call, Cast, Info}
+use Rattle.process_table.specs.declared.body.ClientMessage.{ClientMessage}
+use Rattle.process_table.specs.declared.body.ClientMessage.TheVariants.{Call, Cast, Info}
 
 -- `{'$gen_call',{<0.0.0>,Number},Term}`
 abbrev pub call_message : ℤ → Term → Term
@@ -17,7 +17,7 @@ abbrev pub cast_message : Term → Term
 cast_message t = Tuple (more (atom (codes "$gen_cast")) (more (tree t) none))
 
 -- the message of what arrives: a call whose number is no integer of the node has none
-abbrev pub message_of : Body → Option Term
+abbrev pub message_of : ClientMessage → Option Term
 message_of (Call number t) = if nat_lt number (2 ^ 63) then Some (call_message (pos number) t) else None
 message_of (Cast t) = Some (cast_message t)
 message_of (Info t) = Some t

@@ -1,10 +1,10 @@
--- Several processes are suspended or resumed, or get another state by a change of their code (appup(4), suspend, resume, code_change;
--- gen_server(3), code_change/3), and what takes that back.
+-- Several processes are suspended or resumed, or get another state by a change of their code (appup(4), suspend, resume,
+-- code_change; gen_server(3), code_change/3), and what takes that back.
 use Rattle.std.specs.Prelude.{◌≡◌, ℕ, ◌-◌, ◌==◌, All, if◌then◌else◌, List, [], ◌∷◌, Option, None, Some}
 use Rattle.process.specs.Process.{with_state}
 use Rattle.process.specs.declared.activity.Activity.{Activity}
 use Rattle.process.specs.declared.activity.Activity.TheVariants.{Idle, Suspended, Runs}
-use Rattle.process_store.specs.declared.living.Living.{Living}
+use Rattle.process_store.specs.declared.living.ProcessEntry.{ProcessEntry}
 use Rattle.process_store.specs.Changes.{CanRestate, CanUnrestate, restate_living, resume_living, suspend_living, suspended_as, unrestate_living}
 use Rattle.process_store.specs.Pieces.{Piece, at_place}
 use Rattle.process_store.specs.Table.{Table, changed, living}
@@ -33,7 +33,7 @@ IsIdleIn Idle = Unit {0}
 IsIdleIn Suspended = ⊥
 IsIdleIn (Runs r) = ⊥
 
-abbrev pub IsIdle : Option Living → Type 0
+abbrev pub IsIdle : Option ProcessEntry → Type 0
 IsIdle None = ⊥
 IsIdle (Some l) = IsIdleIn l.process.activity
 
@@ -60,10 +60,10 @@ CanRestateAll cs t = AreApart cs × All (λ c. CanRestate c.turns (living c.pid 
 abbrev pub CanUnrestateAll : List StateChange → Table → Type 0
 CanUnrestateAll cs t = AreApart cs × All (λ c. CanUnrestate c.turns (living c.pid t)) cs
 
--- The pieces that changes hold which were made, of the process of a pid, by the table after: the place that it had before, at the turn
--- before.
+-- The pieces that changes hold which were made, of the process of a pid, by the table after: the place that it had before,
+-- at the turn before.
 
-abbrev pub place_before : StateChange → Option Living → List Piece
+abbrev pub place_before : StateChange → Option ProcessEntry → List Piece
 place_before c None = []
 place_before c (Some l) = at_place (l.process.turn - c.turns) (with_state c.state l.process.place) ∷ []
 

@@ -10,7 +10,7 @@ use values::{Duplicate, Same};
 
 /// What arrives from outside for a process (gen_server(3)).
 #[derive(Drop)]
-pub enum Body {
+pub enum ClientMessage {
     /// A call, which is open under its number until it is answered. It comes as `{'$gen_call',{<0.0.0>,Number},Term}`.
     Call {
         /// Its number.
@@ -24,28 +24,28 @@ pub enum Body {
     Info(Term),
 }
 
-impl Same for Body {
-    fn same(&self, other: &Body) -> bool {
+impl Same for ClientMessage {
+    fn same(&self, other: &ClientMessage) -> bool {
         match (self, other) {
-            (Body::Call { number, term }, Body::Call { number: n, term: t }) => {
+            (ClientMessage::Call { number, term }, ClientMessage::Call { number: n, term: t }) => {
                 *number == *n && term.same(t)
             }
-            (Body::Cast(term), Body::Cast(with)) => term.same(with),
-            (Body::Info(term), Body::Info(with)) => term.same(with),
+            (ClientMessage::Cast(term), ClientMessage::Cast(with)) => term.same(with),
+            (ClientMessage::Info(term), ClientMessage::Info(with)) => term.same(with),
             (_, _) => false,
         }
     }
 }
 
-impl Duplicate for Body {
-    fn copy(&self, alloc: Global) -> Result<Body, AllocError> {
+impl Duplicate for ClientMessage {
+    fn copy(&self, alloc: Global) -> Result<ClientMessage, AllocError> {
         match self {
-            Body::Call { number, term } => Ok(Body::Call {
+            ClientMessage::Call { number, term } => Ok(ClientMessage::Call {
                 number: *number,
                 term: term.copy(alloc)?,
             }),
-            Body::Cast(term) => Ok(Body::Cast(term.copy(alloc)?)),
-            Body::Info(term) => Ok(Body::Info(term.copy(alloc)?)),
+            ClientMessage::Cast(term) => Ok(ClientMessage::Cast(term.copy(alloc)?)),
+            ClientMessage::Info(term) => Ok(ClientMessage::Info(term.copy(alloc)?)),
         }
     }
 }
@@ -61,15 +61,15 @@ pub enum BodyKind {
     Info,
 }
 
-impl Body {
+impl ClientMessage {
     /// Its kind.
     pub fn kind(&self) -> BodyKind
         ensures { result ≡ kind_of self.now }
     {
         match self {
-            Body::Call { number, .. } => BodyKind::Call(*number),
-            Body::Cast(_) => BodyKind::Cast,
-            Body::Info(_) => BodyKind::Info,
+            ClientMessage::Call { number, .. } => BodyKind::Call(*number),
+            ClientMessage::Cast(_) => BodyKind::Cast,
+            ClientMessage::Info(_) => BodyKind::Info,
         }
     }
 
@@ -78,11 +78,11 @@ impl Body {
         ensures { result ≡ call_of client self.now }
     {
         match self {
-            Body::Call { number, .. } => Some(Call {
+            ClientMessage::Call { number, .. } => Some(Call {
                 client,
                 number: *number,
             }),
-            Body::Cast(_) | Body::Info(_) => None,
+            ClientMessage::Cast(_) | ClientMessage::Info(_) => None,
         }
     }
 
@@ -96,12 +96,12 @@ impl Body {
         ensures memory { OnErr result (is_some (message_of self.now) ≡ true) }
     {
         match self {
-            Body::Call { number, term } => match i64::try_from(*number) {
+            ClientMessage::Call { number, term } => match i64::try_from(*number) {
                 Ok(number) => Ok(Some(call_message(alloc, number, term)?)),
                 Err(_) => Ok(None),
             },
-            Body::Cast(term) => Ok(Some(cast_message(alloc, term)?)),
-            Body::Info(term) => Ok(Some(term.copy(alloc)?)),
+            ClientMessage::Cast(term) => Ok(Some(cast_message(alloc, term)?)),
+            ClientMessage::Info(term) => Ok(Some(term.copy(alloc)?)),
         }
     }
 }

@@ -9,16 +9,18 @@ mod batching;
 mod committing;
 mod states;
 
-use crate::body::{Body, BodyKind};
+use crate::body::{BodyKind, ClientMessage};
 use crate::error::ProcError;
 use crate::taking::{equal_values, job_for, next_of};
-use crate::undo::Undo;
+use crate::undo::ProcessesUndo;
 use code_server::Modules;
-use erl_forms::Module;
+use erl_ir::Module;
 use erl_semantics::{Instance, Job, Place};
 use erl_term::{Atom, Term};
-use process_effects::{EndedProcess, Reply, kill_users, rests_in, return_all, told_by_kill, users};
-use process_store::{Living, ProcessStore, Ready};
+use process_effects::{
+    EndedProcess, Reply, downs_of_users, kill_users, rests_in, return_all, users,
+};
+use process_store::{ProcessEntry, ProcessStore, Ready};
 use std::alloc::{AllocError, Global};
 use std::collections::btree_map::Iter;
 use std::hash::RandomState;
@@ -35,7 +37,7 @@ pub struct Processes {
 impl Model for Processes {
     ghost use Rattle.std.specs.Coded.{codes};
     ghost use Rattle.erl_term.specs.contracts.term.Terms as terms;
-    ghost use Rattle.erl_forms.specs.contracts.module.Module as modules;
+    ghost use Rattle.erl_ir.specs.contracts.module.Module as modules;
     ghost use Rattle.process_store.specs.Table.{Table};
 
     ghost Value = { Table };
@@ -46,18 +48,18 @@ impl Model for Processes {
 }
 
 impl Processes {
-    ghost use Rattle.values.specs.Failure.{Tells};
+    ghost use Rattle.values.specs.Failure.{TellsFailure};
     ghost use Rattle.process_table.specs.Messages.{arrival_of, message_of};
     ghost use Rattle.process_table.specs.declared.body.BodyKind.TheVariants as kinds;
-    ghost use Rattle.process_table.specs.Steps.{IsNextRunnable, Takes, after_arrival, arrive_refusal, kind_of, kind_refusal, retake_refusal, start_refusal, take_refusal, with_process};
+    ghost use Rattle.process_table.specs.Steps.{IsNextRunnable, TakesMessage, after_arrival, arrive_refusal, kind_of, kind_refusal, retake_refusal, start_refusal, take_refusal, with_process};
     ghost use Rattle.process_store.specs.Table.{emptied, empty_table, is_open, is_taken, living, next_pid, pid_of};
     ghost use Rattle.process_effects.specs.Commits.{job_at};
-    ghost use Rattle.process_effects.specs.Kills.{told_by_kill, without_users};
+    ghost use Rattle.process_effects.specs.Kills.{downs_of_users, without_users};
     ghost use Rattle.process_effects.specs.Uses.{users};
-    ghost use Rattle.process_table.specs.Undo.{Fits, IsKept, TakesBack, TakesBackEnds, held, undone};
+    ghost use Rattle.process_table.specs.Undo.{Fits, LosesNothing, TakesBack, TakesBackEnds, held, undone};
     ghost use Rattle.process_store.specs.Pieces.{HoldsLost};
     ghost use Rattle.process_store.specs.Ready.{ready};
-    ghost use Rattle.process_store.specs.Sound.{IsSound};
+    ghost use Rattle.process_store.specs.Sound.{IsProcessTable};
 
     /// No process. Names and numbers are hashed by keys that nobody outside knows. Takes no memory.
     pub fn new(alloc: Global, names: RandomState, numbers: RandomState) -> Processes
@@ -80,7 +82,7 @@ impl Processes {
     }
 
     /// The process of a pid, where it lives. Takes no memory.
-    pub fn get(&self, pid: u64) -> Option<&Living>
+    pub fn get(&self, pid: u64) -> Option<&ProcessEntry>
         ensures { option_copied result ≡ living pid self.now }
     {
         self.store.get(pid)
@@ -89,15 +91,15 @@ impl Processes {
     /// The pid that was given last, or 0. Takes no memory.
     pub fn last_pid(&self) -> u64
         ensures pid { result + 1 ≡ next_pid self.now }
-        ensures sound { IsSound self.now }
+        ensures sound { IsProcessTable self.now }
     {
         self.store.last_pid()
     }
 
     /// The processes that live, with their pids, in order of pid. Takes no memory.
-    pub fn iter(&self) -> Iter<'_, u64, Living>
+    pub fn iter(&self) -> Iter<'_, u64, ProcessEntry>
         ensures rest { result ≡ alive self.now.slots }
-        ensures runs { ShowsInOrder (deref_pair {K = ℕ} {X = Living}) }
+        ensures runs { ShowsInOrder (deref_pair {K = ℕ} {X = ProcessEntry}) }
     {
         self.store.iter()
     }
@@ -133,7 +135,7 @@ impl Processes {
         }
     }
 
-    /// Why a start under a name, or under none, would be refused, but for want of memory. Takes no memory.
+    /// Why a start under a name, or under none, would be refused, but for lack of memory. Takes no memory.
     pub fn start_refusal(&self, name: Option<&Atom>) -> Option<ProcError>
         ensures { result ≡ start_refusal (option_copied name.entry) self.now }
     {
@@ -158,13 +160,13 @@ impl Processes {
         name: Option<Atom>,
         place: Place,
         code: &[Instance],
-    ) -> Result<(u64, Undo), Failure<ProcError>>
+    ) -> Result<(u64, ProcessesUndo), Failure<ProcError>>
         ensures ok { OnOk result (start_refusal name self.old ≡ None) }
         ensures pid { IfOk result (λ it. it.0 ≡ next_pid self.old) }
         ensures started { OnOk result (self.new ≡ with_process name place code.now self.old) }
         ensures inverse { IfOk result (λ it. TakesBack it.1 self.old self.new) }
         ensures pieces { IfOk result (λ it. HoldsLost (held it.1 self.new) self.old self.new) }
-        ensures refused { IfErr result (λ failure. Tells failure (start_refusal name self.old)) }
+        ensures refused { IfErr result (λ failure. TellsFailure failure (start_refusal name self.old)) }
         ensures err { OnErr result (self.new ≡ self.old) }
     {
         if let Some(refusal) = self.start_refusal(name.as_ref()) {
@@ -174,7 +176,7 @@ impl Processes {
         // What bounds the next pid.
         let _last = self.store.last_pid();
         let pid = self.store.add(name, place, rests_in)?;
-        Ok((pid, Undo::Started))
+        Ok((pid, ProcessesUndo::Started))
     }
 
     /// Why what arrives for a process would be refused by its kind.
@@ -200,7 +202,8 @@ impl Processes {
         }
     }
 
-    /// Why the arrival of what is of this kind for the process of a name would be refused, but for want of memory. Takes no memory.
+    /// Why the arrival of what is of this kind for the process of a name would be refused, but for lack of memory. Takes no
+    /// memory.
     pub fn arrive_refusal(&self, name: &str, kind: BodyKind) -> Option<ProcError>
         ensures { result ≡ arrive_refusal (chars name.now) kind self.now }
     {
@@ -222,15 +225,15 @@ impl Processes {
         &mut self,
         client: u64,
         name: &Atom,
-        body: &Body,
+        body: &ClientMessage,
         n: usize,
-    ) -> Result<(Vec<(Atom, Term)>, Undo), Failure<ProcError>>
+    ) -> Result<(Vec<(Atom, Term)>, ProcessesUndo), Failure<ProcError>>
         ensures ok { OnOk result (arrive_refusal name.now (kind_of body.now) self.old ≡ None) }
         ensures arrived { OnOk result (self.new ≡ after_arrival client name.now body.now self.old) }
         ensures told { IfOk result (λ it. map Some it.0.items ≡ replicate n (arrival_of name.now (message_of body.now))) }
         ensures inverse { IfOk result (λ it. TakesBack it.1 self.old self.new) }
         ensures pieces { IfOk result (λ it. HoldsLost (held it.1 self.new) self.old self.new) }
-        ensures refused { IfErr result (λ failure. Tells failure (arrive_refusal name.now (kind_of body.now) self.old)) }
+        ensures refused { IfErr result (λ failure. TellsFailure failure (arrive_refusal name.now (kind_of body.now) self.old)) }
         ensures err { OnErr result (self.new ≡ self.old) }
     {
         if let Some(refusal) = self.arrive_refusal(name.as_str(), body.kind()) {
@@ -246,11 +249,11 @@ impl Processes {
         let arrivals = equal_values(self.alloc, arrival, n)?;
         let call = body.call(client);
         self.store.arrive(pid, message, call)?;
-        Ok((arrivals, Undo::Arrived { pid, call }))
+        Ok((arrivals, ProcessesUndo::Arrived { pid, call }))
     }
 
-    /// The set of the pids of the processes that could take a message now, in order: those that neither run nor are suspended, and
-    /// for which a message waits that they take. Takes no memory.
+    /// The set of the pids of the processes that could take a message now, in order: those that neither run nor are
+    /// suspended, and for which a message waits that they take. Takes no memory.
     pub fn ready(&self) -> Ready<'_>
         ensures { result ≡ ready self.now }
     {
@@ -265,7 +268,7 @@ impl Processes {
         self.ready().next(after)
     }
 
-    /// Why a take by the process of a pid would be refused, but for want of memory. Takes no memory.
+    /// Why a take by the process of a pid would be refused, but for lack of memory. Takes no memory.
     pub fn take_refusal(&self, pid: u64) -> Option<ProcError>
         ensures { result ≡ take_refusal pid self.now }
     {
@@ -290,12 +293,12 @@ impl Processes {
         modules: &Modules<Module>,
         pid: u64,
         n: usize,
-    ) -> Result<(Vec<Job>, Undo), Failure<ProcError>>
+    ) -> Result<(Vec<Job>, ProcessesUndo), Failure<ProcError>>
         ensures ok { OnOk result (take_refusal pid self.old ≡ None) }
-        ensures taken { IfOk result (λ it. Takes modules.now pid n it.0.items self.old self.new) }
+        ensures taken { IfOk result (λ it. TakesMessage modules.now pid n it.0.items self.old self.new) }
         ensures inverse { IfOk result (λ it. TakesBack it.1 self.old self.new) }
         ensures pieces { IfOk result (λ it. HoldsLost (held it.1 self.new) self.old self.new) }
-        ensures refused { IfErr result (λ failure. Tells failure (take_refusal pid self.old)) }
+        ensures refused { IfErr result (λ failure. TellsFailure failure (take_refusal pid self.old)) }
         ensures err { OnErr result (self.new ≡ self.old) }
     {
         let Some(living) = self.store.get(pid) else {
@@ -313,7 +316,7 @@ impl Processes {
             return Err(Failure::Memory);
         };
         self.store.run(pid, position, entry_serial, code);
-        Ok((jobs, Undo::Taken { pid, position }))
+        Ok((jobs, ProcessesUndo::Taken { pid, position }))
     }
 
     /// The job that a process runs.
@@ -323,7 +326,7 @@ impl Processes {
     /// In this order: `NoProc` where no process has the pid, `NotRunning` where it runs nothing, `Memory`.
     pub fn retake(&self, pid: u64) -> Result<Job, Failure<ProcError>>
         ensures job { IfOk result (λ job. job_at (living pid self.now) ≡ Some job) }
-        ensures refused { IfErr result (λ failure. Tells failure (retake_refusal pid self.now)) }
+        ensures refused { IfErr result (λ failure. TellsFailure failure (retake_refusal pid self.now)) }
     {
         let Some(living) = self.get(pid) else {
             return Err(Failure::Refused(ProcError::NoProc));
@@ -335,8 +338,8 @@ impl Processes {
         }
     }
 
-    /// The pids of the processes that use the instance of a serial, in order: while a process runs it uses the code of its job, and
-    /// while it rests the instance in which it rests, where this is a loop function.
+    /// The pids of the processes that use the instance of a serial, in order: while a process runs it uses the code of its
+    /// job, and while it rests the instance in which it rests, where this is a loop function.
     ///
     /// # Errors
     ///
@@ -347,33 +350,34 @@ impl Processes {
         users(&self.store, self.alloc, serial)
     }
 
-    /// What clients would be told by the kill of all users of the instance of a serial: that the processes of their calls were killed,
-    /// process after process in order of pid.
+    /// What clients would be told by the kill of all users of the instance of a serial: that the processes of their calls
+    /// were killed, process after process in order of pid.
     ///
     /// # Errors
     ///
     /// `AllocError` where memory is refused.
-    pub fn told_by_kill(&self, serial: u64) -> Result<Vec<Reply>, AllocError>
-        ensures { IfOk result (λ it. it.items ≡ told_by_kill serial self.now) }
+    pub fn downs_of_users(&self, serial: u64) -> Result<Vec<Reply>, AllocError>
+        ensures { IfOk result (λ it. it.items ≡ downs_of_users serial self.now) }
     {
-        told_by_kill(&self.store, self.alloc, serial)
+        downs_of_users(&self.store, self.alloc, serial)
     }
 
-    /// Kills each process that uses the instance of a serial: it leaves, with its name, its mailbox and its open calls. What clients
-    /// are told is handed out: that the processes of their calls were killed, process after process in order of pid.
+    /// Kills each process that uses the instance of a serial: it leaves, with its name, its mailbox and its open calls.
+    /// What clients are told is handed out: that the processes of their calls were killed, process after process in order
+    /// of pid.
     ///
     /// # Errors
     ///
     /// `AllocError` where memory is refused. The table is then as it was.
-    pub fn kill_users(&mut self, serial: u64) -> Result<(Vec<Reply>, Undo), AllocError>
+    pub fn kill_users(&mut self, serial: u64) -> Result<(Vec<Reply>, ProcessesUndo), AllocError>
         ensures killed { OnOk result (self.new ≡ without_users serial self.old) }
-        ensures told { IfOk result (λ it. it.0.items ≡ told_by_kill serial self.old) }
+        ensures told { IfOk result (λ it. it.0.items ≡ downs_of_users serial self.old) }
         ensures inverse { IfOk result (λ it. TakesBackEnds it.1 self.old self.new) }
         ensures pieces { IfOk result (λ it. HoldsLost (held it.1 self.new) self.old self.new) }
         ensures err { OnErr result (self.new ≡ self.old) }
     {
         let (replies, killed) = kill_users(&mut self.store, self.alloc, serial)?;
-        Ok((replies, Undo::Killed(Row::new(killed))))
+        Ok((replies, ProcessesUndo::Killed(Row::new(killed))))
     }
 
     /// Processes that have ended live again.
@@ -381,50 +385,55 @@ impl Processes {
         &mut self,
         modules: &Modules<Module>,
         killed: Row<EndedProcess>,
-    ) -> Result<(), Undo>
-        requires { Fits modules.now (Undo.Killed killed) self.old }
-        ensures ok { OnOk result (self.new ≡ undone modules.now (Undo.Killed killed) self.old) }
-        ensures kept { OnOk result (IsKept modules.now (Undo.Killed killed)) }
-        ensures back { IfErr result (λ it. it ≡ Undo.Killed killed) }
+    ) -> Result<(), ProcessesUndo>
+        requires { Fits modules.now (ProcessesUndo.Killed killed) self.old }
+        ensures ok { OnOk result (self.new ≡ undone modules.now (ProcessesUndo.Killed killed) self.old) }
+        ensures kept { OnOk result (LosesNothing modules.now (ProcessesUndo.Killed killed)) }
+        ensures back { IfErr result (λ it. it ≡ ProcessesUndo.Killed killed) }
         ensures err { OnErr result (self.new ≡ self.old) }
     {
         match return_all(&mut self.store, self.alloc, modules, killed.into_vec()) {
             Ok(()) => Ok(()),
-            Err(killed) => Err(Undo::Killed(Row::new(killed))),
+            Err(killed) => Err(ProcessesUndo::Killed(Row::new(killed))),
         }
     }
 
-    /// Takes the newest step back. A process that has ended lives again, and one that has rested runs again, with the instances that it
-    /// used, as they stand in the table of modules; of several that have ended together all live, or none.
+    /// Takes the newest step back. A process that has ended lives again, and one that has rested runs again, with the
+    /// instances that it used, as they stand in the table of modules; of several that have ended together all live, or
+    /// none.
     ///
     /// # Errors
     ///
-    /// The undo, where memory is refused, and where an instance that a process used which is to live or to run again is not in the table
-    /// of modules. The table is then as it was.
-    pub fn revert(&mut self, modules: &Modules<Module>, undo: Undo) -> Result<(), Undo>
+    /// The undo, where memory is refused, and where an instance that a process used which is to live or to run again is not
+    /// in the table of modules. The table is then as it was.
+    pub fn revert(
+        &mut self,
+        modules: &Modules<Module>,
+        undo: ProcessesUndo,
+    ) -> Result<(), ProcessesUndo>
         requires { Fits modules.now undo self.old }
         ensures ok { OnOk result (self.new ≡ undone modules.now undo self.old) }
-        ensures kept { OnOk result (IsKept modules.now undo) }
+        ensures kept { OnOk result (LosesNothing modules.now undo) }
         ensures back { IfErr result (λ it. it ≡ undo) }
         ensures err { OnErr result (self.new ≡ self.old) }
     {
         match undo {
-            Undo::Started => {
+            ProcessesUndo::Started => {
                 self.store.remove_last();
                 Ok(())
             }
-            Undo::Arrived { pid, call } => {
+            ProcessesUndo::Arrived { pid, call } => {
                 self.store.unarrive(pid, call);
                 Ok(())
             }
-            Undo::Taken { pid, position } => match self.store.untake(pid, position) {
+            ProcessesUndo::Taken { pid, position } => match self.store.untake(pid, position) {
                 Ok(()) => Ok(()),
-                Err(_) => Err(Undo::Taken { pid, position }),
+                Err(_) => Err(ProcessesUndo::Taken { pid, position }),
             },
-            Undo::Rested(rested) => self.revert_rested(modules, rested),
-            Undo::Exited(exited) => self.revert_exited(modules, exited),
-            Undo::Batched(batched) => self.revert_batched(batched),
-            Undo::Killed(killed) => self.revert_kill(modules, killed),
+            ProcessesUndo::Rested(rested) => self.revert_rested(modules, rested),
+            ProcessesUndo::Exited(exited) => self.revert_exited(modules, exited),
+            ProcessesUndo::Batched(batched) => self.revert_batched(batched),
+            ProcessesUndo::Killed(killed) => self.revert_kill(modules, killed),
         }
     }
 }

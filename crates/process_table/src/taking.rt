@@ -1,15 +1,15 @@
 // What a process takes up with a message: the instance that it enters, and the code of its job.
 ghost use Rattle.std.specs.Prelude.{◌≡◌, IfOk, IfErr, IfSome, Some, option_map, replicate};
-ghost use Rattle.process.specs.Process.{can_take};
+ghost use Rattle.process.specs.Process.{next_message};
 ghost use Rattle.process_table.specs.Steps.{IsCode, entered, resting_refusal};
 ghost use Rattle.process_table.specs.Jobs.{IsJobFor};
 
 use crate::error::ProcError;
 use code_server::Modules;
-use erl_forms::Module;
+use erl_ir::Module;
 use erl_semantics::{Instance, Job, Place};
 use process::{Activity, Process, job_code};
-use process_store::Living;
+use process_store::ProcessEntry;
 use std::alloc::{AllocError, Global};
 use values::{Duplicate, Row};
 
@@ -57,13 +57,13 @@ fn code_from(
 
 /// Why a process takes no message now, or the position of the one that it takes.
 pub(crate) fn next_of(process: &Process) -> Result<usize, ProcError>
-    ensures next { IfOk result (λ position. can_take process.now ≡ Some position) }
-    ensures refused { IfErr result (λ e. resting_refusal process.now.activity (can_take process.now) ≡ Some e) }
+    ensures next { IfOk result (λ position. next_message process.now ≡ Some position) }
+    ensures refused { IfErr result (λ e. resting_refusal process.now.activity (next_message process.now) ≡ Some e) }
 {
     match process.activity() {
         Activity::Suspended => Err(ProcError::Suspended),
         Activity::Runs(_) => Err(ProcError::Running),
-        Activity::Idle => match process.can_take() {
+        Activity::Idle => match process.next_message() {
             Some(position) => Ok(position),
             None => Err(ProcError::Idle),
         },
@@ -74,7 +74,7 @@ pub(crate) fn next_of(process: &Process) -> Result<usize, ProcError>
 pub(crate) fn job_for(
     alloc: Global,
     modules: &Modules<Module>,
-    living: &Living,
+    living: &ProcessEntry,
     position: usize,
 ) -> Result<Option<(Job, Row<Instance>)>, AllocError>
     ensures job { IfOk result (λ it. IsJobFor modules.now living.now position (option_map (λ taken. taken.0) it)) }

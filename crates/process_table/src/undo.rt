@@ -6,7 +6,7 @@ use values::{Boxed, Row};
 /// What takes one step of the processes back: what the step has left, by pids, positions and numbers, and of
 /// processes that have ended the whole of them. What is large has memory of its own, so that most undos are a few words.
 #[derive(Drop)]
-pub enum Undo {
+pub enum ProcessesUndo {
     /// A process was started, the last.
     Started,
     /// A message came for a process.

@@ -2,7 +2,7 @@
 use Rattle.std.proofs.Common.{◌≡◌, ◌<◌, ◌≤◌, ◌+◌, ◌-◌, ◌*◌, ◌/◌, ◌++◌, ◌∷◌, [], ⊎_elim, ℕ, Bool, true, false, List, length, get_or, set, take, drop, arith, sym, ap, ◌∙◌, subst, Some}
 use Rattle.std.proofs.lemmas.Bool.{cases_eq, cases_lt, true≢false}
 use Rattle.std.proofs.lemmas.List.{ext_get_or, get_or-drop, get_or-set_other, get_or-set_same, get_or-take, get_or_append_left, get_or_at, length-drop, length-set, length_push, length-take-le}
-use Rattle.ready_set.specs.Marks.{IsFirstFrom, IsKept, flags_of, is_leaf_marked, is_marked}
+use Rattle.ready_set.specs.Marks.{IsFirstFrom, IsMarkTree, flags_of, is_leaf_marked, is_marked}
 use Rattle.ready_set.specs.Flags.{IsNext, is_in}
 
 -- the flag of a place is the mark of its leaf
@@ -63,7 +63,7 @@ popped_flags old new places long room some others =
     others k (λ e. omega arith) ∙ sym (flag_at old places k (omega arith)) ∙ sym (get_or-take (places - 1) flags k false below))
 
 -- the place of the first marked leaf is the next one
-pub next_found : (marks seen flags : List Bool) (places half from leaf : ℕ) → IsKept marks places → flags_of marks places ≡ flags →
+pub next_found : (marks seen flags : List Bool) (places half from leaf : ℕ) → IsMarkTree marks places → flags_of marks places ≡ flags →
     seen ≡ marks → half ≡ length seen / 2 → IsFirstFrom seen (half + from) leaf → IsNext from flags (Some (leaf - half))
 next_found marks seen flags places half from leaf kept is same halved there =
     let next = leaf - half in

@@ -37,7 +37,7 @@ abbrev pub flags_of : List Bool → ℕ → List Bool
 flags_of marks places = take places (drop (length marks / 2) marks)
 
 -- a tree with a leaf for each of so many places, and no marked leaf behind them
-pub record IsKept (marks : List Bool) (places : ℕ) : Type 0 where
+pub record IsMarkTree (marks : List Bool) (places : ℕ) : Type 0 where
   pub tree : IsTree marks
   pub room : 2 * places ≤ length marks
   pub rest : (place : ℕ) → places ≤ place → is_leaf_marked marks place ≡ false

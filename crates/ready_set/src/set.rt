@@ -20,13 +20,13 @@ pub struct ReadySet {
 
 impl Model for ReadySet {
     ghost use Rattle.std.specs.Prelude.{List, Bool};
-    ghost use Rattle.ready_set.specs.Marks.{IsKept, flags_of};
+    ghost use Rattle.ready_set.specs.Marks.{IsMarkTree, flags_of};
 
     ghost Value = { List Bool };
 
     ghost view = { λ s. flags_of s.marks.items s.places };
 
-    ghost invariant = { λ s. IsKept s.marks.items s.places };
+    ghost invariant = { λ s. IsMarkTree s.marks.items s.places };
 }
 
 impl ReadySet {

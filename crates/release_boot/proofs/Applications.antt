@@ -6,7 +6,7 @@ use Rattle.app_table.specs.Applications.{Application, loaded as app_loaded, plac
 use Rattle.app_table.specs.declared.child.Child.{Child}
 use Rattle.code_loading.specs.Current.{current_code}
 use Rattle.code_server.specs.Modules.{Table as Loaded}
-use Rattle.erl_forms.specs.Module.{Forms}
+use Rattle.erl_ir.specs.Module.{Forms}
 use Rattle.erl_semantics.specs.declared.instance.Instance.{Instance}
 use Rattle.otp_files.specs.declared.app.AppSpec.{AppSpec}
 use Rattle.process_store.specs.Table.{Table}

@@ -7,20 +7,20 @@ use Rattle.app_table.specs.Applications.{Application, started}
 use Rattle.app_table.specs.declared.child.Child.{Child}
 use Rattle.code_loading.specs.Current.{current_code}
 use Rattle.code_server.specs.Modules.{Table as Loaded}
-use Rattle.erl_forms.specs.Module.{Forms}
+use Rattle.erl_ir.specs.Module.{Forms}
 use Rattle.erl_semantics.specs.declared.instance.Instance.{Instance}
 use Rattle.erl_term.specs.declared.term.Term.{Term}
 use Rattle.otp_files.specs.declared.app.StartModule.{StartModule}
 use Rattle.process_effects.specs.declared.told.Reply.{Reply}
 use Rattle.process_store.specs.Table.{Table}
-use Rattle.release_boot.specs.Boot.{DoesNotStart, EachStarts, Restarts, Starts, StartsOrIsPassedOver, boot_apps, boot_modules, reason_of, to_start}
+use Rattle.release_boot.specs.Boot.{DoesNotStart, EachStarts, Restarts, BootsApp, StartsOrIsPassedOver, boot_apps, boot_modules, reason_of, to_start}
 use Rattle.release_boot.specs.Laws.{RestartsHaveOneOutcome, StartsHaveOneOutcome}
 use Rattle.release_table.specs.declared.table.Release.{Release}
-use Rattle.sys_protocol.specs.Refusals.{FailsToRun, RefusesStart, Runs, module_of}
+use Rattle.sys_protocol.specs.Refusals.{FailsToRun, RefusesStart, RunsStartModule, module_of}
 
 -- what runs of one, or why nothing does
 
-runs-once : (code : List Instance) (m : Option StartModule) (t : Table) (children others : List Child) (after last : Table) (told said : List Reply) → Runs code m t children after told → Runs code m t others last said → (children ≡ others) × (after ≡ last)
+runs-once : (code : List Instance) (m : Option StartModule) (t : Table) (children others : List Child) (after last : Table) (told said : List Reply) → RunsStartModule code m t children after told → RunsStartModule code m t others last said → (children ≡ others) × (after ≡ last)
 runs-once code None t children others after last told said first second = (first.0 ∙ sym second.0, first.1 ∙ sym second.1)
 runs-once code (Some m) t children others after last told said first second =
     let same = applications_start_one_way.starts code m t after last children others told said first second in
@@ -30,13 +30,13 @@ failing-once : (code : List Instance) (m : Option StartModule) (t : Table) (e f 
 failing-once code None t e f first second = absurd first
 failing-once code (Some m) t e f first second = applications_start_one_way.fails code m t e f first second
 
-runs_or_fails : (code : List Instance) (m : Option StartModule) (t : Table) (children : List Child) (after : Table) (told : List Reply) (e : AppError) → Runs code m t children after told → FailsToRun e code m t → ⊥
+runs_or_fails : (code : List Instance) (m : Option StartModule) (t : Table) (children : List Child) (after : Table) (told : List Reply) (e : AppError) → RunsStartModule code m t children after told → FailsToRun e code m t → ⊥
 runs_or_fails code None t children after told e runs fails = fails
 runs_or_fails code (Some m) t children after told e runs fails = applications_start_one_way.never_both code m t after children told e runs fails
 
 -- it starts, or doesn't
 
-starts-once : (code : List Instance) (name : List ℕ) (apps one other : List Application) (t after last : Table) → Starts code name apps t one after → Starts code name apps t other last → (one ≡ other) × (after ≡ last)
+starts-once : (code : List Instance) (name : List ℕ) (apps one other : List Application) (t after last : Table) → BootsApp code name apps t one after → BootsApp code name apps t other last → (one ≡ other) × (after ≡ last)
 starts-once code name apps one other t after last first second =
     let same = runs-once code (module_of name apps) t first.children second.children after last first.told second.told first.runs second.runs in
     (first.starts ∙ ap (λ (cs : List Child). started name cs apps) same.0 ∙ sym second.starts, same.1)
@@ -51,12 +51,12 @@ fails-once : (code : List Instance) (name : List ℕ) (apps : List Application) 
 fails-once code name apps t reason why (e, refuses, is) (f, refuses_too, is_too) =
     is ∙ ap (λ (x : AppError). reason_of name x) (one_refusal e f code name apps t refuses refuses_too) ∙ sym is_too
 
-refused_or_not : (e : AppError) (code : List Instance) (name : List ℕ) (apps one : List Application) (t after : Table) → Starts code name apps t one after → RefusesStart e code name apps t → ⊥
+refused_or_not : (e : AppError) (code : List Instance) (name : List ℕ) (apps one : List Application) (t after : Table) → BootsApp code name apps t one after → RefusesStart e code name apps t → ⊥
 refused_or_not e code name apps one t after starts (inl refused) = none-some e (sym starts.unrefused ∙ refused)
 refused_or_not e code name apps one t after starts (inr fails) =
     runs_or_fails code (module_of name apps) t starts.children after starts.told e starts.runs fails.1
 
-never_both : (code : List Instance) (name : List ℕ) (apps one : List Application) (t after : Table) (reason : Term) → Starts code name apps t one after → DoesNotStart code name apps t reason → ⊥
+never_both : (code : List Instance) (name : List ℕ) (apps one : List Application) (t after : Table) (reason : Term) → BootsApp code name apps t one after → DoesNotStart code name apps t reason → ⊥
 never_both code name apps one t after reason starts not = refused_or_not not.0 code name apps one t after starts not.1
 
 pub starts_have_one_outcome : StartsHaveOneOutcome

@@ -2,7 +2,7 @@
 use Rattle.std.proofs.Common.{◌≡◌, inl, inr, ℕ, ◌<◌, ◌+◌, Bool, true, false, cond, Result, Ok, Err, IsErr, IsErrAnd, IfErr, List, [], ◌∷◌, ◌++◌, filter, length, map, take, drop, get_or, refl, sym, ap, subst, ◌∙◌}
 use Rattle.std.proofs.lemmas.List.{append_assoc, take-append-drop, take_more}
 use Rattle.erl_semantics.proofs.Tests.{from_here}
-use Rattle.erl_forms.specs.Module.{Forms}
+use Rattle.erl_ir.specs.Module.{Forms}
 use Rattle.erl_semantics.specs.declared.instance.Instance.{Instance}
 use Rattle.erl_term.specs.declared.term.Term.{Term}
 use Rattle.app_table.specs.Applications.{Application}

@@ -3,7 +3,7 @@ use Rattle.std.specs.Prelude.{◌≡◌, ◌⊎◌, ℕ, Bool, true, false, List
 use Rattle.std.specs.List.{flat_map}
 use Rattle.code_loading.specs.Current.{current_code}
 use Rattle.code_server.specs.Modules.{Table as Loaded, empty_table as no_modules, loaded, purged}
-use Rattle.erl_forms.specs.Module.{Forms}
+use Rattle.erl_ir.specs.Module.{Forms}
 use Rattle.erl_semantics.specs.declared.instance.Instance.{Instance}
 use Rattle.erl_term.specs.Term.{tree}
 use Rattle.erl_term.specs.Tree.{atom, none, more}
@@ -19,7 +19,7 @@ use Rattle.release_specs.specs.Specs.{specs_of}
 use Rattle.release_words.specs.declared.start_type.StartType.{StartType}
 use Rattle.release_words.specs.declared.start_type.StartType.TheVariants as start
 use Rattle.app_table.specs.Applications.{Application, loaded as app_loaded, started}
-use Rattle.sys_protocol.specs.Refusals.{RefusesStart, Runs, module_of, start_refusal}
+use Rattle.sys_protocol.specs.Refusals.{RefusesStart, RunsStartModule, module_of, start_refusal}
 use Rattle.sys_protocol.specs.declared.app_error.AppError.{AppError}
 use Rattle.sys_protocol.specs.declared.app_error.AppError.TheVariants as app_error
 use Rattle.sys_protocol.specs.declared.app_error.AppError.TheVariants.{NotLoaded, AlreadyStarted, BadInit, StartFailed}
@@ -47,19 +47,22 @@ is_started_as start.None = false
 abbrev pub to_start : List RelApp → List (List ℕ)
 to_start apps = map (λ app. app.name) (filter (λ app. is_started_as app.start_type) apps)
 
--- One starts: it has children, which run. What that would tell clients is told nobody: where a node boots or restarts no call is open.
-pub record Starts (code : List Instance) (name : List ℕ) (apps : List Application) (t : Table) (apps_after : List Application) (after : Table) : Type 0 where
+-- One starts: it has children, which run. What that would tell clients is told nobody: where a node boots or restarts no
+-- call is open.
+pub record BootsApp (code : List Instance) (name : List ℕ) (apps : List Application) (t : Table)
+    (apps_after : List Application) (after : Table) : Type 0 where
   pub unrefused : start_refusal name apps ≡ None
   pub children : List Child
   pub told : List Reply
-  pub runs : Runs code (module_of name apps) t children after told
+  pub runs : RunsStartModule code (module_of name apps) t children after told
   pub starts : apps_after ≡ started name children apps
 
 -- All start, in order.
 abbrev pub AllStart : List Instance → List (List ℕ) → List Application → Table → List Application → Table → Type 0
 AllStart code [] apps t apps_after after = (apps_after ≡ apps) × (after ≡ t)
 AllStart code (name ∷ names) apps t apps_after after =
-    (apps_next : List Application) × (next : Table) × Starts code name apps t apps_next next × AllStart code names apps_next next apps_after after
+    (apps_next : List Application) × (next : Table) × BootsApp code name apps t apps_next next ×
+    AllStart code names apps_next next apps_after after
 
 -- Why one doesn't: it is not loaded, or started already, its `init` gives no supervision, or a child fails to start.
 
@@ -84,9 +87,10 @@ DoesNotStart code name apps t reason = (e : AppError) × RefusesStart e code nam
 abbrev pub FirstFails : List Instance → List (List ℕ) → List Application → Table → List ℕ → Term → Type 0
 FirstFails code [] apps t name reason = ⊥
 FirstFails code (n ∷ names) apps t name reason = ((name ≡ n) × DoesNotStart code n apps t reason) ⊎
-    ((apps_next : List Application) × (next : Table) × Starts code n apps t apps_next next × FirstFails code names apps_next next name reason)
+    ((apps_next : List Application) × (next : Table) × BootsApp code n apps t apps_next next ×
+    FirstFails code names apps_next next name reason)
 
--- What an error tells: of one, and of several. Want of memory tells nothing.
+-- What an error tells: of one, and of several. Lack of memory tells nothing.
 
 abbrev pub FailsFor : BootError → List Instance → List ℕ → List Application → Table → Type 0
 FailsFor (NotStarted app reason) code name apps t = (app ≡ name) × DoesNotStart code name apps t reason
@@ -96,8 +100,8 @@ abbrev pub Fails : BootError → List Instance → List (List ℕ) → List Appl
 Fails (NotStarted app reason) code names apps t = FirstFails code names apps t app reason
 Fails Memory code names apps t = Unit {0}
 
--- A restart goes on where an application doesn't start: that one is passed over, for whatever reason. The applications and the processes
--- are as they were, so that it has used no pid, and the next goes on in them.
+-- A restart goes on where an application doesn't start: that one is passed over, for whatever reason. The applications and
+-- the processes are as they were, so that it has used no pid, and the next goes on in them.
 
 abbrev pub IsPassedOver : List Instance → List ℕ → List Application → Table → List Application → Table → Type 0
 IsPassedOver code name apps t apps_after after =
@@ -105,7 +109,7 @@ IsPassedOver code name apps t apps_after after =
 
 abbrev pub StartsOrIsPassedOver : List Instance → List ℕ → List Application → Table → List Application → Table → Type 0
 StartsOrIsPassedOver code name apps t apps_after after =
-    Starts code name apps t apps_after after ⊎ IsPassedOver code name apps t apps_after after
+    BootsApp code name apps t apps_after after ⊎ IsPassedOver code name apps t apps_after after
 
 -- Each starts or is passed over, in order.
 abbrev pub EachStarts : List Instance → List (List ℕ) → List Application → Table → List Application → Table → Type 0
@@ -113,8 +117,8 @@ EachStarts code [] apps t apps_after after = (apps_after ≡ apps) × (after ≡
 EachStarts code (name ∷ names) apps t apps_after after = (apps_next : List Application) × (next : Table) ×
     StartsOrIsPassedOver code name apps t apps_next next × EachStarts code names apps_next next apps_after after
 
--- The release whole: its modules and its applications, loaded, before any application starts. A node boots where nothing is there, and
--- restarts where no module is loaded and nobody lives, but serials and pids were given: those go on.
+-- The release whole: its modules and its applications, loaded, before any application starts. A node boots where nothing is
+-- there, and restarts where no module is loaded and nobody lives, but serials and pids were given: those go on.
 
 abbrev pub boot_modules : Release → Loaded Forms → Loaded Forms
 boot_modules r modules = all_loaded (modules_of r.apps) modules

@@ -2,22 +2,22 @@
 use Rattle.std.specs.Prelude.{◌≡◌, ℕ, All, false, List, map}
 use Rattle.app_table.specs.Applications.{Application, loaded as app_loaded}
 use Rattle.code_server.specs.Modules.{Table as Loaded}
-use Rattle.erl_forms.specs.Module.{Forms}
+use Rattle.erl_ir.specs.Module.{Forms}
 use Rattle.erl_semantics.specs.declared.instance.Instance.{Instance}
 use Rattle.erl_term.specs.declared.term.Term.{Term}
 use Rattle.process_store.specs.Table.{Table}
 use Rattle.release_specs.specs.Specs.{spec_of}
-use Rattle.release_boot.specs.Boot.{DoesNotStart, EachStarts, Restarts, Starts}
+use Rattle.release_boot.specs.Boot.{DoesNotStart, EachStarts, Restarts, BootsApp}
 use Rattle.release_table.specs.declared.table.Release.{Release}
 
 -- An application starts in one way, or doesn't for one reason, and never both.
 pub record StartsHaveOneOutcome : Type 0 where
   pub starts : (code : List Instance) (name : List ℕ) (apps one other : List Application) (t after last : Table) →
-      Starts code name apps t one after → Starts code name apps t other last → (one ≡ other) × (after ≡ last)
+      BootsApp code name apps t one after → BootsApp code name apps t other last → (one ≡ other) × (after ≡ last)
   pub fails : (code : List Instance) (name : List ℕ) (apps : List Application) (t : Table) (reason why : Term) →
       DoesNotStart code name apps t reason → DoesNotStart code name apps t why → reason ≡ why
   pub never_both : (code : List Instance) (name : List ℕ) (apps one : List Application) (t after : Table) (reason : Term) →
-      Starts code name apps t one after → DoesNotStart code name apps t reason → ⊥
+      BootsApp code name apps t one after → DoesNotStart code name apps t reason → ⊥
 
 -- A restart has one outcome.
 pub record RestartsHaveOneOutcome : Type 0 where

@@ -2,12 +2,12 @@
 ghost use Rattle.std.specs.Prelude.{◌≡◌, ◌⊎◌, ◌∷◌, [], IfErr, IfOk, IsTrue, OnOk, length, ◌≤◌};
 ghost use Rattle.code_server.specs.Modules.{loaded, purged};
 ghost use Rattle.erl_term.specs.Ascii.{is_ascii_text};
-ghost use Rattle.release_boot.specs.Boot.{AllStart, BootFails, Boots, Fails, FailsFor, Starts, all_loaded, boot_apps, boot_modules, is_started_as, modules_of, of_word, reason_of, start_failed, to_start};
+ghost use Rattle.release_boot.specs.Boot.{AllStart, BootFails, Boots, Fails, FailsFor, BootsApp, all_loaded, boot_apps, boot_modules, is_started_as, modules_of, of_word, reason_of, start_failed, to_start};
 
 use crate::error::BootError;
 use code_loading::current_code;
 use code_server::Modules;
-use erl_forms::Module;
+use erl_ir::Module;
 use erl_semantics::Instance;
 use erl_term::{Atom, Term, Terms};
 use otp_files::{RelApp, StartType};
@@ -151,7 +151,7 @@ fn start_app(
     code: &[Instance],
     name: &Atom,
 ) -> Result<(), BootError>
-    ensures started { OnOk result (Starts code.now name.now apps.old processes.old apps.new processes.new) }
+    ensures started { OnOk result (BootsApp code.now name.now apps.old processes.old apps.new processes.new) }
     ensures failed { IfErr result (λ e. FailsFor e code.now name.now apps.old processes.old) }
 {
     match start(apps, processes, alloc, code, name, 0) {
@@ -198,8 +198,8 @@ fn start_all(
     Ok(())
 }
 
-/// Boots a release: loads the modules of all its applications, and then starts those that are to be started, in order. Names are hashed
-/// by `hashing`.
+/// Boots a release: loads the modules of all its applications, and then starts those that are to be started, in order.
+/// Names are hashed by `hashing`.
 ///
 /// # Errors
 ///

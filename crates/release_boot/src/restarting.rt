@@ -5,7 +5,7 @@ ghost use Rattle.release_boot.specs.Boot.{EachStarts, Restarts, StartsOrIsPassed
 use crate::booting::{Booted, is_started_as, load_apps, load_modules};
 use code_loading::current_code;
 use code_server::Modules;
-use erl_forms::Module;
+use erl_ir::Module;
 use erl_semantics::Instance;
 use erl_term::Atom;
 use otp_files::RelApp;

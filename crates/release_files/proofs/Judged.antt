@@ -2,7 +2,7 @@
 use Rattle.std.proofs.Common.{◌≡◌, ◌⊎◌, ℕ, List, None, Some, Result, Ok, Err, Contains, inl, inr, sym, ap, ◌∙◌, subst, string_bytes}
 use Rattle.std.specs.Prelude.{◌≢◌, MatchResult}
 use Rattle.std.specs.Str.{chars}
-use Rattle.erl_forms.specs.Module.{Forms}
+use Rattle.erl_ir.specs.Module.{Forms}
 use Rattle.erl_parse.specs.Sources.{IsNoSource, IsSource}
 use Rattle.erl_parse.specs.Telling.{Says}
 use Rattle.erl_parse.specs.declared.error.LangError.{LangError}

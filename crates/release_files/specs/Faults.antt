@@ -2,7 +2,7 @@
 use Rattle.std.specs.Prelude.{◌≡◌, ◌≢◌, ℕ, List, ◌∷◌, ◌++◌, Option, None, Some, Contains}
 use Rattle.std.specs.List.{AllZip}
 use Rattle.std.specs.Str.{chars}
-use Rattle.erl_forms.specs.Module.{Forms}
+use Rattle.erl_ir.specs.Module.{Forms}
 use Rattle.erl_parse.specs.Sources.{IsSource, IsNoSource}
 use Rattle.erl_parse.specs.Telling.{Says}
 use Rattle.erl_parse.specs.declared.error.LangError.{LangError}
@@ -28,7 +28,8 @@ use Rattle.release_files.specs.Releases.{AreAppsOf, AreDistinct, IsAppupOf, IsMo
 use Rattle.release_files.specs.Releases.{with_files}
 
 -- A file stands at a path, and is refused with this error.
-pub record StandsRefused (Refused : List ℕ → FileError → Type 0) (files : Contents) (path : List ℕ) (fault : FileFault) : Type 0 where
+pub record StandsRefused (Refused : List ℕ → FileError → Type 0) (files : Contents) (path : List ℕ) (fault : FileFault)
+    : Type 0 where
   pub text : List ℕ
   pub stands : file_of path files ≡ Some text
   pub error : FileError
@@ -94,20 +95,24 @@ pub record StandsUnread (files : Contents) (path : List ℕ) (fault : FileFault)
 pub data ModuleWrong (files : Contents) (name : List ℕ) (path : List ℕ) (fault : FileFault) : Type 0 where
   no_source : file_of path files ≡ None → fault ≡ Missing → ModuleWrong files name path fault
   no_module : StandsUnread files path fault → ModuleWrong files name path fault
-  other_module : (m : Forms) → StandsAs IsSource files path m → m.name ≢ name → fault ≡ WrongModule → ModuleWrong files name path fault
+  other_module : (m : Forms) → StandsAs IsSource files path m → m.name ≢ name → fault ≡ WrongModule →
+      ModuleWrong files name path fault
 
 -- and behind modules of these names: or it is a module's that has one of them
-pub data SourceWrong (files : Contents) (before : List (List ℕ)) (name : List ℕ) (path : List ℕ) (fault : FileFault) : Type 0 where
+pub data SourceWrong (files : Contents) (before : List (List ℕ)) (name : List ℕ) (path : List ℕ) (fault : FileFault)
+    : Type 0 where
   wrong_source : ModuleWrong files name path fault → SourceWrong files before name path fault
   known_module : (m : Forms) → StandsAs IsSource files path m → m.name ≡ name → Contains before name →
       fault ≡ DuplicateModule → SourceWrong files before name path fault
 
-pub record SourceFault (files : Contents) (app : RelApp) (before : List (List ℕ)) (name : List ℕ) (path : List ℕ) (fault : FileFault) : Type 0 where
+pub record SourceFault (files : Contents) (app : RelApp) (before : List (List ℕ)) (name : List ℕ) (path : List ℕ)
+    (fault : FileFault) : Type 0 where
   pub at : path ≡ source_path app name
   pub wrong : SourceWrong files before name path fault
 
 -- the first of its sources that is wrong, behind modules of these names
-pub record SourcesFault (files : Contents) (app : RelApp) (before : List (List ℕ)) (names : List (List ℕ)) (path : List ℕ) (fault : FileFault) : Type 0 where
+pub record SourcesFault (files : Contents) (app : RelApp) (before : List (List ℕ)) (names : List (List ℕ)) (path : List ℕ)
+    (fault : FileFault) : Type 0 where
   pub front : List (List ℕ)
   pub name : List ℕ
   pub rest : List (List ℕ)

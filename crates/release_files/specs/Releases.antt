@@ -2,7 +2,7 @@
 use Rattle.std.specs.Prelude.{◌≡◌, ◌≢◌, ℕ, Bool, not, ◌||◌, List, [], map, filter, codes, Option, None, Some, AllPairs}
 use Rattle.std.specs.List.{AllZip, flat_map}
 use Rattle.std.specs.Str.{bytes_eq, chars}
-use Rattle.erl_forms.specs.Module.{Forms}
+use Rattle.erl_ir.specs.Module.{Forms}
 use Rattle.erl_parse.specs.Sources.{IsSource}
 use Rattle.erl_term.specs.declared.term.Term.{Term}
 use Rattle.instructions.specs.declared.instruction.Instruction.{Instruction}

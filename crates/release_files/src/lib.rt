@@ -9,7 +9,7 @@
 //! # What the contracts say
 //!
 //! - [`read_release`] gives the release that the files say: each file says its part, in the forms of `otp_files` and
-//!   `erl_parse`, of the name and version that is asked for, and no two modules have one name (`IsRelease`). Else, want of
+//!   `erl_parse`, of the name and version that is asked for, and no two modules have one name (`IsRelease`). Else, lack of
 //!   memory aside, it tells the first fault in the order of reading, and its path (`IsFirstFault`).
 //!
 //! # What no contract says

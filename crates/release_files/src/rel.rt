@@ -45,7 +45,8 @@ fn rel_told(alloc: Global, files: &Files, path: &str, vsn: &str) -> Result<RelSp
 
 /// That there is no `.rel`.
 fn missing_rel(alloc: Global, vsn: &str) -> ReleaseFault
-    ensures { (result.fault ≡ refused) ⊎ ((string_bytes result.path ≡ release_path vsn.now) × (result.fault ≡ FileFault.Missing)) }
+    ensures { (result.fault ≡ refused) ⊎ ((string_bytes result.path ≡ release_path vsn.now) ×
+        (result.fault ≡ FileFault.Missing)) }
 {
     match release_path(alloc, vsn, "") {
         Ok(path) => ReleaseFault {

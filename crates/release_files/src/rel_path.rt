@@ -21,7 +21,8 @@ pub fn first_rel<'a>(paths: &'a [String], vsn: &str) -> Option<&'a str>
 /// The lesser of two paths, where there is another.
 fn lesser<'a>(first: Option<&'a str>, path: &'a str) -> &'a str
     ensures { MatchOption first.entry (result.now ≡ path.now)
-        (λ other. ((result.now ≡ path.now) × IsBefore path.now other.now) ⊎ ((result.now ≡ other.now) × (IsBefore path.now other.now → ⊥))) }
+        (λ other. ((result.now ≡ path.now) × IsBefore path.now other.now) ⊎
+        ((result.now ≡ other.now) × (IsBefore path.now other.now → ⊥))) }
 {
     match first {
         Some(other) => { if path < other { path } else { other } }
@@ -41,7 +42,8 @@ pub fn is_rel_name(path: &[u8], vsn: &[u8]) -> bool
 
 /// The NAME of a path that is `releases/VSN/NAME.rel`.
 fn rel_name<'a>(path: &'a [u8], vsn: &[u8]) -> Option<&'a [u8]>
-    ensures { MatchOption result ((name : _) → path.now ≡ rel_path vsn.now name → ⊥) (λ name. path.now ≡ rel_path vsn.now name.now) }
+    ensures { MatchOption result ((name : _) → path.now ≡ rel_path vsn.now name →
+        ⊥) (λ name. path.now ≡ rel_path vsn.now name.now) }
 {
     let versioned = behind(path, b"releases/")?;
     let rest = behind(versioned, vsn)?;

@@ -11,7 +11,7 @@ use crate::fault::{FileFault, ReleaseFault, no_memory, of_source};
 use crate::files::Files;
 use crate::names::Names;
 use crate::paths::app_file;
-use erl_forms::Module;
+use erl_ir::Module;
 use erl_parse::read_module;
 use erl_term::Atom;
 use otp_files::RelApp;
@@ -33,7 +33,8 @@ pub(crate) fn sources_of(
 ) -> Result<Vec<Module>, ReleaseFault>
     requires { AreDistinct seen.old }
     ensures { MatchResult result
-        (λ modules. AllZip (IsModuleOf files.now app.now) names.now modules.items × (seen.new ≡ seen.old ++ names.now) × AreDistinct seen.new)
+        (λ modules. AllZip (IsModuleOf files.now app.now) names.now modules.items × (seen.new ≡ seen.old ++ names.now) ×
+        AreDistinct seen.new)
         (λ f. (f.fault ≡ refused) ⊎ SourcesFault files.now app.now seen.old names.now (string_bytes f.path) f.fault) }
 {
     let mut modules = Vec::new(alloc);
@@ -55,7 +56,8 @@ fn source_of(
     seen: &mut Names,
 ) -> Result<Module, ReleaseFault>
     ensures { MatchResult result
-        (λ read. IsModuleOf files.now app.now name.now read × (Contains seen.old name.now → ⊥) × (seen.new ≡ seen.old ++ name.now ∷ []))
+        (λ read. IsModuleOf files.now app.now name.now read × (Contains seen.old name.now → ⊥) ×
+        (seen.new ≡ seen.old ++ name.now ∷ []))
         (λ f. (f.fault ≡ refused) ⊎ SourceFault files.now app.now seen.old name.now (string_bytes f.path) f.fault) }
 {
     let Ok(path) = app_file(alloc, app, "/src/", name, ".erl") else {
@@ -76,7 +78,8 @@ fn source_at(
     seen: &mut Names,
 ) -> Result<Module, FileFault>
     ensures { MatchResult result
-        (λ read. StandsAs IsSource files.now path.now read × (read.name ≡ name.now) × (Contains seen.old name.now → ⊥) × (seen.new ≡ seen.old ++ name.now ∷ []))
+        (λ read. StandsAs IsSource files.now path.now read × (read.name ≡ name.now) × (Contains seen.old name.now → ⊥) ×
+        (seen.new ≡ seen.old ++ name.now ∷ []))
         (λ fault. (fault ≡ refused) ⊎ SourceWrong files.now seen.old name.now path.now fault) }
 {
     match module_at(alloc, files, path, name) {

@@ -1,4 +1,5 @@
--- What a relup is made of, of a release: its `.rel` with the specifications of its applications, and their appups, in the same order.
+-- What a relup is made of, of a release: its `.rel` with the specifications of its applications, and their appups, in the
+-- same order.
 use Rattle.std.specs.Prelude.{List, Option, map}
 use Rattle.release_table.specs.declared.table.Release.{Release}
 use Rattle.relup_make.specs.Work.{Appup}

@@ -19,8 +19,8 @@ struct Parts {
     appups: Vec<Option<Appup>>,
 }
 
-/// Makes the relup that leads from one release to another and back, of the appups of the other's applications (appup(4), relup(4)).
-/// The relups that the releases have are not looked at.
+/// Makes the relup that leads from one release to another and back, of the appups of the other's applications (appup(4),
+/// relup(4)). The relups that the releases have are not looked at.
 ///
 /// # Errors
 ///

@@ -6,8 +6,8 @@
 //!
 //! # What is proved
 //!
-//! [`relup_between`] gives the relup of the two releases, or, want of memory aside, what stands against it first: its definitions are
-//! `relup_make`'s, over the parts of the releases (`rel_apps`, `appups_of`).
+//! [`relup_between`] gives the relup of the two releases, or, lack of memory aside, what stands against it first: its
+//! definitions are `relup_make`'s, over the parts of the releases (`rel_apps`, `appups_of`).
 //!
 //! # What no contract says
 //!

@@ -7,14 +7,14 @@ use Rattle.values.proofs.Edits.{insert-remove}
 use Rattle.release_table.specs.declared.table.Release.{Release}
 use Rattle.release_statuses.specs.declared.listed.Listed.{Listed}
 use Rattle.release_statuses.specs.declared.status.Status.{Status}
-use Rattle.release_statuses.specs.declared.undo.Undo.{Undo}
-use Rattle.release_statuses.specs.declared.undo.Undo.TheVariants.{Removed, Statuses}
+use Rattle.release_statuses.specs.declared.undo.ReleasesUndo.{ReleasesUndo}
+use Rattle.release_statuses.specs.declared.undo.ReleasesUndo.TheVariants.{Removed, Statuses}
 use Rattle.release_statuses.specs.Statuses.{HasPermanent}
 use Rattle.release_statuses.specs.Undo.{IsPlaced, TakesBack, undone, with_statuses}
 use Rattle.release_statuses.proofs.Standing.{releases_of, statuses_of}
 
 -- `before` are the releases by the list of their fields, and `now` the releases
-taken_back : (undo : Undo) (before now after : List Listed) → IsPlaced undo after → undone undo after ≡ before →
+taken_back : (undo : ReleasesUndo) (before now after : List Listed) → IsPlaced undo after → undone undo after ≡ before →
     HasPermanent before → before ≡ now → TakesBack undo now after
 taken_back undo before now after placed back has same = record {
   fits = record { placed = placed; kept = subst HasPermanent (sym back) has };

@@ -2,8 +2,8 @@
 use Rattle.std.specs.Prelude.{◌≡◌, ◌-◌, ◌<◌, ◌≤◌, List, [], ◌∷◌, length, take, insert}
 use Rattle.release_statuses.specs.declared.listed.Listed.{Listed}
 use Rattle.release_statuses.specs.declared.status.Status.{Status}
-use Rattle.release_statuses.specs.declared.undo.Undo.{Undo}
-use Rattle.release_statuses.specs.declared.undo.Undo.TheVariants.{Added, Removed, Statuses}
+use Rattle.release_statuses.specs.declared.undo.ReleasesUndo.{ReleasesUndo}
+use Rattle.release_statuses.specs.declared.undo.ReleasesUndo.TheVariants.{Added, Removed, Statuses}
 use Rattle.release_statuses.specs.Statuses.{HasPermanent, with_status}
 
 -- each release with the status of its place
@@ -13,29 +13,29 @@ with_statuses (s ∷ ss) [] = []
 with_statuses (s ∷ ss) (it ∷ others) = with_status s it ∷ with_statuses ss others
 
 -- the releases that an undo gives back
-abbrev pub undone : Undo → List Listed → List Listed
+abbrev pub undone : ReleasesUndo → List Listed → List Listed
 undone Added releases = take (length releases - 1) releases
 undone (Removed place it) releases = insert releases place it
 undone (Statuses former) releases = with_statuses former releases
 
 -- an undo's place is in the list
-abbrev pub IsPlaced : Undo → List Listed → Type 0
+abbrev pub IsPlaced : ReleasesUndo → List Listed → Type 0
 IsPlaced Added releases = 0 < length releases
 IsPlaced (Removed place it) releases = place ≤ length releases
 IsPlaced (Statuses former) releases = length former ≡ length releases
 
 -- what `revert` needs: these are releases that the undo's change led to
-pub record Fits (undo : Undo) (releases : List Listed) : Type 0 where
+pub record Fits (undo : ReleasesUndo) (releases : List Listed) : Type 0 where
   pub placed : IsPlaced undo releases
   pub kept : HasPermanent (undone undo releases)
 
 -- It takes a change back.
-pub record TakesBack (undo : Undo) (before after : List Listed) : Type 0 where
+pub record TakesBack (undo : ReleasesUndo) (before after : List Listed) : Type 0 where
   pub fits : Fits undo after
   pub back : undone undo after ≡ before
 
 -- the undo of a removal, the one that puts a release back into the list
-abbrev pub IsRemoval : Undo → Type 0
+abbrev pub IsRemoval : ReleasesUndo → Type 0
 IsRemoval Added = ⊥
 IsRemoval (Removed place it) = Unit {0}
 IsRemoval (Statuses former) = ⊥

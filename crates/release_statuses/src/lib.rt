@@ -1,8 +1,8 @@
 //! The releases that a node has, and their statuses (release_handler(3)).
 //!
 //! [`Releases`] is the list: a release is set unpacked, an install makes it current, [`Releases::make_permanent`] permanent,
-//! and what another takes the place of is old. Each change hands out an [`Undo`], by which [`Releases::revert`] takes the newest
-//! change back.
+//! and what another takes the place of is old. Each change hands out a [`ReleasesUndo`], by which [`Releases::revert`]
+//! takes the newest change back.
 //!
 //! # What is proved
 //!
@@ -10,7 +10,7 @@
 //!   [`Releases::reboot_old`] and [`Releases::restarted`] give the releases of the rules (`unpacked`, `removed`, `installed`,
 //!   `made_permanent`, `rebooted`, `restarted`), are refused by them, in their order, and change nothing where they are. Their
 //!   refusals are told without memory.
-//! - What an undo gives back is the releases before the change, whole (`TakesBack`); of a removal it may be refused, for want of
+//! - What an undo gives back is the releases before the change, whole (`TakesBack`); of a removal it may be refused, for lack of
 //!   memory, and hands itself back then.
 //! - One release is always permanent, so that one runs ([`Releases::running`]).
 //!
@@ -33,5 +33,5 @@ pub use error::RelError;
 pub use listed::Listed;
 pub use releases::Releases;
 pub use status::Status;
-pub use undo::Undo;
+pub use undo::ReleasesUndo;
 pub use vsn::Vsn;

@@ -101,7 +101,7 @@ impl Releases {
         }
     }
 
-    /// Why a release of the version would not be set unpacked, but for want of memory: `Exists` where one is there. Takes no
+    /// Why a release of the version would not be set unpacked, but for lack of memory: `Exists` where one is there. Takes no
     /// memory.
     pub fn unpack_refusal(&self, vsn: &str) -> Option<RelError>
         ensures { result ≡ unpack_refusal (chars vsn.now) self.now }
@@ -138,7 +138,7 @@ impl Releases {
         None
     }
 
-    /// Why the release of the version would not be made permanent, but for want of memory: `NoSuchRelease` where there is none,
+    /// Why the release of the version would not be made permanent, but for lack of memory: `NoSuchRelease` where there is none,
     /// and `BadStatus` where it is neither current nor permanent. Takes no memory.
     pub fn permanent_refusal(&self, vsn: &str) -> Option<RelError>
         ensures { result ≡ permanent_refusal (chars vsn.now) self.now }
@@ -151,7 +151,7 @@ impl Releases {
         }
     }
 
-    /// Why the node would not be restarted with the release of the version, but for want of memory: `NoSuchRelease` where there
+    /// Why the node would not be restarted with the release of the version, but for lack of memory: `NoSuchRelease` where there
     /// is none, and `BadStatus` where it isn't old. Takes no memory.
     pub fn reboot_refusal(&self, vsn: &str) -> Option<RelError>
         ensures { result ≡ reboot_refusal (chars vsn.now) self.now }

@@ -5,7 +5,7 @@ use values::Row;
 
 /// What takes a change of the releases back.
 #[derive(Drop)]
-pub enum Undo {
+pub enum ReleasesUndo {
     /// A release was set unpacked: the last one.
     Added,
     /// This release stood at this place.

@@ -1,5 +1,5 @@
 // Releases as values.
-use erl_forms::Module;
+use erl_ir::Module;
 use otp_files::{AppSpec, Appup, RelSpec, Relup};
 use std::alloc::{AllocError, Global};
 use values::{Duplicate, Row, Same};

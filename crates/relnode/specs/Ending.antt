@@ -1,13 +1,13 @@
 -- How the program ends, and with which status.
 use Rattle.std.specs.Prelude.{◌≡◌, ℕ, List, Option, None, Some, Result, Ok, Err}
-use Rattle.line_server.specs.declared.ended.Ended.{Ended}
+use Rattle.line_server.specs.declared.ended.ServeEnd.{ServeEnd}
 use Rattle.line_server.specs.declared.ended.Fault.{Fault as CommandsFault}
 use Rattle.relnode.specs.declared.ending.Fault.{Fault}
 use Rattle.relnode.specs.declared.ending.Fault.TheVariants.{CommandLine, NoRandomBytes, Files, Start, Commands, Workers, Output}
 use Rattle.relnode_options.specs.declared.OptionsError.{OptionsError}
 use Rattle.relnode_options.specs.declared.OptionsError.TheVariants.{Words, NotUtf8, Unread, Memory}
 use Rattle.release_files.specs.Files.{Contents}
-use Rattle.node_shell.specs.Run.{Runs, StartFails}
+use Rattle.node_shell.specs.Run.{RunsShell, StartFails}
 use Rattle.node_shell.specs.declared.fault.StartFault.{StartFault}
 use Rattle.worker_shell.specs.Run.{RunsWorkers, WorkersFail}
 use Rattle.worker_shell.specs.declared.fault.WorkersFault.{WorkersFault}
@@ -19,8 +19,10 @@ end_by None = Ok tt
 end_by (Some fault) = Err (Commands fault)
 
 -- A run over files ended the program so; or it ends before anything is read or written, for no node has started.
-pub data EndsSo (files : Contents) (vsn : List ℕ) (left rest held holds : Option (List ℕ)) (end : Result (Unit {0}) Fault) : Type 0 where
-  ran : (ended : Ended) → Runs files vsn left rest held holds ended → end ≡ end_by ended.fault → EndsSo files vsn left rest held holds end
+pub data EndsSo (files : Contents) (vsn : List ℕ) (left rest held holds : Option (List ℕ)) (end : Result (Unit {0}) Fault)
+    : Type 0 where
+  ran : (ended : ServeEnd) → RunsShell files vsn left rest held holds ended → end ≡ end_by ended.fault →
+      EndsSo files vsn left rest held holds end
   not_started : (fault : StartFault) → StartFails fault files vsn → rest ≡ left → holds ≡ held → end ≡ Err (Start fault) →
       EndsSo files vsn left rest held holds end
 
@@ -32,9 +34,10 @@ end_without workers.Foreign = Err (Workers workers.Foreign)
 end_without workers.SeatsLost = Err (Workers workers.SeatsLost)
 
 -- A run over files that so many workers served ended the program so; or the program ends for why there is no such run.
-pub data EndsServing (files : Contents) (vsn : List ℕ) (count : ℕ) (left rest held holds : Option (List ℕ)) (end : Result (Unit {0}) Fault)
+pub data EndsServing (files : Contents) (vsn : List ℕ) (count : ℕ) (left rest held holds : Option (List ℕ))
+    (end : Result (Unit {0}) Fault)
     : Type 0 where
-  served : (ended : Ended) → RunsWorkers files vsn count left rest held holds ended → end ≡ end_by ended.fault →
+  served : (ended : ServeEnd) → RunsWorkers files vsn count left rest held holds ended → end ≡ end_by ended.fault →
       EndsServing files vsn count left rest held holds end
   not_served : (fault : WorkersFault) → WorkersFail fault files vsn count left rest held holds → end ≡ end_without fault →
       EndsServing files vsn count left rest held holds end

@@ -3,9 +3,10 @@
 //! `relnode ROOT VSN` reads the files below ROOT, boots the release of version VSN, and then reads commands from its standard
 //! input, one a line; the answers go to its standard output. docs/COMMANDS.md is the manual page of the commands.
 //!
-//! What is proved of it is the contract of [`node_shell::run`], that the program ends as the run ended ([`ending::run_to_end`]), and
-//! the status of each end ([`ending::exit_code`]); and that what is told of a fault is one line ([`telling::describe`]). The rest of
-//! this file, the command line and the reading of the files are proved safe and to return, and are tested by transcripts and by hand.
+//! What is proved of it is the contract of [`node_shell::run`], that the program ends as the run ended
+//! ([`ending::run_to_end`]), and the status of each end ([`ending::exit_code`]); and that what is told of a fault is one
+//! line ([`telling::describe`]). The rest of this file, the command line and the reading of the files are proved safe and
+//! to return, and are tested by transcripts and by hand.
 #![tactic(auto)]
 
 mod ending;
@@ -33,12 +34,12 @@ fn start<R: Runtime + RandomSource + AllocGlobal + Threads + Wait + Sync>(
 ) -> Result<(), Fault> {
     match read_invocation(rt)? {
         Invocation::Show(text) => Ok(rt.print(text)?),
-        Invocation::Run(options) => obey(rt, &options),
+        Invocation::Run(options) => execute(rt, &options),
     }
 }
 
 /// Boots the release, and runs the commands of the standard input, with workers where they are asked for.
-fn obey<R: Runtime + RandomSource + AllocGlobal + Threads + Wait + Sync>(
+fn execute<R: Runtime + RandomSource + AllocGlobal + Threads + Wait + Sync>(
     rt: &R,
     options: &Options,
 ) -> Result<(), Fault> {
@@ -63,8 +64,8 @@ fn obey<R: Runtime + RandomSource + AllocGlobal + Threads + Wait + Sync>(
     }
 }
 
-/// Says so where a file with a hidden name counts as the release. Where standard error cannot be written, or there is no memory for the
-/// line, nothing is said.
+/// Says so where a file with a hidden name counts as the release. Where standard error cannot be written, or there is no
+/// memory for the line, nothing is said.
 fn warn<R: Runtime + AllocGlobal>(rt: &R, files: &Files, vsn: &str) {
     if let Some(hidden) = hidden_rel(files, vsn) {
         if let Ok(line) = warning(rt.alloc(), hidden) {
@@ -73,8 +74,8 @@ fn warn<R: Runtime + AllocGlobal>(rt: &R, files: &Files, vsn: &str) {
     }
 }
 
-/// Tells a fault as one line on the standard error; on a terminal the line of the file in which it is stands below. Where standard error
-/// cannot be written, the status alone tells of the fault.
+/// Tells a fault as one line on the standard error; on a terminal the line of the file in which it is stands below. Where
+/// standard error cannot be written, the status alone tells of the fault.
 fn tell(rt: HostRuntime, fault: &Fault) {
     let Ok(told) = describe(rt.alloc(), fault) else {
         let _ = eprintln!(rt; "relnode: out of memory");

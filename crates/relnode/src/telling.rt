@@ -13,7 +13,7 @@ use std::str;
 
 /// What is told of a fault.
 #[derive(Drop)]
-pub struct Told {
+pub struct FaultText {
     /// One line, whatever names and texts of files it holds.
     pub line: String,
     /// What stands below it on a terminal: the line of the file in which the fault is, and a mark below its place.
@@ -25,7 +25,7 @@ pub struct Told {
 /// # Errors
 ///
 /// `AllocError` where memory is refused.
-pub fn describe(alloc: Global, fault: &Fault) -> Result<Told, AllocError>
+pub fn describe(alloc: Global, fault: &Fault) -> Result<FaultText, AllocError>
     ensures { IfOk result (λ told. IsOneLine (chars (string_bytes told.line))) }
 {
     match fault {
@@ -40,7 +40,7 @@ pub fn describe(alloc: Global, fault: &Fault) -> Result<Told, AllocError>
 }
 
 /// What is told of a fault of a file.
-fn of_diagnostic(alloc: Global, diagnostic: &Diagnostic) -> Result<Told, AllocError>
+fn of_diagnostic(alloc: Global, diagnostic: &Diagnostic) -> Result<FaultText, AllocError>
     ensures { IfOk result (λ told. IsOneLine (chars (string_bytes told.line))) }
 {
     let mut told = of_text(alloc, format!(in alloc; "{diagnostic}")?.as_str())?;
@@ -51,12 +51,12 @@ fn of_diagnostic(alloc: Global, diagnostic: &Diagnostic) -> Result<Told, AllocEr
 }
 
 /// What is told as one line.
-fn of_text(alloc: Global, text: &str) -> Result<Told, AllocError>
+fn of_text(alloc: Global, text: &str) -> Result<FaultText, AllocError>
     ensures { IfOk result (λ told. IsOneLine (chars (string_bytes told.line))) }
 {
     let mut line = String::new(alloc);
     push_shown(text, &mut line)?;
-    Ok(Told {
+    Ok(FaultText {
         line,
         excerpt: None,
     })

@@ -20,7 +20,7 @@ use Rattle.high_instructions.specs.declared.high.High.{High}
 use Rattle.high_instructions.specs.declared.high.ModuleWork.TheVariants.{Update}
 use Rattle.high_instructions.specs.declared.words.Change.TheVariants.{Soft}
 use Rattle.high_instructions.specs.declared.words.ModuleType.{ModuleType}
-use Rattle.relup_make.specs.Laws.{ApplicationTable, InstructionTable, ModuleTable, Starts, StaysUnstarted, apply, becomes}
+use Rattle.relup_make.specs.Laws.{ApplicationTable, InstructionTable, ModuleTable, IsStarted, StaysUnstarted, apply, becomes}
 use Rattle.relup_make.specs.Parts.{application_work, loads, removals, start, stop}
 use Rattle.relup_make.specs.Releases.{modules_in, start_type_in}
 use Rattle.relup_make.specs.Work.{Way, source, target}
@@ -63,7 +63,7 @@ stop_call app = apply (codes "stop") (atom app ∷ []) ∷ []
 abbrev unload_call : Name → List Low
 unload_call app = apply (codes "unload") (atom app ∷ []) ∷ []
 
-starts : (app : Name) (type : StartType) → Starts type → start app type ≡ start_call app type
+starts : (app : Name) (type : StartType) → IsStarted type → start app type ≡ start_call app type
 starts app types.Permanent does = refl
 starts app types.Transient does = refl
 starts app types.Temporary does = refl
@@ -74,7 +74,7 @@ starts_not : (app : Name) (type : StartType) → StaysUnstarted type → start a
 starts_not app type (inl e) = ap (start app) e
 starts_not app type (inr e) = ap (start app) e
 
-stops : (app : Name) (type : StartType) → Starts type → stop app type ≡ stop_call app
+stops : (app : Name) (type : StartType) → IsStarted type → stop app type ≡ stop_call app
 stops app types.Permanent does = refl
 stops app types.Transient does = refl
 stops app types.Temporary does = refl

@@ -50,13 +50,13 @@ is_placed place name (x ∷ xs) =
 pub itself : (x : Name) → bytes_eq x x ≡ true
 itself x = (bytes_eq-Decides x x).1 refl
 
-pub record Told (k : ℕ) (x : Name) (xs : Names) (i : ℕ) : Type 0 where
+pub record StandsFirst (k : ℕ) (x : Name) (xs : Names) (i : ℕ) : Type 0 where
   pub first : ℕ
   pub is : place_of k x xs ≡ Some first
   pub before : first ≤ k + i
   pub here : eqb first (k + i) ≡ not (list_any (λ o. bytes_eq o x) (take i xs))
 
-told_here : (k : ℕ) (x o : Name) (os : Names) → bytes_eq o x ≡ true → Told k x (o ∷ os) 0
+told_here : (k : ℕ) (x o : Name) (os : Names) → bytes_eq o x ≡ true → StandsFirst k x (o ∷ os) 0
 told_here k x o os e = record {
   first = k;
   is = ap (λ b. if b then Some k else place_of (k + 1) x os) e;
@@ -64,7 +64,7 @@ told_here k x o os e = record {
   here = grind (arith, nat_tests);
 }
 
-told_later : (k : ℕ) (x o : Name) (os : Names) (j : ℕ) (b : Bool) → bytes_eq o x ≡ b → Told (k + 1) x os j → Told k x (o ∷ os) (suc j)
+told_later : (k : ℕ) (x o : Name) (os : Names) (j : ℕ) (b : Bool) → bytes_eq o x ≡ b → StandsFirst (k + 1) x os j → StandsFirst k x (o ∷ os) (suc j)
 told_later k x o os j true e further = record {
   first = k;
   is = ap (λ c. if c then Some k else place_of (k + 1) x os) e;
@@ -82,7 +82,7 @@ told_later k x o os j false e further = record {
       ap (eqb further.first) next ∙ further.here ∙ sym (ap (λ c. not (c || list_any (λ p. bytes_eq p x) (take j os))) e);
 }
 
-pub told : (k : ℕ) (x : Name) (xs : Names) (i : ℕ) → i < length xs → x ≡ get_or xs i x → Told k x xs i
+pub told : (k : ℕ) (x : Name) (xs : Names) (i : ℕ) → i < length xs → x ≡ get_or xs i x → StandsFirst k x xs i
 told k x [] i within is = absurd (omega arith)
 told k x (o ∷ os) zero within is = told_here k x o os (ap (λ y. bytes_eq y x) (sym is) ∙ itself x)
 told k x (o ∷ os) (suc j) within is = told_later k x o os j (bytes_eq o x) refl (told (k + 1) x os j (omega arith) is)

@@ -72,8 +72,8 @@ apply function arguments = lows.Apply (codes "application") function (row argume
 
 -- an application is started and stopped, but for one of the type `load` or `none`
 
-abbrev pub Starts : StartType → Type 0
-Starts type = (type ≢ types.Load) × (type ≢ types.None)
+abbrev pub IsStarted : StartType → Type 0
+IsStarted type = (type ≢ types.Load) × (type ≢ types.None)
 
 abbrev pub StaysUnstarted : StartType → Type 0
 StaysUnstarted type = (type ≡ types.Load) ⊎ (type ≡ types.None)
@@ -107,7 +107,7 @@ pub record ModuleTable (way : Way) (name : Name) (dependencies : Names) (pre pos
 
 -- an instruction on an application: its modules are removed as the source has them, and loaded as the target has them
 pub record ApplicationTable (way : Way) (direction : Direction) (app : Name) : Type 0 where
-  pub add_application : (type : StartType) → Starts type →
+  pub add_application : (type : StartType) → IsStarted type →
       becomes direction way (onto app (works.Add type)) ≡
       map (λ name. lows.Load name Brutal Brutal) (modules_in app (target way)) ++
       apply (codes "start") (atom app ∷ start_type_tree type ∷ []) ∷ []
@@ -115,7 +115,7 @@ pub record ApplicationTable (way : Way) (direction : Direction) (app : Name) : T
       becomes direction way (onto app (works.Add type)) ≡
       map (λ name. lows.Load name Brutal Brutal) (modules_in app (target way))
   pub remove_application : (first : Name) (others : Names) → modules_in app (source way) ≡ first ∷ others →
-      Starts (start_type_in app (source way)) →
+      IsStarted (start_type_in app (source way)) →
       becomes direction way (onto app works.Remove) ≡
       apply (codes "stop") (atom app ∷ []) ∷ map (λ name. lows.Remove name Brutal Brutal) (first ∷ others) ++
       lows.Purge (first ∷ others) ∷ apply (codes "unload") (atom app ∷ []) ∷ []
@@ -125,13 +125,13 @@ pub record ApplicationTable (way : Way) (direction : Direction) (app : Name) : T
       map (λ name. lows.Remove name Brutal Brutal) (first ∷ others) ++
       lows.Purge (first ∷ others) ∷ apply (codes "unload") (atom app ∷ []) ∷ []
   -- one without modules has nothing to remove and to purge
-  pub remove_without_modules : modules_in app (source way) ≡ [] → Starts (start_type_in app (source way)) →
+  pub remove_without_modules : modules_in app (source way) ≡ [] → IsStarted (start_type_in app (source way)) →
       becomes direction way (onto app works.Remove) ≡
       apply (codes "stop") (atom app ∷ []) ∷ apply (codes "unload") (atom app ∷ []) ∷ []
   pub remove_unstarted_without_modules : modules_in app (source way) ≡ [] → StaysUnstarted (start_type_in app (source way)) →
       becomes direction way (onto app works.Remove) ≡ apply (codes "unload") (atom app ∷ []) ∷ []
   pub restart_application : (first : Name) (others : Names) → modules_in app (source way) ≡ first ∷ others →
-      Starts (start_type_in app (source way)) → Starts (start_type_in app (target way)) →
+      IsStarted (start_type_in app (source way)) → IsStarted (start_type_in app (target way)) →
       becomes direction way (onto app works.Restart) ≡
       apply (codes "stop") (atom app ∷ []) ∷ map (λ name. lows.Remove name Brutal Brutal) (first ∷ others) ++
       lows.Purge (first ∷ others) ∷ map (λ name. lows.Load name Brutal Brutal) (modules_in app (target way)) ++

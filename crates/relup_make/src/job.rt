@@ -39,7 +39,8 @@ pub(crate) fn jobs(alloc: Global, way: &Way<'_>) -> Result<Row<Job>, AllocError>
 
 /// Appends the jobs of changed applications.
 fn append_changed(alloc: Global, way: &Way<'_>, jobs: &mut Vec<Job>) -> Result<(), AllocError>
-    ensures { OnOk result (jobs.new.items ≡ jobs.old.items ++ filter_map (changed_job (way_of way.now)) (changed (way_of way.now))) }
+    ensures { OnOk result (jobs.new.items ≡ jobs.old.items ++
+        filter_map (changed_job (way_of way.now)) (changed (way_of way.now))) }
 {
     let apps = way.target().whole.rel.apps.as_slice();
     for app in apps {
@@ -89,7 +90,8 @@ fn append_if_added(
     name: &Atom,
     jobs: &mut Vec<Job>,
 ) -> Result<(), AllocError>
-    ensures { OnOk result (jobs.new.items ≡ jobs.old.items ++ (if is_only_in (target (way_of way.now)) (source (way_of way.now)) name.now
+    ensures { OnOk result (jobs.new.items ≡ jobs.old.items ++
+        (if is_only_in (target (way_of way.now)) (source (way_of way.now)) name.now
         then lone name.now (add (start_type_in name.now (target (way_of way.now)))) ∷ [] else [])) }
 {
     if !way.target().has(name) || way.source().has(name) {
@@ -119,7 +121,8 @@ fn append_if_removed(
     name: &Atom,
     jobs: &mut Vec<Job>,
 ) -> Result<(), AllocError>
-    ensures { OnOk result (jobs.new.items ≡ jobs.old.items ++ (if is_only_in (source (way_of way.now)) (target (way_of way.now)) name.now
+    ensures { OnOk result (jobs.new.items ≡ jobs.old.items ++
+        (if is_only_in (source (way_of way.now)) (target (way_of way.now)) name.now
         then lone name.now remove ∷ [] else [])) }
 {
     if !way.source().has(name) || way.target().has(name) {

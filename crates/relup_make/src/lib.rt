@@ -4,7 +4,7 @@
 //!
 //! # What is proved
 //!
-//! - [`make`] gives the relup of the table, or, want of memory aside, what stands against it first, in the order of
+//! - [`make`] gives the relup of the table, or, lack of memory aside, what stands against it first, in the order of
 //!   [`MakeError`].
 //! - [`at_most_one_script`], [`at_most_one_answer`]: there is at most one such script, and so at most one relup; and what is
 //!   refused has none, and is refused for one reason.
@@ -14,7 +14,7 @@
 //!
 //! # What no contract says
 //!
-//! That there is memory: a body that only tells of want of memory meets the contract of [`make`], and the tests alone see that
+//! That there is memory: a body that only tells of lack of memory meets the contract of [`make`], and the tests alone see that
 //! it makes relups. And what a call costs: the names of applications, modules and dependencies, times the logarithm of
 //! their number, for each application that is changed and each direction.
 #![tactic(auto)]

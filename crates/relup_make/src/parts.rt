@@ -42,7 +42,8 @@ fn append_up(
     group: &Group,
     parts: &mut Vec<Low>,
 ) -> Result<(), AllocError>
-    ensures { OnOk result (parts.new.items ≡ parts.old.items ++ parts_of up (way_of way.now) (placed instructions.now group.now)) }
+    ensures { OnOk result (parts.new.items ≡ parts.old.items ++
+        parts_of up (way_of way.now) (placed instructions.now group.now)) }
 {
     let dependencies_first = group.dependencies_first.as_slice();
     let suspended = suspensions(alloc, instructions, group.dependants_first.as_slice())?;
@@ -62,7 +63,8 @@ fn append_down(
     group: &Group,
     parts: &mut Vec<Low>,
 ) -> Result<(), AllocError>
-    ensures { OnOk result (parts.new.items ≡ parts.old.items ++ parts_of down (way_of way.now) (placed instructions.now group.now)) }
+    ensures { OnOk result (parts.new.items ≡ parts.old.items ++
+        parts_of down (way_of way.now) (placed instructions.now group.now)) }
 {
     let dependants_first = group.dependants_first.as_slice();
     let suspended = suspensions(alloc, instructions, group.dependencies_first.as_slice())?;
@@ -94,7 +96,8 @@ fn append_changes_of(
     order: &[usize],
     parts: &mut Vec<Low>,
 ) -> Result<(), AllocError>
-    ensures { OnOk result (parts.new.items ≡ parts.old.items ++ code_change down (changes_of_kind kind (at instructions.now order.now))) }
+    ensures { OnOk result (parts.new.items ≡ parts.old.items ++
+        code_change down (changes_of_kind kind (at instructions.now order.now))) }
 {
     let changes = changes(alloc, Some(kind), instructions, order)?;
     append_changes(Direction::Down, changes, parts)

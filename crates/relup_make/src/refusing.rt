@@ -75,7 +75,8 @@ fn change_of_base(
 ) -> Result<Option<MakeError>, AllocError>
     requires ascii { IsTrue (is_ascii_text word.now) }
     requires short { length word.now ≤ 255 }
-    ensures { IfOk result (λ found. found ≡ (if is_base_kept old.now new.now word.now then None else Some (base_changed word.now))) }
+    ensures { IfOk result (λ found. found ≡ (if is_base_kept old.now new.now word.now then None else Some
+        (base_changed word.now))) }
 {
     let name = Atom::word(alloc, word)?;
     if is_base_kept(old, new, &name) {
@@ -137,7 +138,8 @@ fn entry_refusal(
     app: &Atom,
     instructions: &[Instruction],
 ) -> Result<Option<MakeError>, AllocError>
-    ensures { IfOk result (λ found. found ≡ first_of (flat_map (instruction_refusals (way_of way.now) app.now) instructions.now)) }
+    ensures { IfOk result (λ found. found ≡ first_of
+        (flat_map (instruction_refusals (way_of way.now) app.now) instructions.now)) }
 {
     let before = Names::new(
         alloc,
@@ -202,7 +204,8 @@ fn missing_application(
     way: &Way<'_>,
     on: &ApplicationInstruction,
 ) -> Result<Option<MakeError>, AllocError>
-    ensures { IfOk result (λ found. found ≡ first_of (unless (is_app_there (way_of way.now) on.now.name on.now.work) (no_appup on.now.name))) }
+    ensures { IfOk result (λ found. found ≡ first_of
+        (unless (is_app_there (way_of way.now) on.now.name on.now.work) (no_appup on.now.name))) }
 {
     let is_there = match &on.work {
         ApplicationWork::Add { .. } => way.target().has(&on.name),

@@ -115,7 +115,8 @@ fn append_own_object_code(
     jobs: &[Job],
     script: &mut Vec<Low>,
 ) -> Result<(), AllocError>
-    ensures { OnOk result (script.new.items ≡ script.old.items ++ flat_map (λ job. flat_map own_object_code job.instructions) jobs.now) }
+    ensures { OnOk result (script.new.items ≡ script.old.items ++
+        flat_map (λ job. flat_map own_object_code job.instructions) jobs.now) }
 {
     for job in jobs {
         append_own(alloc, job.instructions.as_slice(), script)?;

@@ -31,7 +31,13 @@ impl<'a> Way<'a> {
         new: &'a Release<'a>,
         appups: &'a [Option<Appup>],
     ) -> Way<'a>
-        ensures { way_of result ≡ record { direction = direction; old = old.now.whole.now; new = new.now.whole.now; appups = appups.now } }
+        ensures { way_of result ≡ record {
+          direction = direction;
+          old = old.now.whole.now;
+          new = new.now.whole.now;
+          appups =
+              appups.now;
+        } }
     {
         Way {
             direction,

@@ -26,7 +26,8 @@ pub(crate) fn append_works(
     order: &[usize],
     parts: &mut Vec<Low>,
 ) -> Result<(), AllocError>
-    ensures { OnOk result (parts.new.items ≡ parts.old.items ++ flat_map (work_of (way_of way.now)) (at instructions.now order.now)) }
+    ensures { OnOk result (parts.new.items ≡ parts.old.items ++
+        flat_map (work_of (way_of way.now)) (at instructions.now order.now)) }
 {
     for place in order {
         append_at(alloc, way, instructions, *place, parts)?;

@@ -1,5 +1,5 @@
--- Which script can be installed (relup(4); appup(4), Low-Level Instructions; release_handler(3), install_release/1): what may stand before
--- the point of no return, and what behind it.
+-- Which script can be installed (relup(4); appup(4), Low-Level Instructions; release_handler(3), install_release/1): what
+-- may stand before the point of no return, and what behind it.
 use Rattle.std.specs.Prelude.{ℕ, Bool, true, false, not, ◌||◌, if◌then◌else◌, List, codes, length, take, Option, None, Some, slice_get}
 use Rattle.std.specs.List.{find, list_any, range_with_len}
 use Rattle.std.specs.Str.{bytes_eq}
@@ -41,8 +41,9 @@ reads m (Apply name function arguments) = false
 abbrev pub is_read : List ℕ → List Low → Bool
 is_read m instructions = list_any (reads m) instructions
 
--- An instruction behind these is faulty: a second point; object code that is read behind the point; a load of a module whose object code
--- was not read; before the point anything but object code and the application of a function of a module other than `application`.
+-- An instruction behind these is faulty: a second point; object code that is read behind the point; a load of a module
+-- whose object code was not read; before the point anything but object code and the application of a function of a module
+-- other than `application`.
 abbrev pub is_faulty : List Low → Low → Bool
 is_faulty before (LoadObjectCode application version modules) = has_point before
 is_faulty before PointOfNoReturn = has_point before
@@ -63,7 +64,8 @@ any_faulty before (Some i) = is_faulty before i
 abbrev pub is_faulty_at : List Low → ℕ → Bool
 is_faulty_at script place = any_faulty (take place script) (slice_get script place)
 
--- The least place of a faulty instruction, counted from 0; where none is faulty but the point is missing, the length of the script.
+-- The least place of a faulty instruction, counted from 0; where none is faulty but the point is missing, the length of the
+-- script.
 
 abbrev pub or_missing : Option ℕ → List Low → Option ℕ
 or_missing (Some place) script = Some place

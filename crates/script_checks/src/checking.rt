@@ -78,8 +78,8 @@ fn is_passed(has_point: bool, instruction: &Low) -> bool
     has_point || is_point(instruction)
 }
 
-/// The least place of a faulty instruction of a script, counted from 0, or its length where none is faulty but the point of no return is
-/// missing; nothing where it can be installed. Takes no memory.
+/// The least place of a faulty instruction of a script, counted from 0, or its length where none is faulty but the point of
+/// no return is missing; nothing where it can be installed. Takes no memory.
 pub fn check(script: &[Low]) -> Option<usize>
     ensures { result ≡ bad_script script.now }
 {

@@ -8,13 +8,13 @@ use Rattle.erl_term.specs.Accessors.{atom_of}
 use Rattle.erl_term.specs.Tree.{Tree, Trees}
 use Rattle.erl_term.specs.declared.term.Term.{Term}
 use Rattle.process_effects.specs.Ends.{all_vacated}
-use Rattle.process_effects.specs.Kills.{all_downs}
+use Rattle.process_effects.specs.Kills.{downs_of_each}
 use Rattle.process_effects.specs.declared.told.Reply.{Reply}
 use Rattle.script_children.specs.Calls.{call_of, reason_of}
 use Rattle.script_children.specs.Children.{Supervised}
 use Rattle.script_children.specs.declared.calls.AppCall.{AppCall}
 use Rattle.script_children.specs.declared.calls.AppCall.TheVariants.{Start, Stop, Unload}
-use Rattle.sys_protocol.specs.Refusals.{RefusesStart, Runs, module_of, start_refusal}
+use Rattle.sys_protocol.specs.Refusals.{RefusesStart, RunsStartModule, module_of, start_refusal}
 use Rattle.sys_protocol.specs.Stopping.{app_pids, shutdown, stop_refusal, stopped_app, unload_refusal, unloaded_app}
 use Rattle.sys_protocol.specs.declared.app_error.AppError.{AppError}
 use Rattle.sys_protocol.specs.declared.app_error.AppError.TheVariants.{NotLoaded, NotStarted}
@@ -25,14 +25,14 @@ use Rattle.upgrade_calls.specs.Applying.{Applies, FailsToApply}
 pub record AppStarts (code : List Instance) (name : List ℕ) (s after : Supervised) (told : List Reply) : Type 0 where
   pub unrefused : start_refusal name s.apps ≡ None
   pub children : List Child
-  pub runs : Runs code (module_of name s.apps) s.processes children after.processes told
+  pub runs : RunsStartModule code (module_of name s.apps) s.processes children after.processes told
   pub apps : after.apps ≡ started name children s.apps
 
 pub record AppStops (name : List ℕ) (s after : Supervised) (told : List Reply) : Type 0 where
   pub unrefused : stop_refusal name s.apps ≡ None
   pub apps : after.apps ≡ stopped_app name s.apps
   pub processes : after.processes ≡ all_vacated (app_pids name s.apps) s.processes
-  pub tells : told ≡ all_downs shutdown (app_pids name s.apps) s.processes
+  pub tells : told ≡ downs_of_each shutdown (app_pids name s.apps) s.processes
 
 pub record AppUnloads (name : List ℕ) (s after : Supervised) (told : List Reply) : Type 0 where
   pub unrefused : unload_refusal name s.apps ≡ None
@@ -40,11 +40,11 @@ pub record AppUnloads (name : List ℕ) (s after : Supervised) (told : List Repl
   pub processes : after.processes ≡ s.processes
   pub tells : told ≡ []
 
-abbrev pub Does : List Instance → AppCall → Option (List ℕ) → Supervised → Supervised → List Reply → Type 0
-Does code call None s after told = ⊥
-Does code Start (Some name) s after told = AppStarts code name s after told
-Does code Stop (Some name) s after told = AppStops name s after told
-Does code Unload (Some name) s after told = AppUnloads name s after told
+abbrev pub DoesAppCall : List Instance → AppCall → Option (List ℕ) → Supervised → Supervised → List Reply → Type 0
+DoesAppCall code call None s after told = ⊥
+DoesAppCall code Start (Some name) s after told = AppStarts code name s after told
+DoesAppCall code Stop (Some name) s after told = AppStops name s after told
+DoesAppCall code Unload (Some name) s after told = AppUnloads name s after told
 
 -- Why it doesn't.
 abbrev pub Refuses : AppError → List Instance → AppCall → Option (List ℕ) → Supervised → Type 0
@@ -64,7 +64,7 @@ DoesOther code m f args s after told = Applies code m f args s.processes after.p
 abbrev pub AppliedAs : Option (AppCall × Tree) → List Instance → List ℕ → List ℕ → Trees → Supervised → Supervised →
     List Reply → Type 0
 AppliedAs None code m f args s after told = DoesOther code m f args s after told
-AppliedAs (Some c) code m f args s after told = Does code c.0 (atom_of c.1) s after told
+AppliedAs (Some c) code m f args s after told = DoesAppCall code c.0 (atom_of c.1) s after told
 
 abbrev pub Applied : List Instance → List ℕ → List ℕ → Trees → Supervised → Supervised → List Reply → Type 0
 Applied code m f args s after told = AppliedAs (call_of m f args) code m f args s after told

@@ -6,14 +6,14 @@ ghost use Rattle.process_store.specs.Table.{Table};
 ghost use Rattle.sys_protocol.specs.Refusals.{RefusesStart};
 ghost use Rattle.sys_protocol.specs.Stopping.{stop_refusal, unload_refusal};
 ghost use Rattle.values.specs.Failure.{Fails};
-ghost use Rattle.script_children.specs.Applying.{AppStarts, AppStops, AppUnloads, Does, Refuses};
+ghost use Rattle.script_children.specs.Applying.{AppStarts, AppStops, AppUnloads, DoesAppCall, Refuses};
 ghost use Rattle.script_children.specs.Pieces.{SpecsTaken, held_apps, held_processes};
 ghost use Rattle.script_children.specs.Undo.{TakesBack};
 
 use crate::applying::Applied;
 use crate::calls::AppCall;
 use crate::telling::nothing_told;
-use crate::undo::Undo;
+use crate::undo::ChildrenUndo;
 use app_table::AppTable;
 use erl_semantics::Instance;
 use erl_term::Atom;
@@ -45,7 +45,7 @@ fn start(
     let started = start_app(apps, processes, alloc, code, name, n)?;
     Ok(Applied {
         told: started.told,
-        undo: Undo::Changed(started.processes, Some(started.undo)),
+        undo: ChildrenUndo::Changed(started.processes, Some(started.undo)),
     })
 }
 
@@ -70,7 +70,7 @@ fn stop(
     let stopped = stop_app(apps, processes, alloc, name, n)?;
     Ok(Applied {
         told: stopped.told,
-        undo: Undo::Changed(Some(stopped.processes), Some(stopped.undo)),
+        undo: ChildrenUndo::Changed(Some(stopped.processes), Some(stopped.undo)),
     })
 }
 
@@ -95,7 +95,7 @@ fn unload(
     match unload_app(apps, name) {
         Ok(unloaded) => Ok(Applied {
             told,
-            undo: Undo::Unloaded(unloaded),
+            undo: ChildrenUndo::Unloaded(unloaded),
         }),
         Err(refusal) => Err(Failure::Refused(refusal)),
     }
@@ -116,7 +116,7 @@ pub(crate) fn call_app(
     name: &Atom,
     n: usize,
 ) -> Result<Applied, Failure<AppError>>
-    ensures applied { IfOk result (λ it. (told : List Told) × Does code.now call (Some name.now)
+    ensures applied { IfOk result (λ it. (told : List Told) × DoesAppCall code.now call (Some name.now)
         (record { apps = apps.old; processes = processes.old }) (record { apps = apps.new; processes = processes.new }) told ×
         (it.told.items ≡ replicate n told)) }
     ensures inverse { IfOk result (λ it. TakesBack it.undo

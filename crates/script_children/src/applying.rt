@@ -8,7 +8,7 @@ ghost use Rattle.process_store.specs.Pieces.{HoldsLost};
 ghost use Rattle.sys_protocol.specs.declared.app_error.AppError.{AppError as Why};
 ghost use Rattle.upgrade_calls.specs.Applying.{Applies, FailsToApply};
 ghost use Rattle.values.specs.Failure.{Fails};
-ghost use Rattle.script_children.specs.Applying.{Applied as IsApplied, Does, NotApplied, Refuses};
+ghost use Rattle.script_children.specs.Applying.{Applied as IsApplied, DoesAppCall, NotApplied, Refuses};
 ghost use Rattle.script_children.specs.Calls.{reason_of};
 ghost use Rattle.script_children.specs.Pieces.{SpecsTaken, held_apps, held_processes};
 ghost use Rattle.script_children.specs.Undo.{TakesBack};
@@ -16,7 +16,7 @@ ghost use Rattle.script_children.specs.Undo.{TakesBack};
 use crate::applications::call_app;
 use crate::calls::{AppCall, call_of};
 use crate::reasons::{reason_of, unnamed};
-use crate::undo::Undo;
+use crate::undo::ChildrenUndo;
 use app_table::AppTable;
 use erl_semantics::Instance;
 use erl_term::{Atom, Term, Terms};
@@ -31,7 +31,7 @@ pub struct Applied {
     /// What clients are told, in as many equal values as were asked for.
     pub told: Vec<Row<Reply>>,
     /// What takes it back.
-    pub undo: Undo,
+    pub undo: ChildrenUndo,
 }
 
 /// A function of `application` is applied to the application that a term names. What clients are told is handed out in `n` equal
@@ -49,7 +49,7 @@ fn apply_to_app(
     app: &Term,
     n: usize,
 ) -> Result<Applied, Failure<Term>>
-    ensures applied { IfOk result (λ it. (told : List Told) × Does code.now call (atom_of (tree app.now))
+    ensures applied { IfOk result (λ it. (told : List Told) × DoesAppCall code.now call (atom_of (tree app.now))
         (record { apps = apps.old; processes = processes.old }) (record { apps = apps.new; processes = processes.new }) told ×
         (it.told.items ≡ replicate n told)) }
     ensures inverse { IfOk result (λ it. TakesBack it.undo
@@ -103,7 +103,7 @@ fn apply_other(
     let applied = upgrade_calls::apply(processes, alloc, code, module, function, arguments, n)?;
     Ok(Applied {
         told: applied.told,
-        undo: Undo::Changed(Some(applied.undo), None),
+        undo: ChildrenUndo::Changed(Some(applied.undo), None),
     })
 }
 

@@ -6,7 +6,8 @@
 //! # What is proved
 //!
 //! - `application:start/1` and `start/2`, whatever the type of the start, start the application that their first argument
-//!   names; `stop/1` stops it, and `unload/1` takes it away (`call_of`, `Does`). A first argument that is no atom names none.
+//!   names; `stop/1` stops it, and `unload/1` takes it away (`call_of`, `DoesAppCall`). A first argument that is no atom
+//!   names none.
 //! - Any other function is evaluated outside of all processes, and what it has asked for is done, in order; the applications
 //!   stay as they are (`DoesOther`).
 //! - A function that isn't applied fails for a reason that the rules give, which is told as a term: `{not_loaded,App}`,
@@ -37,4 +38,4 @@ pub use calls::AppCall;
 pub use reasons::start_failed;
 pub use reverting::revert;
 pub use telling::nothing_told;
-pub use undo::Undo;
+pub use undo::ChildrenUndo;

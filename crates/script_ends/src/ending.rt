@@ -15,7 +15,7 @@ pub struct Finish {
     /// The processes that were resumed, and whether each was suspended.
     pub resumed: Row<Resumed>,
     /// What takes the change of statuses back.
-    pub statuses: release_statuses::Undo,
+    pub statuses: release_statuses::ReleasesUndo,
 }
 
 /// What takes it back that a script was given up before the point of no return.

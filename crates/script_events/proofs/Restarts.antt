@@ -2,7 +2,7 @@
 use Rattle.std.proofs.Common.{◌≡◌, ◌∙◌, List, [], None, sym, subst}
 use Rattle.app_table.specs.Applications.{Application}
 use Rattle.code_server.specs.Modules.{Table as Loaded}
-use Rattle.erl_forms.specs.Module.{Forms}
+use Rattle.erl_ir.specs.Module.{Forms}
 use Rattle.node_restart.specs.Restart.{RestartsAs, TellsRestart, restart_refusal}
 use Rattle.process_effects.specs.declared.told.Reply.{Reply}
 use Rattle.process_store.specs.Table.{Table}

@@ -4,10 +4,10 @@ use Rattle.std.proofs.lemmas.Option.{same_Some}
 use Rattle.low_instructions.specs.declared.low.Low.{Low}
 use Rattle.process_effects.specs.declared.told.Reply.{Reply}
 use Rattle.release_table.specs.declared.table.Release.{Release}
-use Rattle.script_runner.specs.Instructions.{Does, busy_of}
+use Rattle.script_runner.specs.Instructions.{RunsInstruction, busy_of}
 use Rattle.script_runner.specs.Parts.{Parts}
 use Rattle.script_runner.specs.Undo.{TakesBack}
-use Rattle.script_runner.specs.declared.undo.Undo.{Undo}
+use Rattle.script_runner.specs.declared.undo.InstructionUndo.{InstructionUndo}
 use Rattle.script_steps.specs.Steps.{Steps}
 use Rattle.script_steps.specs.declared.stepping.Stepped.{Stepped}
 use Rattle.script_events.specs.Carrying.{IsCarriedOn}
@@ -27,9 +27,9 @@ carried r give_up n p q script slice next last made it i same steps at undo tell
       next = ap (λ (is : List Low). slice_get is next) (sym same) ∙ at;
       waits = subst (λ (x : Low). busy_of give_up x p ≡ None) one steps.waits;
       told = steps.told;
-      does = subst (λ (x : Low). Does r x p q steps.told) one steps.does;
+      does = subst (λ (x : Low). RunsInstruction r x p q steps.told) one steps.does;
       tells = tells steps.told steps.tells;
-      back = subst (λ (u : Undo). TakesBack u p q) (sym undo) steps.back;
+      back = subst (λ (u : InstructionUndo). TakesBack u p q) (sym undo) steps.back;
       script = refl;
       goes_on = steps.goes_on;
     }

@@ -3,7 +3,7 @@ use Rattle.std.specs.Prelude.{◌≡◌, ℕ, ◌+◌, Bool, List, Option, None,
 use Rattle.low_instructions.specs.declared.low.Low.{Low}
 use Rattle.process_effects.specs.declared.told.Reply.{Reply}
 use Rattle.release_table.specs.declared.table.Release.{Release}
-use Rattle.script_runner.specs.Instructions.{Does, busy_of}
+use Rattle.script_runner.specs.Instructions.{RunsInstruction, busy_of}
 use Rattle.script_runner.specs.Parts.{Parts}
 use Rattle.script_runner.specs.Undo.{TakesBack}
 use Rattle.script_state.specs.declared.runner.Runner.{Runner}
@@ -24,7 +24,7 @@ pub record IsCarriedOn (r : Release) (give_up : Bool) (n : ℕ) (s after : Scrip
   pub next : next_of s ≡ Some instruction
   pub waits : busy_of give_up instruction s.parts ≡ None
   pub told : List Reply
-  pub does : Does r instruction s.parts after.parts told
+  pub does : RunsInstruction r instruction s.parts after.parts told
   pub tells : it.told.items ≡ replicate n (record { answer = answer.Ran instruction; note = reporting told })
   pub back : TakesBack it.undo s.parts after.parts
   pub script : after.script ≡ s.script

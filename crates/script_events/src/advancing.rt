@@ -70,9 +70,11 @@ fn end_script(parts: &mut NodeParts, alloc: Global, n: usize) -> Step
 
 /// The script is given up, before its point of no return, since an instruction has failed for this reason.
 fn give_up_script(parts: &mut NodeParts, alloc: Global, reason: Term, n: usize) -> Step
-    requires { (s : RunnerState) × ((state_of parts.old).runner ≡ Some s) × CanHalt (Failed Before reason) s (state_of parts.old) }
+    requires { (s : RunnerState) × ((state_of parts.old).runner ≡ Some s) ×
+        CanHalt (Failed Before reason) s (state_of parts.old) }
     ensures { (s : RunnerState) → (state_of parts.old).runner ≡ Some s →
-        IsStepOf (HaltsAs (Failed Before reason) s (state_of parts.old)) (Unit {0}) n (state_of parts.old) (state_of parts.new) result }
+        IsStepOf (HaltsAs (Failed Before reason) s (state_of parts.old)) (Unit {0}) n (state_of parts.old) (state_of parts.new)
+        result }
 {
     let Ok(told) = tell(
         alloc,

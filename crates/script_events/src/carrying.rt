@@ -5,13 +5,13 @@ ghost use Rattle.script_runner.specs.Parts.{parts_of};
 ghost use Rattle.script_state.specs.Runner.{progress_of, runner_of};
 
 use code_server::Modules;
-use erl_forms::Module;
+use erl_ir::Module;
 use low_instructions::Low;
 use node_parts::{room, tell_ran};
 use node_types::{Answer, Note};
 use process_table::Processes;
 use release_table::Release;
-use script_runner::Undo;
+use script_runner::InstructionUndo;
 use script_state::{Runner, Unpurged, instruction_at};
 use script_steps::{NoStep, Stepped, step};
 use std::alloc::{AllocError, Global};
@@ -25,7 +25,7 @@ pub(crate) struct CarriedOn {
     /// What is told of it, in as many equal values as were asked for.
     pub(crate) told: Vec<Told<Answer, Note>>,
     /// What takes it back.
-    pub(crate) undo: Boxed<Undo>,
+    pub(crate) undo: Boxed<InstructionUndo>,
 }
 
 /// `n` equal values of an instruction.

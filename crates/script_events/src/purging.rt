@@ -1,6 +1,6 @@
 // Old code that scripts have left is purged.
 ghost use Rattle.std.specs.Prelude.{◌≡◌, IfErr, IfOk, OnErr, OnOk, replicate};
-ghost use Rattle.code_loading.specs.Purging.{all_purge_told};
+ghost use Rattle.code_loading.specs.Purging.{downs_of_purges};
 ghost use Rattle.node_parts.specs.Changes.{IsStep, state_of};
 ghost use Rattle.node_parts.specs.Scripts.{ArePurged, reporting};
 ghost use Rattle.node_parts.specs.Step.{MayRunOut};
@@ -46,7 +46,7 @@ fn permanent_told(
 ) -> Result<Vec<Told<Answer, Note>>, AllocError>
     ensures { IfOk result (λ it. it.items ≡ replicate n (record {
       answer = answer.Unit;
-      note = reporting (all_purge_told names.now (state_of parts.now).modules (state_of parts.now).processes);
+      note = reporting (downs_of_purges names.now (state_of parts.now).modules (state_of parts.now).processes);
     })) }
 {
     let told = room(alloc, n)?;
@@ -63,7 +63,7 @@ fn swept_told(
 ) -> Result<Vec<Told<Answer, Note>>, AllocError>
     ensures { IfOk result (λ it. it.items ≡ replicate n (record {
       answer = answer.Swept names.now;
-      note = reporting (all_purge_told names.now (state_of parts.now).modules (state_of parts.now).processes);
+      note = reporting (downs_of_purges names.now (state_of parts.now).modules (state_of parts.now).processes);
     })) }
 {
     let lists = purges_told(&parts.modules, &parts.processes, alloc, names, n)?;

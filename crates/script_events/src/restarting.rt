@@ -19,7 +19,7 @@ use node_parts::{Displaced, NodeParts, Record, Step, reporting, tell};
 use node_restart::{Restart, prepare};
 use node_types::{Answer, Note, Refusal};
 use release_boot::Booted;
-use release_statuses::{Undo, Vsn};
+use release_statuses::{ReleasesUndo, Vsn};
 use release_table::Release;
 use std::alloc::Global;
 use std::mem;
@@ -73,7 +73,7 @@ fn put_in_place(
     parts: &mut NodeParts,
     alloc: Global,
     ready: Ready,
-    statuses: Undo,
+    statuses: ReleasesUndo,
 ) -> Stepped<Answer, Note, Record>
     ensures told { result.told ≡ ready.told }
     ensures stands { state_of parts.new ≡ record {

@@ -10,13 +10,13 @@ use Rattle.erl_term.specs.declared.term.Term.{Term}
 use Rattle.otp_files.specs.declared.app.StartModule.{StartModule}
 use Rattle.process_effects.specs.declared.told.Reply.{Reply}
 use Rattle.process_store.specs.Table.{Table}
-use Rattle.script_children.specs.Applying.{AppliedAs, Does, NotAppliedAs, Refuses}
+use Rattle.script_children.specs.Applying.{AppliedAs, DoesAppCall, NotAppliedAs, Refuses}
 use Rattle.script_children.specs.Calls.{reason_of}
 use Rattle.script_children.specs.Children.{Supervised}
 use Rattle.script_children.specs.declared.calls.AppCall.{AppCall}
 use Rattle.script_children.specs.declared.calls.AppCall.TheVariants.{Start, Stop, Unload}
 use Rattle.sys_protocol.proofs.ApplicationsOneWay.{applications_start_one_way}
-use Rattle.sys_protocol.specs.Refusals.{FailsToRun, RefusesStart, Runs, module_of, start_refusal}
+use Rattle.sys_protocol.specs.Refusals.{FailsToRun, RefusesStart, RunsStartModule, module_of, start_refusal}
 use Rattle.sys_protocol.specs.declared.app_error.AppError.{AppError}
 use Rattle.upgrade_calls.proofs.AppliesOneWay.{applies_one_way}
 
@@ -26,7 +26,7 @@ same_supervised one other apps processes = λ i. record { apps = apps i; process
 -- an application starts, of which there may be nothing to run
 
 runs-once : (code : List Instance) (o : Option StartModule) (t after last : Table) (children others : List Child) →
-    (told said : List Reply) → Runs code o t children after told → Runs code o t others last said →
+    (told said : List Reply) → RunsStartModule code o t children after told → RunsStartModule code o t others last said →
     (children ≡ others) × (after ≡ last) × (told ≡ said)
 runs-once code None t after last children others told said first second =
     (first.0 ∙ sym second.0, first.1 ∙ sym second.1, first.2 ∙ sym second.2)
@@ -39,7 +39,7 @@ runs_fail-once code None t e f first second = absurd first
 runs_fail-once code (Some m) t e f first second = applications_start_one_way.fails code m t e f first second
 
 runs_or_fails : (code : List Instance) (o : Option StartModule) (t after : Table) (children : List Child) (told : List Reply) →
-    (e : AppError) → Runs code o t children after told → FailsToRun e code o t → ⊥
+    (e : AppError) → RunsStartModule code o t children after told → FailsToRun e code o t → ⊥
 runs_or_fails code None t after children told e runs fails = fails
 runs_or_fails code (Some m) t after children told e runs fails =
     applications_start_one_way.never_both code m t after children told e runs fails
@@ -52,7 +52,7 @@ starts_refused-once code name apps t e f (inr one) (inl other) = absurd (none-so
 starts_refused-once code name apps t e f (inr one) (inr other) = runs_fail-once code (module_of name apps) t e f one.1 other.1
 
 starts_or_refused : (code : List Instance) (name : List ℕ) (apps : List Application) (t after : Table) (children : List Child) →
-    (told : List Reply) (e : AppError) → start_refusal name apps ≡ None → Runs code (module_of name apps) t children after told →
+    (told : List Reply) (e : AppError) → start_refusal name apps ≡ None → RunsStartModule code (module_of name apps) t children after told →
     RefusesStart e code name apps t → ⊥
 starts_or_refused code name apps t after children told e unrefused runs (inl refused) = none-some e (sym unrefused ∙ refused)
 starts_or_refused code name apps t after children told e unrefused runs (inr fails) =
@@ -61,7 +61,7 @@ starts_or_refused code name apps t after children told e unrefused runs (inr fai
 -- a function of `application`
 
 calls-once : (code : List Instance) (c : AppCall) (name : Option (List ℕ)) (s after last : Supervised) (told said : List Reply) →
-    Does code c name s after told → Does code c name s last said → (after ≡ last) × (told ≡ said)
+    DoesAppCall code c name s after told → DoesAppCall code c name s last said → (after ≡ last) × (told ≡ said)
 calls-once code Start None s after last told said first second = absurd first
 calls-once code Stop None s after last told said first second = absurd first
 calls-once code Unload None s after last told said first second = absurd first
@@ -88,7 +88,7 @@ calls_refused-once code Stop (Some name) s e f first second = same_Some e f (sym
 calls_refused-once code Unload (Some name) s e f first second = same_Some e f (sym first ∙ second)
 
 calls_or_refused : (code : List Instance) (c : AppCall) (name : Option (List ℕ)) (s after : Supervised) (told : List Reply) →
-    (e : AppError) → Does code c name s after told → Refuses e code c name s → ⊥
+    (e : AppError) → DoesAppCall code c name s after told → Refuses e code c name s → ⊥
 calls_or_refused code Start None s after told e does refuses = does
 calls_or_refused code Stop None s after told e does refuses = does
 calls_or_refused code Unload None s after told e does refuses = does

@@ -6,7 +6,7 @@ use Rattle.std.proofs.lemmas.Option.{none-some, same_Some}
 use Rattle.std.proofs.lemmas.Slice.Eq.{bytes_eq-Decides}
 use Rattle.std.specs.List.{find, flat_map}
 use Rattle.std.specs.Str.{bytes_eq}
-use Rattle.erl_forms.specs.Module.{Forms}
+use Rattle.erl_ir.specs.Module.{Forms}
 use Rattle.release_table.specs.declared.table.AppFiles.{AppFiles}
 use Rattle.release_table.specs.declared.table.Release.{Release}
 use Rattle.script_state.specs.ObjectCode.{files_of, is_files_of, is_there, source_in, source_of, sources}

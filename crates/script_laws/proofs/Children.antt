@@ -27,7 +27,7 @@ use Rattle.script_children.specs.Children.{Supervised}
 use Rattle.script_children.specs.declared.calls.AppCall.{AppCall}
 use Rattle.script_children.specs.declared.calls.AppCall.TheVariants as call
 use Rattle.script_laws.specs.Laws.{InstructionsKeepChildren}
-use Rattle.script_runner.specs.Instructions.{Does, running_of, script_of, supervised_of}
+use Rattle.script_runner.specs.Instructions.{RunsInstruction, running_of, script_of, supervised_of}
 use Rattle.script_runner.specs.Parts.{Parts}
 use Rattle.suspensions.specs.Suspending.{names, to_resume, to_suspend}
 use Rattle.sys_protocol.specs.Stopping.{app_pids, stopped_app, unloaded_app}
@@ -51,7 +51,7 @@ moved after apps t same also kept =
     (subst (λ (u : Table). ChildrenLive apps u) (sym also) kept)
 
 calls_keep : (code : List Instance) (c : AppCall) (name : Option (List ℕ)) (s after : Supervised) (told : List Reply) →
-    applying.Does code c name s after told → ChildrenLive s.apps s.processes → ChildrenLive after.apps after.processes
+    applying.DoesAppCall code c name s after told → ChildrenLive s.apps s.processes → ChildrenLive after.apps after.processes
 calls_keep code call.Start None s after told does kept = absurd does
 calls_keep code call.Stop None s after told does kept = absurd does
 calls_keep code call.Unload None s after told does kept = absurd does
@@ -116,7 +116,7 @@ all_upgrade_live code s (m ∷ ms) apps t u (one, rest, up, all, is) kept =
 
 -- each instruction
 
-does_keep : (r : Release) (i : Low) (p q : Parts) (told : List Reply) → Does r i p q told → Live p → Live q
+does_keep : (r : Release) (i : Low) (p q : Parts) (told : List Reply) → RunsInstruction r i p q told → Live p → Live q
 does_keep r (LoadObjectCode app vsn ms) p q told does kept = subst Live (sym does.1) kept
 does_keep r PointOfNoReturn p q told does kept = subst Live (sym does.0) kept
 does_keep r (Load m pre post) p q told does kept =

@@ -14,7 +14,7 @@ use Rattle.code_loading.specs.Laws.{StartsIn}
 use Rattle.code_loading.specs.Loading.{spared}
 use Rattle.code_replacement.specs.Replacing.{RunningSystem, all_without, without_lingering}
 use Rattle.code_server.specs.Modules.{Table as Loaded, purged}
-use Rattle.erl_forms.specs.Module.{Forms}
+use Rattle.erl_ir.specs.Module.{Forms}
 use Rattle.erl_semantics.specs.State.{World, plain, start_mode}
 use Rattle.erl_semantics.specs.Views.{instance}
 use Rattle.erl_semantics.specs.declared.acts.Place.{Place}
@@ -31,7 +31,7 @@ use Rattle.otp_files.specs.declared.app.StartModule.{StartModule}
 use Rattle.process.specs.Named.{StandsIn}
 use Rattle.process_effects.specs.declared.told.Reply.{Reply}
 use Rattle.process_store.specs.Table.{Table, living, next_pid}
-use Rattle.process_store.specs.declared.living.Living.{Living}
+use Rattle.process_store.specs.declared.living.ProcessEntry.{ProcessEntry}
 use Rattle.release_table.specs.declared.table.Release.{Release}
 use Rattle.script_children.specs.Applying as applying
 use Rattle.script_children.specs.Applying.{AppliedAs}
@@ -40,13 +40,13 @@ use Rattle.script_children.specs.Children.{Supervised}
 use Rattle.script_children.specs.declared.calls.AppCall.{AppCall}
 use Rattle.script_children.specs.declared.calls.AppCall.TheVariants as call
 use Rattle.script_laws.specs.Laws.{InstructionsKeepCode}
-use Rattle.script_runner.specs.Instructions.{Does, running_of, script_of, supervised_of}
+use Rattle.script_runner.specs.Instructions.{RunsInstruction, running_of, script_of, supervised_of}
 use Rattle.script_runner.specs.Parts.{Parts}
 use Rattle.suspensions.specs.Suspending.{names, to_resume, to_suspend}
 use Rattle.sys_protocol.specs.AppStarts.{InitGives, initialized}
 use Rattle.sys_protocol.specs.ChildStarts as children
 use Rattle.sys_protocol.specs.ChildStarts.{AllStart, after_start, named_by}
-use Rattle.sys_protocol.specs.Refusals.{Runs, module_of}
+use Rattle.sys_protocol.specs.Refusals.{RunsStartModule, module_of}
 use Rattle.sys_protocol.specs.Stopping.{app_pids, to_start, to_stop}
 use Rattle.upgrade_calls.specs.Applying as functions
 use Rattle.upgrade_calls.specs.Changing as states
@@ -73,7 +73,7 @@ module _ (code : List Instance) where
       steps_keep_code.evaluated w code m (codes "code_change") args o refl gives
   change_begins_at c (Loop m serial f args) o gives = absurd gives
 
-  change_begins : (c : Change) (l : Option Living) (o : Outcome) → states.Gives code c l o → All (StartsIn code) o.acts
+  change_begins : (c : Change) (l : Option ProcessEntry) (o : Outcome) → states.Gives code c l o → All (StartsIn code) o.acts
   change_begins c None o gives = absurd gives
   change_begins c (Some l) o gives = change_begins_at c l.process.place o gives
 
@@ -95,7 +95,7 @@ module _ (m : Loaded Forms) (code : List Instance) (stand : All (StandsIn m) (ma
       (steps_keep_code.starts (named_by o) code o.acts m t kept stand begins)
 
   runs_keep : (o : Option StartModule) (t : Table) (children : List Child) (after : Table) (told : List Reply) →
-      Runs code o t children after told → IsConsistent m t → IsConsistent m after
+      RunsStartModule code o t children after told → IsConsistent m t → IsConsistent m after
   runs_keep None t children after told runs kept = subst (λ (u : Table). IsConsistent m u) (sym runs.1) kept
   runs_keep (Some it) t children after told runs kept =
       let begins = init_begins code it runs.outcome runs.gives in
@@ -141,7 +141,7 @@ module _ (m : Loaded Forms) (code : List Instance) (stand : All (StandsIn m) (ma
       (steps_keep_code.starts None code applies.outcome.acts m t kept stand begins)
 
   calls_keep : (c : AppCall) (name : Option (List ℕ)) (s after : Supervised) (told : List Reply) →
-      applying.Does code c name s after told → IsConsistent m s.processes → IsConsistent m after.processes
+      applying.DoesAppCall code c name s after told → IsConsistent m s.processes → IsConsistent m after.processes
   calls_keep call.Start None s after told does kept = absurd does
   calls_keep call.Stop None s after told does kept = absurd does
   calls_keep call.Unload None s after told does kept = absurd does
@@ -173,7 +173,7 @@ Consistent p = IsConsistent p.modules p.processes
 currents : (p : Parts) → Consistent p → All (StandsIn p.modules) (map instance (current_code p.modules))
 currents p kept = steps_keep_code.currents p.modules kept.sound
 
-does_keep : (r : Release) (i : Low) (p q : Parts) (told : List Reply) → Does r i p q told → Consistent p → Consistent q
+does_keep : (r : Release) (i : Low) (p q : Parts) (told : List Reply) → RunsInstruction r i p q told → Consistent p → Consistent q
 does_keep r (LoadObjectCode app vsn ms) p q told does kept = subst Consistent (sym does.1) kept
 does_keep r PointOfNoReturn p q told does kept = subst Consistent (sym does.0) kept
 does_keep r (Load m pre post) p q told (source, at, unrefused, is, tells) kept =

@@ -8,11 +8,11 @@ use Rattle.app_table.specs.declared.name.ChildName.{ChildName}
 use Rattle.code_changes.proofs.OneWay.{changes_one_way}
 use Rattle.code_changes.specs.Changing.{Script, Upgraded}
 use Rattle.code_loading.specs.Current.{current_code}
-use Rattle.code_loading.specs.Loading.{purge_told}
+use Rattle.code_loading.specs.Loading.{downs_of_purge}
 use Rattle.code_replacement.specs.Replacing.{code_loaded}
 use Rattle.code_server.specs.Modules.{load_refusal, purged}
 use Rattle.code_server.specs.declared.error.CodeError.TheVariants as code_error
-use Rattle.erl_forms.specs.Module.{Forms}
+use Rattle.erl_ir.specs.Module.{Forms}
 use Rattle.erl_semantics.specs.declared.instance.Instance.{Instance}
 use Rattle.erl_term.specs.declared.term.Term.{Term}
 use Rattle.low_instructions.specs.declared.low.Low.{Low}
@@ -26,7 +26,7 @@ use Rattle.script_children.specs.Children.{Supervised}
 use Rattle.script_laws.proofs.Applying.{applied-once, applied_or_not, not_applied-once}
 use Rattle.script_laws.specs.Laws.{InstructionsHaveOneOutcome}
 use Rattle.script_runner.specs.Failures.{no_object_code}
-use Rattle.script_runner.specs.Instructions.{Does, Fails, Halts, IsAtEnd, busy_of, running_of, script_of, supervised_of, with_running, with_supervised, with_unpurged}
+use Rattle.script_runner.specs.Instructions.{RunsInstruction, Fails, Halts, IsAtEnd, busy_of, running_of, script_of, supervised_of, with_running, with_supervised, with_unpurged}
 use Rattle.script_runner.specs.Parts.{Parts}
 use Rattle.script_runner.specs.Suspending.{HaltsChange, halt_of}
 use Rattle.script_runner.specs.declared.halt.Halt.{Halt}
@@ -51,14 +51,14 @@ again-once code names modules apps t one other after last told said first second
 abbrev with_children : List Application → Table → Parts → Parts
 with_children apps t p = record p { processes = t; apps = apps }
 
-does-once : (r : Release) (i : Low) (p q s : Parts) (told said : List Reply) → Does r i p q told → Does r i p s said →
+does-once : (r : Release) (i : Low) (p q s : Parts) (told said : List Reply) → RunsInstruction r i p q told → RunsInstruction r i p s said →
     (q ≡ s) × (told ≡ said)
 does-once r (LoadObjectCode app vsn ms) p q s told said first second = (first.1 ∙ sym second.1, first.2 ∙ sym second.2)
 does-once r PointOfNoReturn p q s told said first second = (first.0 ∙ sym second.0, first.1 ∙ sym second.1)
 does-once r (Load m pre post) p q s told said (one, at, unrefused, is, tells) (other, there, also_unrefused, also, says) =
     let same : one ≡ other = same_Some one other (sym at ∙ there) in (
       is ∙ ap (λ (x : Forms). with_unpurged x.name post (with_running (code_loaded x (running_of p)) p)) same ∙ sym also,
-      tells ∙ ap (λ (x : Forms). purge_told x.name p.modules p.processes) same ∙ sym says,
+      tells ∙ ap (λ (x : Forms). downs_of_purge x.name p.modules p.processes) same ∙ sym says,
     )
 does-once r (Remove m pre post) p q s told said first second = (first.0 ∙ sym second.0, first.1 ∙ sym second.1)
 does-once r (Purge ms) p q s told said first second = (first.0 ∙ sym second.0, first.1 ∙ sym second.1)
@@ -143,7 +143,7 @@ halts-once r give_up i p CounterEnd CounterEnd first second = refl
 
 -- It doesn't do what it fails to do, and what it does has its numbers.
 
-does_or_fails : (r : Release) (i : Low) (p q : Parts) (told : List Reply) (x : Term) → Does r i p q told → Fails r i p x → ⊥
+does_or_fails : (r : Release) (i : Low) (p q : Parts) (told : List Reply) (x : Term) → RunsInstruction r i p q told → Fails r i p x → ⊥
 does_or_fails r (LoadObjectCode app vsn ms) p q told x does (m, missing, is) = none-some m (sym does.0 ∙ missing)
 does_or_fails r PointOfNoReturn p q told x does fails = fails
 does_or_fails r (Load m pre post) p q told x (source, at, unrefused, is, tells) fails = none-some source (sym fails.0 ∙ at)
@@ -162,7 +162,7 @@ does_or_fails r (Start ms) p q told x (apps, after, is, start) (failed, fails, b
 does_or_fails r (Apply m f args) p q told x (s, is, applied) fails =
     applied_or_not (call_of m f args) (current_code p.modules) m f args (supervised_of p) s told x applied fails
 
-does_or_ends : (r : Release) (i : Low) (p q : Parts) (told : List Reply) → Does r i p q told → IsAtEnd r i p → ⊥
+does_or_ends : (r : Release) (i : Low) (p q : Parts) (told : List Reply) → RunsInstruction r i p q told → IsAtEnd r i p → ⊥
 does_or_ends r (LoadObjectCode app vsn ms) p q told does ends = ends
 does_or_ends r PointOfNoReturn p q told does ends = ends
 does_or_ends r (Load m pre post) p q told (one, at, unrefused, is, tells) (other, there, refused) =
@@ -181,7 +181,7 @@ does_or_ends r (Start ms) p q told does ends = ends
 does_or_ends r (Apply m f args) p q told does ends = ends
 
 does_or_halts : (r : Release) (give_up : Bool) (i : Low) (p q : Parts) (told : List Reply) (h : Halt) →
-    busy_of give_up i p ≡ None → Does r i p q told → Halts h r give_up i p → ⊥
+    busy_of give_up i p ≡ None → RunsInstruction r i p q told → Halts h r give_up i p → ⊥
 does_or_halts r give_up i p q told (Busy pid) waits does halts = none-some pid (sym waits ∙ halts)
 does_or_halts r give_up i p q told (Failed x) waits does halts = does_or_fails r i p q told x does halts.1
 does_or_halts r give_up i p q told CounterEnd waits does halts = does_or_ends r i p q told does halts.1

@@ -1,8 +1,8 @@
--- What a load takes is what was read (appup(4), load_object_code, load), where modules of the release differ in name, as they do in a
--- release that was read.
+-- What a load takes is what was read (appup(4), load_object_code, load), where modules of the release differ in name, as
+-- they do in a release that was read.
 use Rattle.std.specs.Prelude.{◌≡◌, ℕ, true, false, All, List, [], ◌∷◌}
 use Rattle.std.specs.Str.{bytes_eq}
-use Rattle.erl_forms.specs.Module.{Forms}
+use Rattle.erl_ir.specs.Module.{Forms}
 use Rattle.release_table.specs.declared.table.Release.{Release}
 use Rattle.script_state.specs.ObjectCode.{code_at_hand, files_of, is_noted, is_there, source_of, sources}
 use Rattle.script_state.specs.declared.noted.NotedVersion.{NotedVersion}

@@ -18,8 +18,8 @@ pub fn instructions_keep_children()
     ensures { InstructionsKeepChildren }
 {}
 
-/// A load takes the source that was read, of the application and the version whose object code it is, where modules of the release
-/// differ in name.
+/// A load takes the source that was read, of the application and the version whose object code it is, where modules of the
+/// release differ in name.
 pub fn loads_take_what_was_read()
     ensures { LoadsTakeWhatWasRead }
 {}

@@ -3,7 +3,7 @@ use Rattle.std.specs.Prelude.{◌≡◌, ℕ, Bool, List, None, Result, Ok, Err,
 use Rattle.low_instructions.specs.declared.low.Low.{Low}
 use Rattle.process_effects.specs.declared.told.Reply.{Reply}
 use Rattle.release_table.specs.declared.table.Release.{Release}
-use Rattle.script_runner.specs.Instructions.{Does, Halts, MayRunOut, busy_of}
+use Rattle.script_runner.specs.Instructions.{RunsInstruction, Halts, MayRunOut, busy_of}
 use Rattle.script_runner.specs.Parts.{Parts}
 use Rattle.script_runner.specs.Undo.{TakesBack}
 use Rattle.script_runner.specs.declared.carrying.Carried.{Carried}
@@ -16,7 +16,7 @@ use Rattle.values.specs.declared.failure.Failure.TheVariants.{Refused, Memory}
 pub record IsCarriedOut (r : Release) (give_up : Bool) (i : Low) (n : ℕ) (p q : Parts) (it : Carried) : Type 0 where
   pub waits : busy_of give_up i p ≡ None
   pub told : List Reply
-  pub does : Does r i p q told
+  pub does : RunsInstruction r i p q told
   pub tells : it.told.items ≡ replicate n told
   pub back : TakesBack it.undo p q
 

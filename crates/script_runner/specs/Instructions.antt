@@ -8,16 +8,16 @@ use Rattle.app_table.specs.Applications.{Application}
 use Rattle.code_changes.specs.Changing.{AllUpgrade, Script, Upgraded, script}
 use Rattle.code_loading.specs.Current.{current_code}
 use Rattle.code_server.specs.Modules.{load_refusal, purged}
-use Rattle.erl_forms.specs.Module.{Forms}
+use Rattle.erl_ir.specs.Module.{Forms}
 use Rattle.erl_term.specs.declared.term.Term.{Term}
 use Rattle.low_instructions.specs.declared.low.Low.{Low}
 use Rattle.low_instructions.specs.declared.modules.Direction.{Direction}
 use Rattle.code_replacement.specs.Replacing.{RunningSystem, all_without, code_loaded, code_removed}
-use Rattle.code_loading.specs.Loading.{purge_told}
-use Rattle.code_loading.specs.Purging.{all_purge_told}
+use Rattle.code_loading.specs.Loading.{downs_of_purge}
+use Rattle.code_loading.specs.Purging.{downs_of_purges}
 use Rattle.low_instructions.specs.declared.low.Low.TheVariants.{LoadObjectCode, PointOfNoReturn, Load, Remove, Purge, Suspend, Resume, CodeChange, Stop, Start, Apply}
 use Rattle.process_effects.specs.Ends.{all_vacated}
-use Rattle.process_effects.specs.Kills.{all_downs}
+use Rattle.process_effects.specs.Kills.{downs_of_each}
 use Rattle.process_effects.specs.declared.told.Reply.{Reply}
 use Rattle.process_store.specs.Table.{Table}
 use Rattle.process_table.specs.States.{all_resumed, all_suspended}
@@ -82,27 +82,28 @@ script_of direction p = script direction p.versions p.suspended
 -- What it does. A load purges old code, makes the object code that is at hand current, and what was current old; a removal
 -- purges old code, and makes what was current old. The old code that results is to be purged by their `PostPurge`; their
 -- `PrePurge` isn't used.
-abbrev pub Does : Release → Low → Parts → Parts → List Reply → Type 0
-Does r (LoadObjectCode app vsn ms) p q told = (missing_object_code app vsn ms r ≡ None) ×
+abbrev pub RunsInstruction : Release → Low → Parts → Parts → List Reply → Type 0
+RunsInstruction r (LoadObjectCode app vsn ms) p q told = (missing_object_code app vsn ms r ≡ None) ×
     (q ≡ record p { versions = all_noted p.modules (files_of app vsn r) ms p.versions }) × (told ≡ [])
-Does r PointOfNoReturn p q told = (q ≡ p) × (told ≡ [])
-Does r (Load m pre post) p q told = (source : Forms) × (code_at_hand m p.versions r ≡ Some source) ×
+RunsInstruction r PointOfNoReturn p q told = (q ≡ p) × (told ≡ [])
+RunsInstruction r (Load m pre post) p q told = (source : Forms) × (code_at_hand m p.versions r ≡ Some source) ×
     (load_refusal source.name (purged source.name p.modules) ≡ None) ×
     (q ≡ with_unpurged source.name post (with_running (code_loaded source (running_of p)) p)) ×
-    (told ≡ purge_told source.name p.modules p.processes)
-Does r (Remove m pre post) p q told =
-    (q ≡ with_unpurged m post (with_running (code_removed m (running_of p)) p)) × (told ≡ purge_told m p.modules p.processes)
-Does r (Purge ms) p q told = (q ≡ with_running (all_without ms (running_of p)) p) ×
-    (told ≡ all_purge_told ms p.modules p.processes)
-Does r (Suspend ms) p q told = (q ≡ all_suspended_in (to_suspend (names ms) p.apps p.processes) p) × (told ≡ [])
-Does r (Resume ms) p q told = (q ≡ all_resumed_in ms p) × (told ≡ [])
-Does r (CodeChange direction changes) p q told = (u : Upgraded) ×
+    (told ≡ downs_of_purge source.name p.modules p.processes)
+RunsInstruction r (Remove m pre post) p q told =
+    (q ≡ with_unpurged m post (with_running (code_removed m (running_of p)) p)) × (told ≡ downs_of_purge m p.modules p.processes)
+RunsInstruction r (Purge ms) p q told = (q ≡ with_running (all_without ms (running_of p)) p) ×
+    (told ≡ downs_of_purges ms p.modules p.processes)
+RunsInstruction r (Suspend ms) p q told = (q ≡ all_suspended_in (to_suspend (names ms) p.apps p.processes) p) × (told ≡ [])
+RunsInstruction r (Resume ms) p q told = (q ≡ all_resumed_in ms p) × (told ≡ [])
+RunsInstruction r (CodeChange direction changes) p q told = (u : Upgraded) ×
     AllUpgrade (current_code p.modules) (script_of direction p) changes p.apps p.processes u × AreCounted u.changes u.processes ×
     (q ≡ record p { processes = u.processes; apps = u.apps }) × (told ≡ u.told)
-Does r (Stop ms) p q told = (q ≡ all_stopped_in ms p) × (told ≡ all_downs shutdown (to_stop ms p.apps) p.processes)
-Does r (Start ms) p q told = (apps : List Application) × (after : Table) × (q ≡ record p { processes = after; apps = apps }) ×
+RunsInstruction r (Stop ms) p q told = (q ≡ all_stopped_in ms p) × (told ≡ downs_of_each shutdown (to_stop ms p.apps) p.processes)
+RunsInstruction r (Start ms) p q told = (apps : List Application) × (after : Table) ×
+    (q ≡ record p { processes = after; apps = apps }) ×
     StartAgain (current_code p.modules) p.stopped ms p.apps p.processes apps after told
-Does r (Apply m f args) p q told = (s : Supervised) × (q ≡ with_supervised s p) ×
+RunsInstruction r (Apply m f args) p q told = (s : Supervised) × (q ≡ with_supervised s p) ×
     Applied (current_code p.modules) m f args (supervised_of p) s told
 
 -- Why it fails. A load of a script that was checked never does: what it loads was read before.

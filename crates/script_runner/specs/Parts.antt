@@ -5,7 +5,7 @@ use Rattle.std.specs.Prelude.{ℕ, List}
 use Rattle.app_table.specs.Applications.{Application}
 use Rattle.app_table.specs.declared.name.ChildName.{ChildName}
 use Rattle.code_server.specs.Modules.{Table as Loaded}
-use Rattle.erl_forms.specs.Module.{Forms}
+use Rattle.erl_ir.specs.Module.{Forms}
 use Rattle.process_store.specs.Table.{Table}
 use Rattle.script_state.specs.declared.noted.NotedVersion.{NotedVersion}
 use Rattle.script_state.specs.declared.runner.Progress.{Progress}

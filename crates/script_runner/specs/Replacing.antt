@@ -2,7 +2,7 @@
 use Rattle.std.specs.Prelude.{◌≡◌, ℕ, List, None, Some, option_map, option_to_list}
 use Rattle.code_server.specs.Modules.{Table as Loaded, load_refusal, old_of, purged}
 use Rattle.code_server.specs.declared.error.CodeError.TheVariants as code_error
-use Rattle.erl_forms.specs.Module.{Forms}
+use Rattle.erl_ir.specs.Module.{Forms}
 use Rattle.release_table.specs.declared.table.Release.{Release}
 use Rattle.release_words.specs.declared.purge.Purge.{Purge}
 use Rattle.script_runner.specs.Failures.{no_object_code}

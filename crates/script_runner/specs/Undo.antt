@@ -1,5 +1,6 @@
--- What takes an instruction back: from the parts after the instruction it gives those before, and it holds no piece of a process, no
--- instance of code and no specification but what the instruction has taken. Parts that it doesn't name weren't changed.
+-- What takes an instruction back: from the parts after the instruction it gives those before, and it holds no piece of a
+-- process, no instance of code and no specification but what the instruction has taken. Parts that it doesn't name weren't
+-- changed.
 use Rattle.std.specs.Prelude.{◌≡◌, ◌≤◌, ◌-◌, Bool, if◌then◌else◌, List, length, take}
 use Rattle.code_changes.specs.Undo as changes
 use Rattle.code_replacement.specs.Undo as code
@@ -10,8 +11,8 @@ use Rattle.script_children.specs.Undo as children
 use Rattle.script_state.specs.ObjectCode.{but_last_noted}
 use Rattle.script_runner.specs.Instructions.{running_of, supervised_of}
 use Rattle.script_runner.specs.Parts.{Parts}
-use Rattle.script_runner.specs.declared.undo.Undo.{Undo}
-use Rattle.script_runner.specs.declared.undo.Undo.TheVariants.{Nothing, Read, Replaced, Purged, Suspended, Resumed, Changed, Children}
+use Rattle.script_runner.specs.declared.undo.InstructionUndo.{InstructionUndo}
+use Rattle.script_runner.specs.declared.undo.InstructionUndo.TheVariants.{Nothing, Read, Replaced, Purged, Suspended, Resumed, Changed, Children}
 use Rattle.suspensions.specs.Suspending.{but_last, last_of}
 use Rattle.upgrade_calls.specs.Changing.{held_changed}
 
@@ -19,7 +20,7 @@ use Rattle.upgrade_calls.specs.Changing.{held_changed}
 abbrev pub without_note : {A : Type 0} → Bool → List A → List A
 without_note noted items = if noted then take (length items - 1) items else items
 
-abbrev pub TakesBack : Undo → Parts → Parts → Type 0
+abbrev pub TakesBack : InstructionUndo → Parts → Parts → Type 0
 TakesBack Nothing p q = q ≡ p
 TakesBack (Read count) p q = (count ≤ length q.versions) × (but_last_noted count q.versions ≡ p.versions) ×
     (q ≡ record p { versions = q.versions })

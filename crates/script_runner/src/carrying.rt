@@ -8,10 +8,10 @@ ghost use Rattle.script_runner.specs.Carrying.{Carries};
 ghost use Rattle.script_runner.specs.Parts.{parts_of};
 
 use crate::halt::Halt;
-use crate::undo::Undo;
+use crate::undo::InstructionUndo;
 use app_table::AppTable;
 use code_server::Modules;
-use erl_forms::Module;
+use erl_ir::Module;
 use low_instructions::Low;
 use process_effects::Reply;
 use process_table::Processes;
@@ -26,7 +26,7 @@ pub struct Carried {
     /// What clients are told, in as many equal values as were asked for.
     pub told: Vec<Row<Reply>>,
     /// What takes it back.
-    pub undo: Undo,
+    pub undo: InstructionUndo,
 }
 
 /// Carries out one instruction of a script, over the parts of a node, for the release that is being installed. Where it is

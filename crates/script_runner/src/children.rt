@@ -4,7 +4,7 @@ ghost use Rattle.app_table.specs.Changes.{all_stopped};
 ghost use Rattle.app_table.specs.Modules.{names_at, running_with};
 ghost use Rattle.code_loading.specs.Current.{current_code};
 ghost use Rattle.process_effects.specs.Ends.{all_vacated};
-ghost use Rattle.process_effects.specs.Kills.{all_downs};
+ghost use Rattle.process_effects.specs.Kills.{downs_of_each};
 ghost use Rattle.process_effects.specs.declared.told.Reply.{Reply as Told};
 ghost use Rattle.process_store.specs.Pieces.{HoldsLost};
 ghost use Rattle.script_children.specs.Calls.{start_failed};
@@ -18,11 +18,11 @@ ghost use Rattle.values.specs.Failure.{Fails};
 use app_table::{AppTable, ChildName};
 use code_loading::current_code;
 use code_server::Modules;
-use erl_forms::Module;
+use erl_ir::Module;
 use erl_term::{Atom, Term};
 use process_effects::Reply;
 use process_table::Processes;
-use script_children::{Undo, start_failed};
+use script_children::{ChildrenUndo, start_failed};
 use std::alloc::{AllocError, Global};
 use sys_protocol::{ChildStop, StartFailed, StartedAgain, start, stop};
 use values::{Failure, Row};
@@ -32,7 +32,7 @@ use values::{Failure, Row};
 pub(crate) struct ChildrenChanged {
     pub(crate) told: Vec<Row<Reply>>,
     pub(crate) count: usize,
-    pub(crate) undo: Undo,
+    pub(crate) undo: ChildrenUndo,
 }
 
 /// The children that run and have one of these modules are stopped, and noted.
@@ -47,7 +47,7 @@ pub(crate) fn stop_children(
     ensures apps { OnOk result (apps.new ≡ all_stopped (running_with modules.now apps.old) apps.old) }
     ensures processes { OnOk result (processes.new ≡ all_vacated (to_stop modules.now apps.old) processes.old) }
     ensures told { IfOk result (λ it. it.told.items ≡
-        replicate n (all_downs shutdown (to_stop modules.now apps.old) processes.old)) }
+        replicate n (downs_of_each shutdown (to_stop modules.now apps.old) processes.old)) }
     ensures noted { OnOk result (noted.new.items ≡ noted.old.items ++ names_at (running_with modules.now apps.old) apps.old) }
     ensures count { IfOk result (λ it. (it.count ≤ length noted.new.items) ×
         (take (length noted.new.items - it.count) noted.new.items ≡ noted.old.items)) }
@@ -67,7 +67,7 @@ pub(crate) fn stop_children(
     Ok(ChildrenChanged {
         told,
         count,
-        undo: Undo::Changed(Some(ended), Some(undo)),
+        undo: ChildrenUndo::Changed(Some(ended), Some(undo)),
     })
 }
 
@@ -106,7 +106,7 @@ pub(crate) fn start_children(
             Ok(ChildrenChanged {
                 told,
                 count: 0,
-                undo: Undo::Changed(Some(begun), Some(undo)),
+                undo: ChildrenUndo::Changed(Some(begun), Some(undo)),
             })
         }
         Err(Failure::Refused(failed)) => {

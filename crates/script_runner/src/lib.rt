@@ -5,9 +5,10 @@
 //!
 //! # What is proved
 //!
-//! - An instruction does what the rules say of it, to all parts and to nothing else, and clients are told so (`Does`); or the
-//!   parts are as they were, and it is told why: which process has to be waited for, why it has failed, as a term, or that a
-//!   number can't be counted on (`Halts`). That a process has to be waited for is told without memory (`Carries`).
+//! - An instruction does what the rules say of it, to all parts and to nothing else, and clients are told so
+//!   (`RunsInstruction`); or the parts are as they were, and it is told why: which process has to be waited for, why it has
+//!   failed, as a term, or that a number can't be counted on (`Halts`). That a process has to be waited for is told without
+//!   memory (`Carries`).
 //! - What takes an instruction back gives the parts before it, whole, or hands itself back and leaves all as it was
 //!   (`TakesBack`). At most one part of it can be refused, and it goes first.
 //!
@@ -28,4 +29,4 @@ mod undo;
 pub use carrying::{Carried, carry_out};
 pub use halt::Halt;
 pub use reverting::revert;
-pub use undo::Undo;
+pub use undo::InstructionUndo;

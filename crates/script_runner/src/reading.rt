@@ -5,7 +5,7 @@ ghost use Rattle.script_runner.specs.Failures.{no_object_code};
 ghost use Rattle.values.specs.Failure.{Fails};
 
 use code_server::Modules;
-use erl_forms::Module;
+use erl_ir::Module;
 use erl_term::{Atom, Term, Terms};
 use process_effects::Reply;
 use release_table::Release;

@@ -1,11 +1,11 @@
 // Code is loaded, removed and purged.
 ghost use Rattle.std.specs.Prelude.{◌≡◌, ◌++◌, ◌<◌, List, IfErr, IfOk, None, OnErr, OnOk, Some, option_map, option_to_list, replicate, vec_capacity, vec_len};
-ghost use Rattle.code_loading.specs.Loading.{purge_told};
-ghost use Rattle.code_loading.specs.Purging.{all_purge_told};
+ghost use Rattle.code_loading.specs.Loading.{downs_of_purge};
+ghost use Rattle.code_loading.specs.Purging.{downs_of_purges};
 ghost use Rattle.code_replacement.specs.Replacing.{all_without, code_loaded, code_removed, running};
 ghost use Rattle.code_replacement.specs.Undo.{PurgesBack, TakesBack};
 ghost use Rattle.code_server.specs.Modules.{load_refusal, old_of, purged};
-ghost use Rattle.erl_forms.specs.Module.{Forms};
+ghost use Rattle.erl_ir.specs.Module.{Forms};
 ghost use Rattle.script_runner.specs.Replacing.{HaltsLoad, unpurged_of};
 ghost use Rattle.script_runner.specs.Undo.{without_note};
 ghost use Rattle.script_state.specs.ObjectCode.{code_at_hand};
@@ -15,9 +15,9 @@ use crate::halt::Halt;
 use crate::reading::no_object_code;
 use app_table::AppTable;
 use code_loading::purges_told;
-use code_replacement::{Purges, Undo, load, purge_all, remove};
+use code_replacement::{Purges, ReplacementUndo, load, purge_all, remove};
 use code_server::{CodeError, Modules};
-use erl_forms::Module;
+use erl_ir::Module;
 use erl_term::Atom;
 use process_effects::Reply;
 use process_table::Processes;
@@ -32,7 +32,7 @@ use values::{Duplicate, Failure, Row};
 #[derive(Drop)]
 pub(crate) struct CodeReplaced {
     pub(crate) told: Vec<Row<Reply>>,
-    pub(crate) undo: Undo,
+    pub(crate) undo: ReplacementUndo,
     pub(crate) noted: bool,
 }
 
@@ -67,14 +67,14 @@ fn note_old(
 }
 
 /// What clients are told where a module is purged, in `n` equal values.
-fn purge_told(
+fn downs_of_purge(
     modules: &Modules<Module>,
     processes: &Processes,
     alloc: Global,
     name: &Atom,
     n: usize,
 ) -> Result<Vec<Row<Reply>>, AllocError>
-    ensures { IfOk result (λ it. it.items ≡ replicate n (purge_told name.now modules.now processes.now)) }
+    ensures { IfOk result (λ it. it.items ≡ replicate n (downs_of_purge name.now modules.now processes.now)) }
 {
     purges_told(modules, processes, alloc, slice::from_ref(name), n)
 }
@@ -94,7 +94,7 @@ fn load_source(
     ensures loaded { OnOk result (running modules.new processes.new apps.new ≡
         code_loaded source.now (running modules.old processes.old apps.old)) }
     ensures noted { OnOk result (unpurged.new.items ≡ unpurged.old.items ++ unpurged_of source.now.name purge modules.new) }
-    ensures told { IfOk result (λ it. it.told.items ≡ replicate n (purge_told source.now.name modules.old processes.old)) }
+    ensures told { IfOk result (λ it. it.told.items ≡ replicate n (downs_of_purge source.now.name modules.old processes.old)) }
     ensures back { IfOk result (λ it.
         TakesBack it.undo (running modules.old processes.old apps.old) (running modules.new processes.new apps.new)) }
     ensures unnoted { IfOk result (λ it. without_note it.noted unpurged.new.items ≡ unpurged.old.items) }
@@ -102,7 +102,7 @@ fn load_source(
     ensures kept { OnErr result (unpurged.new.items ≡ unpurged.old.items) }
 {
     let code = source.copy(alloc)?;
-    let told = purge_told(modules, processes, alloc, source.name(), n)?;
+    let told = downs_of_purge(modules, processes, alloc, source.name(), n)?;
     unpurged.reserve(1)?;
     match load(modules, processes, apps, alloc, code) {
         Ok(undo) => {
@@ -131,7 +131,7 @@ pub(crate) fn load_code(
         (load_refusal source.name (purged source.name modules.old) ≡ None) ×
         (running modules.new processes.new apps.new ≡ code_loaded source (running modules.old processes.old apps.old)) ×
         (unpurged.new.items ≡ unpurged.old.items ++ unpurged_of source.name purge modules.new) ×
-        (it.told.items ≡ replicate n (purge_told source.name modules.old processes.old))) }
+        (it.told.items ≡ replicate n (downs_of_purge source.name modules.old processes.old))) }
     ensures back { IfOk result (λ it.
         TakesBack it.undo (running modules.old processes.old apps.old) (running modules.new processes.new apps.new)) }
     ensures unnoted { IfOk result (λ it. without_note it.noted unpurged.new.items ≡ unpurged.old.items) }
@@ -167,14 +167,14 @@ pub(crate) fn remove_code(
     ensures removed { OnOk result (running modules.new processes.new apps.new ≡
         code_removed name.now (running modules.old processes.old apps.old)) }
     ensures noted { OnOk result (unpurged.new.items ≡ unpurged.old.items ++ unpurged_of name.now purge modules.new) }
-    ensures told { IfOk result (λ it. it.told.items ≡ replicate n (purge_told name.now modules.old processes.old)) }
+    ensures told { IfOk result (λ it. it.told.items ≡ replicate n (downs_of_purge name.now modules.old processes.old)) }
     ensures back { IfOk result (λ it.
         TakesBack it.undo (running modules.old processes.old apps.old) (running modules.new processes.new apps.new)) }
     ensures unnoted { IfOk result (λ it. without_note it.noted unpurged.new.items ≡ unpurged.old.items) }
     ensures err { OnErr result (running modules.new processes.new apps.new ≡ running modules.old processes.old apps.old) }
     ensures kept { OnErr result (unpurged.new.items ≡ unpurged.old.items) }
 {
-    let told = purge_told(modules, processes, alloc, name, n)?;
+    let told = downs_of_purge(modules, processes, alloc, name, n)?;
     unpurged.reserve(1)?;
     let undo = remove(modules, processes, apps, alloc, name)?;
     let noted = note_old(modules, name, purge, unpurged);
@@ -192,7 +192,7 @@ pub(crate) fn purge_code(
 ) -> Result<CodePurged, AllocError>
     ensures purged { OnOk result (running modules.new processes.new apps.new ≡
         all_without names.now (running modules.old processes.old apps.old)) }
-    ensures told { IfOk result (λ it. it.told.items ≡ replicate n (all_purge_told names.now modules.old processes.old)) }
+    ensures told { IfOk result (λ it. it.told.items ≡ replicate n (downs_of_purges names.now modules.old processes.old)) }
     ensures back { IfOk result (λ it.
         PurgesBack it.undo (running modules.old processes.old apps.old) (running modules.new processes.new apps.new)) }
     ensures err { OnErr result (running modules.new processes.new apps.new ≡ running modules.old processes.old apps.old) }

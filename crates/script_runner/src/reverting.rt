@@ -4,13 +4,13 @@ ghost use Rattle.code_replacement.specs.Replacing.{HasItsCode};
 ghost use Rattle.script_runner.specs.Instructions.{running_of};
 ghost use Rattle.script_runner.specs.Parts.{Parts, parts_of};
 ghost use Rattle.script_runner.specs.Undo.{TakesBack, without_note};
-ghost use Rattle.script_runner.specs.declared.undo.Undo.TheVariants as undo_of;
+ghost use Rattle.script_runner.specs.declared.undo.InstructionUndo.TheVariants as undo_of;
 
-use crate::undo::Undo;
+use crate::undo::InstructionUndo;
 use app_table::{AppTable, ChildName};
 use code_changes::{CodeChangeUndo, revert_code_change};
 use code_server::Modules;
-use erl_forms::Module;
+use erl_ir::Module;
 use process_table::Processes;
 use script_state::{Progress, Unpurged, forget_versions};
 use std::alloc::Global;
@@ -34,7 +34,7 @@ fn revert_read(
     unpurged: &mut Vec<Unpurged>,
     progress: &mut Progress,
     count: usize,
-) -> Result<(), Undo>
+) -> Result<(), InstructionUndo>
     requires { (before : Parts) × HasItsCode (running_of before) × TakesBack (undo_of.Read count) before
         (parts_of modules.old processes.old apps.old unpurged.old.items progress.old) }
     ensures ok { OnOk result ((before : Parts) → HasItsCode (running_of before) → TakesBack (undo_of.Read count) before
@@ -56,9 +56,9 @@ fn revert_replaced(
     apps: &mut AppTable,
     unpurged: &mut Vec<Unpurged>,
     progress: &mut Progress,
-    undo: code_replacement::Undo,
+    undo: code_replacement::ReplacementUndo,
     noted: bool,
-) -> Result<(), Undo>
+) -> Result<(), InstructionUndo>
     requires { (before : Parts) × HasItsCode (running_of before) × TakesBack (undo_of.Replaced undo noted) before
         (parts_of modules.old processes.old apps.old unpurged.old.items progress.old) }
     ensures ok { OnOk result ((before : Parts) → HasItsCode (running_of before) → TakesBack (undo_of.Replaced undo noted) before
@@ -74,7 +74,7 @@ fn revert_replaced(
             forget_note(unpurged, noted);
             Ok(())
         }
-        Err(undo) => Err(Undo::Replaced(undo, noted)),
+        Err(undo) => Err(InstructionUndo::Replaced(undo, noted)),
     }
 }
 
@@ -87,7 +87,7 @@ fn revert_purged(
     progress: &mut Progress,
     alloc: Global,
     undo: code_replacement::Purges,
-) -> Result<(), Undo>
+) -> Result<(), InstructionUndo>
     requires { (before : Parts) × HasItsCode (running_of before) × TakesBack (undo_of.Purged undo) before
         (parts_of modules.old processes.old apps.old unpurged.old.items progress.old) }
     ensures ok { OnOk result ((before : Parts) → HasItsCode (running_of before) → TakesBack (undo_of.Purged undo) before
@@ -100,7 +100,7 @@ fn revert_purged(
 {
     match code_replacement::revert_purges(modules, processes, apps, alloc, undo) {
         Ok(()) => Ok(()),
-        Err(undo) => Err(Undo::Purged(undo)),
+        Err(undo) => Err(InstructionUndo::Purged(undo)),
     }
 }
 
@@ -112,7 +112,7 @@ fn revert_suspended(
     unpurged: &mut Vec<Unpurged>,
     progress: &mut Progress,
     count: usize,
-) -> Result<(), Undo>
+) -> Result<(), InstructionUndo>
     requires { (before : Parts) × HasItsCode (running_of before) × TakesBack (undo_of.Suspended count) before
         (parts_of modules.old processes.old apps.old unpurged.old.items progress.old) }
     ensures ok { OnOk result ((before : Parts) → HasItsCode (running_of before) → TakesBack (undo_of.Suspended count) before
@@ -135,7 +135,7 @@ fn revert_resumed(
     unpurged: &mut Vec<Unpurged>,
     progress: &mut Progress,
     undo: ResumeUndo,
-) -> Result<(), Undo>
+) -> Result<(), InstructionUndo>
     requires { (before : Parts) × HasItsCode (running_of before) × TakesBack (undo_of.Resumed undo) before
         (parts_of modules.old processes.old apps.old unpurged.old.items progress.old) }
     ensures ok { OnOk result ((before : Parts) → HasItsCode (running_of before) → TakesBack (undo_of.Resumed undo) before
@@ -158,7 +158,7 @@ fn revert_changed(
     unpurged: &mut Vec<Unpurged>,
     progress: &mut Progress,
     undo: CodeChangeUndo,
-) -> Result<(), Undo>
+) -> Result<(), InstructionUndo>
     requires { (before : Parts) × HasItsCode (running_of before) × TakesBack (undo_of.Changed undo) before
         (parts_of modules.old processes.old apps.old unpurged.old.items progress.old) }
     ensures ok { OnOk result ((before : Parts) → HasItsCode (running_of before) → TakesBack (undo_of.Changed undo) before
@@ -171,7 +171,7 @@ fn revert_changed(
 {
     match revert_code_change(apps, processes, modules, undo) {
         Ok(()) => Ok(()),
-        Err(undo) => Err(Undo::Changed(undo)),
+        Err(undo) => Err(InstructionUndo::Changed(undo)),
     }
 }
 
@@ -182,9 +182,9 @@ fn revert_children(
     apps: &mut AppTable,
     unpurged: &mut Vec<Unpurged>,
     progress: &mut Progress,
-    undo: script_children::Undo,
+    undo: script_children::ChildrenUndo,
     count: usize,
-) -> Result<(), Undo>
+) -> Result<(), InstructionUndo>
     requires { (before : Parts) × HasItsCode (running_of before) × TakesBack (undo_of.Children undo count) before
         (parts_of modules.old processes.old apps.old unpurged.old.items progress.old) }
     ensures ok { OnOk result ((before : Parts) → HasItsCode (running_of before) → TakesBack (undo_of.Children undo count) before
@@ -200,7 +200,7 @@ fn revert_children(
             unnote(&mut progress.stopped, count);
             Ok(())
         }
-        Err(undo) => Err(Undo::Children(undo, count)),
+        Err(undo) => Err(InstructionUndo::Children(undo, count)),
     }
 }
 
@@ -216,8 +216,8 @@ pub fn revert(
     unpurged: &mut Vec<Unpurged>,
     progress: &mut Progress,
     alloc: Global,
-    undo: Undo,
-) -> Result<(), Undo>
+    undo: InstructionUndo,
+) -> Result<(), InstructionUndo>
     requires { (before : Parts) × HasItsCode (running_of before) × TakesBack undo before
         (parts_of modules.old processes.old apps.old unpurged.old.items progress.old) }
     ensures ok { OnOk result ((before : Parts) → HasItsCode (running_of before) → TakesBack undo before
@@ -229,20 +229,26 @@ pub fn revert(
     ensures next { progress.new.next ≡ progress.old.next }
 {
     match undo {
-        Undo::Nothing => Ok(()),
-        Undo::Read(count) => revert_read(modules, processes, apps, unpurged, progress, count),
-        Undo::Replaced(undo, noted) => revert_replaced(
-            modules, processes, apps, unpurged, progress, undo, noted,
-        ),
-        Undo::Purged(undo) => revert_purged(
-            modules, processes, apps, unpurged, progress, alloc, undo,
-        ),
-        Undo::Suspended(count) => revert_suspended(
+        InstructionUndo::Nothing => Ok(()),
+        InstructionUndo::Read(count) => revert_read(
             modules, processes, apps, unpurged, progress, count,
         ),
-        Undo::Resumed(undo) => revert_resumed(modules, processes, apps, unpurged, progress, undo),
-        Undo::Changed(undo) => revert_changed(modules, processes, apps, unpurged, progress, undo),
-        Undo::Children(undo, count) => revert_children(
+        InstructionUndo::Replaced(undo, noted) => revert_replaced(
+            modules, processes, apps, unpurged, progress, undo, noted,
+        ),
+        InstructionUndo::Purged(undo) => revert_purged(
+            modules, processes, apps, unpurged, progress, alloc, undo,
+        ),
+        InstructionUndo::Suspended(count) => revert_suspended(
+            modules, processes, apps, unpurged, progress, count,
+        ),
+        InstructionUndo::Resumed(undo) => revert_resumed(
+            modules, processes, apps, unpurged, progress, undo,
+        ),
+        InstructionUndo::Changed(undo) => revert_changed(
+            modules, processes, apps, unpurged, progress, undo,
+        ),
+        InstructionUndo::Children(undo, count) => revert_children(
             modules, processes, apps, unpurged, progress, undo, count,
         ),
     }

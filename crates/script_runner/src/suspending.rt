@@ -10,14 +10,14 @@ ghost use Rattle.script_runner.specs.Failures.{code_change_failed};
 ghost use Rattle.script_runner.specs.Suspending.{HaltsChange, halt_of};
 ghost use Rattle.suspensions.specs.Suspending.{but_last, last_of, names, still_suspended, suspend_refusal, to_resume, to_suspend};
 ghost use Rattle.upgrade_calls.specs.Changing.{held_changed};
-ghost use Rattle.values.specs.Failure.{Fails, Tells};
+ghost use Rattle.values.specs.Failure.{Fails, TellsFailure};
 
 use crate::halt::Halt;
 use app_table::AppTable;
 use code_changes::{ChangeFailed, CodeChangeError, CodeChanged, change_code};
 use code_loading::current_code;
 use code_server::Modules;
-use erl_forms::Module;
+use erl_ir::Module;
 use erl_term::{Atom, Term, Terms};
 use low_instructions::{Direction, ModuleChange, Suspension};
 use process_effects::Reply;
@@ -61,7 +61,7 @@ pub(crate) fn suspend_children(
     ensures back { IfOk result (λ it. (all_resumed (last_of it.count suspended.new.items) processes.new ≡ processes.old) ×
         (but_last it.count suspended.new.items ≡ suspended.old.items) × (it.count ≤ length suspended.new.items)) }
     ensures refused { IfErr result (λ failure.
-        Tells failure (suspend_refusal give_up (names modules.now) apps.now processes.old)) }
+        TellsFailure failure (suspend_refusal give_up (names modules.now) apps.now processes.old)) }
     ensures err { OnErr result ((processes.new ≡ processes.old) × (suspended.new.items ≡ suspended.old.items)) }
 {
     if let Some(busy) = suspensions::suspend_refusal(apps, processes, modules, give_up) {

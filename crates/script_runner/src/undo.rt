@@ -2,15 +2,15 @@
 use code_changes::CodeChangeUndo;
 use suspensions::ResumeUndo;
 
-/// What takes an instruction of a script back. At most one part of it can be refused, for want of memory, and it goes first.
+/// What takes an instruction of a script back. At most one part of it can be refused, for lack of memory, and it goes first.
 #[derive(Drop)]
-pub enum Undo {
+pub enum InstructionUndo {
     /// Nothing was changed.
     Nothing,
     /// So many modules are new among those whose object code was read.
     Read(usize),
     /// Code was loaded or removed; and whether old code was noted.
-    Replaced(code_replacement::Undo, bool),
+    Replaced(code_replacement::ReplacementUndo, bool),
     /// Old code was purged.
     Purged(code_replacement::Purges),
     /// So many processes were suspended.
@@ -20,5 +20,5 @@ pub enum Undo {
     /// Processes have changed their states, and supervisors have specified their children anew.
     Changed(CodeChangeUndo),
     /// Children and applications were changed, and so many children were noted.
-    Children(script_children::Undo, usize),
+    Children(script_children::ChildrenUndo, usize),
 }

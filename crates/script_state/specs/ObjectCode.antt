@@ -3,7 +3,7 @@ use Rattle.std.specs.Prelude.{ℕ, ◌-◌, Bool, not, ◌&&◌, if◌then◌els
 use Rattle.std.specs.List.{find, flat_map, list_any}
 use Rattle.std.specs.Str.{bytes_eq}
 use Rattle.code_server.specs.Modules.{Table as Loaded, current_of}
-use Rattle.erl_forms.specs.Module.{Forms}
+use Rattle.erl_ir.specs.Module.{Forms}
 use Rattle.erl_term.specs.declared.term.Term.{Term}
 use Rattle.release_table.specs.declared.table.AppFiles.{AppFiles}
 use Rattle.release_table.specs.declared.table.Release.{Release}

@@ -6,7 +6,7 @@ ghost use Rattle.script_state.specs.ObjectCode.{source_in, vsn_of_current, vsn_o
 
 use crate::noted::NotedVersion;
 use code_server::Modules;
-use erl_forms::Module;
+use erl_ir::Module;
 use erl_term::{Atom, Term};
 use release_table::{AppFiles, Release};
 use release_words::Version;

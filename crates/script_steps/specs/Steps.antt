@@ -4,7 +4,7 @@ use Rattle.low_instructions.specs.declared.low.Low.{Low}
 use Rattle.process_effects.specs.declared.told.Reply.{Reply}
 use Rattle.release_table.specs.declared.table.Release.{Release}
 use Rattle.script_checks.specs.Checks.{has_point}
-use Rattle.script_runner.specs.Instructions.{Does, Fails, IsAtEnd, MayRunOut, busy_of}
+use Rattle.script_runner.specs.Instructions.{RunsInstruction, Fails, IsAtEnd, MayRunOut, busy_of}
 use Rattle.script_runner.specs.Parts.{Parts}
 use Rattle.script_runner.specs.Undo.{TakesBack}
 use Rattle.script_runner.specs.declared.halt.Halt.{Halt}
@@ -43,7 +43,7 @@ pub record Steps (r : Release) (give_up : Bool) (n : ℕ) (s after : ScriptState
   pub next : next_of s ≡ Some instruction
   pub waits : busy_of give_up instruction s.parts ≡ None
   pub told : List Reply
-  pub does : Does r instruction s.parts after.parts told
+  pub does : RunsInstruction r instruction s.parts after.parts told
   pub tells : it.told.items ≡ replicate n told
   pub back : TakesBack it.undo s.parts after.parts
   pub script : after.script ≡ s.script

@@ -6,14 +6,14 @@ ghost use Rattle.script_steps.specs.Steps.{StepsOrStops, no_step_of, side_by};
 
 use app_table::AppTable;
 use code_server::Modules;
-use erl_forms::Module;
+use erl_ir::Module;
 use erl_term::Term;
 use low_instructions::Low;
 use process_effects::Reply;
 use process_table::Processes;
 use release_table::Release;
 use script_checks::has_point;
-use script_runner::{Carried, Halt, Undo, carry_out};
+use script_runner::{Carried, Halt, InstructionUndo, carry_out};
 use script_state::{Progress, Unpurged, instruction_at};
 use std::alloc::Global;
 use values::{Failure, Row};
@@ -24,7 +24,7 @@ pub struct Stepped {
     /// What clients are told, in as many equal values as were asked for.
     pub told: Vec<Row<Reply>>,
     /// What takes the instruction back.
-    pub undo: Undo,
+    pub undo: InstructionUndo,
 }
 
 /// On which side of the point of no return an instruction stands.

@@ -7,9 +7,9 @@ ghost use Rattle.script_runner.specs.Undo.{TakesBack};
 
 use app_table::AppTable;
 use code_server::Modules;
-use erl_forms::Module;
+use erl_ir::Module;
 use process_table::Processes;
-use script_runner::{Undo, revert};
+use script_runner::{InstructionUndo, revert};
 use script_state::{Progress, Unpurged};
 use std::alloc::Global;
 
@@ -25,8 +25,8 @@ pub fn unstep(
     unpurged: &mut Vec<Unpurged>,
     progress: &mut Progress,
     alloc: Global,
-    undo: Undo,
-) -> Result<(), Undo>
+    undo: InstructionUndo,
+) -> Result<(), InstructionUndo>
     requires stepped { 0 < progress.old.next }
     requires before { (before : Parts) × HasItsCode (running_of before) × TakesBack undo before
         (parts_of modules.old processes.old apps.old unpurged.old.items progress.old) }

@@ -16,7 +16,7 @@ use Rattle.process_effects.specs.declared.told.ReplyBody.TheVariants as bodies
 use Rattle.undo_journal.specs.declared.report.Report.{Report}
 use Rattle.node_types.specs.Note.{Note}
 use Rattle.code_server.specs.Modules.{Entry}
-use Rattle.erl_forms.specs.Module.{Forms}
+use Rattle.erl_ir.specs.Module.{Forms}
 use Rattle.app_table.specs.Applications.{Application}
 use Rattle.release_files.specs.declared.fault.FileFault.{FileFault}
 use Rattle.release_statuses.specs.declared.listed.Listed.{Listed}

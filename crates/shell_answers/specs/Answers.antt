@@ -9,7 +9,7 @@ use Rattle.erl_term.specs.Conversions.{rows}
 use Rattle.erl_term.specs.Rows.{append_trees}
 use Rattle.erl_term.specs.Text.{utf8, text, elements_text, others_text}
 use Rattle.erl_term.specs.declared.term.Term.{Term}
-use Rattle.erl_forms.specs.Module.{Forms}
+use Rattle.erl_ir.specs.Module.{Forms}
 use Rattle.erl_semantics.specs.declared.acts.Place.{Place}
 use Rattle.erl_semantics.specs.declared.acts.Place.TheVariants.{Server, Loop}
 use Rattle.release_words.specs.Words.{names_tree, string_tree}
@@ -214,8 +214,8 @@ characters_of texts = map characters texts.items
 abbrev pub AreNames : List (Vec (String Global) Global) → List Listed → Type 0
 AreNames names releases = map characters_of names ≡ map named_versions releases
 
--- Scripts: `{installing,"Vsn",N}`; `{done,I}`, where the instruction is given as its term, `{ok,"Vsn",Descr}`, `{recovered,Reason}`,
--- `{restarted,Reason}`; and `{swept,[Mod]}`
+-- Scripts: `{installing,"Vsn",N}`; `{done,I}`, where the instruction is given as its term, `{ok,"Vsn",Descr}`,
+-- `{recovered,Reason}`, `{restarted,Reason}`; and `{swept,[Mod]}`
 
 abbrev pub installing : List ℕ → ℕ → Tree
 installing vsn instructions = triple (atom (codes "installing")) (string_tree vsn) (int (pos instructions))
@@ -235,7 +235,8 @@ restarted reason = pair (atom (codes "restarted")) (tree reason)
 abbrev pub swept : List (List ℕ) → Tree
 swept modules = pair (atom (codes "swept")) (names_tree modules)
 
--- Processes: `{proc,Pid,Place,State,Turn,Mailbox}`. Of one that runs the place is the one where it rested when it took its message.
+-- Processes: `{proc,Pid,Place,State,Turn,Mailbox}`. Of one that runs the place is the one where it rested when it took its
+-- message.
 
 abbrev pub place_of : Place → Tree
 place_of (Server m s) = triple (atom (codes "server")) (atom m) (tree s)

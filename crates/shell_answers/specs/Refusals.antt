@@ -1,4 +1,5 @@
--- Refusals of events, as they are answered: `false` where OTP's code server answers so, else `{error,Name}`, or with what is told.
+-- Refusals of events, as they are answered: `false` where OTP's code server answers so, else `{error,Name}`, or with what
+-- is told.
 use Rattle.std.specs.Prelude.{ℕ, List, [], codes, Option, None, Some}
 use Rattle.std.specs.Str.{chars}
 use Rattle.erl_term.specs.Tree.{Tree, atom, pid}
@@ -46,8 +47,8 @@ app_refusal (sys.StartFailed failed) = start_failed failed.child failed.reason
 app_refusal sys.NoChild = fixed it.NoChild
 app_refusal sys.NotDue = fixed it.NotDue
 
--- What a refusal is told of: the version that the event names, if it names one; and of an install the version of the release that runs,
--- and the instructions of the script that leads from it to the other, if one does.
+-- What a refusal is told of: the version that the event names, if it names one; and of an install the version of the
+-- release that runs, and the instructions of the script that leads from it to the other, if one does.
 pub record Subject : Type 0 where
   pub vsn : List ℕ
   pub running : List ℕ
@@ -80,8 +81,8 @@ release_refusal vsn rel.AlreadyInstalled = of_version (codes "already_installed"
 release_refusal vsn rel.Permanent = of_version (codes "permanent") vsn
 release_refusal vsn (rel.BadStatus status) = bad_status vsn status
 
--- of an install: `{error,{no_matching_relup,"Vsn","Running"}}`, `{error,{bad_script,I}}`, `{error,{old_processes,Mod}}`, where the module
--- is that of the instruction in whose old code a process lingers
+-- of an install: `{error,{no_matching_relup,"Vsn","Running"}}`, `{error,{bad_script,I}}`, `{error,{old_processes,Mod}}`,
+-- where the module is that of the instruction in whose old code a process lingers
 
 abbrev pub no_matching_relup : List ℕ → List ℕ → Tree
 no_matching_relup vsn running =

@@ -1,5 +1,5 @@
--- Why there is no relup of two releases, as it is answered: `{error,erts_changed}`, `{error,{base_changed,App}}`, `{error,{no_appup,App}}`,
--- `{error,{no_entry,App,"Vsn"}}`, `{error,{unknown_module,Mod}}`.
+-- Why there is no relup of two releases, as it is answered: `{error,erts_changed}`, `{error,{base_changed,App}}`,
+-- `{error,{no_appup,App}}`, `{error,{no_entry,App,"Vsn"}}`, `{error,{unknown_module,Mod}}`.
 use Rattle.std.specs.Prelude.{ℕ, List, codes}
 use Rattle.erl_term.specs.Tree.{Tree, atom}
 use Rattle.release_words.specs.Words.{string_tree}

@@ -1,7 +1,7 @@
 //! The answers of the shell, as they are written: each is the text of one Erlang term, and a newline behind it.
 //!
-//! A writer appends its line to the output, or answers that there is no memory for it; then a front of the line may be there. Which
-//! term is written of what is `specs/Answers` and `specs/Faults`; how a term is written is `erl_term`'s.
+//! A writer appends its line to the output, or answers that there is no memory for it; then a front of the line may be
+//! there. Which term is written of what is `specs/Answers` and `specs/Faults`; how a term is written is `erl_term`'s.
 //!
 //! # What is proved
 //!

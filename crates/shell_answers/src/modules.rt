@@ -6,7 +6,7 @@ ghost use Rattle.shell_answers.specs.Answers.{line_of, module_of, modules_of, se
 
 use crate::bytes::{put, put_number, put_separator};
 use code_server::{Instance, Modules, Slots};
-use erl_forms::Module;
+use erl_ir::Module;
 use erl_term::{Atom, print_atom};
 use std::alloc::AllocError;
 

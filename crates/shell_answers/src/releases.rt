@@ -57,7 +57,7 @@ fn names_of_apps(alloc: Global, apps: &[RelApp]) -> Result<Vec<String>, AllocErr
 }
 
 /// The texts `App-Vsn` of the applications of releases, a row a release, in order. They are made before anything is written, so
-/// that want of memory leaves the output as it is.
+/// that lack of memory leaves the output as it is.
 ///
 /// # Errors
 ///

@@ -46,7 +46,8 @@ pub fn write_reply(reply: &Reply, out: &mut Vec<u8>) -> Result<(), AllocError>
     put(b"\n", out)
 }
 
-/// Appends replies, as the elements that are left of a row, of which none, or some, are written. Answers whether none is written still.
+/// Appends replies, as the elements that are left of a row, of which none, or some, are written. Answers whether none is
+/// written still.
 fn put_replies(replies: &[Reply], is_first: bool, out: &mut Vec<u8>) -> Result<bool, AllocError>
     ensures written { OnOk result (out.new.items ≡ out.old.items ++ utf8 (listed is_first (replies_in replies.now))) }
     ensures first { IfOk result (λ it. it ≡ (is_first && is_none (replies_in replies.now))) }
@@ -93,14 +94,15 @@ fn put_arrival(name: &Atom, message: &Term, out: &mut Vec<u8>) -> Result<(), All
     put(b"}", out)
 }
 
-/// Appends an arrival, if it is one, as the next element of a row, of which none, or some, are written. Answers whether none is written
-/// still.
+/// Appends an arrival, if it is one, as the next element of a row, of which none, or some, are written. Answers whether
+/// none is written still.
 fn put_next_arrival(
     arrival: Option<&(Atom, Term)>,
     is_first: bool,
     out: &mut Vec<u8>,
 ) -> Result<bool, AllocError>
-    ensures written { OnOk result (out.new.items ≡ out.old.items ++ utf8 (listed is_first (arrival_of (option_copied arrival.entry)))) }
+    ensures written { OnOk result (out.new.items ≡ out.old.items ++
+        utf8 (listed is_first (arrival_of (option_copied arrival.entry)))) }
     ensures first { IfOk result (λ it. it ≡ (is_first && is_none (arrival_of (option_copied arrival.entry)))) }
 {
     match arrival {

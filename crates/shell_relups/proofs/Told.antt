@@ -17,8 +17,8 @@ use Rattle.shell_answers.specs.Answers.{line_of}
 use Rattle.shell_answers.specs.Faults.{file_fault}
 use Rattle.shell_answers.specs.Relups.{unmade}
 use Rattle.shell_relups.specs.Relups.{IsRelupTold, IsWritten, RelupTold, made, no_memory_for_relup, no_relup, unmade_fate, unread_answer, unread_fate}
-use Rattle.shell_holdings.specs.Fate.{Fate}
-use Rattle.shell_holdings.specs.Fate.TheVariants as fates
+use Rattle.shell_state.specs.Fate.{Fate}
+use Rattle.shell_state.specs.Fate.TheVariants as fates
 
 -- The files of the one release or of the other could not be read.
 

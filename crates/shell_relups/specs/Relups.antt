@@ -19,14 +19,15 @@ use Rattle.shell_answers.specs.Answers.{fixed, line_of}
 use Rattle.shell_answers.specs.Faults.{file_fault}
 use Rattle.shell_answers.specs.Relups.{unmade}
 use Rattle.shell_answers.specs.declared.fixed.Fixed.TheVariants as words
-use Rattle.shell_holdings.specs.State.{Deed, ShellState, answered}
-use Rattle.shell_holdings.specs.Fate.{Fate}
-use Rattle.shell_holdings.specs.Fate.TheVariants.{Refused, Unread, StoppedAt}
+use Rattle.shell_state.specs.State.{Effect, ShellState, answered}
+use Rattle.shell_state.specs.Fate.{Fate}
+use Rattle.shell_state.specs.Fate.TheVariants.{Refused, Unread, StoppedAt}
 
 -- `relup FROM TO`, by the files: what stands against those of the one release is told first, then what stands against those
 -- of the other, then what stands against a relup of the two.
 pub data RelupTold (files : Contents) (from to : List ℕ) : Option Fate → Tree → Type 0 where
-  no_source : (path : List ℕ) (why : FileFault) → IsFirstFault files from path why → RelupTold files from to None (file_fault path why)
+  no_source : (path : List ℕ) (why : FileFault) → IsFirstFault files from path why →
+      RelupTold files from to None (file_fault path why)
   no_target : (old : Release) (path : List ℕ) (why : FileFault) → IsRelease files from old → IsFirstFault files to path why →
       RelupTold files from to None (file_fault path why)
   no_relup : (old new : Release) (why : MakeError) → IsRelease files from old → IsRelease files to new →
@@ -41,10 +42,10 @@ IsRelupTold files from to fate text appended =
     (answer : Tree) × RelupTold files from to fate answer × (appended ≡ text ++ line_of answer)
 
 -- which is all that the shell does
-abbrev pub TellsRelup : ShellState → List ℕ → List ℕ → Option Fate → Deed → Type 0
+abbrev pub TellsRelup : ShellState → List ℕ → List ℕ → Option Fate → Effect → Type 0
 TellsRelup s from to fate d = (answer : Tree) × RelupTold s.files from to fate answer × (d ≡ answered s answer)
 
--- What is told of files that could not be read, by why; want of memory is one reason.
+-- What is told of files that could not be read, by why; lack of memory is one reason.
 
 abbrev pub unread_fate : FileFault → Option Fate
 unread_fate fault.Memory = Some Refused

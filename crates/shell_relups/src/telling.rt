@@ -2,7 +2,7 @@
 ghost use Rattle.std.specs.Prelude.{◌≡◌, ◌++◌, IfOk, string_bytes};
 ghost use Rattle.shell_answers.specs.Answers.{line_of};
 ghost use Rattle.shell_answers.specs.Relups.{unmade};
-ghost use Rattle.shell_holdings.specs.Done.{IsDone};
+ghost use Rattle.shell_state.specs.Done.{IsDone};
 ghost use Rattle.shell_relups.specs.Relups.{IsRelupTold, IsWritten, TellsRelup, unmade_fate, unread_answer, unread_fate};
 
 use otp_files::{Relup, relup_term};
@@ -10,11 +10,11 @@ use release_files::{FileFault, Files, ReleaseFault, read_release};
 use release_relups::relup_between;
 use relup_make::MakeError;
 use shell_answers::{write_relup, write_unmade};
-use shell_holdings::{Holdings, Said, refuse, say_file_fault};
+use shell_state::{Said, Shell, refuse, say_file_fault};
 use std::alloc::Global;
 
 /// Tells the relup that leads from the release of a version to that of another, as the files of both say.
-pub fn tell_relup(held: &Holdings, from: &str, to: &str, out: &mut Vec<u8>) -> Said
+pub fn tell_relup(held: &Shell, from: &str, to: &str, out: &mut Vec<u8>) -> Said
     ensures { IfOk result (λ fate. IsDone (TellsRelup held.now from.now to.now fate) held.now out.old.items out.new.items) }
 {
     tell_relup_in(held.alloc(), held.files(), from, to, out)

@@ -24,8 +24,8 @@ pub data Who : Type 0 where
   numbered : ℕ → Who
   named : List ℕ → Who
 
--- A request. Modules, processes, applications and children are named by their characters, a file and a version by its bytes; a term stands
--- as its text's bytes.
+-- A request. Modules, processes, applications and children are named by their characters, a file and a version by its
+-- bytes; a term stands as its text's bytes.
 pub data Request : Type 0 where
   ask : Question → Request
   change : Change → List ℕ → Request
@@ -50,7 +50,8 @@ commands =
     (codes "modules", Nothing Modules) ∷ (codes "apps", Nothing Apps) ∷ (codes "replies", Nothing Replies)
     ∷ (codes "mark", Nothing MarkNow) ∷ (codes "delete", Module Delete) ∷ (codes "purge", Module Purge)
     ∷ (codes "soft_purge", Module SoftPurge) ∷ (codes "load", ModuleAndPath) ∷ (codes "undo", Mark Undo)
-    ∷ (codes "forget", Mark Forget) ∷ (codes "commit", Result) ∷ (codes "call", NameAndTerm Call) ∷ (codes "cast", NameAndTerm Cast)
+    ∷ (codes "forget", Mark Forget) ∷ (codes "commit", Result) ∷ (codes "call", NameAndTerm Call) ∷
+    (codes "cast", NameAndTerm Cast)
     ∷ (codes "send", NameAndTerm Info) ∷ (codes "take", Process Take) ∷ (codes "retake", Process Retake)
     ∷ (codes "proc", Process Show) ∷ (codes "revive", AppAndChild) ∷ (codes "which", Nothing Which)
     ∷ (codes "unpack", Unpack) ∷ (codes "remove", Version Remove) ∷ (codes "install", Version Install)

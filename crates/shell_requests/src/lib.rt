@@ -1,7 +1,8 @@
 //! The commands of the shell, as lines ask for them.
 //!
-//! [`read_line`] reads a line as a [`Line`]: nothing, no command, or a [`Request`]. It takes no memory: what a request names stands in
-//! the line. The commands are one table, `commands` in `specs/Request`, with the shape of what follows the word of each.
+//! [`read_line`] reads a line as a [`Line`]: nothing, no command, or a [`Request`]. It takes no memory: what a request
+//! names stands in the line. The commands are one table, `commands` in `specs/Request`, with the shape of what follows the
+//! word of each.
 //!
 //! # What is proved
 //!

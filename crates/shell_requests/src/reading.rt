@@ -74,8 +74,8 @@ pub fn read_line(line: &[u8]) -> Line<'_>
     }
 }
 
-/// Whether the line that bytes begin with asks for code of modules to be run, which may take long: a `commit` runs a job, a `revive`
-/// a start function, a `step` what its instruction asks for, and a `reboot` the start functions of a release.
+/// Whether the line that bytes begin with asks for code of modules to be run, which may take long: a `commit` runs a job, a
+/// `revive` a start function, a `step` what its instruction asks for, and a `reboot` the start functions of a release.
 pub fn runs_code(start: &[u8]) -> bool {
     let words = start.trim_ascii_start();
     words.starts_with(b"commit ")

@@ -18,8 +18,8 @@ use Rattle.shell_answers.specs.Answers.{line_of}
 abbrev pub NodeTimeline : Type 0
 NodeTimeline = Timeline NodeState Note
 
--- What the shell holds. Beside the journal, and not taken back by an undo, stand the files, the jobs whose results can be committed, how many
--- calls were tried, and all replies that were ever sent, in order.
+-- What the shell holds. Beside the journal, and not taken back by an undo, stand the files, the jobs whose results can be
+-- committed, how many calls were tried, and all replies that were ever sent, in order.
 pub record ShellState : Type 0 where
   pub files : Contents
   pub timeline : NodeTimeline
@@ -59,17 +59,17 @@ abbrev pub stepped : Accepted NodeState Answer Note → ShellState → ShellStat
 stepped a s = record s { timeline = appended s.timeline a.node a.note; sent = s.sent ++ a.note.replies }
 
 -- What a line does: its answer, the shell after it, and the command to the journal that made it so, if one was carried out.
-pub record Deed : Type 0 where
+pub record Effect : Type 0 where
   pub text : List ℕ
   pub after : ShellState
   pub command : Option (Command Event)
 
 -- an answer, and nothing but that
-abbrev pub answered : ShellState → Tree → Deed
+abbrev pub answered : ShellState → Tree → Effect
 answered s answer = record { text = line_of answer; after = s; command = None }
 
 -- an event that is accepted
-abbrev pub carried : ShellState → Event → Tree → Deed
+abbrev pub carried : ShellState → Event → Tree → Effect
 carried after e answer = record { text = line_of answer; after = after; command = Some (Perform e) }
 
 -- no serial is left for a step

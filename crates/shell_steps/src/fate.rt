@@ -1,7 +1,7 @@
-// What want of memory makes of a line.
+// What lack of memory makes of a line.
 use undo_journal::Mark;
 
-/// What want of memory makes of a line.
+/// What lack of memory makes of a line.
 #[derive(Clone, Copy)]
 pub enum Fate {
     /// The line changed nothing. Nothing stands against it that is told without memory.

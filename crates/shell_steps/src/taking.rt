@@ -28,7 +28,8 @@ pub fn step_take(
     sent: &mut Vec<Row<Reply>>,
     pid: u64,
 ) -> Result<Told<Answer, Note>, Halt>
-    ensures told { IfOk result (λ told. (s : ShellState) → s.timeline ≡ journal.old → IsTold told s (event.Take pid) journal.new) }
+    ensures told { IfOk result (λ told. (s : ShellState) → s.timeline ≡ journal.old →
+        IsTold told s (event.Take pid) journal.new) }
     ensures halted { IfErr result (λ halt. (s : ShellState) → s.timeline ≡ journal.old → Halts halt s (event.Take pid)) }
     ensures err { OnErr result (journal.new ≡ journal.old) }
     ensures sent { joined sent.new.items ≡ joined sent.old.items }
@@ -61,7 +62,8 @@ fn keep_told(jobs: &mut Vec<Job>, answer: Answer)
 pub fn tell_taken(jobs: &mut Vec<Job>, pid: u64, answer: Answer, out: &mut Vec<u8>) -> Said
     requires { vec_len jobs.old < vec_capacity jobs.old }
     ensures { IfOk result (λ fate. (job : Job) → answer ≡ tells.Job job → (fate ≡ None)
-        × (jobs.new.items ≡ jobs.old.items ++ job ∷ []) × (out.new.items ≡ out.old.items ++ line_of (job_of (length jobs.old.items + 1) pid))) }
+        × (jobs.new.items ≡ jobs.old.items ++ job ∷ []) ×
+        (out.new.items ≡ out.old.items ++ line_of (job_of (length jobs.old.items + 1) pid))) }
 {
     let place = jobs.len() as u64 + 1;
     keep_told(jobs, answer);

@@ -52,7 +52,8 @@ pub fn refuse(out: &mut Vec<u8>) -> Said
 
 /// Appends why an event was not performed that names no version.
 pub fn tell_halt(halt: Halt, out: &mut Vec<u8>) -> Said
-    ensures { IfOk result (λ fate. (fate ≡ halt_fate halt) × (out.new.items ≡ out.old.items ++ line_of (halt_answer naming_nothing halt))) }
+    ensures { IfOk result (λ fate. (fate ≡ halt_fate halt) ×
+        (out.new.items ≡ out.old.items ++ line_of (halt_answer naming_nothing halt))) }
 {
     let about = Subject::naming("");
     tell_halt_of(&about, halt, out)
@@ -60,7 +61,8 @@ pub fn tell_halt(halt: Halt, out: &mut Vec<u8>) -> Said
 
 /// Appends why an event was not performed, told of this.
 pub fn tell_halt_of(about: &Subject<'_>, halt: Halt, out: &mut Vec<u8>) -> Said
-    ensures { IfOk result (λ fate. (fate ≡ halt_fate halt) × (out.new.items ≡ out.old.items ++ line_of (halt_answer (subject_of about.now) halt))) }
+    ensures { IfOk result (λ fate. (fate ≡ halt_fate halt) ×
+        (out.new.items ≡ out.old.items ++ line_of (halt_answer (subject_of about.now) halt))) }
 {
     match &halt {
         Halt::Full => say(Fixed::SerialEnd, out),
@@ -71,7 +73,8 @@ pub fn tell_halt_of(about: &Subject<'_>, halt: Halt, out: &mut Vec<u8>) -> Said
 
 /// Appends why an event is refused, told of this.
 fn say_refusal(about: &Subject<'_>, why: &Refusal, out: &mut Vec<u8>) -> Said
-    ensures { IfOk result (λ fate. (fate ≡ None) × (out.new.items ≡ out.old.items ++ line_of (refusal_of (subject_of about.now) why.now))) }
+    ensures { IfOk result (λ fate. (fate ≡ None) ×
+        (out.new.items ≡ out.old.items ++ line_of (refusal_of (subject_of about.now) why.now))) }
 {
     write_refusal(about, why, out)?;
     Ok(None)
@@ -79,7 +82,8 @@ fn say_refusal(about: &Subject<'_>, why: &Refusal, out: &mut Vec<u8>) -> Said
 
 /// Appends why something was not done of which a part was not read, and that names no version.
 pub fn tell_missed(halt: Halt, out: &mut Vec<u8>) -> Said
-    ensures { IfOk result (λ fate. (fate ≡ missed_fate halt) × (out.new.items ≡ out.old.items ++ line_of (halt_answer naming_nothing halt))) }
+    ensures { IfOk result (λ fate. (fate ≡ missed_fate halt) ×
+        (out.new.items ≡ out.old.items ++ line_of (halt_answer naming_nothing halt))) }
 {
     let about = Subject::naming("");
     tell_missed_of(&about, halt, out)
@@ -87,7 +91,8 @@ pub fn tell_missed(halt: Halt, out: &mut Vec<u8>) -> Said
 
 /// Appends why something was not done of which a part was not read, told of this.
 pub fn tell_missed_of(about: &Subject<'_>, halt: Halt, out: &mut Vec<u8>) -> Said
-    ensures { IfOk result (λ fate. (fate ≡ missed_fate halt) × (out.new.items ≡ out.old.items ++ line_of (halt_answer (subject_of about.now) halt))) }
+    ensures { IfOk result (λ fate. (fate ≡ missed_fate halt) ×
+        (out.new.items ≡ out.old.items ++ line_of (halt_answer (subject_of about.now) halt))) }
 {
     let fate = match &halt {
         Halt::Full | Halt::Refused(_) => Fate::Unread,

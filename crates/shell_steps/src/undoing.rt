@@ -18,8 +18,8 @@ use values::Row;
 /// How an undo ends.
 pub type Undone = Result<Vec<Report<Note>>, JournalError<Refusal, Note>>;
 
-/// Undoes every step after a mark, and reports it once. Where it finds no memory, and has cut nothing, it is tried once more with what was
-/// kept back for it.
+/// Undoes every step after a mark, and reports it once. Where it finds no memory, and has cut nothing, it is tried once
+/// more with what was kept back for it.
 pub fn undo_steps(
     alloc: Global,
     journal: &mut Journal<Node>,
@@ -60,7 +60,8 @@ fn nothing_cut(alloc: Global) -> Report<Note>
 
 /// Tells what was undone.
 pub fn tell_undone(alloc: Global, reports: &[Report<Note>], out: &mut Vec<u8>) -> Said
-    ensures { IfOk result (λ fate. (fate ≡ None) × (out.new.items ≡ out.old.items ++ line_of (undone_steps (first_of reports.now)))) }
+    ensures { IfOk result (λ fate. (fate ≡ None) ×
+        (out.new.items ≡ out.old.items ++ line_of (undone_steps (first_of reports.now)))) }
 {
     match reports {
         [report, ..] => write_undone(report, out)?,
@@ -71,7 +72,8 @@ pub fn tell_undone(alloc: Global, reports: &[Report<Note>], out: &mut Vec<u8>) -
 
 /// Tells what was undone by an undo that stopped at a mark.
 pub fn tell_stopped(alloc: Global, mark: Mark, reports: &[Report<Note>], out: &mut Vec<u8>) -> Said
-    ensures { IfOk result (λ fate. (fate ≡ Some (StoppedAt mark)) × (out.new.items ≡ out.old.items ++ line_of (stopped_undo mark (first_of reports.now)))) }
+    ensures { IfOk result (λ fate. (fate ≡ Some (StoppedAt mark)) ×
+        (out.new.items ≡ out.old.items ++ line_of (stopped_undo mark (first_of reports.now)))) }
 {
     match reports {
         [report, ..] => write_stopped(mark, report, out)?,
@@ -82,7 +84,8 @@ pub fn tell_stopped(alloc: Global, mark: Mark, reports: &[Report<Note>], out: &m
 
 /// Tells why an undo did not reach its mark. `Step` and `SerialEnd` are no errors of an undo.
 fn tell_unfinished(alloc: Global, error: &JournalError<Refusal, Note>, out: &mut Vec<u8>) -> Said
-    ensures { IfOk result (λ fate. (fate ≡ unfinished_fate error.now) × (out.new.items ≡ out.old.items ++ line_of (unfinished_answer error.now))) }
+    ensures { IfOk result (λ fate. (fate ≡ unfinished_fate error.now) ×
+        (out.new.items ≡ out.old.items ++ line_of (unfinished_answer error.now))) }
 {
     match error {
         JournalError::Memory { mark, reports } => {
@@ -98,7 +101,8 @@ fn tell_unfinished(alloc: Global, error: &JournalError<Refusal, Note>, out: &mut
 
 /// Tells how an undo ended.
 pub fn tell_undo(alloc: Global, done: &Undone, out: &mut Vec<u8>) -> Said
-    ensures { IfOk result (λ fate. (fate ≡ undo_fate done.now) × (out.new.items ≡ out.old.items ++ line_of (undo_answer done.now))) }
+    ensures { IfOk result (λ fate. (fate ≡ undo_fate done.now) ×
+        (out.new.items ≡ out.old.items ++ line_of (undo_answer done.now))) }
 {
     match done {
         Ok(reports) => tell_undone(alloc, reports.as_slice(), out),
@@ -113,7 +117,8 @@ pub fn tell_forget(
     done: &Result<(), JournalError<Refusal, Note>>,
     out: &mut Vec<u8>,
 ) -> Said
-    ensures { IfOk result (λ fate. (fate ≡ forget_fate done.now) × (out.new.items ≡ out.old.items ++ line_of (forget_answer mark done.now))) }
+    ensures { IfOk result (λ fate. (fate ≡ forget_fate done.now) ×
+        (out.new.items ≡ out.old.items ++ line_of (forget_answer mark done.now))) }
 {
     match done {
         Ok(()) => {

@@ -8,14 +8,14 @@ use Rattle.low_instructions.specs.declared.low.Low.{Low}
 use Rattle.release_table.specs.declared.table.Release.{Release}
 use Rattle.script_state.specs.Runner.{RunnerState}
 use Rattle.undo_journal.specs.Reversible.{Accepted}
-use Rattle.shell_holdings.specs.Node.{NodeState}
-use Rattle.shell_holdings.specs.Scripts.{Advances, GivesUp, finished_as, GoesOn, GoesOnBy, HasFailed, IsCarriedOut, is_past, next_in, target_in}
-use Rattle.shell_holdings.specs.Step.{Step}
+use Rattle.shell_state.specs.Node.{NodeState}
+use Rattle.shell_state.specs.Scripts.{Advances, GivesUp, finished_as, GoesOn, GoesOnBy, HasFailed, IsCarriedOut, is_past, next_in, target_in}
+use Rattle.shell_state.specs.Step.{Step}
 use Rattle.node_types.specs.Note.{Note}
 use Rattle.node_types.specs.declared.event.Answer.{Answer}
 use Rattle.node_types.specs.declared.event.Answer.TheVariants as tells
 use Rattle.node_types.specs.declared.event.Event.TheVariants.{Advance}
-use Rattle.shell_holdings.specs.Performing.{advanced_in}
+use Rattle.shell_state.specs.Performing.{advanced_in}
 use Rattle.shell_upgrades.specs.Advancing.{advanced_by, next_of}
 
 -- an answer is told so by the next instruction

@@ -6,18 +6,18 @@ use Rattle.install_checks.specs.Installing.{install_refusal}
 use Rattle.release_statuses.specs.Statuses.{permanent_refusal, remove_refusal}
 use Rattle.release_statuses.specs.declared.error.RelError.{RelError}
 use Rattle.undo_journal.specs.Reversible.{Accepted}
-use Rattle.shell_holdings.specs.Node.{NodeState}
-use Rattle.shell_holdings.specs.Scripts.{Installs, MakesPermanent, RebootsOld}
-use Rattle.shell_holdings.specs.Step.{MayRunOut, Step, release_removed, unless}
+use Rattle.shell_state.specs.Node.{NodeState}
+use Rattle.shell_state.specs.Scripts.{Installs, MakesPermanent, RebootsOld}
+use Rattle.shell_state.specs.Step.{MayRunOut, Step, release_removed, unless}
 use Rattle.node_types.specs.Note.{Note}
 use Rattle.node_types.specs.declared.event.Answer.{Answer}
 use Rattle.node_types.specs.declared.event.Refusal.{Refusal}
 use Rattle.node_types.specs.declared.event.Refusal.TheVariants.{Installing, OfInstall, OfReleases}
 use Rattle.shell_requests.specs.declared.request.ReleaseChange.{ReleaseChange}
 use Rattle.shell_requests.specs.declared.request.ReleaseChange.TheVariants as releases
-use Rattle.shell_holdings.proofs.Performing.{judged_otherwise, no_script, refused_meanwhile}
-use Rattle.shell_holdings.specs.Performing.{done_by}
-use Rattle.shell_holdings.specs.State.{Deed, ShellState, carried, stepped}
+use Rattle.shell_state.proofs.Performing.{judged_otherwise, no_script, refused_meanwhile}
+use Rattle.shell_state.specs.Performing.{done_by}
+use Rattle.shell_state.specs.State.{Effect, ShellState, carried, stepped}
 use Rattle.shell_upgrades.specs.Upgrades.{refusal_of_alteration, release_answer, release_event}
 
 -- what is made of a refusal, if there is one
@@ -60,7 +60,7 @@ alteration_may releases.RebootOld vsn n none is = (no_script n.runner none, sym 
 
 -- what is done of such an event is what its command says of it
 
-abbrev pub of_alteration : ShellState → ReleaseChange → List ℕ → Accepted NodeState Answer Note → Deed
+abbrev pub of_alteration : ShellState → ReleaseChange → List ℕ → Accepted NodeState Answer Note → Effect
 of_alteration s kind vsn a = carried (stepped a s) (release_event kind vsn) (release_answer kind a.answer)
 
 pub alteration_done : (s : ShellState) (kind : ReleaseChange) (vsn : List ℕ) → of_alteration s kind vsn ≡ done_by s (release_event kind vsn)

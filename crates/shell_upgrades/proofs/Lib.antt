@@ -1,5 +1,5 @@
 mod Advanced
 mod Altered
 mod Unpacked
-pub use Rattle.shell_holdings.proofs.Done
-pub use Rattle.shell_holdings.proofs.Performing
+pub use Rattle.shell_state.proofs.Done
+pub use Rattle.shell_state.proofs.Performing

@@ -6,18 +6,18 @@ use Rattle.release_files.specs.declared.fault.FileFault.{FileFault}
 use Rattle.release_files.specs.declared.fault.FileFault.TheVariants as file
 use Rattle.release_files.specs.declared.fault.ReleaseFault.{ReleaseFault}
 use Rattle.undo_journal.specs.Reversible.{Accepted}
-use Rattle.shell_holdings.specs.Node.{NodeState}
-use Rattle.shell_holdings.specs.Step.{unless}
+use Rattle.shell_state.specs.Node.{NodeState}
+use Rattle.shell_state.specs.Step.{unless}
 use Rattle.node_types.specs.declared.event.Answer.{Answer}
 use Rattle.node_types.specs.declared.event.Refusal.TheVariants.{OfReleases}
 use Rattle.node_types.specs.Note.{Note}
 use Rattle.shell_answers.specs.Answers.{line_of}
 use Rattle.shell_answers.specs.Faults.{file_fault}
 use Rattle.shell_upgrades.specs.Upgrades.{Unpacks, no_release}
-use Rattle.shell_holdings.specs.Done.{IsDone}
+use Rattle.shell_state.specs.Done.{IsDone}
 use Rattle.shell_upgrades.specs.Upgrades.{IsUnreadRelease}
-use Rattle.shell_holdings.specs.State.{ShellState}
-use Rattle.shell_holdings.specs.Fate.{Fate}
+use Rattle.shell_state.specs.State.{ShellState}
+use Rattle.shell_state.specs.Fate.{Fate}
 
 -- a refusal of the releases is one of the event
 pub refuses-release : (o : Option RelError) (why : RelError) (a : Accepted NodeState Answer Note) → Some why ≡ o → Err (OfReleases why) ≡ unless o OfReleases a

@@ -3,13 +3,13 @@ use Rattle.std.specs.Prelude.{Option, None, Some, option_and_then}
 use Rattle.erl_term.specs.Tree.{Tree}
 use Rattle.low_instructions.specs.declared.low.Low.{Low}
 use Rattle.script_state.specs.Runner.{RunnerState}
-use Rattle.shell_holdings.specs.Node.{NodeState}
-use Rattle.shell_holdings.specs.Scripts.{next_in}
+use Rattle.shell_state.specs.Node.{NodeState}
+use Rattle.shell_state.specs.Scripts.{next_in}
 use Rattle.node_types.specs.declared.event.Answer.{Answer}
 use Rattle.node_types.specs.declared.event.Answer.TheVariants as tells
 use Rattle.shell_answers.specs.Answers.{carried_out, fixed}
 use Rattle.shell_answers.specs.declared.fixed.Fixed.TheVariants as words
-use Rattle.shell_holdings.specs.Performing.{advanced_in}
+use Rattle.shell_state.specs.Performing.{advanced_in}
 
 -- if a script runs, and has one left
 abbrev pub next_of : NodeState → Option Low

@@ -1,5 +1,5 @@
--- What the shell may do where a line asks for something of releases and of their scripts: by what want of memory makes of it, one clause
--- a way.
+-- What the shell may do where a line asks for something of releases and of their scripts: by what lack of memory makes of
+-- it, one clause a way.
 use Rattle.std.specs.Prelude.{◌≡◌, ◌⊎◌, ℕ, Bool, List, [], Option, None, Some, option_map, string_bytes}
 use Rattle.std.specs.Str.{chars}
 use Rattle.erl_term.specs.Tree.{Tree}
@@ -7,8 +7,8 @@ use Rattle.erl_term.specs.declared.term.Term.{Term}
 use Rattle.install_checks.specs.Installing.{install_refusal, script_to}
 use Rattle.low_instructions.specs.declared.low.Low.{Low}
 use Rattle.otp_files.specs.declared.upgrade.Entry.{Entry}
-use Rattle.shell_holdings.specs.Node.{NodeState}
-use Rattle.shell_holdings.specs.Scripts.{reboot_refused}
+use Rattle.shell_state.specs.Node.{NodeState}
+use Rattle.shell_state.specs.Scripts.{reboot_refused}
 use Rattle.node_types.specs.declared.event.Answer.{Answer}
 use Rattle.node_types.specs.declared.event.Event.{Event}
 use Rattle.node_types.specs.declared.event.Event.TheVariants as event
@@ -28,9 +28,9 @@ use Rattle.shell_answers.specs.Refusals.{Subject, naming, naming_nothing}
 use Rattle.shell_answers.specs.declared.fixed.Fixed.TheVariants as words
 use Rattle.shell_requests.specs.declared.request.ReleaseChange.{ReleaseChange}
 use Rattle.shell_requests.specs.declared.request.ReleaseChange.TheVariants as releases
-use Rattle.shell_holdings.specs.Performing.{Misses, Performs, begun_in, done_by}
-use Rattle.shell_holdings.specs.State.{Deed, ShellState, answered, node_of}
-use Rattle.shell_holdings.specs.Fate.{Fate}
+use Rattle.shell_state.specs.Performing.{Misses, Performs, begun_in, done_by}
+use Rattle.shell_state.specs.State.{Effect, ShellState, answered, node_of}
+use Rattle.shell_state.specs.Fate.{Fate}
 
 -- `unpack VSN`: what stands against the files of the release is told first.
 
@@ -42,11 +42,13 @@ pub record OfVersion (vsn : List ℕ) : Type 0 where
 abbrev pub unpack_event : (vsn : List ℕ) → OfVersion vsn → Event
 unpack_event vsn r = event.SetUnpacked r.it
 
-pub data Unpacks (s : ShellState) (vsn : List ℕ) : Option Fate → Deed → Type 0 where
-  no_release : (path : List ℕ) (why : FileFault) → IsFirstFault s.files vsn path why → Unpacks s vsn None (answered s (file_fault path why))
-  release_read : (r : Release) (fate : Option Fate) (d : Deed) → IsRelease s.files vsn r →
+pub data Unpacks (s : ShellState) (vsn : List ℕ) : Option Fate → Effect → Type 0 where
+  no_release : (path : List ℕ) (why : FileFault) → IsFirstFault s.files vsn path why →
+      Unpacks s vsn None (answered s (file_fault path why))
+  release_read : (r : Release) (fate : Option Fate) (d : Effect) → IsRelease s.files vsn r →
       Performs s s (event.SetUnpacked r) (naming (chars vsn)) (done_by s (event.SetUnpacked r)) fate d → Unpacks s vsn fate d
-  release_unread : (fate : Option Fate) (d : Deed) → Misses s (naming (chars vsn)) (unpack_event vsn) fate d → Unpacks s vsn fate d
+  release_unread : (fate : Option Fate) (d : Effect) → Misses s (naming (chars vsn)) (unpack_event vsn) fate d →
+      Unpacks s vsn fate d
 
 -- why the files are no release, memory that was refused aside
 abbrev pub IsUnreadRelease : ShellState → List ℕ → ReleaseFault → Type 0
@@ -65,7 +67,8 @@ abbrev pub release_answer : ReleaseChange → Answer → Tree
 release_answer releases.Install answer = begun_in answer
 release_answer _ answer = fixed words.Done
 
--- What a refusal is told of: the version that is named, the version of the release that runs, and the script from it to the other.
+-- What a refusal is told of: the version that is named, the version of the release that runs, and the script from it to the
+-- other.
 
 abbrev pub version_in : Option Listed → List ℕ
 version_in None = []
@@ -78,9 +81,10 @@ script_in (Some entry) = entry.instructions
 abbrev pub subject_in : List ℕ → List Listed → Subject
 subject_in vsn known = record { vsn = vsn; running = version_in (running known); script = script_in (script_to vsn known) }
 
-abbrev pub AltersReleases : ShellState → ReleaseChange → List ℕ → Option Fate → Deed → Type 0
+abbrev pub AltersReleases : ShellState → ReleaseChange → List ℕ → Option Fate → Effect → Type 0
 AltersReleases s kind vsn fate d =
-    Performs s s (release_event kind (chars vsn)) (subject_in (chars vsn) (node_of s).releases) (done_by s (release_event kind (chars vsn))) fate d
+    Performs s s (release_event kind (chars vsn)) (subject_in (chars vsn) (node_of s).releases)
+    (done_by s (release_event kind (chars vsn))) fate d
 
 -- why such a change is refused where no script runs, as far as it is told without memory
 abbrev pub refusal_of_alteration : ReleaseChange → List ℕ → NodeState → Option Refusal
@@ -91,11 +95,11 @@ refusal_of_alteration releases.RebootOld vsn n = reboot_refused vsn n
 
 -- `step`, `step give_up`
 
-abbrev pub AdvancesScript : ShellState → Bool → Option Fate → Deed → Type 0
+abbrev pub AdvancesScript : ShellState → Bool → Option Fate → Effect → Type 0
 AdvancesScript s give_up fate d =
     Performs s s (event.Advance give_up) naming_nothing (done_by s (event.Advance give_up)) fate d
 
 -- `sweep`
 
-abbrev pub Sweeps : ShellState → Option Fate → Deed → Type 0
+abbrev pub Sweeps : ShellState → Option Fate → Effect → Type 0
 Sweeps s fate d = Performs s s event.Sweep naming_nothing (done_by s event.Sweep) fate d

@@ -4,8 +4,8 @@ ghost use Rattle.std.specs.Option.{option_copied};
 ghost use Rattle.erl_term.specs.Term.{tree};
 ghost use Rattle.low_instructions.specs.Forms.{low_tree};
 ghost use Rattle.shell_answers.specs.Answers.{line_of};
-ghost use Rattle.shell_holdings.specs.Done.{IsDone};
-ghost use Rattle.shell_holdings.specs.State.{node_of};
+ghost use Rattle.shell_state.specs.Done.{IsDone};
+ghost use Rattle.shell_state.specs.State.{node_of};
 ghost use Rattle.shell_upgrades.specs.Advancing.{advanced_by, carried_out_if, next_of};
 ghost use Rattle.shell_upgrades.specs.Upgrades.{AdvancesScript};
 
@@ -14,11 +14,11 @@ use low_instructions::{Low, low_term};
 use node_types::{Answer, Event};
 use script_state::instruction_at;
 use shell_answers::{Fixed, write_carried_out, write_finished, write_recovered, write_restarted};
-use shell_holdings::{Holdings, Node, Said, say, tell_halt};
+use shell_state::{Node, Said, Shell, say, tell_halt};
 use std::alloc::{AllocError, Global};
 
 /// Has the script that runs go on by its next instruction, or end. The term that its answer tells is made before.
-pub fn advance(held: &mut Holdings, give_up: bool, out: &mut Vec<u8>) -> Said
+pub fn advance(held: &mut Shell, give_up: bool, out: &mut Vec<u8>) -> Said
     ensures { IfOk result (λ fate. IsDone (AdvancesScript held.old give_up fate) held.new out.old.items out.new.items) }
 {
     let Ok(next) = next_term(held.alloc(), held.node()) else {
@@ -54,7 +54,8 @@ fn next_term(alloc: Global, node: &Node) -> Result<Option<Term>, AllocError>
 
 /// Tells what a script has come to. The instruction that is carried out is given by its term.
 fn tell_advanced(next: &Option<Term>, answer: &Answer, out: &mut Vec<u8>) -> Said
-    ensures { IfOk result (λ fate. (fate ≡ None) × (out.new.items ≡ out.old.items ++ line_of (advanced_by (option_map tree next.now) answer.now))) }
+    ensures { IfOk result (λ fate. (fate ≡ None) ×
+        (out.new.items ≡ out.old.items ++ line_of (advanced_by (option_map tree next.now) answer.now))) }
 {
     match answer {
         Answer::Ran(_) => return tell_carried_out(next, out),
@@ -71,7 +72,8 @@ fn tell_advanced(next: &Option<Term>, answer: &Answer, out: &mut Vec<u8>) -> Sai
 
 /// Tells the instruction that was carried out, by its term.
 fn tell_carried_out(instruction: &Option<Term>, out: &mut Vec<u8>) -> Said
-    ensures { IfOk result (λ fate. (fate ≡ None) × (out.new.items ≡ out.old.items ++ line_of (carried_out_if (option_map tree instruction.now)))) }
+    ensures { IfOk result (λ fate. (fate ≡ None) ×
+        (out.new.items ≡ out.old.items ++ line_of (carried_out_if (option_map tree instruction.now)))) }
 {
     match instruction {
         Some(term) => {

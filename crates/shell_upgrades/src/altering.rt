@@ -2,15 +2,15 @@
 ghost use Rattle.std.specs.Prelude.{◌≡◌, ◌++◌, IfOk, None, option_map};
 ghost use Rattle.std.specs.Str.{chars};
 ghost use Rattle.install_checks.specs.Installing.{script_to};
-ghost use Rattle.shell_holdings.specs.Scripts.{reboot_refused, reboot_wants};
+ghost use Rattle.shell_state.specs.Scripts.{reboot_refused, reboot_wants};
 ghost use Rattle.node_types.specs.declared.event.Refusal.TheVariants.{OfInstall, OfReleases};
 ghost use Rattle.release_statuses.specs.Statuses.{listed};
 ghost use Rattle.shell_answers.specs.Answers.{line_of};
 ghost use Rattle.shell_answers.specs.Refusals.{subject_of};
-ghost use Rattle.shell_holdings.specs.Done.{IsDone};
-ghost use Rattle.shell_holdings.specs.Halts.{Halts, halt_answer, halt_fate};
-ghost use Rattle.shell_holdings.specs.Performing.{begun_in};
-ghost use Rattle.shell_holdings.specs.State.{node_of};
+ghost use Rattle.shell_state.specs.Done.{IsDone};
+ghost use Rattle.shell_state.specs.Halts.{Halts, halt_answer, halt_fate};
+ghost use Rattle.shell_state.specs.Performing.{begun_in};
+ghost use Rattle.shell_state.specs.State.{node_of};
 ghost use Rattle.shell_upgrades.specs.Upgrades.{AltersReleases, refusal_of_alteration, release_answer, release_event, script_in, subject_in};
 
 use code_server::CodeError;
@@ -20,16 +20,11 @@ use node_restart::restart_refusal;
 use node_types::{Answer, Event, Refusal};
 use release_statuses::{RelError, Releases, Vsn};
 use shell_answers::{Fixed, Subject, write_installing};
-use shell_holdings::{Halt, Holdings, Node, Said, say, tell_halt_of};
 use shell_requests::ReleaseChange;
+use shell_state::{Halt, Node, Said, Shell, say, tell_halt_of};
 
 /// Removes, installs or makes permanent the release of a version, or restarts the node with it.
-pub fn alter_releases(
-    held: &mut Holdings,
-    kind: ReleaseChange,
-    vsn: &str,
-    out: &mut Vec<u8>,
-) -> Said
+pub fn alter_releases(held: &mut Shell, kind: ReleaseChange, vsn: &str, out: &mut Vec<u8>) -> Said
     ensures { IfOk result (λ fate. IsDone (AltersReleases held.old kind vsn.now fate) held.new out.old.items out.new.items) }
 {
     let Ok(version) = Vsn::new(held.alloc(), vsn) else {
@@ -81,9 +76,10 @@ fn tell_begun(answer: &Answer, out: &mut Vec<u8>) -> Said
 }
 
 /// Tells why a change was not made.
-fn tell_unaltered(held: &Holdings, vsn: &str, halt: Halt, out: &mut Vec<u8>) -> Said
+fn tell_unaltered(held: &Shell, vsn: &str, halt: Halt, out: &mut Vec<u8>) -> Said
     ensures { IfOk result (λ fate. (fate ≡ halt_fate halt)
-        × (out.new.items ≡ out.old.items ++ line_of (halt_answer (subject_in (chars vsn.now) (node_of held.now).releases) halt))) }
+        × (out.new.items ≡ out.old.items ++ line_of
+        (halt_answer (subject_in (chars vsn.now) (node_of held.now).releases) halt))) }
 {
     let about = subject_in(held.node().releases(), vsn);
     tell_halt_of(&about, halt, out)
@@ -113,7 +109,7 @@ fn script_of<'a>(releases: &'a Releases, vsn: &str) -> &'a [Low]
 }
 
 /// What stands against a change for whose version there was no memory, or else want of it.
-fn halt_of_alteration(held: &Holdings, kind: ReleaseChange, vsn: &str) -> Halt
+fn halt_of_alteration(held: &Shell, kind: ReleaseChange, vsn: &str) -> Halt
     ensures { Halts result held.now (release_event kind (chars vsn.now)) }
 {
     if held.is_full() {

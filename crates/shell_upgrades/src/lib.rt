@@ -1,19 +1,20 @@
 //! What the shell does where a line asks for something of releases and of their scripts.
 //!
-//! A release is read from the files and set unpacked ([`unpack`]); it is removed, installed, made permanent, and the node restarts with
-//! an old one ([`alter_releases`]). The script of an install goes on by one instruction ([`advance`]), and old code that scripts have
-//! left is purged ([`sweep`]).
+//! A release is read from the files and set unpacked ([`unpack`]); it is removed, installed, made permanent, and the node
+//! restarts with an old one ([`alter_releases`]). The script of an install goes on by one instruction ([`advance`]), and
+//! old code that scripts have left is purged ([`sweep`]).
 //!
 //! # What is proved
 //!
-//! Each does one of the deeds that its command allows (`Unpacks`, `AltersReleases`, `AdvancesScript`, `Sweeps`): its answer is appended,
-//! and what is held is as the deed leaves it. A refused install is told with the version that runs, or the module that stands against it
-//! (`subject_in`). Where memory is refused, what stands against the line and is told without memory is told (`Halts`, `Misses`).
+//! Each has one of the effects that its command allows (`Unpacks`, `AltersReleases`, `AdvancesScript`, `Sweeps`): its
+//! answer is appended, and what is held is as the effect leaves it. A refused install is told with the version that runs,
+//! or the module that stands against it (`subject_in`). Where memory is refused, what stands against the line and is told
+//! without memory is told (`Halts`, `Misses`).
 //!
 //! # What no contract says
 //!
-//! That the term of an instruction is made before the instruction is carried out, so that want of memory for it leaves the node as it
-//! was: no contract speaks of memory that is refused where an answer is written.
+//! That the term of an instruction is made before the instruction is carried out, so that lack of memory for it leaves the
+//! node as it was: no contract speaks of memory that is refused where an answer is written.
 #![tactic(auto)]
 
 mod advancing;
@@ -23,8 +24,8 @@ mod unpacking;
 
 pub use advancing::advance;
 pub use altering::{alter_releases, release_event};
-pub use shell_holdings::{
-    Fate, Halt, Holdings, Node, Said, refuse, say, say_file_fault, say_term_fault, tell_halt,
+pub use shell_state::{
+    Fate, Halt, Node, Said, Shell, refuse, say, say_file_fault, say_term_fault, tell_halt,
     tell_missed, tell_stopped,
 };
 pub use sweeping::{sweep, tell_swept};

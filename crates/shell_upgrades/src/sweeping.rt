@@ -1,16 +1,16 @@
 // Old code that scripts have left.
 ghost use Rattle.std.specs.Prelude.{◌≡◌, ◌++◌, IfOk, None};
 ghost use Rattle.shell_answers.specs.Answers.{line_of};
-ghost use Rattle.shell_holdings.specs.Done.{IsDone};
-ghost use Rattle.shell_holdings.specs.Performing.{swept_in};
+ghost use Rattle.shell_state.specs.Done.{IsDone};
+ghost use Rattle.shell_state.specs.Performing.{swept_in};
 ghost use Rattle.shell_upgrades.specs.Upgrades.{Sweeps};
 
 use node_types::{Answer, Event};
 use shell_answers::{Fixed, write_swept};
-use shell_holdings::{Holdings, Said, say, tell_halt};
+use shell_state::{Said, Shell, say, tell_halt};
 
 /// Purges old code that scripts have left to be purged softly, where nobody lingers in it.
-pub fn sweep(held: &mut Holdings, out: &mut Vec<u8>) -> Said
+pub fn sweep(held: &mut Shell, out: &mut Vec<u8>) -> Said
     ensures { IfOk result (λ fate. IsDone (Sweeps held.old fate) held.new out.old.items out.new.items) }
 {
     match held.perform(Event::Sweep) {

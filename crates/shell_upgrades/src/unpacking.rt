@@ -4,19 +4,19 @@ ghost use Rattle.std.specs.Str.{chars};
 ghost use Rattle.node_types.specs.declared.event.Event.TheVariants.{SetUnpacked};
 ghost use Rattle.shell_answers.specs.Answers.{line_of, set_unpacked};
 ghost use Rattle.shell_answers.specs.Refusals.{naming};
-ghost use Rattle.shell_holdings.specs.Done.{IsDone};
-ghost use Rattle.shell_holdings.specs.Halts.{HaltsBy, MayAllRunOut, RefusesAll};
-ghost use Rattle.shell_holdings.specs.Performing.{Performs, done_by};
+ghost use Rattle.shell_state.specs.Done.{IsDone};
+ghost use Rattle.shell_state.specs.Halts.{HaltsBy, MayAllRunOut, RefusesAll};
+ghost use Rattle.shell_state.specs.Performing.{Performs, done_by};
 ghost use Rattle.shell_upgrades.specs.Upgrades.{IsUnreadRelease, Unpacks, unpack_event};
 
 use node_types::{Event, Refusal};
 use release_files::{FileFault, ReleaseFault, read_release};
 use release_table::Release;
 use shell_answers::{Subject, write_unpacked};
-use shell_holdings::{Halt, Holdings, Said, say_file_fault, tell_halt_of, tell_missed_of};
+use shell_state::{Halt, Said, Shell, say_file_fault, tell_halt_of, tell_missed_of};
 
 /// Reads the release of a version from the files, and has the node know it.
-pub fn unpack(held: &mut Holdings, vsn: &str, out: &mut Vec<u8>) -> Said
+pub fn unpack(held: &mut Shell, vsn: &str, out: &mut Vec<u8>) -> Said
     ensures { IfOk result (λ fate. IsDone (Unpacks held.old vsn.now fate) held.new out.old.items out.new.items) }
 {
     match read_release(held.alloc(), held.files(), vsn) {
@@ -26,8 +26,9 @@ pub fn unpack(held: &mut Holdings, vsn: &str, out: &mut Vec<u8>) -> Said
 }
 
 /// Has the node know a release of this version.
-fn set_unpacked(held: &mut Holdings, vsn: &str, release: Release, out: &mut Vec<u8>) -> Said
-    ensures { IfOk result (λ fate. release.rel.vsn ≡ chars vsn.now → IsDone (Performs held.old held.old (SetUnpacked release) (naming (chars vsn.now))
+fn set_unpacked(held: &mut Shell, vsn: &str, release: Release, out: &mut Vec<u8>) -> Said
+    ensures { IfOk result (λ fate. release.rel.vsn ≡ chars vsn.now →
+        IsDone (Performs held.old held.old (SetUnpacked release) (naming (chars vsn.now))
         (done_by held.old (SetUnpacked release)) fate) held.new out.old.items out.new.items) }
 {
     match held.perform(Event::SetUnpacked(release)) {
@@ -39,9 +40,11 @@ fn set_unpacked(held: &mut Holdings, vsn: &str, release: Release, out: &mut Vec<
     }
 }
 
-/// Tells why the files are no release, or, where there was no memory to read them, what stands against every release of the version.
-fn tell_unread_release(held: &Holdings, vsn: &str, fault: &ReleaseFault, out: &mut Vec<u8>) -> Said
-    ensures { IfOk result (λ fate. IsUnreadRelease held.now vsn.now fault.now → IsDone (Unpacks held.now vsn.now fate) held.now out.old.items out.new.items) }
+/// Tells why the files are no release, or, where there was no memory to read them, what stands against every release of the
+/// version.
+fn tell_unread_release(held: &Shell, vsn: &str, fault: &ReleaseFault, out: &mut Vec<u8>) -> Said
+    ensures { IfOk result (λ fate. IsUnreadRelease held.now vsn.now fault.now →
+        IsDone (Unpacks held.now vsn.now fate) held.now out.old.items out.new.items) }
 {
     match fault.fault {
         FileFault::Memory => {
@@ -52,9 +55,10 @@ fn tell_unread_release(held: &Holdings, vsn: &str, fault: &ReleaseFault, out: &m
     }
 }
 
-/// What stands against the unpacking of any release of a version, or else want of memory.
-fn halt_of_unpack(held: &Holdings, vsn: &str) -> Halt
-    ensures { HaltsBy (RefusesAll held.now (unpack_event vsn.now)) (MayAllRunOut held.now (unpack_event vsn.now)) result held.now }
+/// What stands against the unpacking of any release of a version, or else lack of memory.
+fn halt_of_unpack(held: &Shell, vsn: &str) -> Halt
+    ensures { HaltsBy (RefusesAll held.now (unpack_event vsn.now)) (MayAllRunOut held.now (unpack_event vsn.now)) result
+        held.now }
 {
     if held.is_full() {
         return Halt::Full;

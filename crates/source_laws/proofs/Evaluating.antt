@@ -7,14 +7,14 @@ use Rattle.std.proofs.Common.{arith, rules, ap, sym, subst, ◌∙◌}
 use Rattle.std.proofs.lemmas.List.Elements.{All-head, All-tail}
 use Rattle.erl_term.specs.Tree as term
 use Rattle.erl_term.specs.Tree.{Tree, Trees, count}
-use Rattle.erl_forms.specs.declared.operation.BuiltIn.{BuiltIn}
-use Rattle.erl_forms.specs.declared.operation.Connective.{Connective}
-use Rattle.erl_forms.specs.declared.operation.Operation.{Operation}
-use Rattle.erl_forms.specs.declared.function.Function.{Function}
-use Rattle.erl_forms.specs.declared.function.Definition.{Definition}
-use Rattle.erl_forms.specs.Module.{Key, Forms, key_eq, exported_of, function_of, if_exported}
-use Rattle.erl_forms.specs.Pattern.{Pat}
-use Rattle.erl_forms.specs.Expression.{Expr, Exprs, Clauses, expr_count}
+use Rattle.erl_ir.specs.declared.operation.BuiltIn.{BuiltIn}
+use Rattle.erl_ir.specs.declared.operation.Connective.{Connective}
+use Rattle.erl_ir.specs.declared.operation.Operation.{Operation}
+use Rattle.erl_ir.specs.declared.function.Function.{Function}
+use Rattle.erl_ir.specs.declared.function.Definition.{Definition}
+use Rattle.erl_ir.specs.Module.{Key, Forms, key_eq, exported_of, function_of, if_exported}
+use Rattle.erl_ir.specs.Pattern.{Pat}
+use Rattle.erl_ir.specs.Expression.{Expr, Exprs, Clauses, expr_count}
 use Rattle.erl_lower.specs.WellScoped as scoped
 use Rattle.erl_lower.specs.WellScoped.{PatternBinds, ExprBinds, ExprsBind, ClausesSee, IsScoped, HavePatterns, HasArity}
 use Rattle.erl_semantics.specs.State.{Instance, Act, Result, value, rest, exit, IsEnd, World, Mode, plain, start_mode, Activation, State}

@@ -10,42 +10,42 @@ use Rattle.std.specs.Option.{option_to_list}
 use Rattle.std.specs.Str.{bytes_eq}
 use Rattle.std.proofs.lemmas.List.Elements.{All-nil, All-cons, All-append}
 use Rattle.std.proofs.lemmas.Slice.Eq.{bytes_eq-Decides}
-use Rattle.erl_syntax.specs.declared.leaf.Leaf.TheVariants as leaves
-use Rattle.erl_syntax.specs.declared.leaf.Leaf.{Leaf}
-use Rattle.erl_syntax.specs.declared.role.Role.TheVariants.{Expression, Test}
-use Rattle.erl_syntax.specs.declared.shape.Infix.TheVariants as operators
-use Rattle.erl_syntax.specs.declared.shape.Prefix.TheVariants as prefixes
-use Rattle.erl_syntax.specs.declared.shape.Qualifier.{Qualifier}
-use Rattle.erl_syntax.specs.declared.shape.Qualifier.TheVariants as qualifier
-use Rattle.erl_syntax.specs.declared.shape.Shape.{Shape}
-use Rattle.erl_syntax.specs.declared.shape.Shape.TheVariants as shapes
-use Rattle.erl_syntax.specs.declared.form.FunctionClause.{FunctionClause}
-use Rattle.erl_syntax.specs.declared.form.FormTree.{FormTree}
-use Rattle.erl_syntax.specs.declared.form.FormTree.TheVariants as forms
-use Rattle.erl_syntax.specs.declared.form.ModuleTree.{ModuleTree}
-use Rattle.erl_syntax.specs.Functions.{guard_functions, arity_among, is_arity, is_guard_function}
-use Rattle.erl_syntax.specs.Grammar.{IsWell, AreWell, AreWellGuards, AreWellClauses, has, is_erlang, first_level, other_level, matches}
-use Rattle.erl_syntax.specs.Grammar.{operations}
-use Rattle.erl_syntax.specs.Terminal.{Terminal}
-use Rattle.erl_syntax.specs.Forms.{AreClauses, BeginsForm, AreForms, IsModule, function_form, loop_form}
-use Rattle.erl_syntax.specs.Tree as tree
-use Rattle.erl_syntax.specs.Tree.{Tree, Trees, tree_count}
+use Rattle.erl_ast.specs.declared.leaf.Leaf.TheVariants as leaves
+use Rattle.erl_ast.specs.declared.leaf.Leaf.{Leaf}
+use Rattle.erl_ast.specs.declared.role.Role.TheVariants.{Expression, Test}
+use Rattle.erl_ast.specs.declared.shape.Infix.TheVariants as operators
+use Rattle.erl_ast.specs.declared.shape.Prefix.TheVariants as prefixes
+use Rattle.erl_ast.specs.declared.shape.Qualifier.{Qualifier}
+use Rattle.erl_ast.specs.declared.shape.Qualifier.TheVariants as qualifier
+use Rattle.erl_ast.specs.declared.shape.Shape.{Shape}
+use Rattle.erl_ast.specs.declared.shape.Shape.TheVariants as shapes
+use Rattle.erl_ast.specs.declared.form.FunctionClause.{FunctionClause}
+use Rattle.erl_ast.specs.declared.form.FormTree.{FormTree}
+use Rattle.erl_ast.specs.declared.form.FormTree.TheVariants as forms
+use Rattle.erl_ast.specs.declared.form.ModuleTree.{ModuleTree}
+use Rattle.erl_ast.specs.Functions.{guard_functions, arity_among, is_arity, is_guard_function}
+use Rattle.erl_ast.specs.Grammar.{IsWell, AreWell, AreWellGuards, AreWellClauses, has, is_erlang, first_level, other_level, matches}
+use Rattle.erl_ast.specs.Grammar.{operations}
+use Rattle.erl_ast.specs.Terminal.{Terminal}
+use Rattle.erl_ast.specs.Forms.{AreClauses, BeginsForm, AreForms, IsModule, function_form, loop_form}
+use Rattle.erl_ast.specs.Tree as tree
+use Rattle.erl_ast.specs.Tree.{Tree, Trees, tree_count}
 use Rattle.erl_lint.specs.Faults.{call_faults, faults_apart, faults_behind, faults_in, faults_in_clauses, faults_in_form, faults_in_forms}
 use Rattle.erl_lint.specs.Faults.{faults_in_function, faults_in_guards, faults_in_turn, faults_of, functions_of}
 use Rattle.erl_lint.specs.Keys as keys
 use Rattle.erl_lint.specs.Keys.{body_arity, body_functions, duplicates, heading_among, is_among, is_built_in, with_form, with_forms, with_heading}
 use Rattle.erl_lint.specs.declared.fault.StaticFault.TheVariants.{UndefinedLocal}
 use Rattle.erl_lint.specs.Scopes.{Names, binds, binds_in, pattern_names, pattern_names_in, with_names}
-use Rattle.erl_forms.specs.declared.operation.BuiltIn.{BuiltIn}
-use Rattle.erl_forms.specs.declared.operation.BuiltIn.TheVariants as built_in
-use Rattle.erl_forms.specs.declared.operation.Connective.{Connective}
-use Rattle.erl_forms.specs.declared.operation.Connective.TheVariants as connective
-use Rattle.erl_forms.specs.declared.operation.Operation.{Operation}
-use Rattle.erl_forms.specs.declared.function.Function.{Function}
-use Rattle.erl_forms.specs.Expression as form
-use Rattle.erl_forms.specs.Expression.{Expr, Exprs, expr_count}
-use Rattle.erl_forms.specs.Module.{Forms, Key, function_of, key_eq}
-use Rattle.erl_forms.specs.Pattern.{pat_count}
+use Rattle.erl_ir.specs.declared.operation.BuiltIn.{BuiltIn}
+use Rattle.erl_ir.specs.declared.operation.BuiltIn.TheVariants as built_in
+use Rattle.erl_ir.specs.declared.operation.Connective.{Connective}
+use Rattle.erl_ir.specs.declared.operation.Connective.TheVariants as connective
+use Rattle.erl_ir.specs.declared.operation.Operation.{Operation}
+use Rattle.erl_ir.specs.declared.function.Function.{Function}
+use Rattle.erl_ir.specs.Expression as form
+use Rattle.erl_ir.specs.Expression.{Expr, Exprs, expr_count}
+use Rattle.erl_ir.specs.Module.{Forms, Key, function_of, key_eq}
+use Rattle.erl_ir.specs.Pattern.{pat_count}
 use Rattle.erl_lower.specs.BuiltIns.{Named, named, nullary, unary, binary, ternary, erlang_function, gen_server_function, lists_function}
 use Rattle.erl_lower.specs.BuiltIns.{proc_lib_function, function_in, plainly, local_call, with_module, remote_call}
 use Rattle.erl_lower.specs.Expressions.{called_in, leaf_expression, expression_of, row_of, match_of, connected_of, guards_of, clauses_of}

@@ -9,10 +9,10 @@ use Rattle.std.specs.List.{slice_index_or}
 use Rattle.erl_term.specs.Tree as term
 use Rattle.erl_term.specs.Tree.{Tree, Trees, count}
 use Rattle.erl_term.specs.Order.{tree_cmp}
-use Rattle.erl_forms.specs.Module.{Forms}
-use Rattle.erl_forms.specs.Pattern as pattern
-use Rattle.erl_forms.specs.Pattern.{Pat, Pats, pat_count}
-use Rattle.erl_forms.specs.Expression.{Expr, Exprs, Guards, Clauses, expr_count}
+use Rattle.erl_ir.specs.Module.{Forms}
+use Rattle.erl_ir.specs.Pattern as pattern
+use Rattle.erl_ir.specs.Pattern.{Pat, Pats, pat_count}
+use Rattle.erl_ir.specs.Expression.{Expr, Exprs, Guards, Clauses, expr_count}
 use Rattle.erl_lower.specs.WellScoped as scoped
 use Rattle.erl_lower.specs.WellScoped.{PatternBinds, PatternsBind, ExprBinds, ExprsBind, GuardsSee, ClausesSee, HavePatterns}
 use Rattle.erl_semantics.specs.Guards.{guarded, Selection, picked, picked_where, selected}

@@ -4,12 +4,12 @@ use Rattle.std.proofs.Common.{sym, subst}
 use Rattle.std.proofs.lemmas.List.Elements.{All-contains}
 use Rattle.erl_term.specs.Tree as term
 use Rattle.erl_term.specs.Tree.{Tree, Trees, count}
-use Rattle.erl_forms.specs.declared.function.Function.{Function}
-use Rattle.erl_forms.specs.declared.function.Definition.{Definition}
-use Rattle.erl_forms.specs.declared.function.Definition.TheVariants as definition
-use Rattle.erl_forms.specs.Module.{Forms, function_of}
-use Rattle.erl_forms.specs.Pattern.{Pats}
-use Rattle.erl_forms.specs.Expression.{Guards, Clauses}
+use Rattle.erl_ir.specs.declared.function.Function.{Function}
+use Rattle.erl_ir.specs.declared.function.Definition.{Definition}
+use Rattle.erl_ir.specs.declared.function.Definition.TheVariants as definition
+use Rattle.erl_ir.specs.Module.{Forms, function_of}
+use Rattle.erl_ir.specs.Pattern.{Pats}
+use Rattle.erl_ir.specs.Expression.{Guards, Clauses}
 use Rattle.erl_semantics.specs.State.{Instance, Place, server, loop as looping, World}
 use Rattle.erl_semantics.specs.Matching.{matched_each}
 use Rattle.erl_semantics.specs.Guards.{Selection}

@@ -6,10 +6,10 @@ use Rattle.erl_term.specs.Tree as term
 use Rattle.erl_term.specs.Tree.{Tree, Trees, count}
 use Rattle.erl_term.specs.Accessors.{int_of}
 use Rattle.erl_term.specs.Rows.{append_trees}
-use Rattle.erl_forms.specs.declared.operation.BuiltIn.{BuiltIn}
-use Rattle.erl_forms.specs.declared.operation.BuiltIn.TheVariants as built_in
-use Rattle.erl_forms.specs.declared.operation.Operator.{Operator}
-use Rattle.erl_forms.specs.declared.operation.Operator.TheVariants as operator
+use Rattle.erl_ir.specs.declared.operation.BuiltIn.{BuiltIn}
+use Rattle.erl_ir.specs.declared.operation.BuiltIn.TheVariants as built_in
+use Rattle.erl_ir.specs.declared.operation.Operator.{Operator}
+use Rattle.erl_ir.specs.declared.operation.Operator.TheVariants as operator
 use Rattle.erl_semantics.specs.State.{Result, value, rest, exit, exit_by, made, is_within, Mode, plain, start_mode, State, World, Startup}
 use Rattle.erl_semantics.specs.State.{Receiver}
 use Rattle.erl_semantics.specs.Operators.{integer, fits, of_integer, arithmetic, is_zero, divided, truth, of_truth, truth_of, logical}

@@ -1,7 +1,7 @@
 -- Code that comes of sources is evaluated by the rules that speak of sources alone.
 use Rattle.std.specs.Prelude.{ℕ, List, All}
 use Rattle.erl_term.specs.Tree.{Trees}
-use Rattle.erl_forms.specs.Module.{Forms}
+use Rattle.erl_ir.specs.Module.{Forms}
 use Rattle.erl_lower.specs.WellScoped.{IsWellScoped, HasArities}
 use Rattle.erl_parse.specs.Sources.{IsSource}
 use Rattle.erl_semantics.specs.State.{Instance, World}

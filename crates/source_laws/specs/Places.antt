@@ -2,10 +2,10 @@
 use Rattle.std.specs.Prelude.{◌≡◌, ◌≤◌, ℕ, List, length, slice_get, Some, IsTrue}
 use Rattle.erl_term.specs.Tree as term
 use Rattle.erl_term.specs.Tree.{Tree, Trees, count}
-use Rattle.erl_forms.specs.Pattern as pattern
-use Rattle.erl_forms.specs.Pattern.{Pat, Pats, pat_count}
-use Rattle.erl_forms.specs.Expression as form
-use Rattle.erl_forms.specs.Expression.{Expr, Exprs, Guards, Clauses, expr_count}
+use Rattle.erl_ir.specs.Pattern as pattern
+use Rattle.erl_ir.specs.Pattern.{Pat, Pats, pat_count}
+use Rattle.erl_ir.specs.Expression as form
+use Rattle.erl_ir.specs.Expression.{Expr, Exprs, Guards, Clauses, expr_count}
 use Rattle.erl_semantics.specs.Matching.{matched, matched_each}
 use Rattle.erl_semantics.specs.OperatorLaws.{is_guard_operation}
 use Rattle.source_laws.specs.Formed.{is_of}

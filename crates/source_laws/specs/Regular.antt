@@ -8,15 +8,15 @@
 use Rattle.std.specs.Prelude.{◌≡◌, ◌≤◌, ℕ, List, [], Bool, Option, None, Some, is_some, IsTrue}
 use Rattle.erl_term.specs.Tree as term
 use Rattle.erl_term.specs.Tree.{Tree, Trees, count}
-use Rattle.erl_forms.specs.declared.operation.BuiltIn.{BuiltIn}
-use Rattle.erl_forms.specs.declared.operation.Connective.{Connective}
-use Rattle.erl_forms.specs.declared.operation.Operation.{Operation}
-use Rattle.erl_forms.specs.declared.function.Definition.{Definition}
-use Rattle.erl_forms.specs.declared.function.Definition.TheVariants as definition
-use Rattle.erl_forms.specs.declared.function.Function.{Function}
-use Rattle.erl_forms.specs.Module.{function_of}
-use Rattle.erl_forms.specs.Pattern.{Pat}
-use Rattle.erl_forms.specs.Expression.{Expr, Exprs, Clauses}
+use Rattle.erl_ir.specs.declared.operation.BuiltIn.{BuiltIn}
+use Rattle.erl_ir.specs.declared.operation.Connective.{Connective}
+use Rattle.erl_ir.specs.declared.operation.Operation.{Operation}
+use Rattle.erl_ir.specs.declared.function.Definition.{Definition}
+use Rattle.erl_ir.specs.declared.function.Definition.TheVariants as definition
+use Rattle.erl_ir.specs.declared.function.Function.{Function}
+use Rattle.erl_ir.specs.Module.{function_of}
+use Rattle.erl_ir.specs.Pattern.{Pat}
+use Rattle.erl_ir.specs.Expression.{Expr, Exprs, Clauses}
 use Rattle.erl_semantics.specs.State.{Instance, Place, server, loop as looping, Result, World, Activation, State}
 use Rattle.erl_semantics.specs.Matching.{matched_each}
 use Rattle.erl_semantics.specs.Guards.{Values, Selection}

@@ -3,9 +3,9 @@
 use Rattle.std.specs.Prelude.{◌≡◌, ◌≤◌, ℕ, Bool, true, false, IsTrue, codes}
 use Rattle.std.specs.Str.{bytes_eq}
 use Rattle.erl_term.specs.Tree.{Tree, Trees, int, atom, pid, tuple, list, count}
-use Rattle.erl_forms.specs.declared.operation.BuiltIn.{BuiltIn}
-use Rattle.erl_forms.specs.declared.operation.BuiltIn.TheVariants as built_in
-use Rattle.erl_forms.specs.declared.operation.Operator.{Operator}
+use Rattle.erl_ir.specs.declared.operation.BuiltIn.{BuiltIn}
+use Rattle.erl_ir.specs.declared.operation.BuiltIn.TheVariants as built_in
+use Rattle.erl_ir.specs.declared.operation.Operator.{Operator}
 use Rattle.erl_semantics.specs.State.{Result, value, rest, exit, State, World}
 use Rattle.erl_semantics.specs.Operators.{operated, consed}
 use Rattle.erl_semantics.specs.BuiltIns.{given}

@@ -8,7 +8,7 @@ use Rattle.process.specs.Process.{is_server_at}
 use Rattle.process.specs.declared.activity.Activity.{Activity}
 use Rattle.process.specs.declared.activity.Activity.TheVariants.{Idle, Suspended, Runs}
 use Rattle.process_store.specs.Table.{Table, living}
-use Rattle.process_store.specs.declared.living.Living.{Living}
+use Rattle.process_store.specs.declared.living.ProcessEntry.{ProcessEntry}
 use Rattle.process_table.specs.States.{IsIdle, IsIdleIn}
 use Rattle.suspensions.specs.Suspending.{but_last, is_idle, is_idle_in, last_of}
 
@@ -37,7 +37,7 @@ idle_by : (b : Bool) (a : Activity) → (b && is_idle_in a) ≡ true → IsIdleI
 idle_by true a is = rests a is
 idle_by false a is = absurd (true≢false (sym is))
 
-idle_is : (o : Option Living) → is_idle o ≡ true → IsIdle o
+idle_is : (o : Option ProcessEntry) → is_idle o ≡ true → IsIdle o
 idle_is None is = absurd (true≢false (sym is))
 idle_is (Some l) is = idle_by (is_server_at l.process.place) l.process.activity is
 

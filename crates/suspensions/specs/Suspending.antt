@@ -1,5 +1,5 @@
--- Which processes an upgrade suspends, resumes, and has change their states (appup(4), suspend, resume, code_change; supervisor(3),
--- Modules).
+-- Which processes an upgrade suspends, resumes, and has change their states (appup(4), suspend, resume, code_change;
+-- supervisor(3), Modules).
 use Rattle.std.specs.Prelude.{ℕ, ◌-◌, Bool, true, false, not, ◌&&◌, if◌then◌else◌, List, [], drop, filter, length, map, take}
 use Rattle.std.specs.Prelude.{Option, None, Some, option_map, option_to_list}
 use Rattle.std.specs.List.{find, flat_map, list_any}
@@ -14,7 +14,7 @@ use Rattle.process.specs.Process.{is_server_at}
 use Rattle.process.specs.declared.activity.Activity.{Activity}
 use Rattle.process.specs.declared.activity.Activity.TheVariants.{Idle, Suspended, Runs}
 use Rattle.process_store.specs.Table.{Table, living}
-use Rattle.process_store.specs.declared.living.Living.{Living}
+use Rattle.process_store.specs.declared.living.ProcessEntry.{ProcessEntry}
 use Rattle.suspensions.specs.Versions.{old_vsn}
 use Rattle.script_state.specs.declared.noted.NotedVersion.{NotedVersion}
 use Rattle.suspensions.specs.declared.busy.Busy.{Busy}
@@ -32,24 +32,24 @@ is_idle_in Idle = true
 is_idle_in Suspended = false
 is_idle_in (Runs r) = false
 
-abbrev pub is_busy : Option Living → Bool
+abbrev pub is_busy : Option ProcessEntry → Bool
 is_busy None = false
 is_busy (Some l) = is_server_at l.process.place && is_running_in l.process.activity
 
-abbrev pub is_idle : Option Living → Bool
+abbrev pub is_idle : Option ProcessEntry → Bool
 is_idle None = false
 is_idle (Some l) = is_server_at l.process.place && is_idle_in l.process.activity
 
-abbrev pub is_server : Option Living → Bool
+abbrev pub is_server : Option ProcessEntry → Bool
 is_server None = false
 is_server (Some l) = is_server_at l.process.place
 
-abbrev pub is_alive : Option Living → Bool
+abbrev pub is_alive : Option ProcessEntry → Bool
 is_alive None = false
 is_alive (Some l) = true
 
--- Suspend: the gen_server processes of children that have one of the modules, for each module in turn the children in order. Where one of
--- them runs, nobody is suspended, unless it is given up to wait for those that run.
+-- Suspend: the gen_server processes of children that have one of the modules, for each module in turn the children in
+-- order. Where one of them runs, nobody is suspended, unless it is given up to wait for those that run.
 
 abbrev pub names : List Suspension → List (List ℕ)
 names modules = map (λ s. s.name) modules
@@ -68,7 +68,8 @@ abbrev pub first_busy : List (List ℕ) → List Application → Table → Optio
 first_busy modules apps t = find (λ p. is_busy (living p t)) (flat_map (λ m. pids_of m apps) modules)
 
 abbrev pub suspend_refusal : Bool → List (List ℕ) → List Application → Table → Option Busy
-suspend_refusal give_up modules apps t = if give_up then None else option_map (λ pid. record { pid = pid }) (first_busy modules apps t)
+suspend_refusal give_up modules apps t = if give_up then None else option_map (λ pid. record { pid = pid })
+    (first_busy modules apps t)
 
 -- those that rest
 abbrev pub to_suspend : List (List ℕ) → List Application → Table → List ℕ
@@ -93,12 +94,13 @@ to_resume modules suspended apps t = filter (is_resumed modules apps t) suspende
 abbrev pub still_suspended : List (List ℕ) → List ℕ → List Application → Table → List ℕ
 still_suspended modules suspended apps t = filter (λ p. not (is_resumed modules apps t p)) suspended
 
--- Code change, for a module: those of the suspended gen_server processes that live, and whose child has the module, in the order in
--- which they were suspended. Each is given the old version of the module, and the module's extra term.
+-- Code change, for a module: those of the suspended gen_server processes that live, and whose child has the module, in the
+-- order in which they were suspended. Each is given the old version of the module, and the module's extra term.
 
 abbrev pub is_changed : List ℕ → List Application → Table → ℕ → Bool
 is_changed m apps t p = is_server (living p t) && runs_with m p apps
 
 abbrev pub changes_for : Direction → List NotedVersion → List ℕ → List Application → Table → ModuleChange → List Change
 changes_for direction versions suspended apps t m =
-    map (λ p. record { pid = p; vsn = old_vsn direction m.name versions; extra = m.extra }) (filter (is_changed m.name apps t) suspended)
+    map (λ p. record { pid = p; vsn = old_vsn direction m.name versions; extra = m.extra })
+    (filter (is_changed m.name apps t) suspended)

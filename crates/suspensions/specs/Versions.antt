@@ -1,5 +1,5 @@
--- The old version that `code_change/3` is told of (gen_server(3), code_change/3): upwards the `-vsn` of the code that was current when the
--- object code was read, and downwards `{down,Vsn}`, with that of the object code.
+-- The old version that `code_change/3` is told of (gen_server(3), code_change/3): upwards the `-vsn` of the code that was
+-- current when the object code was read, and downwards `{down,Vsn}`, with that of the object code.
 use Rattle.std.specs.Prelude.{ℕ, List, codes, Option, None, Some, option_and_then}
 use Rattle.std.specs.List.{find}
 use Rattle.std.specs.Str.{bytes_eq}

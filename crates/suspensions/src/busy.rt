@@ -50,7 +50,8 @@ fn busy_of(apps: &AppTable, processes: &Processes, name: &Atom) -> Option<u64>
     None
 }
 
-/// The first gen_server process that runs, of children that have one of these modules: for each module in turn the children in order.
+/// The first gen_server process that runs, of children that have one of these modules: for each module in turn the children
+/// in order.
 fn first_busy(apps: &AppTable, processes: &Processes, modules: &[Suspension]) -> Option<u64>
     ensures { result ≡ first_busy (names modules.now) apps.now processes.now }
 {
@@ -69,8 +70,8 @@ pub struct Busy {
     pub pid: u64,
 }
 
-/// Why processes of children that have one of these modules are not suspended, but for want of memory: the first that runs, unless it is
-/// given up to wait for it. Takes no memory; it looks at each child once a module.
+/// Why processes of children that have one of these modules are not suspended, but for lack of memory: the first that runs,
+/// unless it is given up to wait for it. Takes no memory; it looks at each child once a module.
 pub fn suspend_refusal(
     apps: &AppTable,
     processes: &Processes,

@@ -40,8 +40,9 @@ fn is_changed(apps: &AppTable, processes: &Processes, name: &Atom, pid: u64) -> 
     is_server(processes, pid) && apps.runs_with(name, pid)
 }
 
-/// The changes of a module: those of the suspended gen_server processes that live, and whose children have the module, in the order in
-/// which they were suspended. Each is told of the old version of the module, by the direction of the change, and of its extra term.
+/// The changes of a module: those of the suspended gen_server processes that live, and whose children have the module, in
+/// the order in which they were suspended. Each is told of the old version of the module, by the direction of the change,
+/// and of its extra term.
 ///
 /// # Errors
 ///
@@ -55,7 +56,8 @@ pub fn changes_for(
     suspended: &[u64],
     change: &ModuleChange,
 ) -> Result<Vec<Change>, AllocError>
-    ensures changes { IfOk result (λ it. it.items ≡ changes_for direction versions.now suspended.now apps.now processes.now change.now) }
+    ensures changes { IfOk result (λ it. it.items ≡ changes_for direction versions.now suspended.now apps.now processes.now
+        change.now) }
     ensures servers { IfOk result (λ it. All (λ c. IsServer (living c.pid processes.now)) it.items) }
 {
     let vsn = old_vsn(alloc, direction, &change.name, versions)?;

@@ -1,24 +1,26 @@
-//! The processes that an upgrade suspends, resumes, and has change their states (appup(4), suspend, resume, code_change; supervisor(3),
-//! Modules).
+//! The processes that an upgrade suspends, resumes, and has change their states (appup(4), suspend, resume, code_change;
+//! supervisor(3), Modules).
 //!
-//! An upgrade names modules, and means the processes of the children whose specifications name them. [`suspend`] and [`resume`] keep the
-//! pids of those that are suspended, in order; [`changes_for`] tells which of them change their states by `code_change/3`.
+//! An upgrade names modules, and means the processes of the children whose specifications name them. [`suspend`] and
+//! [`resume`] keep the pids of those that are suspended, in order; [`changes_for`] tells which of them change their states
+//! by `code_change/3`.
 //!
 //! # What is proved
 //!
-//! - [`suspend`] suspends the gen_server processes that rest, of children that have one of the modules, and nobody else (`to_suspend`). Where
-//!   one of them runs it is refused, and names the first ([`suspend_refusal`]), unless it is given up to wait: those that run are then passed
-//!   over. [`unsuspend`] takes it back, by how many were suspended.
-//! - [`resume`] resumes those of the suspended processes that live, and whose children have one of the modules; the others stay suspended, in
-//!   their order (`to_resume`, `still_suspended`). [`unresume`] takes it back, whole.
-//! - [`changes_for`] gives the suspended gen_server processes that are to change their states for a module, in the order in which they were
-//!   suspended, each told of the old version of the module by the direction of the change (`changes_for`, `old_vsn`).
+//! - [`suspend`] suspends the gen_server processes that rest, of children that have one of the modules, and nobody else
+//!   (`to_suspend`). Where one of them runs it is refused, and names the first ([`suspend_refusal`]), unless it is given up
+//!   to wait: those that run are then passed over. [`unsuspend`] takes it back, by how many were suspended.
+//! - [`resume`] resumes those of the suspended processes that live, and whose children have one of the modules; the others
+//!   stay suspended, in their order (`to_resume`, `still_suspended`). [`unresume`] takes it back, whole.
+//! - [`changes_for`] gives the suspended gen_server processes that are to change their states for a module, in the order in
+//!   which they were suspended, each told of the old version of the module by the direction of the change (`changes_for`,
+//!   `old_vsn`).
 //! - Where memory is refused, all is as it was; what takes a suspension or a resumption back takes none.
 //!
 //! # What no contract says
 //!
-//! That there is memory, and what a call costs: a suspension looks at each child once a module, and then at those that it has found; what
-//! comes behind it looks up each suspended process and its child, by key.
+//! That there is memory, and what a call costs: a suspension looks at each child once a module, and then at those that it
+//! has found; what comes behind it looks up each suspended process and its child, by key.
 #![tactic(auto)]
 
 mod activities;

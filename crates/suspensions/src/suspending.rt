@@ -4,7 +4,7 @@ ghost use Rattle.std.specs.List.{list_any};
 ghost use Rattle.app_table.specs.Modules.{runs_with};
 ghost use Rattle.process_store.specs.Table.{living};
 ghost use Rattle.process_table.specs.States.{all_resumed, all_suspended, all_unresumed};
-ghost use Rattle.values.specs.Failure.{Tells};
+ghost use Rattle.values.specs.Failure.{TellsFailure};
 ghost use Rattle.suspensions.specs.Suspending.{but_last, is_idle, is_resumed, last_of, names, still_suspended, suspend_refusal, to_resume, to_suspend};
 
 use crate::activities::{is_alive, is_idle};
@@ -80,9 +80,9 @@ fn append(pids: &mut Vec<u64>, more: &[u64]) -> Result<(), AllocError>
     Ok(())
 }
 
-/// The gen_server processes that rest, of children that have one of these modules, are suspended, and noted behind those that are. How
-/// many there are is handed out, by which [`unsuspend`] takes it back. Those that run are passed over where it is given up to wait for
-/// them.
+/// The gen_server processes that rest, of children that have one of these modules, are suspended, and noted behind those
+/// that are. How many there are is handed out, by which [`unsuspend`] takes it back. Those that run are passed over where
+/// it is given up to wait for them.
 ///
 /// # Errors
 ///
@@ -96,11 +96,15 @@ pub fn suspend(
     suspended: &mut Vec<u64>,
 ) -> Result<usize, Failure<Busy>>
     ensures ok { OnOk result (suspend_refusal give_up (names modules.now) apps.now processes.old ≡ None) }
-    ensures suspended { OnOk result (processes.new ≡ all_suspended (to_suspend (names modules.now) apps.now processes.old) processes.old) }
-    ensures noted { OnOk result (suspended.new.items ≡ suspended.old.items ++ to_suspend (names modules.now) apps.now processes.old) }
+    ensures suspended { OnOk result (processes.new ≡ all_suspended (to_suspend (names modules.now) apps.now processes.old)
+        processes.old) }
+    ensures noted { OnOk result (suspended.new.items ≡ suspended.old.items ++
+        to_suspend (names modules.now) apps.now processes.old) }
     ensures count { IfOk result (λ count. count ≡ length (to_suspend (names modules.now) apps.now processes.old)) }
-    ensures back { IfOk result (λ count. (all_resumed (last_of count suspended.new.items) processes.new ≡ processes.old) × (but_last count suspended.new.items ≡ suspended.old.items) × (count ≤ length suspended.new.items)) }
-    ensures refused { IfErr result (λ failure. Tells failure (suspend_refusal give_up (names modules.now) apps.now processes.old)) }
+    ensures back { IfOk result (λ count. (all_resumed (last_of count suspended.new.items) processes.new ≡ processes.old) ×
+        (but_last count suspended.new.items ≡ suspended.old.items) × (count ≤ length suspended.new.items)) }
+    ensures refused { IfErr result (λ failure. TellsFailure failure
+        (suspend_refusal give_up (names modules.now) apps.now processes.old)) }
     ensures err { OnErr result ((processes.new ≡ processes.old) × (suspended.new.items ≡ suspended.old.items)) }
 {
     if let Some(busy) = suspend_refusal(apps, processes, modules, give_up) {
@@ -190,9 +194,11 @@ pub fn resume(
     modules: &[Atom],
     suspended: &mut Vec<u64>,
 ) -> Result<ResumeUndo, AllocError>
-    ensures resumed { OnOk result (processes.new ≡ all_resumed (to_resume modules.now suspended.old.items apps.now processes.old) processes.old) }
+    ensures resumed { OnOk result (processes.new ≡ all_resumed
+        (to_resume modules.now suspended.old.items apps.now processes.old) processes.old) }
     ensures left { OnOk result (suspended.new.items ≡ still_suspended modules.now suspended.old.items apps.now processes.old) }
-    ensures back { IfOk result (λ undo. (all_unresumed undo.resumed processes.new ≡ processes.old) × (undo.former.items ≡ suspended.old.items)) }
+    ensures back { IfOk result (λ undo. (all_unresumed undo.resumed processes.new ≡ processes.old) ×
+        (undo.former.items ≡ suspended.old.items)) }
     ensures err { OnErr result ((processes.new ≡ processes.old) × (suspended.new.items ≡ suspended.old.items)) }
 {
     let mut resumed = to_resume(apps, processes, alloc, modules, suspended.as_slice())?;

@@ -3,7 +3,7 @@ use Rattle.std.proofs.Common.{◌≡◌, ℕ, List, [], ◌∷◌, ◌++◌, inl
 use Rattle.std.proofs.lemmas.Option.{none-some, same_Some}
 use Rattle.child_specs.specs.declared.child.ChildSpec.{ChildSpec}
 use Rattle.callback_lang.proofs.Evaluated.{evaluates-once}
-use Rattle.sys_protocol.specs.ChildStarts.{AllStart, Fails, FirstFails, Gives, Starts, after_start, start_told}
+use Rattle.sys_protocol.specs.ChildStarts.{AllStart, Fails, FirstFails, Gives, StartsChild, after_start, start_told}
 use Rattle.sys_protocol.specs.ChildFaults.{StartFails}
 use Rattle.sys_protocol.specs.Laws.{ChildrenStartOneWay}
 use Rattle.sys_protocol.specs.StartResults.{start_fault}
@@ -26,7 +26,7 @@ pub fails-once : (code : List Instance) (c : ChildSpec) (t : Table) (one other :
 fails-once code c t one other first second =
     same_Some one other (sym first.faulty ∙ ap (λ o. start_fault (next_pid t) o t) (gives-once code c t first.outcome second.outcome first.gives second.gives) ∙ second.faulty)
 
-pub never_starts : (code : List Instance) (c : ChildSpec) (t : Table) (o : Outcome) (reason : Term) → Starts code c t o → Fails code c t reason → ⊥
+pub never_starts : (code : List Instance) (c : ChildSpec) (t : Table) (o : Outcome) (reason : Term) → StartsChild code c t o → Fails code c t reason → ⊥
 never_starts code c t o reason starts fails =
     none-some reason (sym starts.faultless ∙ ap (λ p. start_fault (next_pid t) p t) (gives-once code c t o fails.outcome starts.gives fails.gives) ∙ fails.faulty)
 

@@ -15,7 +15,7 @@ use Rattle.process_effects.specs.declared.answers.Answer.{Answer}
 use Rattle.process_effects.specs.declared.told.Reply.{Reply}
 use Rattle.process_store.specs.Table.{Table, is_taken, next_pid}
 use Rattle.sys_protocol.proofs.Names.{fault_answered, free_name, pids_answered}
-use Rattle.sys_protocol.specs.ChildStarts.{AllStart, FirstFails, Starts, after_start, start_told}
+use Rattle.sys_protocol.specs.ChildStarts.{AllStart, FirstFails, StartsChild, after_start, start_told}
 use Rattle.sys_protocol.specs.ChildFaults.{ChildFails, StartFails}
 use Rattle.sys_protocol.specs.StartResults.{end_fault, first_of, name_fault, name_in, start_fault, starts}
 use Rattle.sys_protocol.specs.declared.start_failed.StartFailed.{StartFailed}
@@ -38,7 +38,7 @@ module _ (answers : List Answer) (now t : Table) (makes : t ≡ all_answered ans
   gives_there : Evaluates (record { code = map instance code; pid = next_pid t; mode = start_mode }) c.name c.function c.arguments (outcome_of o)
   gives_there = subst (λ p. Evaluates (record { code = map instance code; pid = p; mode = start_mode }) c.name c.function c.arguments (outcome_of o)) (sym same_pid) gives
 
-  pub starts_there : start_fault pid o now ≡ None → Starts code c t o
+  pub starts_there : start_fault pid o now ≡ None → StartsChild code c t o
   starts_there none = record { gives = gives_there; faultless = same_fault ∙ none }
 
   pub fails_there : (e : Failure StartFailed) → FailsBy (λ failed. (failed.child ≡ c.id) × (start_fault pid o now ≡ Some failed.reason)) (Unit {0}) e → FailsBy (λ failed. ChildFails failed code c t) (Unit {0}) e
@@ -68,7 +68,7 @@ pub record Reached (code : List Instance) (cs : List ChildSpec) (t : Table) (res
 pub none_reached : (code : List Instance) (cs : List ChildSpec) (t : Table) → Reached code cs t cs [] t []
 none_reached code cs t = record { all = λ ps after others x. x; fails = λ c reason x. x }
 
-pub more_reached : (code : List Instance) (cs : List ChildSpec) (t : Table) (c : ChildSpec) (rest left : List ChildSpec) (pids : List ℕ) (pid : ℕ) (now : Table) (told : List Reply) (o : Outcome) → Reached code cs t left pids now told → left ≡ c ∷ rest → Starts code c now o → pid ≡ next_pid now → Reached code cs t rest (pids ++ pid ∷ []) (after_start code o now) (told ++ start_told code o now)
+pub more_reached : (code : List Instance) (cs : List ChildSpec) (t : Table) (c : ChildSpec) (rest left : List ChildSpec) (pids : List ℕ) (pid : ℕ) (now : Table) (told : List Reply) (o : Outcome) → Reached code cs t left pids now told → left ≡ c ∷ rest → StartsChild code c now o → pid ≡ next_pid now → Reached code cs t rest (pids ++ pid ∷ []) (after_start code o now) (told ++ start_told code o now)
 more_reached code cs t c rest left pids pid now told o reached next begun is = record {
   all = λ ps after others x.
       let more = reached.all (pid ∷ ps) after (start_told code o now ++ others) (subst (λ xs. AllStart code xs now (pid ∷ ps) after (start_told code o now ++ others)) (sym next) (is, (o, others, begun, x, refl))) in

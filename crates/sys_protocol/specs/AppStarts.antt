@@ -28,7 +28,8 @@ use Rattle.sys_protocol.specs.declared.app_error.AppError.TheVariants.{NotLoaded
 -- What `init` of the callback module gives, in this code. It is evaluated outside of all processes.
 abbrev pub InitGives : List Instance → StartModule → Outcome → Type 0
 InitGives code m o =
-    Evaluates (record { code = map instance code; pid = 0; mode = plain }) m.name (codes "init") (more (tree m.arguments) none) (outcome_of o)
+    Evaluates (record { code = map instance code; pid = 0; mode = plain }) m.name (codes "init") (more (tree m.arguments) none)
+    (outcome_of o)
 
 -- the children of the supervision that it gives; none where it gives no supervision
 abbrev pub children_in : End → Option (List ChildSpec)
@@ -69,10 +70,12 @@ initialized code o t = acts_begun None code o.acts t
 
 -- Its children start, in order, and run.
 abbrev pub AllRun : List Instance → List ChildSpec → Table → List Child → Table → List Reply → Type 0
-AllRun code specs t children after told = (pids : List ℕ) × AllStart code specs t pids after told × (children ≡ all_running specs pids)
+AllRun code specs t children after told = (pids : List ℕ) × AllStart code specs t pids after told ×
+    (children ≡ all_running specs pids)
 
 -- The application starts: its children, which run, the processes after it, and what clients are told.
-pub record AppStarts (code : List Instance) (m : StartModule) (t : Table) (children : List Child) (after : Table) (told : List Reply) : Type 0 where
+pub record AppStarts (code : List Instance) (m : StartModule) (t : Table) (children : List Child) (after : Table)
+    (told : List Reply) : Type 0 where
   pub outcome : Outcome
   pub specs : List ChildSpec
   pub others : List Reply

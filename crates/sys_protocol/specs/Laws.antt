@@ -22,8 +22,8 @@ use Rattle.otp_files.specs.declared.app.StartModule.{StartModule}
 use Rattle.process_effects.specs.declared.told.Reply.{Reply}
 use Rattle.process_store.specs.Table.{Table}
 
--- A start function gives one outcome. Children that all start have one list of pids, leave one table of processes, and clients are
--- told one thing; where they don't, one of them is the first that fails, for one reason; and never both.
+-- A start function gives one outcome. Children that all start have one list of pids, leave one table of processes, and
+-- clients are told one thing; where they don't, one of them is the first that fails, for one reason; and never both.
 pub record ChildrenStartOneWay : Type 0 where
   pub gives : (code : List Instance) (c : ChildSpec) (t : Table) (o p : Outcome) →
       Gives code c t o → Gives code c t p → o ≡ p
@@ -35,8 +35,8 @@ pub record ChildrenStartOneWay : Type 0 where
   pub never_both : (code : List Instance) (cs : List ChildSpec) (t after : Table) (pids : List ℕ) (told : List Reply) →
       (failed : StartFailed) → AllStart code cs t pids after told → StartFails failed code cs t → ⊥
 
--- `init` gives one outcome. An application that starts has one list of children, leaves one table of processes, and clients are told
--- one thing; one that doesn't fails for one reason; and never both.
+-- `init` gives one outcome. An application that starts has one list of children, leaves one table of processes, and clients
+-- are told one thing; one that doesn't fails for one reason; and never both.
 pub record ApplicationsStartOneWay : Type 0 where
   pub gives : (code : List Instance) (m : StartModule) (o p : Outcome) → InitGives code m o → InitGives code m p → o ≡ p
   pub starts : (code : List Instance) (m : StartModule) (t after last : Table) (children others : List Child) →

@@ -14,7 +14,7 @@ use Rattle.process_effects.specs.declared.told.Reply.{Reply}
 use Rattle.process_store.specs.Pieces.{Piece, no_pieces}
 use Rattle.process_store.specs.Table.{Table}
 use Rattle.process_table.specs.Undo.{TakesBack, held}
-use Rattle.process_table.specs.declared.undo.Undo.{Undo}
+use Rattle.process_table.specs.declared.undo.ProcessesUndo.{ProcessesUndo}
 use Rattle.sys_protocol.specs.declared.error.SysError.{SysError}
 use Rattle.sys_protocol.specs.declared.error.SysError.TheVariants.{StartFailed, NoChild, NotDue}
 
@@ -32,9 +32,9 @@ abbrev pub module_of : List ℕ → List Application → Option StartModule
 module_of name apps = option_and_then (λ a. a.spec.start) (app_of name apps)
 
 -- What runs of an application that starts: nothing, where it has no callback module.
-abbrev pub Runs : List Instance → Option StartModule → Table → List Child → Table → List Reply → Type 0
-Runs code None t children after told = (children ≡ []) × (after ≡ t) × (told ≡ [])
-Runs code (Some m) t children after told = AppStarts code m t children after told
+abbrev pub RunsStartModule : List Instance → Option StartModule → Table → List Child → Table → List Reply → Type 0
+RunsStartModule code None t children after told = (children ≡ []) × (after ≡ t) × (told ≡ [])
+RunsStartModule code (Some m) t children after told = AppStarts code m t children after told
 
 -- why nothing of it runs
 abbrev pub FailsToRun : AppError → List Instance → Option StartModule → Table → Type 0
@@ -42,12 +42,12 @@ FailsToRun e code None t = ⊥
 FailsToRun e code (Some m) t = AppFails code m t e
 
 -- what takes back what runs, if anything does
-abbrev pub StartsBack : Option Undo → Table → Table → Type 0
+abbrev pub StartsBack : Option ProcessesUndo → Table → Table → Type 0
 StartsBack None before after = after ≡ before
 StartsBack (Some undo) before after = TakesBack undo before after
 
 -- and the pieces of processes that it holds, by the processes after the start
-abbrev pub held_of_start : Option Undo → Table → ℕ → List Piece
+abbrev pub held_of_start : Option ProcessesUndo → Table → ℕ → List Piece
 held_of_start None t = no_pieces
 held_of_start (Some undo) t = held undo t
 

@@ -1,5 +1,5 @@
--- Children of supervisors are stopped by an upgrade, and started again (appup(4), stop, start); applications stop, and are unloaded
--- (application(3), stop/1, unload/1).
+-- Children of supervisors are stopped by an upgrade, and started again (appup(4), stop, start); applications stop, and are
+-- unloaded (application(3), stop/1, unload/1).
 use Rattle.std.specs.Prelude.{◌≡◌, ℕ, if◌then◌else◌, List, [], codes, map, Option, None, Some, option_map}
 use Rattle.std.specs.List.{filter_map}
 use Rattle.app_table.specs.Applications.{Application, app_of, child_at, place_of}
@@ -27,8 +27,9 @@ shutdown = Atom (codes "shutdown")
 abbrev pub to_stop : List (List ℕ) → List Application → List ℕ
 to_stop modules apps = map (λ c. c.pid) (running_with modules apps)
 
--- Start: of the children that are named those that have one of the modules and no process, of applications that are started. All start, in
--- order, and run: their pids, the applications and the processes after it, and what clients are told.
+-- Start: of the children that are named those that have one of the modules and no process, of applications that are
+-- started. All start, in order, and run: their pids, the applications and the processes after it, and what clients are
+-- told.
 
 abbrev pub specs_at : List Spot → List Application → List ChildSpec
 specs_at spots apps = filter_map (λ spot. option_map (λ c. c.spec) (child_at spot apps)) spots
@@ -36,7 +37,8 @@ specs_at spots apps = filter_map (λ spot. option_map (λ c. c.spec) (child_at s
 abbrev pub to_start : List ChildName → List (List ℕ) → List Application → List ChildSpec
 to_start names modules apps = specs_at (startable names modules apps) apps
 
-pub record StartAgain (code : List Instance) (names : List ChildName) (modules : List (List ℕ)) (apps : List Application) (t : Table) (apps_after : List Application) (after : Table) (told : List Reply) : Type 0 where
+pub record StartAgain (code : List Instance) (names : List ChildName) (modules : List (List ℕ)) (apps : List Application)
+    (t : Table) (apps_after : List Application) (after : Table) (told : List Reply) : Type 0 where
   pub pids : List ℕ
   pub start : AllStart code (to_start names modules apps) t pids after told
   pub run : apps_after ≡ all_run (at_spots (startable names modules apps) pids) apps

@@ -10,14 +10,14 @@ ghost use Rattle.sys_protocol.specs.ChildStarts.{Restarts};
 ghost use Rattle.process_effects.specs.declared.told.Reply.{Reply as Told};
 ghost use Rattle.process_store.specs.Pieces.{HoldsLost};
 ghost use Rattle.process_table.specs.Undo.{TakesBack, held};
-ghost use Rattle.sys_protocol.specs.Refusals.{IsDue, IsNotDue, RefusesRevive, RefusesStart, Runs, StartsBack, module_of, start_refusal};
+ghost use Rattle.sys_protocol.specs.Refusals.{IsDue, IsNotDue, RefusesRevive, RefusesStart, RunsStartModule, StartsBack, module_of, start_refusal};
 ghost use Rattle.sys_protocol.specs.Refusals.{held_of_start};
 
 use crate::app_error::AppError;
 use crate::error::SysError;
 use crate::restarting::{Restarted, restart_child};
 use crate::running::{Running, run};
-use app_table::{AppTable, Undo};
+use app_table::{AppTable, AppsUndo};
 use erl_semantics::Instance;
 use erl_term::{Atom, Term};
 use process_effects::Reply;
@@ -31,9 +31,9 @@ pub struct AppStart {
     /// What clients are told, in as many equal values as were asked for.
     pub told: Vec<Row<Reply>>,
     /// What takes the start of its processes back; there are none where it has no callback module.
-    pub processes: Option<process_table::Undo>,
+    pub processes: Option<process_table::ProcessesUndo>,
     /// What takes the start of the application back.
-    pub undo: Undo,
+    pub undo: AppsUndo,
 }
 
 /// What the revival of a child has come to.
@@ -44,9 +44,9 @@ pub struct Revival {
     /// What clients are told, in as many equal values as were asked for.
     pub told: Vec<Row<Reply>>,
     /// What takes the start of its process back.
-    pub processes: process_table::Undo,
+    pub processes: process_table::ProcessesUndo,
     /// What takes the revival of the child back.
-    pub undo: Undo,
+    pub undo: AppsUndo,
 }
 
 /// The place of an application that can be started, or why it can't, whatever its start would come to. Takes no memory.
@@ -69,8 +69,8 @@ fn place_to_start(apps: &AppTable, name: &Atom) -> Result<usize, AppError>
 ///
 /// # Errors
 ///
-/// In this order: `NotLoaded`, `AlreadyStarted`; and then, as they come, `BadInit` where it has no supervision, `StartFailed` of the
-/// first child that fails, and `Memory`. All is then as it was, and no pid is used.
+/// In this order: `NotLoaded`, `AlreadyStarted`; and then, as they come, `BadInit` where it has no supervision,
+/// `StartFailed` of the first child that fails, and `Memory`. All is then as it was, and no pid is used.
 pub fn start_app(
     apps: &mut AppTable,
     processes: &mut Processes,
@@ -80,13 +80,16 @@ pub fn start_app(
     n: usize,
 ) -> Result<AppStart, Failure<AppError>>
     ensures ok { OnOk result (start_refusal name.now apps.old ≡ None) }
-    ensures started { IfOk result (λ it. (children : List OneChild) × (told : List Told) × Runs code.now (module_of name.now apps.old) processes.old children processes.new told × (it.told.items ≡ replicate n told) × (apps.new ≡ started name.now children apps.old)) }
+    ensures started { IfOk result (λ it. (children : List OneChild) × (told : List Told) ×
+        RunsStartModule code.now (module_of name.now apps.old) processes.old children processes.new told ×
+        (it.told.items ≡ replicate n told) × (apps.new ≡ started name.now children apps.old)) }
     ensures inverse { IfOk result (λ it. undone it.undo apps.new ≡ apps.old) }
     ensures app_pieces { IfOk result (λ it. IfSome (app_of name.now apps.old)
         (λ a. held_apps it.undo apps.new ≡ child_pieces a.spec.name a.children)) }
     ensures processes { IfOk result (λ it. StartsBack it.processes processes.old processes.new) }
     ensures pieces { IfOk result (λ it. HoldsLost (held_of_start it.processes processes.new) processes.old processes.new) }
-    ensures refused { IfErr result (Fails (λ e. RefusesStart e code.now name.now apps.old processes.old) (start_refusal name.now apps.old ≡ None)) }
+    ensures refused { IfErr result (Fails (λ e. RefusesStart e code.now name.now apps.old processes.old)
+        (start_refusal name.now apps.old ≡ None)) }
     ensures err { OnErr result ((apps.new ≡ apps.old) × (processes.new ≡ processes.old)) }
 {
     let place = match place_to_start(apps, name) {
@@ -106,7 +109,7 @@ pub fn start_app(
     })
 }
 
-/// Why a child isn't revived, but for a failed start and want of memory. Takes no memory.
+/// Why a child isn't revived, but for a failed start and lack of memory. Takes no memory.
 pub fn revive_refusal(apps: &AppTable, name: &Atom, id: &Term) -> Option<SysError>
     ensures { MatchOption result (IsDue name.now id.now apps.now) (λ e. IsNotDue e name.now id.now apps.now) }
 {
@@ -124,8 +127,8 @@ pub fn revive_refusal(apps: &AppTable, name: &Atom, id: &Term) -> Option<SysErro
 ///
 /// # Errors
 ///
-/// In this order: `NoChild` where no application of the name has a child of the Id, `NotDue`, `StartFailed`, `Memory`. All is then as
-/// it was, and no pid is used.
+/// In this order: `NoChild` where no application of the name has a child of the Id, `NotDue`, `StartFailed`, `Memory`. All
+/// is then as it was, and no pid is used.
 pub fn revive(
     apps: &mut AppTable,
     processes: &mut Processes,
@@ -135,12 +138,15 @@ pub fn revive(
     id: &Term,
     n: usize,
 ) -> Result<Revival, Failure<SysError>>
-    ensures revived { IfOk result (λ it. (c : OneChild) × (told : List Told) × (child_of name.now id.now apps.old ≡ Some c) × (is_due c ≡ true) × Restarts code.now c.spec processes.old it.pid processes.new told × (it.told.items ≡ replicate n told) × (apps.new ≡ revived name.now id.now it.pid apps.old)) }
+    ensures revived { IfOk result (λ it. (c : OneChild) × (told : List Told) × (child_of name.now id.now apps.old ≡ Some c) ×
+        (is_due c ≡ true) × Restarts code.now c.spec processes.old it.pid processes.new told ×
+        (it.told.items ≡ replicate n told) × (apps.new ≡ revived name.now id.now it.pid apps.old)) }
     ensures inverse { IfOk result (λ it. undone it.undo apps.new ≡ apps.old) }
     ensures app_pieces { IfOk result (λ it. held_apps it.undo apps.new ≡ []) }
     ensures processes { IfOk result (λ it. TakesBack it.processes processes.old processes.new) }
     ensures pieces { IfOk result (λ it. HoldsLost (held it.processes processes.new) processes.old processes.new) }
-    ensures refused { IfErr result (Fails (λ e. RefusesRevive e code.now name.now id.now apps.old processes.old) (IsDue name.now id.now apps.old)) }
+    ensures refused { IfErr result (Fails (λ e. RefusesRevive e code.now name.now id.now apps.old processes.old)
+        (IsDue name.now id.now apps.old)) }
     ensures err { OnErr result ((apps.new ≡ apps.old) × (processes.new ≡ processes.old)) }
 {
     let Some(spot) = apps.spot_of(name, id) else {

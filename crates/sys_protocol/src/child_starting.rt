@@ -5,7 +5,7 @@ ghost use Rattle.erl_semantics.specs.State.{start_mode};
 ghost use Rattle.erl_semantics.specs.Views.{outcome_of, instance};
 ghost use Rattle.erl_semantics.specs.declared.outcome.Outcome.{Outcome as Given};
 ghost use Rattle.values.specs.Failure.{Fails};
-ghost use Rattle.sys_protocol.specs.ChildStarts.{AllStart, Starts, after_start, start_told};
+ghost use Rattle.sys_protocol.specs.ChildStarts.{AllStart, StartsChild, after_start, start_told};
 ghost use Rattle.sys_protocol.specs.ChildFaults.{ChildFails, StartFails};
 ghost use Rattle.sys_protocol.specs.StartResults.{name_in, start_fault};
 ghost use Rattle.process_effects.specs.Begins.{CanGiveUp, IsUnderWay};
@@ -30,7 +30,8 @@ fn outcome_of(
     pid: u64,
     child: &ChildSpec,
 ) -> Result<Outcome, AllocError>
-    ensures { IfOk result (λ it. Evaluates (record { code = map instance code.now; pid = pid; mode = start_mode }) child.now.name child.now.function child.now.arguments (outcome_of it)) }
+    ensures { IfOk result (λ it. Evaluates (record { code = map instance code.now; pid = pid; mode = start_mode })
+        child.now.name child.now.function child.now.arguments (outcome_of it)) }
 {
     let arguments = copied_slice(alloc, child.arguments.as_slice())?;
     evaluate(
@@ -63,7 +64,8 @@ fn no_fault(
     outcome: &Outcome,
 ) -> Result<(), Failure<StartFailed>>
     ensures ok { OnOk result (start_fault pid outcome.now processes.now ≡ None) }
-    ensures failed { IfErr result (Fails (λ failed. (failed.child ≡ child.now.id) × (start_fault pid outcome.now processes.now ≡ Some failed.reason)) (Unit {0})) }
+    ensures failed { IfErr result (Fails (λ failed. (failed.child ≡ child.now.id) ×
+        (start_fault pid outcome.now processes.now ≡ Some failed.reason)) (Unit {0})) }
 {
     match start_fault(alloc, processes, pid, outcome)? {
         Some(reason) => Err(Failure::Refused(StartFailed {
@@ -74,12 +76,13 @@ fn no_fault(
     }
 }
 
-/// A child starts, as a part of a batch, where its start function says that its process has started and the name that it asks for is
-/// free. Its pid is handed out, which is the next.
+/// A child starts, as a part of a batch, where its start function says that its process has started and the name that it
+/// asks for is free. Its pid is handed out, which is the next.
 ///
 /// # Errors
 ///
-/// `StartFailed` with the child's Id and the reason, and `Memory`, also where every pid was given. The batch can then only be given up.
+/// `StartFailed` with the child's Id and the reason, and `Memory`, also where every pid was given. The batch can then only
+/// be given up.
 pub fn start_child(
     processes: &mut Processes,
     alloc: Global,
@@ -88,9 +91,15 @@ pub fn start_child(
     child: &ChildSpec,
 ) -> Result<u64, Failure<StartFailed>>
     ensures pid { IfOk result (λ pid. pid ≡ next_pid processes.old) }
-    ensures started { OnOk result ((before t : Table) (told : List Told) → IsUnderWay batch.old.changes.items batch.old.answers.items before processes.old t told → (o : Given) × Starts code.now child.now t o × IsUnderWay batch.new.changes.items batch.new.answers.items before processes.new (after_start code.now o t) (told ++ start_told code.now o t)) }
-    ensures failed { IfErr result (λ failure. (before t : Table) (told : List Told) → IsUnderWay batch.old.changes.items batch.old.answers.items before processes.old t told → Fails (λ failed. ChildFails failed code.now child.now t) (Unit {0}) failure) }
-    ensures back { (before : Table) → CanGiveUp batch.old.changes.items before processes.old → CanGiveUp batch.new.changes.items before processes.new }
+    ensures started { OnOk result ((before t : Table) (told : List Told) →
+        IsUnderWay batch.old.changes.items batch.old.answers.items before processes.old t told → (o : Given) ×
+        StartsChild code.now child.now t o × IsUnderWay batch.new.changes.items batch.new.answers.items before processes.new
+        (after_start code.now o t) (told ++ start_told code.now o t)) }
+    ensures failed { IfErr result (λ failure. (before t : Table) (told : List Told) →
+        IsUnderWay batch.old.changes.items batch.old.answers.items before processes.old t told →
+        Fails (λ failed. ChildFails failed code.now child.now t) (Unit {0}) failure) }
+    ensures back { (before : Table) → CanGiveUp batch.old.changes.items before processes.old →
+        CanGiveUp batch.new.changes.items before processes.new }
 {
     let last = processes.last_pid();
     if last == u64::MAX {
@@ -128,9 +137,15 @@ pub fn start_children(
     code: &[Instance],
     children: &[ChildSpec],
 ) -> Result<Vec<u64>, Failure<StartFailed>>
-    ensures started { IfOk result (λ pids. (before t : Table) (told : List Told) → IsUnderWay batch.old.changes.items batch.old.answers.items before processes.old t told → (after : Table) × (others : List Told) × AllStart code.now children.now t pids.items after others × IsUnderWay batch.new.changes.items batch.new.answers.items before processes.new after (told ++ others)) }
-    ensures failed { IfErr result (λ failure. (before t : Table) (told : List Told) → IsUnderWay batch.old.changes.items batch.old.answers.items before processes.old t told → Fails (λ failed. StartFails failed code.now children.now t) (Unit {0}) failure) }
-    ensures back { (before : Table) → CanGiveUp batch.old.changes.items before processes.old → CanGiveUp batch.new.changes.items before processes.new }
+    ensures started { IfOk result (λ pids. (before t : Table) (told : List Told) →
+        IsUnderWay batch.old.changes.items batch.old.answers.items before processes.old t told → (after : Table) ×
+        (others : List Told) × AllStart code.now children.now t pids.items after others ×
+        IsUnderWay batch.new.changes.items batch.new.answers.items before processes.new after (told ++ others)) }
+    ensures failed { IfErr result (λ failure. (before t : Table) (told : List Told) →
+        IsUnderWay batch.old.changes.items batch.old.answers.items before processes.old t told →
+        Fails (λ failed. StartFails failed code.now children.now t) (Unit {0}) failure) }
+    ensures back { (before : Table) → CanGiveUp batch.old.changes.items before processes.old →
+        CanGiveUp batch.new.changes.items before processes.new }
 {
     let mut pids = Vec::with_capacity(alloc, children.len())?;
     for child in children {

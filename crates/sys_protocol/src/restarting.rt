@@ -13,7 +13,7 @@ use crate::start_failed::StartFailed;
 use child_specs::ChildSpec;
 use erl_semantics::Instance;
 use process_effects::{Batch, Reply};
-use process_table::{Processes, Undo};
+use process_table::{Processes, ProcessesUndo};
 use std::alloc::Global;
 use values::{Failure, Row};
 
@@ -25,11 +25,11 @@ pub struct Restarted {
     /// What clients are told, in as many equal values as were asked for.
     pub told: Vec<Row<Reply>>,
     /// What takes the start back.
-    pub undo: Undo,
+    pub undo: ProcessesUndo,
 }
 
-/// One child starts, alone: its start function is evaluated in this code, and what it has done is done. What clients are told is handed
-/// out in `n` equal values.
+/// One child starts, alone: its start function is evaluated in this code, and what it has done is done. What clients are
+/// told is handed out in `n` equal values.
 ///
 /// # Errors
 ///
@@ -41,7 +41,8 @@ pub fn restart_child(
     child: &ChildSpec,
     n: usize,
 ) -> Result<Restarted, Failure<StartFailed>>
-    ensures started { IfOk result (λ it. (told : List Told) × Restarts code.now child.now processes.old it.pid processes.new told × (it.told.items ≡ replicate n told)) }
+    ensures started { IfOk result (λ it. (told : List Told) ×
+        Restarts code.now child.now processes.old it.pid processes.new told × (it.told.items ≡ replicate n told)) }
     ensures inverse { IfOk result (λ it. TakesBack it.undo processes.old processes.new) }
     ensures pieces { IfOk result (λ it. HoldsLost (held it.undo processes.new) processes.old processes.new) }
     ensures failed { IfErr result (Fails (λ failed. ChildFails failed code.now child.now processes.old) (Unit {0})) }

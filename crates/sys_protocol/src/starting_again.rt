@@ -14,7 +14,7 @@ ghost use Rattle.sys_protocol.specs.Stopping.{FailToStartAgain, StartAgain, spec
 
 use crate::child_starting::start_children;
 use crate::start_failed::StartFailed;
-use app_table::{AppTable, ChildName, Spot, Undo};
+use app_table::{AppTable, AppsUndo, ChildName, Spot};
 use child_specs::ChildSpec;
 use erl_semantics::Instance;
 use erl_term::Atom;
@@ -29,16 +29,16 @@ pub struct StartedAgain {
     /// What clients are told, in as many equal values as were asked for.
     pub told: Vec<Row<Reply>>,
     /// What takes the start of their processes back.
-    pub processes: process_table::Undo,
+    pub processes: process_table::ProcessesUndo,
     /// What takes back that the children run.
-    pub undo: Undo,
+    pub undo: AppsUndo,
 }
 
 /// Processes that have started together: their pids, what clients are told, and what takes them back.
 struct Together {
     pids: Vec<u64>,
     told: Vec<Row<Reply>>,
-    undo: process_table::Undo,
+    undo: process_table::ProcessesUndo,
 }
 
 /// The specifications of the children at these spots.
@@ -61,7 +61,8 @@ fn start_together(
     specs: &[ChildSpec],
     n: usize,
 ) -> Result<Together, Failure<StartFailed>>
-    ensures started { IfOk result (λ it. (told : List Told) × AllStart code.now specs.now processes.old it.pids.items processes.new told × (it.told.items ≡ replicate n told)) }
+    ensures started { IfOk result (λ it. (told : List Told) ×
+        AllStart code.now specs.now processes.old it.pids.items processes.new told × (it.told.items ≡ replicate n told)) }
     ensures enough { IfOk result (λ it. length it.pids.items ≡ length specs.now) }
     ensures inverse { IfOk result (λ it. TakesBack it.undo processes.old processes.new) }
     ensures pieces { IfOk result (λ it. HoldsLost (held it.undo processes.new) processes.old processes.new) }
@@ -81,9 +82,9 @@ fn start_together(
     }
 }
 
-/// Of the children that are named those that have one of these modules and no process start again, where their applications are started: for
-/// each module in turn those that have it, in order. Their start functions are evaluated in this code, which is every module's current code.
-/// All start, or none. What clients are told is handed out in `n` equal values.
+/// Of the children that are named those that have one of these modules and no process start again, where their applications
+/// are started: for each module in turn those that have it, in order. Their start functions are evaluated in this code,
+/// which is every module's current code. All start, or none. What clients are told is handed out in `n` equal values.
 ///
 /// # Errors
 ///
@@ -97,12 +98,15 @@ pub fn start(
     modules: &[Atom],
     n: usize,
 ) -> Result<StartedAgain, Failure<StartFailed>>
-    ensures started { IfOk result (λ it. (told : List Told) × StartAgain code.now names.now modules.now apps.old processes.old apps.new processes.new told × (it.told.items ≡ replicate n told)) }
+    ensures started { IfOk result (λ it. (told : List Told) ×
+        StartAgain code.now names.now modules.now apps.old processes.old apps.new processes.new told ×
+        (it.told.items ≡ replicate n told)) }
     ensures processes { IfOk result (λ it. TakesBack it.processes processes.old processes.new) }
     ensures pieces { IfOk result (λ it. HoldsLost (held it.processes processes.new) processes.old processes.new) }
     ensures inverse { IfOk result (λ it. undone it.undo apps.new ≡ apps.old) }
     ensures app_pieces { IfOk result (λ it. held_apps it.undo apps.new ≡ []) }
-    ensures failed { IfErr result (Fails (λ failed. FailToStartAgain failed code.now names.now modules.now apps.old processes.old) (Unit {0})) }
+    ensures failed { IfErr result (Fails (λ failed. FailToStartAgain failed code.now names.now modules.now apps.old
+        processes.old) (Unit {0})) }
     ensures err { OnErr result ((apps.new ≡ apps.old) × (processes.new ≡ processes.old)) }
 {
     let spots = apps.startable(alloc, names, modules)?;

@@ -7,14 +7,14 @@ ghost use Rattle.app_table.specs.Modules.{names_at, running_with};
 ghost use Rattle.app_table.specs.Pieces.{held as held_apps, held_unloaded, pieces};
 ghost use Rattle.app_table.specs.Undo.{reloaded, undone};
 ghost use Rattle.process_effects.specs.Ends.{all_vacated};
-ghost use Rattle.process_effects.specs.Kills.{all_downs};
+ghost use Rattle.process_effects.specs.Kills.{downs_of_each};
 ghost use Rattle.process_store.specs.Pieces.{HoldsLost};
 ghost use Rattle.process_table.specs.Undo.{TakesBackEnds, held};
-ghost use Rattle.values.specs.Failure.{Tells};
+ghost use Rattle.values.specs.Failure.{TellsFailure};
 ghost use Rattle.sys_protocol.specs.Stopping.{app_pids, shutdown, stop_refusal, stopped_app, to_stop, unload_refusal, unloaded_app};
 
 use crate::app_error::AppError;
-use app_table::{AppTable, ChildName, ChildProcess, Undo, Unloaded};
+use app_table::{AppTable, AppsUndo, ChildName, ChildProcess, Unloaded};
 use erl_term::{Atom, Term};
 use process_effects::Reply;
 use process_table::Processes;
@@ -29,9 +29,9 @@ pub struct ChildStop {
     /// How many children were noted.
     pub count: usize,
     /// What takes the end of their processes back.
-    pub processes: process_table::Undo,
+    pub processes: process_table::ProcessesUndo,
     /// What takes the stop of the children back.
-    pub undo: Undo,
+    pub undo: AppsUndo,
 }
 
 /// What stopping an application has come to.
@@ -40,9 +40,9 @@ pub struct AppStop {
     /// What clients are told, in as many equal values as were asked for.
     pub told: Vec<Row<Reply>>,
     /// What takes the end of its processes back.
-    pub processes: process_table::Undo,
+    pub processes: process_table::ProcessesUndo,
     /// What takes the stop of the application back.
-    pub undo: Undo,
+    pub undo: AppsUndo,
 }
 
 /// The reason of a process that its supervisor ends.
@@ -73,8 +73,9 @@ fn note(noted: &mut Vec<ChildName>, names: Vec<ChildName>)
     }
 }
 
-/// The children that run and have one of these modules are stopped: their processes end with `shutdown`, and none of them is due, whatever
-/// its Restart. Their names are noted behind others. What clients are told is handed out in `n` equal values.
+/// The children that run and have one of these modules are stopped: their processes end with `shutdown`, and none of them
+/// is due, whatever its Restart. Their names are noted behind others. What clients are told is handed out in `n` equal
+/// values.
 ///
 /// # Errors
 ///
@@ -89,7 +90,8 @@ pub fn stop(
 ) -> Result<ChildStop, AllocError>
     ensures apps { OnOk result (apps.new ≡ all_stopped (running_with modules.now apps.old) apps.old) }
     ensures processes { OnOk result (processes.new ≡ all_vacated (to_stop modules.now apps.old) processes.old) }
-    ensures told { IfOk result (λ it. it.told.items ≡ replicate n (all_downs shutdown (to_stop modules.now apps.old) processes.old)) }
+    ensures told { IfOk result (λ it. it.told.items ≡ replicate n
+        (downs_of_each shutdown (to_stop modules.now apps.old) processes.old)) }
     ensures noted { OnOk result (noted.new.items ≡ noted.old.items ++ names_at (running_with modules.now apps.old) apps.old) }
     ensures count { IfOk result (λ it. it.count ≡ length (names_at (running_with modules.now apps.old) apps.old)) }
     ensures ended { IfOk result (λ it. TakesBackEnds it.processes processes.old processes.new) }
@@ -101,7 +103,7 @@ pub fn stop(
     let children = apps.running_with(alloc, modules)?;
     let pids = pids_of(alloc, children.as_slice())?;
     let names = apps.names_of(alloc, children.as_slice())?;
-    let told = processes.all_downs(pids.as_slice(), &shutdown(alloc)?, n)?;
+    let told = processes.downs_of_each(pids.as_slice(), &shutdown(alloc)?, n)?;
     noted.reserve(names.len())?;
     let ended = processes.end_all(pids.as_slice())?;
     let count = names.as_slice().len();
@@ -138,8 +140,8 @@ fn place_to_stop(apps: &AppTable, name: &Atom) -> Result<usize, AppError>
     Err(AppError::NotStarted)
 }
 
-/// An application stops: its children end with `shutdown`, from the last to the first. It keeps them; none of them has a process, and none
-/// is due. What clients are told is handed out in `n` equal values.
+/// An application stops: its children end with `shutdown`, from the last to the first. It keeps them; none of them has a
+/// process, and none is due. What clients are told is handed out in `n` equal values.
 ///
 /// # Errors
 ///
@@ -154,12 +156,13 @@ pub fn stop_app(
     ensures ok { OnOk result (stop_refusal name.now apps.old ≡ None) }
     ensures apps { OnOk result (apps.new ≡ stopped_app name.now apps.old) }
     ensures processes { OnOk result (processes.new ≡ all_vacated (app_pids name.now apps.old) processes.old) }
-    ensures told { IfOk result (λ it. it.told.items ≡ replicate n (all_downs shutdown (app_pids name.now apps.old) processes.old)) }
+    ensures told { IfOk result (λ it. it.told.items ≡ replicate n
+        (downs_of_each shutdown (app_pids name.now apps.old) processes.old)) }
     ensures ended { IfOk result (λ it. TakesBackEnds it.processes processes.old processes.new) }
     ensures pieces { IfOk result (λ it. HoldsLost (held it.processes processes.new) processes.old processes.new) }
     ensures inverse { IfOk result (λ it. undone it.undo apps.new ≡ apps.old) }
     ensures app_pieces { IfOk result (λ it. held_apps it.undo apps.new ≡ []) }
-    ensures refused { IfErr result (λ failure. Tells failure (stop_refusal name.now apps.old)) }
+    ensures refused { IfErr result (λ failure. TellsFailure failure (stop_refusal name.now apps.old)) }
     ensures err { OnErr result ((apps.new ≡ apps.old) × (processes.new ≡ processes.old)) }
 {
     let place = match place_to_stop(apps, name) {
@@ -168,7 +171,7 @@ pub fn stop_app(
     };
     let pids = apps.ending_order(alloc, place)?;
     let states = apps.states(alloc, place)?;
-    let told = processes.all_downs(pids.as_slice(), &shutdown(alloc)?, n)?;
+    let told = processes.downs_of_each(pids.as_slice(), &shutdown(alloc)?, n)?;
     let ended = processes.end_all(pids.as_slice())?;
     Ok(AppStop {
         told,
@@ -192,7 +195,8 @@ fn place_to_unload(apps: &AppTable, name: &Atom) -> Result<usize, AppError>
     Ok(place)
 }
 
-/// An application is unloaded: it leaves, with its children, and is handed out. Takes no memory; [`AppTable::reload`] takes it back.
+/// An application is unloaded: it leaves, with its children, and is handed out. Takes no memory; [`AppTable::reload`] takes
+/// it back.
 ///
 /// # Errors
 ///

@@ -25,7 +25,7 @@ use erl_semantics::{Act, End, Instance, Mode, Outcome};
 use erl_term::{Atom, Predefined, Term, Terms};
 use otp_files::StartModule;
 use process_effects::{Batch, Reply};
-use process_table::{Processes, Undo};
+use process_table::{Processes, ProcessesUndo};
 use std::alloc::{AllocError, Global};
 use values::{Duplicate, Failure, Row};
 
@@ -122,7 +122,7 @@ pub struct Supervised {
     /// What clients are told, in as many equal values as were asked for.
     pub told: Vec<Row<Reply>>,
     /// What takes the starts back.
-    pub undo: Undo,
+    pub undo: ProcessesUndo,
 }
 
 /// Starts these children, in order, as a part of a batch.
@@ -133,9 +133,15 @@ fn begin_children(
     code: &[Instance],
     specs: Row<ChildSpec>,
 ) -> Result<Children, Failure<StartFailed>>
-    ensures started { IfOk result (λ it. (before t : Table) (told : List Told) → IsUnderWay batch.old.changes.items batch.old.answers.items before processes.old t told → (after : Table) × (others : List Told) × AllRun code.now specs t it after others × IsUnderWay batch.new.changes.items batch.new.answers.items before processes.new after (told ++ others)) }
-    ensures failed { IfErr result (λ failure. (before t : Table) (told : List Told) → IsUnderWay batch.old.changes.items batch.old.answers.items before processes.old t told → Fails (λ failed. StartFails failed code.now specs t) (Unit {0}) failure) }
-    ensures back { (before : Table) → CanGiveUp batch.old.changes.items before processes.old → CanGiveUp batch.new.changes.items before processes.new }
+    ensures started { IfOk result (λ it. (before t : Table) (told : List Told) →
+        IsUnderWay batch.old.changes.items batch.old.answers.items before processes.old t told → (after : Table) ×
+        (others : List Told) × AllRun code.now specs t it after others ×
+        IsUnderWay batch.new.changes.items batch.new.answers.items before processes.new after (told ++ others)) }
+    ensures failed { IfErr result (λ failure. (before t : Table) (told : List Told) →
+        IsUnderWay batch.old.changes.items batch.old.answers.items before processes.old t told →
+        Fails (λ failed. StartFails failed code.now specs t) (Unit {0}) failure) }
+    ensures back { (before : Table) → CanGiveUp batch.old.changes.items before processes.old →
+        CanGiveUp batch.new.changes.items before processes.new }
 {
     match start_children(processes, alloc, batch, code, specs.as_slice()) {
         Ok(pids) => Ok(all_running(alloc, specs, pids.as_slice())?),
@@ -143,8 +149,8 @@ fn begin_children(
     }
 }
 
-/// Evaluates `init`, does what it has done, and starts the children of its supervision, all as a part of a batch. The children are
-/// handed out.
+/// Evaluates `init`, does what it has done, and starts the children of its supervision, all as a part of a batch. The
+/// children are handed out.
 fn begin_supervision(
     processes: &mut Processes,
     alloc: Global,
@@ -152,9 +158,15 @@ fn begin_supervision(
     code: &[Instance],
     module: &StartModule,
 ) -> Result<Children, Failure<AppError>>
-    ensures started { IfOk result (λ it. (before t : Table) (told : List Told) → IsUnderWay batch.old.changes.items batch.old.answers.items before processes.old t told → (after : Table) × (others : List Told) × AppStarts code.now module.now t it after others × IsUnderWay batch.new.changes.items batch.new.answers.items before processes.new after (told ++ others)) }
-    ensures failed { IfErr result (λ failure. (before t : Table) (told : List Told) → IsUnderWay batch.old.changes.items batch.old.answers.items before processes.old t told → Fails (AppFails code.now module.now t) (Unit {0}) failure) }
-    ensures back { (before : Table) → CanGiveUp batch.old.changes.items before processes.old → CanGiveUp batch.new.changes.items before processes.new }
+    ensures started { IfOk result (λ it. (before t : Table) (told : List Told) →
+        IsUnderWay batch.old.changes.items batch.old.answers.items before processes.old t told → (after : Table) ×
+        (others : List Told) × AppStarts code.now module.now t it after others ×
+        IsUnderWay batch.new.changes.items batch.new.answers.items before processes.new after (told ++ others)) }
+    ensures failed { IfErr result (λ failure. (before t : Table) (told : List Told) →
+        IsUnderWay batch.old.changes.items batch.old.answers.items before processes.old t told →
+        Fails (AppFails code.now module.now t) (Unit {0}) failure) }
+    ensures back { (before : Table) → CanGiveUp batch.old.changes.items before processes.old →
+        CanGiveUp batch.new.changes.items before processes.new }
 {
     let Supervision { specs, acts } = match supervision_of(alloc, code, module) {
         Ok(it) => it,
@@ -169,13 +181,14 @@ fn begin_supervision(
     }
 }
 
-/// The application of a callback module starts: `init` is evaluated in this code, which is every module's current code, what it has done
-/// is done, and the children of its supervision start, in order. What clients are told is handed out in `n` equal values.
+/// The application of a callback module starts: `init` is evaluated in this code, which is every module's current code,
+/// what it has done is done, and the children of its supervision start, in order. What clients are told is handed out in
+/// `n` equal values.
 ///
 /// # Errors
 ///
-/// `BadInit` where `init` gives no supervision, `StartFailed` of the first child that fails, and `Memory`. The processes are then as
-/// they were.
+/// `BadInit` where `init` gives no supervision, `StartFailed` of the first child that fails, and `Memory`. The processes
+/// are then as they were.
 pub fn supervise(
     processes: &mut Processes,
     alloc: Global,
@@ -183,7 +196,8 @@ pub fn supervise(
     module: &StartModule,
     n: usize,
 ) -> Result<Supervised, Failure<AppError>>
-    ensures started { IfOk result (λ it. (told : List Told) × AppStarts code.now module.now processes.old it.children processes.new told × (it.told.items ≡ replicate n told)) }
+    ensures started { IfOk result (λ it. (told : List Told) ×
+        AppStarts code.now module.now processes.old it.children processes.new told × (it.told.items ≡ replicate n told)) }
     ensures inverse { IfOk result (λ it. TakesBack it.undo processes.old processes.new) }
     ensures pieces { IfOk result (λ it. HoldsLost (held it.undo processes.new) processes.old processes.new) }
     ensures failed { IfErr result (Fails (AppFails code.now module.now processes.old) (Unit {0})) }

@@ -12,7 +12,7 @@ use Rattle.undo_journal.specs.declared.error.JournalError.TheVariants.{Step, For
 use Rattle.undo_journal.specs.Journal.{HasNoStation, Performs, Stopped}
 use Rattle.undo_journal.specs.Reversible.{Accepted}
 use Rattle.undo_journal.specs.Timeline.{Station, Timeline, newest, here, opened, appended, kept_to, cut_to, forgotten_to, node_at, Rises, IsOrdered}
-use Rattle.undo_journal.specs.History.{Rule, Live, after_event, IsAfter, AreAfter, live_after_event, live_after_undo, IsLiveAfter, Runs, FoldsTo, IsMadeBy, Makes, MakesKept, CarriedOut, none, done, left_out, stopped, IsMissed, IsReplayOf}
+use Rattle.undo_journal.specs.History.{Rule, Live, after_event, IsAfter, AreAfter, live_after_event, live_after_undo, IsLiveAfter, RunsCommands, FoldsTo, IsMadeBy, Makes, MakesKept, CarriedOut, none, done, left_out, stopped, IsMissed, IsReplayOf}
 use Rattle.undo_journal.proofs.Forgets.{Forgets-of, forgotten_to-mark, forgotten_to-front, forgotten_to-uncut, IsOrdered-forgotten}
 use Rattle.undo_journal.proofs.Stations.{kept_to-above, kept_to-behind, kept_to-cases, kept_to-one_more, kept_to-take, newest-above, newest-append, newest-push, newest-take, Rises-behind, Rises-front, Rises-push, Rises-take}
 
@@ -241,7 +241,7 @@ module _ {S E A N F : Type 0} (rule : Rule S E A N F) where
   Follows-command node t u steps live (Forget m) is follows =
       subst (λ xs. Follows node u xs) (sym is.1) (subst (λ v. Follows node v steps) (sym is.0) (Follows-forget node t steps m (forgotten_to m t) refl follows))
 
-  pub Follows-after : (node : S) (cs : List (Command E)) (t u : Timeline S N) (steps live : List (Live E)) → Runs rule cs t steps u live → Follows node t steps → Follows node u live
+  pub Follows-after : (node : S) (cs : List (Command E)) (t u : Timeline S N) (steps live : List (Live E)) → RunsCommands rule cs t steps u live → Follows node t steps → Follows node u live
   Follows-after node [] t u steps live runs follows =
       subst (λ xs. Follows node u xs) (sym runs.1) (subst (λ v. Follows node v steps) (sym runs.0) follows)
   Follows-after node (c ∷ cs) t u steps live runs follows =
@@ -257,7 +257,7 @@ module _ {S E A N F : Type 0} (rule : Rule S E A N F) where
       (made.0, made.1, subst (λ n. FoldsTo rule n xs (newest t ts).node) made.2 (FoldsTo-made t xs ts makes.2))
 
   -- the live steps of a whole list make its stations and those that are forgotten, and their fold is its node
-  pub Makes-live : (node : S) (cs : List (Command E)) (t : Timeline S N) (live : List (Live E)) → Runs rule cs (opened node) [] t live → MakesKept rule node live t
+  pub Makes-live : (node : S) (cs : List (Command E)) (t : Timeline S N) (live : List (Live E)) → RunsCommands rule cs (opened node) [] t live → MakesKept rule node live t
   Makes-live node cs t live runs =
       let follows = Follows-after node cs (opened node) t [] live runs (Follows-opened node) in
       record {
@@ -268,7 +268,7 @@ module _ {S E A N F : Type 0} (rule : Rule S E A N F) where
         kept = forgotten_to-front (opened {N = N} node).first follows.front t follows.ordered.rises follows.first;
       }
 
-  pub FoldsTo-live : (node : S) (cs : List (Command E)) (t : Timeline S N) (live : List (Live E)) → Runs rule cs (opened node) [] t live → FoldsTo rule node live (here t).node
+  pub FoldsTo-live : (node : S) (cs : List (Command E)) (t : Timeline S N) (live : List (Live E)) → RunsCommands rule cs (opened node) [] t live → FoldsTo rule node live (here t).node
   FoldsTo-live node cs t live runs =
       let follows = Follows-after node cs (opened node) t [] live runs (Follows-opened node) in
       subst (λ (s : Station S N). FoldsTo rule node live s.node) (newest-whole node t live follows) (FoldsTo-made (opened {N = N} node).first live (follows.front ++ t.later) follows.makes)
@@ -280,7 +280,7 @@ module _ {S E A N F : Type 0} (rule : Rule S E A N F) where
   IsAfter-live t u steps live (Undo m) is = is.0
   IsAfter-live t u steps live (Forget m) is = is.0
 
-  pub AreAfter-runs : (cs : List (Command E)) (t u : Timeline S N) (steps live : List (Live E)) → Runs rule cs t steps u live → AreAfter rule cs t u
+  pub AreAfter-runs : (cs : List (Command E)) (t u : Timeline S N) (steps live : List (Live E)) → RunsCommands rule cs t steps u live → AreAfter rule cs t u
   AreAfter-runs [] t u steps live runs = runs.0
   AreAfter-runs (c ∷ cs) t u steps live runs =
       (runs.0, IsAfter-live t runs.0 steps runs.1 c runs.2, AreAfter-runs cs runs.0 u runs.1 live runs.3)
@@ -290,11 +290,11 @@ module _ {S E A N F : Type 0} (rule : Rule S E A N F) where
   IsLiveAfter-of t u steps (Undo m) is = (live_after_undo m t steps, (is, refl))
   IsLiveAfter-of t u steps (Forget m) is = (steps, (is, refl))
 
-  pub Runs-of : (cs : List (Command E)) (t u : Timeline S N) (steps : List (Live E)) → AreAfter rule cs t u → (live : List (Live E)) × Runs rule cs t steps u live
-  Runs-of [] t u steps are = (steps, (are, refl))
-  Runs-of (c ∷ cs) t u steps are =
+  pub RunsCommands-of : (cs : List (Command E)) (t u : Timeline S N) (steps : List (Live E)) → AreAfter rule cs t u → (live : List (Live E)) × RunsCommands rule cs t steps u live
+  RunsCommands-of [] t u steps are = (steps, (are, refl))
+  RunsCommands-of (c ∷ cs) t u steps are =
       let first = IsLiveAfter-of t are.0 steps c are.1 in
-      let rest = Runs-of cs are.0 u first.0 are.2 in
+      let rest = RunsCommands-of cs are.0 u first.0 are.2 in
       (rest.0, (are.0, first.0, first.1, rest.1))
 
   -- one list of commands behind another
@@ -328,12 +328,12 @@ module _ {S E A N F : Type 0} (rule : Rule S E A N F) (one : (node : S) (event :
   IsLiveAfter-one t u v steps live others (Forget m) first second =
       (first.0 ∙ sym second.0, first.1 ∙ sym second.1)
 
-  pub Runs-one : (cs : List (Command E)) (t u v : Timeline S N) (steps live others : List (Live E)) → Runs rule cs t steps u live → Runs rule cs t steps v others → (u ≡ v) × (live ≡ others)
-  Runs-one [] t u v steps live others first second = (first.0 ∙ sym second.0, first.1 ∙ sym second.1)
-  Runs-one (c ∷ cs) t u v steps live others first second =
+  pub RunsCommands-one : (cs : List (Command E)) (t u v : Timeline S N) (steps live others : List (Live E)) → RunsCommands rule cs t steps u live → RunsCommands rule cs t steps v others → (u ≡ v) × (live ≡ others)
+  RunsCommands-one [] t u v steps live others first second = (first.0 ∙ sym second.0, first.1 ∙ sym second.1)
+  RunsCommands-one (c ∷ cs) t u v steps live others first second =
       let same = IsLiveAfter-one t first.0 second.0 steps first.1 second.1 c first.2 second.2 in
-      let moved = subst (λ w. Runs rule cs w first.1 u live) same.0 first.3 in
-      Runs-one cs second.0 u v second.1 live others (subst (λ xs. Runs rule cs second.0 xs u live) same.1 moved) second.3
+      let moved = subst (λ w. RunsCommands rule cs w first.1 u live) same.0 first.3 in
+      RunsCommands-one cs second.0 u v second.1 live others (subst (λ xs. RunsCommands rule cs second.0 xs u live) same.1 moved) second.3
 
   pub FoldsTo-one : (xs : List (Live E)) (node end other : S) → FoldsTo rule node xs end → FoldsTo rule node xs other → end ≡ other
   FoldsTo-one [] node end other first second = first ∙ sym second
@@ -519,7 +519,7 @@ module _ {S E A N F : Type 0} (rule : Rule S E A N F) (may_run_out : S → E →
     carried_out = CarriedOut-done c on.carried_out is;
   }
 
-  -- or that met want of memory
+  -- or that ran out of memory
   pub CarriedOn-missed : (begun t u : Timeline S N) (asked : List (Command E)) (missed : ℕ) (c : Command E) → CarriedOn begun t asked missed → IsMissed may_run_out t c u → CarriedOn begun u (asked ++ c ∷ []) (suc missed)
   CarriedOn-missed begun t u asked missed (Perform e) on is = record {
     carried = on.carried;
@@ -541,7 +541,7 @@ module _ {S E A N F : Type 0} (rule : Rule S E A N F) (may_run_out : S → E →
   -- at the end
   pub IsReplayOf-all : (node : S) (commands : List (Command E)) (missed : ℕ) (t : Timeline S N) → CarriedOn (opened node) t commands missed → IsReplayOf rule may_run_out node commands missed t
   IsReplayOf-all node commands missed t on =
-      let runs = Runs-of rule on.carried (opened node) t [] (AreAfter-carried on.carried_out) in
+      let runs = RunsCommands-of rule on.carried (opened node) t [] (AreAfter-carried on.carried_out) in
       record {
         carried = on.carried;
         carried_out = on.carried_out;

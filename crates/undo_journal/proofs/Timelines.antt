@@ -58,7 +58,7 @@ Performs-aside {S} {A} {N} {F} IsRuled node n count told rest aside old new same
     let parts = replicate-popped n (told_of accepts.0) rest aside all in
     (accepts.0, accepts.1, now ∙ ap (λ s. appended old s aside.note) (sym accepts.2) ∙ ap (λ (t : Told A N). appended old accepts.0.node t.note) (sym (sym parts.1)), parts.0)
 
--- want of memory that changed nothing, in `perform`
+-- lack of memory that changed nothing, in `perform`
 pub PerformFails-from_want : {S A N F : Type 0} (IsRuled : Result (Accepted S A N) F → Type 0) (MayRunOut : Type 0) (old : Timeline S N) (e : JournalError F N) → MayRunOut → IsOutOfMemoryAt (here old).serial e → PerformFails IsRuled MayRunOut old e
 PerformFails-from_want IsRuled MayRunOut old (Step f) may want = absurd want
 PerformFails-from_want IsRuled MayRunOut old Forgotten may want = absurd want
@@ -126,7 +126,7 @@ cut_to-here t ordered =
     let found : kept_to (here t).serial t.first t.later ≡ Some t.later = rw all at (kept_to-newest (length t.later) t.first t.later ordered.rises) in
     ap (λ o. option_map (λ ks. record { first = t.first; later = ks; last = t.last }) o) found
 
--- want of memory before the first cut
+-- lack of memory before the first cut
 pub UndoFails-from_want : {S N F : Type 0} (mark n : ℕ) (t : Timeline S N) (e : JournalError F N) → Stopped mark n t t (here t).serial [] → IsOutOfMemoryAt (here t).serial e → UndoFails mark n t t e
 UndoFails-from_want mark n t (Step f) stopped want = absurd want
 UndoFails-from_want mark n t Forgotten stopped want = absurd want
@@ -193,7 +193,7 @@ kept-within past keep t floor node noted last is within =
     let same = length-map past station_of in
     omega (arith, count, same, within)
 
--- where an undo stands that met want of memory before its first cut
+-- where an undo stands that ran out of memory before its first cut
 pub stopped-before : {S R N : Type 0} (floor : ℕ) (node : S) (noted : Option N) (past : List (Entry S R N)) (last mark n keep : ℕ) (t : Timeline S N) → IsOrdered (timeline_of floor node noted past last) → kept_to mark record { serial = floor; node = node; note = noted } (stations past) ≡ Some (take keep (stations past)) → keep ≤ length past → timeline_of floor node noted past last ≡ t → Stopped mark n t t (here t).serial []
 stopped-before floor node noted past last mark n keep t ordered kept within is =
     let behind = drop_all (length past) (stations past) (simp length-map (omega arith)) in

@@ -40,7 +40,7 @@ AreAfter {S} {E} {A} {N} {F} rule [] old new = new ≡ old
 AreAfter {S} {E} {A} {N} {F} rule (c ∷ cs) old new =
     (mid : Timeline S N) × IsAfter rule old c mid × AreAfter rule cs mid new
 
--- A command that met want of memory. An event met it where memory may run out, and changed nothing; an
+-- A command that ran out of memory. An event met it where memory may run out, and changed nothing; an
 -- undo has a mark with a station, and stopped there or at a station after it, as `Stopped` says of one
 -- that is to report nothing. A forget never meets it.
 abbrev pub IsMissed : {S E N : Type 0} → (S → E → Type 0) → Timeline S N → Command E → Timeline S N → Type 0
@@ -73,12 +73,12 @@ IsLiveAfter {S} {E} {A} {N} {F} rule old steps (Undo m) new live =
 IsLiveAfter {S} {E} {A} {N} {F} rule old steps (Forget m) new live = (new ≡ after_forget m old) × (live ≡ steps)
 
 -- a list of commands, in order, with its live steps
-abbrev pub Runs : {S E A N F : Type 0} → Rule S E A N F → List (Command E) → Timeline S N → List (Live E) → Timeline S N →
+abbrev pub RunsCommands : {S E A N F : Type 0} → Rule S E A N F → List (Command E) → Timeline S N → List (Live E) → Timeline S N →
     List (Live E) → Type 0
-Runs {S} {E} {A} {N} {F} rule [] old steps new live = (new ≡ old) × (live ≡ steps)
-Runs {S} {E} {A} {N} {F} rule (c ∷ cs) old steps new live =
+RunsCommands {S} {E} {A} {N} {F} rule [] old steps new live = (new ≡ old) × (live ≡ steps)
+RunsCommands {S} {E} {A} {N} {F} rule (c ∷ cs) old steps new live =
     (mid : Timeline S N) × (between : List (Live E)) × IsLiveAfter rule old steps c mid between
-    × Runs rule cs mid between new live
+    × RunsCommands rule cs mid between new live
 
 -- from the node the rule accepts the event of each step, in turn, and they lead to the end
 abbrev pub FoldsTo : {S E A N F : Type 0} → Rule S E A N F → S → List (Live E) → S → Type 0
@@ -119,7 +119,7 @@ HasNoForget (Undo m ∷ cs) = HasNoForget cs
 HasNoForget (Forget m ∷ cs) = ⊥
 
 -- The commands that were asked, as a journal carries them out from one timeline to another, of which
--- `missed` meet want of memory in the timeline that they find (`IsMissed`): such an event is left out, and
+-- `missed` run out of memory in the timeline that they find (`IsMissed`): such an event is left out, and
 -- such an undo is one to the mark where it stopped. A forget is never missed.
 pub data CarriedOut {S E A N F : Type 0} (rule : Rule S E A N F) (may_run_out : S → E → Type 0) :
     ℕ → List (Command E) → List (Command E) → Timeline S N → Timeline S N → Type 0 where
@@ -142,6 +142,6 @@ pub record IsReplayOf {S E A N F : Type 0} (rule : Rule S E A N F) (may_run_out 
   pub carried : List (Command E)
   pub carried_out : CarriedOut rule may_run_out missed commands carried (opened node) t
   pub live : List (Live E)
-  pub runs : Runs rule carried (opened node) [] t live
+  pub runs : RunsCommands rule carried (opened node) [] t live
   pub stations : MakesKept rule node live t
   pub fold : FoldsTo rule node live (here t).node

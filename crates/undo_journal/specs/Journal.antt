@@ -15,7 +15,7 @@ abbrev pub Performs : {S A N F : Type 0} → (Result (Accepted S A N) F → Type
 Performs {S} {A} {N} {F} IsRuled n old told new =
     (a : Accepted S A N) × IsRuled (Ok a) × (new ≡ appended old a.node a.note) × (told ≡ replicate n (told_of a))
 
--- want of memory that changed nothing, where the journal stands at this mark
+-- lack of memory that changed nothing, where the journal stands at this mark
 abbrev pub IsOutOfMemoryAt : {F N : Type 0} → ℕ → JournalError F N → Type 0
 IsOutOfMemoryAt at (Step refusal) = ⊥
 IsOutOfMemoryAt at Forgotten = ⊥
@@ -28,7 +28,7 @@ abbrev pub FailsBy : {F N : Type 0} → Failure F → ℕ → JournalError F N �
 FailsBy (failure.Refused refusal) at e = e ≡ Step refusal
 FailsBy failure.Memory at e = IsOutOfMemoryAt at e
 
--- Why an event was not performed. Want of memory is told only where memory may run out.
+-- Why an event was not performed. Lack of memory is told only where memory may run out.
 abbrev pub PerformFails : {S A N F : Type 0} → (Result (Accepted S A N) F → Type 0) → Type 0 → Timeline S N →
     JournalError F N → Type 0
 PerformFails IsRuled MayRunOut old (Step refusal) = IsRuled (Err refusal)

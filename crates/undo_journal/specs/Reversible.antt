@@ -21,7 +21,7 @@ abbrev pub Accepts : {S A N F : Type 0} → (Result (Accepted S A N) F → Type 
 Accepts {S} {A} {N} {F} IsRuled new n told =
     (a : Accepted S A N) × IsRuled (Ok a) × (a.node ≡ new) × (told ≡ replicate n (told_of a))
 
--- The step failed as the rule refuses, or for want of memory, where memory may run out: no refusal that is told without memory is
+-- The step failed as the rule refuses, or for lack of memory, where memory may run out: no refusal that is told without memory is
 -- hidden.
 abbrev pub Refuses : {S A N F : Type 0} → (Result (Accepted S A N) F → Type 0) → Type 0 → Failure F → Type 0
 Refuses IsRuled MayRunOut failure = Fails (λ refusal. IsRuled (Err refusal)) MayRunOut failure

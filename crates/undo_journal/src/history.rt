@@ -4,7 +4,7 @@ ghost use Rattle.std.specs.Option.{option_and_then};
 ghost use Rattle.std.specs.Bool.{OnTrue, OnFalse};
 ghost use Rattle.undo_journal.specs.Reversible.{Accepted};
 ghost use Rattle.undo_journal.specs.Timeline.{Timeline, here, opened, cut_to, forgotten_to, node_at, cut_stations, IsOrdered};
-ghost use Rattle.undo_journal.specs.History.{Live, after_event, IsAfter, AreAfter, Runs, FoldsTo, Makes, MakesKept};
+ghost use Rattle.undo_journal.specs.History.{Live, after_event, IsAfter, AreAfter, RunsCommands, FoldsTo, Makes, MakesKept};
 ghost use Rattle.undo_journal.specs.History.{HasNoForget, IsMissed, IsReplayOf};
 ghost use Rattle.undo_journal.specs.declared.history.Command.{Command};
 
@@ -29,12 +29,12 @@ pub enum Command<E> {
 pub struct Replayed<S: Reversible> {
     /// The journal after them.
     pub journal: Journal<S>,
-    /// How many of them met want of memory.
+    /// How many of them ran out of memory.
     pub missed: usize,
 }
 
 /// Gives commands to a new journal that begins at a node, in order. A command that the journal
-/// refuses changes nothing, and one that meets want of memory does what [`Journal`] says of it; the
+/// refuses changes nothing, and one that runs out of memory does what [`Journal`] says of it; the
 /// next one follows all the same.
 ///
 /// So the journal's timeline is where the commands lead as they were carried out, and with none missed
@@ -42,7 +42,7 @@ pub struct Replayed<S: Reversible> {
 /// that they make end in the journal's; those before its first one are forgotten, and without a forget
 /// there are none. Its node is the fold of the rule over all of the live steps. Given what was carried
 /// out, each of these is the only one ([`commands_have_one_end`]). A command is missed only where it may
-/// meet want of memory: an event where nothing stands against it that is told without memory, and an
+/// run out of memory: an event where nothing stands against it that is told without memory, and an
 /// undo to a mark with a station.
 ///
 /// # Errors
@@ -143,7 +143,7 @@ pub fn commands_have_one_end<S: Reversible>()
         → AreAfter S.rule commands t u → AreAfter S.rule commands t v → u ≡ v }
     ensures steps { (t u v : Timeline S S.Note) (commands : List (Command S.Event))
         (steps live others : List (Live S.Event))
-        → Runs S.rule commands t steps u live → Runs S.rule commands t steps v others
+        → RunsCommands S.rule commands t steps u live → RunsCommands S.rule commands t steps v others
         → (u ≡ v) × (live ≡ others) }
     ensures node { (begun end other : S) (steps : List (Live S.Event))
         → FoldsTo S.rule begun steps end → FoldsTo S.rule begun steps other → end ≡ other }

@@ -88,8 +88,8 @@ impl<S: Reversible> Journal<S> {
         &self.state
     }
 
-    /// The record that takes back the step to the station at a place behind the first, counted from 0; none past the last station.
-    /// Takes no memory.
+    /// The record that takes back the step to the station at a place behind the first, counted from 0; none past the last
+    /// station. Takes no memory.
     pub fn record(&self, place: usize) -> Option<&S::Record>
         ensures kept { IsTrue (is_some result) ↔ (place < length self.now.later) }
         ensures takes_back { IfSome result (λ it. IsRecordAt S.undoes place self.now it.now) }
@@ -262,7 +262,7 @@ impl<S: Reversible> Journal<S> {
         }
     }
 
-    /// Want of memory that changed nothing.
+    /// Lack of memory that changed nothing.
     fn out_of_memory(&self) -> JournalError<S::Refusal, S::Note>
         ensures { IsOutOfMemoryAt (here self.now).serial result }
     {

@@ -16,7 +16,7 @@
 //! Of every machine that meets the contract of [`Reversible`], and of every call in any state:
 //!
 //! - [`Journal::perform`] appends the station that the rule gives, under the next serial, and tells n
-//!   equal values of it. Where it is refused, the timeline is as before, and want of memory hides no
+//!   equal values of it. Where it is refused, the timeline is as before, and lack of memory hides no
 //!   refusal that is told without memory.
 //! - [`Journal::undo`] cuts exactly the stations after the mark's, and reports n times how many there
 //!   were and their notes, oldest first. An undo that finds no memory stands at a station at or after
@@ -25,7 +25,7 @@
 //!   no serial. It and [`Journal::undo`] tell a mark below the first station's as `Forgotten`, and any
 //!   other without a station as `DeadMark`.
 //! - [`Journal::mark`] names the node where the machine stands, and [`Journal::state`] lends it.
-//! - [`replay`]: after any list of commands, want of memory among them, the timeline is where the
+//! - [`replay`]: after any list of commands, lack of memory among them, the timeline is where the
 //!   commands lead as they were carried out, and the node is the fold of the rule over the live steps.
 //! - [`commands_have_one_end`]: from a timeline commands lead to one timeline at most, with one list of
 //!   live steps, whose fold is one node.

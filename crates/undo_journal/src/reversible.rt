@@ -25,8 +25,8 @@ pub struct Stepped<A, N, R> {
 
 /// A machine whose steps can be taken back, one by one, the newest first.
 ///
-/// Its `rule` relates a node and an event with their outcome, and knows no want of memory. There is
-/// one outcome at most (`has_one_outcome`), and a step that ends without want of memory has it. A step
+/// Its `rule` relates a node and an event with their outcome, and knows no lack of memory. There is
+/// one outcome at most (`has_one_outcome`), and a step that ends without lack of memory has it. A step
 /// is made whole or changes nothing: so make all growths before the first change.
 ///
 /// The contracts compare nodes, answers, notes and refusals by `≡`, which sees a bare `Vec` or `Arc`

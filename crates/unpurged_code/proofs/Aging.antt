@@ -11,7 +11,7 @@ use Rattle.code_server.proofs.Standing.{Stands-place, absent_from_place}
 use Rattle.code_server.specs.Modules.{Entry, Table as Loaded, current_of, deleted, deleted_at, loaded, loaded_at, old_of, place_of, purged, purged_slots, removed, retired, slots_of, stacked, with_slots}
 use Rattle.code_server.specs.declared.modules.Instance.{Instance}
 use Rattle.code_server.specs.declared.modules.Slots.{Slots}
-use Rattle.erl_forms.specs.Module.{Forms}
+use Rattle.erl_ir.specs.Module.{Forms}
 use Rattle.release_words.specs.declared.purge.Purge.{Purge}
 use Rattle.script_state.specs.declared.unpurged.Unpurged.{Unpurged}
 use Rattle.script_state.proofs.Firsts.{behind}

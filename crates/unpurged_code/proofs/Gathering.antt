@@ -9,9 +9,9 @@ use Rattle.std.proofs.lemmas.Map.Entries.{lookup_head, lookup_tail}
 use Rattle.std.proofs.lemmas.Map.Views.{any-filter_same}
 use Rattle.std.proofs.lemmas.Slice.Eq.{bytes_eq-Decides}
 use Rattle.code_loading.specs.Loading.{is_lingered_in}
-use Rattle.code_server.specs.Modules.{Entry, IsSound, Table as Loaded}
+use Rattle.code_server.specs.Modules.{Entry, IsModuleTable, Table as Loaded}
 use Rattle.code_server.specs.declared.modules.Slots.{Slots}
-use Rattle.erl_forms.specs.Module.{Forms}
+use Rattle.erl_ir.specs.Module.{Forms}
 use Rattle.process_store.specs.Table.{Table}
 use Rattle.release_words.specs.declared.purge.Purge.{Purge}
 use Rattle.release_words.specs.declared.purge.Purge.TheVariants.{Brutal, Soft}
@@ -137,7 +137,7 @@ module _ (kind : Purge) (unpurged : List Unpurged) where
   found k [] distinct = refl
   found k (e ∷ es) distinct = found_by k e es (bytes_eq k e.0) refl distinct (found k es distinct.1)
 
-  pub all_gathered : (modules : Loaded Forms) (names : List (List ℕ)) → IsSound modules → Gathered modules.entries names → AreNoted kind modules unpurged names
+  pub all_gathered : (modules : Loaded Forms) (names : List (List ℕ)) → IsModuleTable modules → Gathered modules.entries names → AreNoted kind modules unpurged names
   unfolding at_slots
   all_gathered modules names sound gathered =
       let told : (k : List ℕ) → is_among k names ≡ is_kind kind (note_of k modules unpurged) =

@@ -1,9 +1,9 @@
 -- What holds of notes, and of the modules that are told.
 use Rattle.std.specs.Prelude.{◌≡◌, ℕ, false, List, None, Some}
 use Rattle.std.specs.Str.{bytes_eq}
-use Rattle.code_server.specs.Modules.{IsSound, Table as Loaded, current_of, loaded, purged, removed}
+use Rattle.code_server.specs.Modules.{IsModuleTable, Table as Loaded, current_of, loaded, purged, removed}
 use Rattle.code_server.specs.declared.modules.Instance.{Instance}
-use Rattle.erl_forms.specs.Module.{Forms}
+use Rattle.erl_ir.specs.Module.{Forms}
 use Rattle.process_store.specs.Table.{Table}
 use Rattle.release_words.specs.declared.purge.Purge.{Purge}
 use Rattle.script_state.specs.declared.unpurged.Unpurged.{Unpurged}
@@ -12,9 +12,10 @@ use Rattle.unpurged_code.specs.Unpurged.{AreNoted, AreSwept, IsNoted, note_in, n
 -- Once a module is purged nothing is noted of its old code, for it has none; and what is noted of each other module is as before.
 pub record PurgesDropNotes : Type 0 where
   pub own : (m : List ℕ) (modules : Loaded Forms) (unpurged : List Unpurged) →
-      IsSound modules → note_of m (purged m modules) unpurged ≡ None
+      IsModuleTable modules → note_of m (purged m modules) unpurged ≡ None
   pub others : (m other : List ℕ) (modules : Loaded Forms) (unpurged : List Unpurged) →
-      IsSound modules → bytes_eq other m ≡ false → note_of other (purged m modules) unpurged ≡ note_of other modules unpurged
+      IsModuleTable modules → bytes_eq other m ≡ false →
+      note_of other (purged m modules) unpurged ≡ note_of other modules unpurged
 
 -- Where a module is loaded or removed its old code is purged, and its current code becomes old. If nothing is noted of that code
 -- yet, it is noted as the note says that is put behind the others by its serial.

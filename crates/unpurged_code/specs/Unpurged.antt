@@ -5,7 +5,7 @@ use Rattle.std.specs.List.{find}
 use Rattle.code_loading.specs.Loading.{is_lingered_in}
 use Rattle.code_server.specs.Modules.{Entry, Table as Loaded, old_of}
 use Rattle.code_server.specs.declared.modules.Instance.{Instance}
-use Rattle.erl_forms.specs.Module.{Forms}
+use Rattle.erl_ir.specs.Module.{Forms}
 use Rattle.process_store.specs.Table.{Table}
 use Rattle.release_words.specs.declared.purge.Purge.{Purge}
 use Rattle.release_words.specs.declared.purge.Purge.TheVariants.{Brutal, Soft}

@@ -7,7 +7,7 @@ use crate::names::put_by_name;
 use crate::notes::is_noted;
 use code_loading::is_lingered_in;
 use code_server::Modules;
-use erl_forms::Module;
+use erl_ir::Module;
 use erl_term::Atom;
 use process_table::Processes;
 use release_words::Purge;

@@ -4,7 +4,7 @@ ghost use Rattle.std.specs.Option.{option_copied};
 ghost use Rattle.unpurged_code.specs.Unpurged.{is_kind, is_noted, note_in};
 
 use code_server::Instance;
-use erl_forms::Module;
+use erl_ir::Module;
 use release_words::Purge;
 use script_state::Unpurged;
 

@@ -13,7 +13,7 @@ use Rattle.erl_term.specs.Tree.{none, more}
 use Rattle.erl_term.specs.declared.term.Term.{Term}
 use Rattle.process_effects.specs.declared.told.Reply.{Reply}
 use Rattle.process_store.specs.Table.{Table, living}
-use Rattle.process_store.specs.declared.living.Living.{Living}
+use Rattle.process_store.specs.declared.living.ProcessEntry.{ProcessEntry}
 use Rattle.upgrade_calls.specs.Changing.{AllChange, Changes, FailsToChange, FirstUnchanged, Gives, GivesAt, after_change, change_told, return_of}
 use Rattle.upgrade_calls.specs.Laws.{ChangesOneWay}
 use Rattle.upgrade_calls.specs.declared.changing.Change.{Change}
@@ -29,7 +29,7 @@ gives_at-once code c (Server m s) o p first second =
     evaluates-once (record { code = map instance code; pid = c.pid; mode = plain }) m (codes "code_change") (more (tree c.vsn) (more (tree s) (more (tree c.extra) none))) o p first second
 gives_at-once code c (Loop m serial f args) o p first second = absurd first
 
-gives-once : (code : List Instance) (c : Change) (l : Option Living) (o p : Outcome) → Gives code c l o → Gives code c l p → o ≡ p
+gives-once : (code : List Instance) (c : Change) (l : Option ProcessEntry) (o p : Outcome) → Gives code c l o → Gives code c l p → o ≡ p
 gives-once code c None o p first second = absurd first
 gives-once code c (Some l) o p first second = gives_at-once code c l.process.place o p first second
 

@@ -10,12 +10,12 @@ use Rattle.process.specs.declared.activity.Activity.{Activity}
 use Rattle.process.specs.declared.activity.Activity.TheVariants.{Idle, Suspended, Runs}
 use Rattle.process_store.specs.Pieces.{AreLost, AreNotAmong, HoldsLost, IsNotAmong, Piece, at_place, in_job, in_mailbox, living_pieces, pieces_at, ran_pieces, waiting}
 use Rattle.process_store.specs.Table.{Table, empty_table, living}
-use Rattle.process_store.specs.declared.living.Living.{Living}
+use Rattle.process_store.specs.declared.living.ProcessEntry.{ProcessEntry}
 use Rattle.process_table.specs.States.{held_places, place_before}
 use Rattle.process_table.specs.declared.states.StateChange.{StateChange}
 use Rattle.upgrade_calls.proofs.Seen.{seen}
 
-place_there : (c : StateChange) (l m : Option Living) → seen l ≡ seen m → place_before c l ≡ place_before c m
+place_there : (c : StateChange) (l m : Option ProcessEntry) → seen l ≡ seen m → place_before c l ≡ place_before c m
 place_there c None None same = refl
 place_there c None (Some m) same = absurd (none-some (m.process.place, m.process.turn) same)
 place_there c (Some l) None same = absurd (none-some (l.process.place, l.process.turn) (sym same))
@@ -40,7 +40,7 @@ no_piece turn n at Idle mailbox = no_message n at mailbox
 no_piece turn n at Suspended mailbox = no_message n at mailbox
 no_piece turn n at (Runs r) mailbox = ((λ (e : in_job turn r.message ≡ at_place n at). cc), no_message n at mailbox)
 
-not_among : (l m : Option Living) (n : ℕ) (at : Place) → seen l ≡ seen m → IsNotAmong (living_pieces l) (at_place n at) → IsNotAmong (living_pieces m) (at_place n at)
+not_among : (l m : Option ProcessEntry) (n : ℕ) (at : Place) → seen l ≡ seen m → IsNotAmong (living_pieces l) (at_place n at) → IsNotAmong (living_pieces m) (at_place n at)
 not_among None None n at same lost = lost
 not_among None (Some m) n at same lost = absurd (none-some (m.process.place, m.process.turn) same)
 not_among (Some l) None n at same lost = tt
@@ -48,11 +48,11 @@ not_among (Some l) (Some m) n at same lost =
     let here = same_Some (l.process.place, l.process.turn) (m.process.place, m.process.turn) same in
     (subst (λ (x : Place × ℕ). at_place x.1 x.0 ≡ at_place n at → ⊥) here lost.0, no_piece m.process.turn n at m.process.activity m.process.mailbox)
 
-place_lost : (c : StateChange) (k l m : Option Living) → seen l ≡ seen m → AreNotAmong (living_pieces l) (place_before c k) → AreNotAmong (living_pieces m) (place_before c k)
+place_lost : (c : StateChange) (k l m : Option ProcessEntry) → seen l ≡ seen m → AreNotAmong (living_pieces l) (place_before c k) → AreNotAmong (living_pieces m) (place_before c k)
 place_lost c None l m same lost = tt
 place_lost c (Some k) l m same lost = (not_among l m (k.process.turn - c.turns) (with_state c.state k.process.place) same lost.0, tt)
 
-lost_there : (cs : List StateChange) (t : Table) (pid : ℕ) (l m : Option Living) → seen l ≡ seen m → AreNotAmong (living_pieces l) (held_places cs t pid) → AreNotAmong (living_pieces m) (held_places cs t pid)
+lost_there : (cs : List StateChange) (t : Table) (pid : ℕ) (l m : Option ProcessEntry) → seen l ≡ seen m → AreNotAmong (living_pieces l) (held_places cs t pid) → AreNotAmong (living_pieces m) (held_places cs t pid)
 lost_there [] t pid l m same lost = tt
 lost_there (c ∷ cs) t pid l m same lost =
     elim (nat_eq c.pid pid) as (λ b. AreNotAmong (living_pieces l) (cond b (place_before c (living pid t)) (held_places cs t pid)) → AreNotAmong (living_pieces m) (cond b (place_before c (living pid t)) (held_places cs t pid))) [

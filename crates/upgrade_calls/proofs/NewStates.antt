@@ -18,7 +18,7 @@ use Rattle.erl_semantics.specs.declared.acts.Place.{Place}
 use Rattle.erl_semantics.specs.declared.acts.Place.TheVariants.{Server, Loop}
 use Rattle.process.specs.Process.{with_state}
 use Rattle.process_store.specs.Table.{Table, changed, changed_slots, living}
-use Rattle.process_store.specs.declared.living.Living.{Living}
+use Rattle.process_store.specs.declared.living.ProcessEntry.{ProcessEntry}
 use Rattle.process_table.specs.States.{AreApart, all_restated}
 use Rattle.process_table.specs.declared.states.StateChange.{StateChange}
 use Rattle.upgrade_calls.specs.NewStates.{AreAbove, AreByPid, AreRising, AreWithin, change_of, change_to, turns_in, turns_of, with_new}
@@ -142,12 +142,12 @@ with_state_twice s r (Server m state) = refl
 with_state_twice s r (Loop m serial f args) = refl
 
 -- two states of one process are the last of them, with the turns of both
-restated_twice : (s r : Term) (a b : ℕ) (l : Living) → restate_living r b (restate_living s a l) ≡ restate_living r (a + b) l
+restated_twice : (s r : Term) (a b : ℕ) (l : ProcessEntry) → restate_living r b (restate_living s a l) ≡ restate_living r (a + b) l
 restated_twice s r a b l =
     let turn : l.process.turn + a + b ≡ l.process.turn + (a + b) = omega arith in
     λ i. record l { process = record l.process { place = with_state_twice s r l.process.place i; turn = turn i } }
 
-slots_twice : (f g h : Living → Living) → ((l : Living) → g (f l) ≡ h l) → (slots : List (Option Living)) (p : ℕ) → changed_slots g p (changed_slots f p slots) ≡ changed_slots h p slots
+slots_twice : (f g h : ProcessEntry → ProcessEntry) → ((l : ProcessEntry) → g (f l) ≡ h l) → (slots : List (Option ProcessEntry)) (p : ℕ) → changed_slots g p (changed_slots f p slots) ≡ changed_slots h p slots
 slots_twice f g h both [] p = refl
 slots_twice f g h both (None ∷ ss) zero = refl
 slots_twice f g h both (Some l ∷ ss) zero = ap (λ x. Some x ∷ ss) (both l)
@@ -171,11 +171,11 @@ put_restated pid state (c ∷ cs) t rising =
 
 -- Each process has the state that it was to get.
 
-abbrev pub restated_by : Option StateChange → Living → Living
+abbrev pub restated_by : Option StateChange → ProcessEntry → ProcessEntry
 restated_by None l = l
 restated_by (Some c) l = restate_living c.state c.turns l
 
-map_same : (o : Option Living) → o ≡ option_map (restated_by None) o
+map_same : (o : Option ProcessEntry) → o ≡ option_map (restated_by None) o
 map_same None = refl
 map_same (Some l) = refl
 

@@ -19,7 +19,7 @@ use Rattle.erl_term.specs.declared.term.Term.{Term}
 use Rattle.process_effects.specs.Begins.{acts_begun, begun_told}
 use Rattle.process_effects.specs.declared.told.Reply.{Reply}
 use Rattle.process_store.specs.Table.{Table, living}
-use Rattle.process_store.specs.declared.living.Living.{Living}
+use Rattle.process_store.specs.declared.living.ProcessEntry.{ProcessEntry}
 use Rattle.process_table.specs.States.{all_restated}
 use Rattle.process_table.specs.declared.states.StateChange.{StateChange}
 use Rattle.upgrade_calls.proofs.NewStates.{apart, put_restated, rising_put, within_put}
@@ -45,7 +45,7 @@ messages_at code c (Server m s) o gives =
     messages_in o.acts (recursion_from_All IsMessage (map act_of o.acts) ((evaluates_keeps _ _ _ _ _ gives).messages refl))
 messages_at code c (Loop m serial f args) o gives = absurd gives
 
-messages_of : (code : List Instance) (c : Change) (l : Option Living) (o : Outcome) → Gives code c l o → MessagesOnly o.acts
+messages_of : (code : List Instance) (c : Change) (l : Option ProcessEntry) (o : Outcome) → Gives code c l o → MessagesOnly o.acts
 messages_of code c None o gives = absurd gives
 messages_of code c (Some l) o gives = messages_at code c l.process.place o gives
 

@@ -9,7 +9,7 @@ use Rattle.erl_semantics.specs.declared.instance.Instance.{Instance}
 use Rattle.erl_semantics.specs.declared.outcome.Outcome.{Outcome}
 use Rattle.erl_term.specs.declared.term.Term.{Term}
 use Rattle.process_store.specs.Table.{Table, living}
-use Rattle.process_store.specs.declared.living.Living.{Living}
+use Rattle.process_store.specs.declared.living.ProcessEntry.{ProcessEntry}
 use Rattle.process_effects.specs.Begins.{acts_begun}
 use Rattle.process_table.specs.States.{all_restated}
 use Rattle.process_table.specs.declared.states.StateChange.{StateChange}
@@ -20,15 +20,15 @@ use Rattle.upgrade_calls.specs.Evaluated.{CanCount, IsChange}
 use Rattle.upgrade_calls.specs.NewStates.{AreRising, change_of, place_by, state_of}
 use Rattle.upgrade_calls.specs.declared.changing.Change.{Change}
 
-abbrev pub seen : Option Living → Option (Place × ℕ)
-seen l = option_map (λ (it : Living). (it.process.place, it.process.turn)) l
+abbrev pub seen : Option ProcessEntry → Option (Place × ℕ)
+seen l = option_map (λ (it : ProcessEntry). (it.process.place, it.process.turn)) l
 
 pub seen_begun : (code : List Instance) (p : ℕ) (acts : List Act) (t : Table) → MessagesOnly acts → seen (living p (acts_begun None code acts t)) ≡ seen (living p t)
 seen_begun code p acts t only = read_begun seen (λ m l. refl) (λ c l. refl) code p acts t only
 
 -- what is read alike
 
-gives_there : (code : List Instance) (c : Change) (l m : Option Living) (o : Outcome) → seen l ≡ seen m → Gives code c l o → Gives code c m o
+gives_there : (code : List Instance) (c : Change) (l m : Option ProcessEntry) (o : Outcome) → seen l ≡ seen m → Gives code c l o → Gives code c m o
 gives_there code c None m o same gives = absurd gives
 gives_there code c (Some l) None o same gives = absurd (none-some (l.process.place, l.process.turn) (sym same))
 gives_there code c (Some l) (Some m) o same gives =
@@ -47,7 +47,7 @@ fails_there code c t u reason same fails = record {
   returns = fails.returns;
 }
 
-left_there : (l m : Option Living) → seen l ≡ seen m → HasTurnLeft l → HasTurnLeft m
+left_there : (l m : Option ProcessEntry) → seen l ≡ seen m → HasTurnLeft l → HasTurnLeft m
 left_there l None same left = tt
 left_there None (Some m) same left = absurd (none-some (m.process.place, m.process.turn) same)
 left_there (Some l) (Some m) same left =
@@ -55,11 +55,11 @@ left_there (Some l) (Some m) same left =
 
 -- A turn can be counted on where it is counted then.
 
-counted_on : (d : StateChange) (l : Option Living) → CanCount d.turns l → HasTurnLeft (option_map (restated_by (Some d)) l)
+counted_on : (d : StateChange) (l : Option ProcessEntry) → CanCount d.turns l → HasTurnLeft (option_map (restated_by (Some d)) l)
 counted_on d None can = tt
 counted_on d (Some l) can = can
 
-counted_back : (d : StateChange) (l : Option Living) → IsServer l → HasTurnLeft (option_map (restated_by (Some d)) l) → CanCount d.turns l
+counted_back : (d : StateChange) (l : Option ProcessEntry) → IsServer l → HasTurnLeft (option_map (restated_by (Some d)) l) → CanCount d.turns l
 counted_back d None server left = server
 counted_back d (Some l) server left = left
 
@@ -90,16 +90,16 @@ module _ (code : List Instance) (acts : List Act) (only : MessagesOnly acts) (cs
 
 -- What `code_change/3` gives in the state that a process is to get, or has, it gives where all states are given.
 
-abbrev place_at : Option Living → Option Place
-place_at l = option_map (λ (it : Living). it.process.place) l
+abbrev place_at : Option ProcessEntry → Option Place
+place_at l = option_map (λ (it : ProcessEntry). it.process.place) l
 
-place_given : (d : Option StateChange) (l : Option Living) → place_at (option_map (restated_by d) l) ≡ place_by (option_map (λ (c : StateChange). c.state) d) l
+place_given : (d : Option StateChange) (l : Option ProcessEntry) → place_at (option_map (restated_by d) l) ≡ place_by (option_map (λ (c : StateChange). c.state) d) l
 place_given None None = refl
 place_given None (Some l) = refl
 place_given (Some d) None = refl
 place_given (Some d) (Some l) = refl
 
-gives_at : (code : List Instance) (c : Change) (l : Option Living) (at : Place) (o : Outcome) → place_at l ≡ Some at → GivesAt code c at o → Gives code c l o
+gives_at : (code : List Instance) (c : Change) (l : Option ProcessEntry) (at : Place) (o : Outcome) → place_at l ≡ Some at → GivesAt code c at o → Gives code c l o
 gives_at code c None at o is gives = absurd (none-some at is)
 gives_at code c (Some l) at o is gives = subst (λ (p : Place). GivesAt code c p o) (sym (same_Some l.process.place at is)) gives
 

@@ -16,7 +16,7 @@ use Rattle.process_index.specs.declared.calls.Call.{Call}
 use Rattle.process_store.specs.Changes.{closed_living, owner_of, restate_living}
 use Rattle.process_store.specs.Living.{arrived}
 use Rattle.process_store.specs.Table.{Table, changed, living}
-use Rattle.process_store.specs.declared.living.Living.{Living}
+use Rattle.process_store.specs.declared.living.ProcessEntry.{ProcessEntry}
 
 abbrev pub MessagesOnly : List Act → Type 0
 MessagesOnly acts = AllByRecursion (λ a. IsMessage (act_of a)) acts
@@ -47,7 +47,7 @@ messages_append [] others only more = more
 messages_append (a ∷ acts) others only more = (only.0, messages_append acts others only.1 more)
 
 -- A change that touches neither names, calls nor mailboxes.
-module _ (code : List Instance) (f : Living → Living) (same_name : (l : Living) → (f l).process.name ≡ l.process.name) (same_calls : (l : Living) → (f l).calls ≡ l.calls) (closes : (c : Call) (l : Living) → closed_living c (f l) ≡ f (closed_living c l)) (arrives : (m : Term) (l : Living) → arrived m None (f l) ≡ f (arrived m None l)) where
+module _ (code : List Instance) (f : ProcessEntry → ProcessEntry) (same_name : (l : ProcessEntry) → (f l).process.name ≡ l.process.name) (same_calls : (l : ProcessEntry) → (f l).calls ≡ l.calls) (closes : (c : Call) (l : ProcessEntry) → closed_living c (f l) ≡ f (closed_living c l)) (arrives : (m : Term) (l : ProcessEntry) → arrived m None (f l) ≡ f (arrived m None l)) where
   sent_later : (message : Term) (r : Option ℕ) (t : Table) (p : ℕ) → sent message r (changed f p t) ≡ changed f p (sent message r t)
   sent_later message None t p = refl
   sent_later message (Some q) t p = changes_commute (arrived message None) f (arrives message) t q p
@@ -96,7 +96,7 @@ module _ (code : List Instance) (state : Term) (turns : ℕ) where
   told_first = all_told_later code (restate_living state turns) (λ l. refl) (λ l. refl) (λ c l. refl) (λ m l. refl)
 
 -- Messages and replies leave what a process is alone that neither its mailbox nor its calls tell.
-module _ {B : Type 0} (read : Option Living → B) (arrives : (m : Term) (l : Living) → read (Some (arrived m None l)) ≡ read (Some l)) (closes : (c : Call) (l : Living) → read (Some (closed_living c l)) ≡ read (Some l)) (code : List Instance) (p : ℕ) where
+module _ {B : Type 0} (read : Option ProcessEntry → B) (arrives : (m : Term) (l : ProcessEntry) → read (Some (arrived m None l)) ≡ read (Some l)) (closes : (c : Call) (l : ProcessEntry) → read (Some (closed_living c l)) ≡ read (Some l)) (code : List Instance) (p : ℕ) where
   read_sent : (message : Term) (r : Option ℕ) (t : Table) → read (living p (sent message r t)) ≡ read (living p t)
   read_sent message None t = refl
   read_sent message (Some q) t = read_kept read (arrived message None) (arrives message) t.slots q p

@@ -1,7 +1,7 @@
 -- Processes change their states by `code_change/3`, one after the other (gen_server(3), code_change/3; appup(4), code_change).
 use Rattle.std.specs.Prelude.{◌≡◌, ◌⊎◌, ◌<◌, ◌^◌, ℕ, List, [], ◌∷◌, ◌++◌, codes, map, Option, None, Some}
 use Rattle.callback_lang.specs.Returns.{ChangeReturn, change_return, new_state, unchanged}
-use Rattle.erl_forms.specs.Module.{Forms}
+use Rattle.erl_ir.specs.Module.{Forms}
 use Rattle.erl_semantics.specs.Jobs.{Evaluates}
 use Rattle.erl_semantics.specs.State.{plain}
 use Rattle.erl_semantics.specs.Views.{instance, outcome_of}
@@ -17,7 +17,7 @@ use Rattle.process_effects.specs.Begins.{acts_begun, begun_told}
 use Rattle.process_effects.specs.declared.told.Reply.{Reply}
 use Rattle.process_store.specs.Changes.{restate_living}
 use Rattle.process_store.specs.Table.{Table, changed, living}
-use Rattle.process_store.specs.declared.living.Living.{Living}
+use Rattle.process_store.specs.declared.living.ProcessEntry.{ProcessEntry}
 use Rattle.process_store.specs.Pieces.{Piece}
 use Rattle.process_table.specs.States.{CanUnrestateAll, all_unrestated, held_places}
 use Rattle.process_table.specs.Undo.{Fits, held, undone}
@@ -34,7 +34,7 @@ GivesAt code c (Server m s) o =
     (more (tree c.vsn) (more (tree s) (more (tree c.extra) none))) (outcome_of o)
 GivesAt code c (Loop m serial f args) o = ⊥
 
-abbrev pub Gives : List Instance → Change → Option Living → Outcome → Type 0
+abbrev pub Gives : List Instance → Change → Option ProcessEntry → Outcome → Type 0
 Gives code c None o = ⊥
 Gives code c (Some l) o = GivesAt code c l.process.place o
 
@@ -77,7 +77,7 @@ FirstUnchanged code (c ∷ cs) t failed = ((failed.pid ≡ c.pid) × FailsToChan
 
 -- Turns are counted up to 2^64 - 1.
 
-abbrev pub HasTurnLeft : Option Living → Type 0
+abbrev pub HasTurnLeft : Option ProcessEntry → Type 0
 HasTurnLeft None = Unit {0}
 HasTurnLeft (Some l) = l.process.turn < 2 ^ 64
 
@@ -91,7 +91,7 @@ abbrev pub IsServerAt : Place → Type 0
 IsServerAt (Server m s) = Unit {0}
 IsServerAt (Loop m serial f args) = ⊥
 
-abbrev pub IsServer : Option Living → Type 0
+abbrev pub IsServer : Option ProcessEntry → Type 0
 IsServer None = ⊥
 IsServer (Some l) = IsServerAt l.process.place
 
@@ -107,7 +107,7 @@ CanUnchange modules u t = Fits modules u.done t × CanUnrestateAll u.states (und
 abbrev pub ChangesBack : ChangeUndo → Table → Table → Type 0
 ChangesBack u before after = (modules : Loaded Forms) → CanUnchange modules u after × (unchanged_by modules u after ≡ before)
 
--- The pieces that it holds of the process of a pid, by the processes after the change: former places, and what the way back of what was
--- asked for holds.
+-- The pieces that it holds of the process of a pid, by the processes after the change: former places, and what the way back
+-- of what was asked for holds.
 abbrev pub held_changed : ChangeUndo → Table → ℕ → List Piece
 held_changed u t = λ pid. held_places u.states t pid ++ held u.done t pid

@@ -10,7 +10,7 @@ use Rattle.erl_term.specs.declared.term.Term.{Term}
 use Rattle.process_effects.specs.Begins.{acts_begun, begun_told}
 use Rattle.process_effects.specs.declared.told.Reply.{Reply}
 use Rattle.process_store.specs.Table.{Table, living}
-use Rattle.process_store.specs.declared.living.Living.{Living}
+use Rattle.process_store.specs.declared.living.ProcessEntry.{ProcessEntry}
 use Rattle.process_table.specs.States.{AreApart, all_restated}
 use Rattle.process_table.specs.declared.states.StateChange.{StateChange}
 use Rattle.upgrade_calls.specs.Changing.{AreCounted, Changes, HasTurnLeft, IsServer, after_change, change_told}
@@ -19,7 +19,7 @@ use Rattle.upgrade_calls.specs.declared.changing.Change.{Change}
 
 -- it can be counted on by so many turns
 
-abbrev pub CanCount : ℕ → Option Living → Type 0
+abbrev pub CanCount : ℕ → Option ProcessEntry → Type 0
 CanCount turns None = ⊥
 CanCount turns (Some l) = l.process.turn + turns < 2 ^ 64
 
@@ -51,8 +51,9 @@ processes_after code e t = acts_begun None code e.acts (all_restated e.states t)
 abbrev pub told_after : List Instance → Evaluated → Table → List Reply
 told_after code e t = begun_told None code e.acts (all_restated e.states t)
 
--- The acts are messages and replies. Each process that is to get a state is a gen_server that lives, stands once, and has changed no
--- more often than there were changes. Where the turns of those are counted, so are the turns of all that change, and only then.
+-- The acts are messages and replies. Each process that is to get a state is a gen_server that lives, stands once, and has
+-- changed no more often than there were changes. Where the turns of those are counted, so are the turns of all that change,
+-- and only then.
 pub record AreEvaluated (t : Table) (e : Evaluated) : Type 0 where
   pub messages : AreMessages e.acts
   pub apart : AreApart e.states
@@ -70,4 +71,5 @@ pub record HasChanged (code : List Instance) (c : Change) (t : Table) (before af
   pub evaluated : AreEvaluated t after
   pub last : after.changes ≡ before.changes ++ c ∷ []
   pub processes : processes_after code after t ≡ after_change code c outcome state (processes_after code before t)
-  pub tells : told_after code after t ≡ told_after code before t ++ change_told code c outcome state (processes_after code before t)
+  pub tells : told_after code after t ≡ told_after code before t ++
+      change_told code c outcome state (processes_after code before t)

@@ -4,7 +4,7 @@ use Rattle.std.specs.Ordering.{match_ordering, nat_cmp}
 use Rattle.erl_term.specs.declared.term.Term.{Term}
 use Rattle.erl_semantics.specs.declared.acts.Place.{Place}
 use Rattle.process.specs.Process.{with_state}
-use Rattle.process_store.specs.declared.living.Living.{Living}
+use Rattle.process_store.specs.declared.living.ProcessEntry.{ProcessEntry}
 use Rattle.process_table.specs.declared.states.StateChange.{StateChange}
 
 -- what the process of a pid is to get, and how often it has changed
@@ -29,7 +29,7 @@ abbrev pub given_state : Option Term → Place → Place
 given_state None at = at
 given_state (Some state) at = with_state state at
 
-abbrev pub place_by : Option Term → Option Living → Option Place
+abbrev pub place_by : Option Term → Option ProcessEntry → Option Place
 place_by state l = option_map (λ it. given_state state it.process.place) l
 
 -- the process of a pid changes once more, and is to get this state then

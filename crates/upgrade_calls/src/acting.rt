@@ -6,7 +6,7 @@ ghost use Rattle.process_table.specs.Undo.{TakesBack, held};
 
 use erl_semantics::{Act, Instance};
 use process_effects::{Batch, Reply};
-use process_table::{Processes, Undo};
+use process_table::{Processes, ProcessesUndo};
 use std::alloc::{AllocError, Global};
 use values::Row;
 
@@ -21,7 +21,7 @@ pub(crate) fn act(
     code: &[Instance],
     acts: Row<Act>,
     n: usize,
-) -> Result<(Vec<Row<Reply>>, Undo), AllocError>
+) -> Result<(Vec<Row<Reply>>, ProcessesUndo), AllocError>
     ensures done { OnOk result (processes.new ≡ acts_begun None code.now acts processes.old) }
     ensures told { IfOk result (λ it. it.0.items ≡ replicate n (begun_told None code.now acts processes.old)) }
     ensures inverse { IfOk result (λ it. TakesBack it.1 processes.old processes.new) }

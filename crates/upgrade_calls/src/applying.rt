@@ -12,7 +12,7 @@ use callback_lang::evaluate;
 use erl_semantics::{Instance, Mode, Outcome};
 use erl_term::{Atom, Term, Terms};
 use process_effects::Reply;
-use process_table::{Processes, Undo};
+use process_table::{Processes, ProcessesUndo};
 use std::alloc::{AllocError, Global};
 use values::{Failure, Row, copied_slice};
 
@@ -22,7 +22,7 @@ pub struct Applied {
     /// What clients are told, in as many equal values as were asked for.
     pub told: Vec<Row<Reply>>,
     /// What takes back what it has done.
-    pub undo: Undo,
+    pub undo: ProcessesUndo,
 }
 
 /// What a function gives, in this code. It is evaluated outside of all processes.

@@ -11,7 +11,7 @@ ghost use Rattle.upgrade_calls.specs.Evaluated.{AreEvaluated, AreMessages, proce
 use crate::acting::act;
 use crate::evaluating::{Evaluation, can_count_all};
 use code_server::Modules;
-use erl_forms::Module;
+use erl_ir::Module;
 use erl_semantics::{Act, Instance};
 use erl_term::Term;
 use process_effects::Reply;
@@ -49,7 +49,7 @@ pub struct ChangeUndo {
     /// The former state of each process that has changed, once, and how often it has.
     pub states: Row<StateChange>,
     /// What takes back what they asked for.
-    pub done: process_table::Undo,
+    pub done: process_table::ProcessesUndo,
 }
 
 /// What changes of states have come to.

@@ -1,7 +1,7 @@
 -- What a step notes, where it doesn't run out of memory.
 use Rattle.std.proofs.Common.{◌≡◌, ℕ, Bool, true, false, not, List, Option, None, Some, Result, Ok, Err, IsTrue, OnOk, ◌↔◌, ◌⊎◌}
 use Rattle.std.proofs.Common.{is_some, refl, sym, ap, subst, codes, ◌∙◌}
-use Rattle.erl_forms.specs.Module.{Forms, exported_of}
+use Rattle.erl_ir.specs.Module.{Forms, exported_of}
 use Rattle.upgrade_review.proofs.Adding.{adds_alike, adds_both}
 use Rattle.upgrade_review.specs.Gathering.{Adds, LacksCodeChange, OfApp}
 use Rattle.upgrade_review.specs.declared.finding.Finding.{Finding}

@@ -2,7 +2,7 @@
 use Rattle.std.specs.Prelude.{ℕ, Bool, false, ◌&&◌, if◌then◌else◌, List, Option, None, Some, is_some}
 use Rattle.std.specs.List.{list_any}
 use Rattle.std.specs.Str.{bytes_eq}
-use Rattle.erl_forms.specs.Module.{Forms}
+use Rattle.erl_ir.specs.Module.{Forms}
 use Rattle.low_instructions.specs.declared.low.Low.{Low}
 use Rattle.otp_files.specs.declared.app.StartModule.{StartModule}
 use Rattle.release_table.specs.declared.table.AppFiles.{AppFiles}

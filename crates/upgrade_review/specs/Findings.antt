@@ -1,7 +1,7 @@
 -- What is likely wrong with an upgrade, seen from its releases and its script alone (relup(4); appup(4)).
 use Rattle.std.specs.Prelude.{◌≡◌, ◌≢◌, ℕ, ◌+◌, true, false}
 use Rattle.std.specs.Prelude.{List, codes, AllPairs, Contains, Option, None, Some, slice_get, take, drop}
-use Rattle.erl_forms.specs.Module.{Forms, exported_of}
+use Rattle.erl_ir.specs.Module.{Forms, exported_of}
 use Rattle.low_instructions.specs.declared.low.Low.{Low}
 use Rattle.low_instructions.specs.declared.low.Low.TheVariants.{CodeChange, Load}
 use Rattle.low_instructions.specs.declared.modules.Direction.{Direction}

@@ -2,7 +2,7 @@
 -- `Findings` tells it of the whole.
 use Rattle.std.specs.Prelude.{◌≡◌, ◌≢◌, ◌↔◌, ◌⊎◌, ℕ, ◌+◌, true, false}
 use Rattle.std.specs.Prelude.{List, codes, Contains, Option, None, Some, slice_get, take, drop}
-use Rattle.erl_forms.specs.Module.{Forms, exported_of}
+use Rattle.erl_ir.specs.Module.{Forms, exported_of}
 use Rattle.low_instructions.specs.declared.low.Low.{Low}
 use Rattle.low_instructions.specs.declared.low.Low.TheVariants.{LoadObjectCode, PointOfNoReturn, Load, Remove, Purge, Suspend}
 use Rattle.low_instructions.specs.declared.low.Low.TheVariants.{Resume, CodeChange, Stop, Start, Apply}

@@ -1,14 +1,14 @@
 // The code of modules, in the releases that a script leads from and to, and while it runs.
 ghost use Rattle.std.specs.Prelude.{◌≡◌, ◌↔◌, IfOk, IsTrue, None, Some, codes};
 ghost use Rattle.std.specs.Option.{option_copied};
-ghost use Rattle.erl_forms.specs.Module.{exported_of};
+ghost use Rattle.erl_ir.specs.Module.{exported_of};
 ghost use Rattle.script_state.specs.ObjectCode.{source_in};
 ghost use Rattle.upgrade_review.specs.Codes.{code_behind, code_in, has_module};
 ghost use Rattle.upgrade_review.specs.Codes.{is_callback_module, is_start_module, is_started_with};
 ghost use Rattle.upgrade_review.specs.Gathering.{IsKept, LacksCodeChange};
 
 use crate::scripts::{is_loaded, is_started};
-use erl_forms::Module;
+use erl_ir::Module;
 use erl_term::Atom;
 use low_instructions::Low;
 use otp_files::StartModule;

@@ -5,7 +5,7 @@ ghost use Rattle.upgrade_review.specs.Gathering.{Adds, IsNotLoaded, IsNotLoadedI
 use crate::codes::{code_in, is_code};
 use crate::finding::{Finding, note};
 use crate::scripts::is_loaded;
-use erl_forms::Module;
+use erl_ir::Module;
 use erl_term::Atom;
 use low_instructions::Low;
 use release_table::{AppFiles, Release};

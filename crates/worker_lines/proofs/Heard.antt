@@ -15,12 +15,12 @@ use Rattle.workers.specs.LockError.{LockError}
 use Rattle.workers.specs.LockError.TheVariants as lock
 use Rattle.shell_answers.specs.Answers.{fixed, line_of, stopped_undo}
 use Rattle.shell_answers.specs.Refusals.{Subject}
-use Rattle.shell_deeds.specs.Undone.{first_of}
+use Rattle.shell_exec.specs.Undone.{first_of}
 use Rattle.shell_answers.specs.declared.fixed.Fixed.TheVariants as words
-use Rattle.shell_deeds.specs.Fate.{Fate}
-use Rattle.shell_deeds.specs.Fate.TheVariants.{Refused}
-use Rattle.worker_lines.specs.Deeds.{TellsAlone}
-use Rattle.worker_lines.specs.Asking.{Holds, IsTold, heard, no_memory, refused, stopped, unwritten}
+use Rattle.shell_exec.specs.Fate.{Fate}
+use Rattle.shell_exec.specs.Fate.TheVariants.{Refused}
+use Rattle.worker_lines.specs.Execution.{TellsAlone}
+use Rattle.worker_lines.specs.Asking.{Holds, IsAnswered, heard, no_memory, refused, stopped, unwritten}
 use Rattle.worker_lines.specs.Telling.{error_fate, error_told, fault_told}
 use Rattle.workers.specs.Lines.{line, with_lines}
 
@@ -30,9 +30,9 @@ no-lines seat = λ i. record { number = seat.number; lines = sym (append-nil sea
 
 module _ (c : Command) (about : Subject) (tell : Said → Tree) (seat after : SeatState) (text appended : List ℕ) where
   pub heard-told : (it : Said) (fate : Option Fate) → IsFor c it × AddsLine c (Ok it) seat after →
-      (fate ≡ None) × (appended ≡ text ++ line_of (tell it)) → IsTold (Holds c about tell fate) seat after text appended
+      (fate ≡ None) × (appended ≡ text ++ line_of (tell it)) → IsAnswered (Holds c about tell fate) seat after text appended
   heard-told it fate lists told =
-      subst (λ f. IsTold (Holds c about tell f) seat after text appended) (sym told.0) (record {
+      subst (λ f. IsAnswered (Holds c about tell f) seat after text appended) (sym told.0) (record {
         lines = line c (Ok it) ∷ [];
         answer = line_of (tell it);
         may_be = heard it lists.0;
@@ -41,9 +41,9 @@ module _ (c : Command) (about : Subject) (tell : Said → Tree) (seat after : Se
       })
 
   by-fault : (why : Fault) (fate : Option Fate) → ListsFaultOf c why seat after →
-      (fate ≡ None) × (appended ≡ text ++ line_of (fault_told about why)) → IsTold (Holds c about tell fate) seat after text appended
+      (fate ≡ None) × (appended ≡ text ++ line_of (fault_told about why)) → IsAnswered (Holds c about tell fate) seat after text appended
   by-fault why fate lists told =
-      subst (λ f. IsTold (Holds c about tell f) seat after text appended) (sym told.0) (record {
+      subst (λ f. IsAnswered (Holds c about tell f) seat after text appended) (sym told.0) (record {
         lines = line c (Err why) ∷ [];
         answer = line_of (fault_told about why);
         may_be = refused why lists.0;
@@ -52,13 +52,13 @@ module _ (c : Command) (about : Subject) (tell : Said → Tree) (seat after : Se
       })
 
   pub unheard-told : (e : LockError) (fate : Option Fate) → Lists c (Err e) seat after →
-      (fate ≡ error_fate e) × (appended ≡ text ++ line_of (error_told about e)) → IsTold (Holds c about tell fate) seat after text appended
+      (fate ≡ error_fate e) × (appended ≡ text ++ line_of (error_told about e)) → IsAnswered (Holds c about tell fate) seat after text appended
   unheard-told (lock.Journal (error.Step why)) fate lists told = by-fault (fault.Refused why) fate lists told
   unheard-told (lock.Journal error.Forgotten) fate lists told = by-fault fault.Forgotten fate lists told
   unheard-told (lock.Journal error.DeadMark) fate lists told = by-fault fault.DeadMark fate lists told
   unheard-told (lock.Journal error.SerialEnd) fate lists told = by-fault fault.SerialEnd fate lists told
   unheard-told (lock.Journal (error.Memory reached reports)) fate lists told =
-      subst (λ f. IsTold (Holds c about tell f) seat after text appended) (sym told.0) (record {
+      subst (λ f. IsAnswered (Holds c about tell f) seat after text appended) (sym told.0) (record {
         lines = _;
         answer = line_of (stopped_undo reached lists.report);
         may_be = stopped lists.mark reached lists.report lists.undo lists.behind lists.cut;
@@ -66,7 +66,7 @@ module _ (c : Command) (about : Subject) (tell : Said → Tree) (seat after : Se
         written = told.1 ∙ ap (λ rs. text ++ line_of (stopped_undo reached (first_of rs))) lists.told;
       })
   unheard-told lock.Memory fate lists told =
-      subst (λ f. IsTold (Holds c about tell f) seat after text appended) (sym told.0) (record {
+      subst (λ f. IsAnswered (Holds c about tell f) seat after text appended) (sym told.0) (record {
         lines = [];
         answer = _;
         may_be = no_memory;
@@ -75,19 +75,19 @@ module _ (c : Command) (about : Subject) (tell : Said → Tree) (seat after : Se
       })
 
 -- memory was refused before the node was asked
-pub memory-told : (c : Command) (about : Subject) (tell : Said → Tree) (seat : SeatState) (text appended : List ℕ) (fate : Option Fate) → (fate ≡ Some Refused) × (appended ≡ text ++ line_of (fixed words.Memory)) → IsTold (Holds c about tell fate) seat seat text appended
+pub memory-told : (c : Command) (about : Subject) (tell : Said → Tree) (seat : SeatState) (text appended : List ℕ) (fate : Option Fate) → (fate ≡ Some Refused) × (appended ≡ text ++ line_of (fixed words.Memory)) → IsAnswered (Holds c about tell fate) seat seat text appended
 memory-told c about tell seat text appended fate told = unheard-told c about tell seat seat text appended lock.Memory fate refl told
 
 -- nothing was asked of it
-pub told-alone : (may : List Line → List ℕ → Type 0) (seat : SeatState) (text appended answer : List ℕ) → may [] answer → appended ≡ text ++ answer → IsTold may seat seat text appended
+pub told-alone : (may : List Line → List ℕ → Type 0) (seat : SeatState) (text appended answer : List ℕ) → may [] answer → appended ≡ text ++ answer → IsAnswered may seat seat text appended
 told-alone may seat text appended answer may_be written =
     record { lines = []; answer = answer; may_be = may_be; listed = no-lines seat; written = written }
 
-pub alone-told : (answer : Tree) (seat : SeatState) (text appended : List ℕ) (fate : Option Fate) → (fate ≡ None) × (appended ≡ text ++ line_of answer) → IsTold (TellsAlone answer fate) seat seat text appended
+pub alone-told : (answer : Tree) (seat : SeatState) (text appended : List ℕ) (fate : Option Fate) → (fate ≡ None) × (appended ≡ text ++ line_of answer) → IsAnswered (TellsAlone answer fate) seat seat text appended
 alone-told answer seat text appended fate said = told-alone (TellsAlone answer fate) seat text appended (line_of answer) (said.0, refl, refl) said.1
 
 -- what was told in one way may be told in another that allows it
-pub told-as : (may might : List Line → List ℕ → Type 0) (seat after : SeatState) (text appended : List ℕ) → ((lines : List Line) (answer : List ℕ) → may lines answer → might lines answer) → IsTold may seat after text appended → IsTold might seat after text appended
+pub told-as : (may might : List Line → List ℕ → Type 0) (seat after : SeatState) (text appended : List ℕ) → ((lines : List Line) (answer : List ℕ) → may lines answer → might lines answer) → IsAnswered may seat after text appended → IsAnswered might seat after text appended
 told-as may might seat after text appended allows told = record {
   lines = told.lines;
   answer = told.answer;

@@ -6,7 +6,7 @@ use Rattle.erl_term.specs.declared.term.Term.{Term}
 use Rattle.undo_journal.specs.declared.error.JournalError.{JournalError}
 use Rattle.undo_journal.specs.declared.error.JournalError.TheVariants as error
 use Rattle.process_effects.specs.declared.told.Reply.{Reply}
-use Rattle.process_table.specs.declared.body.Body.TheVariants as body
+use Rattle.process_table.specs.declared.body.ClientMessage.TheVariants as body
 use Rattle.node_types.specs.Note.{Note}
 use Rattle.node_types.specs.declared.event.Event.TheVariants as event
 use Rattle.node_types.specs.declared.event.Refusal.{Refusal}
@@ -26,11 +26,11 @@ use Rattle.shell_requests.specs.declared.request.Arrival.{Arrival}
 use Rattle.shell_requests.specs.declared.request.Arrival.TheVariants as arrivals
 use Rattle.shell_requests.specs.declared.request.ReleaseChange.{ReleaseChange}
 use Rattle.shell_requests.specs.declared.request.ReleaseChange.TheVariants as releases
-use Rattle.shell_deeds.specs.Fate.{Fate}
-use Rattle.shell_deeds.specs.Fate.TheVariants.{Refused}
+use Rattle.shell_exec.specs.Fate.{Fate}
+use Rattle.shell_exec.specs.Fate.TheVariants.{Refused}
 use Rattle.workers.specs.Calling.{CallFails, Calls}
 use Rattle.workers.specs.Installing.{Drives, InstallFails}
-use Rattle.shell_deeds.specs.Upgrades.{subject_in}
+use Rattle.shell_exec.specs.Upgrades.{subject_in}
 use Rattle.workers.specs.Lines.{HasGrown, line, with_lines}
 use Rattle.workers.specs.declared.error.WorkError.{WorkError}
 use Rattle.workers.specs.declared.installing.InstallEnd.{InstallEnd}
@@ -38,13 +38,13 @@ use Rattle.workers.proofs.Behind.{behind}
 use Rattle.workers.proofs.Growth.{grown_by_call, grown_by_install}
 use Rattle.workers.proofs.Halted.{grown_halted}
 use Rattle.workers.proofs.Unanswered.{grown_unanswered}
-use Rattle.worker_lines.specs.Asking.{IsTold, done, event_told}
-use Rattle.worker_lines.specs.Deeds.{Alters, Installs, Sends, Uninstalled, Waits, call_turns, came, end_told, ended, never, no_memory_to_call, no_memory_to_install, patience, releases_unread, releases_unwritten, told_by_releases, told_by_vsn, wants_releases}
+use Rattle.worker_lines.specs.Asking.{IsAnswered, done, event_told}
+use Rattle.worker_lines.specs.Execution.{Alters, Installs, Sends, Uninstalled, Waits, call_turns, came, end_told, ended, never, no_memory_to_call, no_memory_to_install, patience, releases_unread, releases_unwritten, told_by_releases, told_by_vsn, wants_releases}
 use Rattle.worker_lines.specs.Telling.{error_fate, error_told, work_fate, work_told}
 use Rattle.worker_lines.proofs.Heard.{memory-told, told-alone}
 
 -- lines came, and this was told of them
-pub grown-told : (may : List Line → List ℕ → Type 0) (seat after : SeatState) (text appended answer : List ℕ) (grown : HasGrown seat after) → may grown.0 answer → appended ≡ text ++ answer → IsTold may seat after text appended
+pub grown-told : (may : List Line → List ℕ → Type 0) (seat after : SeatState) (text appended answer : List ℕ) (grown : HasGrown seat after) → may grown.0 answer → appended ≡ text ++ answer → IsAnswered may seat after text appended
 grown-told may seat after text appended answer grown may_be written =
     record { lines = grown.0; answer = answer; may_be = may_be; listed = grown.1; written = written }
 
@@ -61,29 +61,29 @@ which-unrefused error.SerialEnd seat after lists = lists.0
 which-unrefused (error.Memory reached reports) seat after lists = subst AsksReleases lists.undo tt
 
 module _ (name : Atom) (t : Term) (seat after : SeatState) (text appended : List ℕ) (fate : Option Fate) where
-  pub call-told : (reply : Reply) → Calls name t seat after reply → (fate ≡ None) × (appended ≡ text ++ line_of (replied reply)) → IsTold (Waits seat name t fate) seat after text appended
+  pub call-told : (reply : Reply) → Calls name t seat after reply → (fate ≡ None) × (appended ≡ text ++ line_of (replied reply)) → IsAnswered (Waits seat name t fate) seat after text appended
   call-told reply calls said =
       let grown = grown_by_call name t seat after reply calls in
-      subst (λ f. IsTold (Waits seat name t f) seat after text appended) (sym said.0)
+      subst (λ f. IsAnswered (Waits seat name t f) seat after text appended) (sym said.0)
       (grown-told (Waits seat name t None) seat after text appended (line_of (replied reply)) grown (came grown.0 reply (subst (λ (s : SeatState). Calls name t seat s reply) grown.1 calls)) said.1)
 
-  pub uncalled-told : (why : WorkError) → CallFails name t call_turns seat after why → (fate ≡ work_fate why) × (appended ≡ text ++ line_of (work_told naming_nothing why)) → IsTold (Waits seat name t fate) seat after text appended
+  pub uncalled-told : (why : WorkError) → CallFails name t call_turns seat after why → (fate ≡ work_fate why) × (appended ≡ text ++ line_of (work_told naming_nothing why)) → IsAnswered (Waits seat name t fate) seat after text appended
   uncalled-told why fails said =
       let grown = grown_unanswered name t call_turns why seat after fails in
-      subst (λ f. IsTold (Waits seat name t f) seat after text appended) (sym said.0)
+      subst (λ f. IsAnswered (Waits seat name t f) seat after text appended) (sym said.0)
       (grown-told (Waits seat name t (work_fate why)) seat after text appended (line_of (work_told naming_nothing why)) grown (never grown.0 why (subst (λ (s : SeatState). CallFails name t call_turns seat s why) grown.1 fails)) said.1)
 
 module _ (vsn : List ℕ) (seat after : SeatState) (text appended : List ℕ) (fate : Option Fate) where
-  pub install-told : (end : InstallEnd) → Drives vsn patience seat after end → (fate ≡ None) × (appended ≡ text ++ line_of (end_told end)) → IsTold (Installs seat vsn fate) seat after text appended
+  pub install-told : (end : InstallEnd) → Drives vsn patience seat after end → (fate ≡ None) × (appended ≡ text ++ line_of (end_told end)) → IsAnswered (Installs seat vsn fate) seat after text appended
   install-told end drives said =
       let grown = grown_by_install vsn patience seat after end drives in
-      subst (λ f. IsTold (Installs seat vsn f) seat after text appended) (sym said.0)
+      subst (λ f. IsAnswered (Installs seat vsn f) seat after text appended) (sym said.0)
       (grown-told (Installs seat vsn None) seat after text appended (line_of (end_told end)) grown (ended grown.0 end (subst (λ (s : SeatState). Drives vsn patience seat s end) grown.1 drives)) said.1)
 
-  pub uninstalled-told : (why : WorkError) → wants_releases why ≡ false → InstallFails vsn patience seat after why → (fate ≡ work_fate why) × (appended ≡ text ++ line_of (work_told (naming vsn) why)) → IsTold (Installs seat vsn fate) seat after text appended
+  pub uninstalled-told : (why : WorkError) → wants_releases why ≡ false → InstallFails vsn patience seat after why → (fate ≡ work_fate why) × (appended ≡ text ++ line_of (work_told (naming vsn) why)) → IsAnswered (Installs seat vsn fate) seat after text appended
   uninstalled-told why by_vsn fails said =
       let grown = grown_halted vsn patience why seat after fails in
-      subst (λ f. IsTold (Installs seat vsn f) seat after text appended) (sym said.0)
+      subst (λ f. IsAnswered (Installs seat vsn f) seat after text appended) (sym said.0)
       (grown-told (Installs seat vsn (work_fate why)) seat after text appended (line_of (work_told (naming vsn) why)) grown (told_by_vsn grown.0 why (by_vsn, subst (λ (s : SeatState). InstallFails vsn patience seat s why) grown.1 fails)) said.1)
 
 -- An install has not come to its end; `mid` is the seat then, and the releases that the node knows are asked for.
@@ -100,38 +100,38 @@ module _ (vsn : List ℕ) (start mid after : SeatState) (why : WorkError) (text 
       (grown.0 ++ which, behind start mid after grown.0 which grown.1 adds)
 
   -- it's told by them
-  pub refused-told : (listed known : List Listed) → known ≡ reverse listed → AddsLine command.Which (Ok (said.Releases listed)) mid after → (fate ≡ work_fate why) × (appended ≡ text ++ line_of (work_told (subject_in vsn known) why)) → IsTold (Installs start vsn fate) start after text appended
+  pub refused-told : (listed known : List Listed) → known ≡ reverse listed → AddsLine command.Which (Ok (said.Releases listed)) mid after → (fate ≡ work_fate why) × (appended ≡ text ++ line_of (work_told (subject_in vsn known) why)) → IsAnswered (Installs start vsn fate) start after text appended
   refused-told listed known is adds told =
       let all = with-releases listed adds in
       let same : reverse known ≡ listed = ap reverse is ∙ reverse-reverse listed in
       let may : Installs start vsn (work_fate why) all.0 (line_of (work_told (subject_in vsn known) why)) =
       subst (λ (ls : List Listed). Installs start vsn (work_fate why) (grown.0 ++ line command.Which (Ok (said.Releases ls)) ∷ []) (line_of (work_told (subject_in vsn known) why))) same (told_by_releases grown.0 known why fails-by) in
-      subst (λ f. IsTold (Installs start vsn f) start after text appended) (sym told.0) (grown-told (Installs start vsn (work_fate why)) start after text appended (line_of (work_told (subject_in vsn known) why)) all may told.1)
+      subst (λ f. IsAnswered (Installs start vsn f) start after text appended) (sym told.0) (grown-told (Installs start vsn (work_fate why)) start after text appended (line_of (work_told (subject_in vsn known) why)) all may told.1)
 
   -- there was no memory to tell by them
-  pub unwritten-told : (listed : List Listed) → AddsLine command.Which (Ok (said.Releases listed)) mid after → (fate ≡ Some Refused) × (appended ≡ text ++ line_of (fixed words.Memory)) → IsTold (Installs start vsn fate) start after text appended
+  pub unwritten-told : (listed : List Listed) → AddsLine command.Which (Ok (said.Releases listed)) mid after → (fate ≡ Some Refused) × (appended ≡ text ++ line_of (fixed words.Memory)) → IsAnswered (Installs start vsn fate) start after text appended
   unwritten-told listed adds told =
-      subst (λ f. IsTold (Installs start vsn f) start after text appended) (sym told.0) (grown-told (Installs start vsn (Some Refused)) start after text appended (line_of (fixed words.Memory)) (with-releases listed adds) (releases_unwritten grown.0 listed why fails-by) told.1)
+      subst (λ f. IsAnswered (Installs start vsn f) start after text appended) (sym told.0) (grown-told (Installs start vsn (Some Refused)) start after text appended (line_of (fixed words.Memory)) (with-releases listed adds) (releases_unwritten grown.0 listed why fails-by) told.1)
 
-  -- they weren't told, for want of memory
-  pub unread-told : (unread : LockError) (about : Subject) → Lists command.Which (Err unread) mid after → (fate ≡ error_fate unread) × (appended ≡ text ++ line_of (error_told about unread)) → IsTold (Installs start vsn fate) start after text appended
+  -- they weren't told, for lack of memory
+  pub unread-told : (unread : LockError) (about : Subject) → Lists command.Which (Err unread) mid after → (fate ≡ error_fate unread) × (appended ≡ text ++ line_of (error_told about unread)) → IsAnswered (Installs start vsn fate) start after text appended
   unread-told (lock.Journal e) about lists told = absurd (which-unrefused e mid after lists)
   unread-told lock.Memory about lists told =
-      subst (λ f. IsTold (Installs start vsn f) start after text appended) (sym told.0) (grown-told (Installs start vsn (Some Refused)) start after text appended (line_of (fixed words.Memory)) (grown.0, lists ∙ grown.1) (releases_unread grown.0 why fails-by) told.1)
+      subst (λ f. IsAnswered (Installs start vsn f) start after text appended) (sym told.0) (grown-told (Installs start vsn (Some Refused)) start after text appended (line_of (fixed words.Memory)) (grown.0, lists ∙ grown.1) (releases_unread grown.0 why fails-by) told.1)
 
 -- memory was refused before anything arrived
-pub unsent-told : (kind : Arrival) (name : Atom) (t : Term) (seat : SeatState) (text appended : List ℕ) (fate : Option Fate) → (fate ≡ Some Refused) × (appended ≡ text ++ line_of (fixed words.Memory)) → IsTold (Sends seat kind name t fate) seat seat text appended
+pub unsent-told : (kind : Arrival) (name : Atom) (t : Term) (seat : SeatState) (text appended : List ℕ) (fate : Option Fate) → (fate ≡ Some Refused) × (appended ≡ text ++ line_of (fixed words.Memory)) → IsAnswered (Sends seat kind name t fate) seat seat text appended
 unsent-told arrivals.Call name t seat text appended fate said =
-    subst (λ f. IsTold (Waits seat name t f) seat seat text appended) (sym said.0) (told-alone (Waits seat name t (Some Refused)) seat text appended _ no_memory_to_call said.1)
+    subst (λ f. IsAnswered (Waits seat name t f) seat seat text appended) (sym said.0) (told-alone (Waits seat name t (Some Refused)) seat text appended _ no_memory_to_call said.1)
 unsent-told arrivals.Cast name t seat text appended fate said =
     memory-told (command.Perform (event.Arrive seat.number name (body.Cast t))) naming_nothing (event_told done) seat text appended fate said
 unsent-told arrivals.Info name t seat text appended fate said =
     memory-told (command.Perform (event.Arrive seat.number name (body.Info t))) naming_nothing (event_told done) seat text appended fate said
 
 -- and before the releases were changed
-pub unaltered-told : (kind : ReleaseChange) (vsn : List ℕ) (seat : SeatState) (text appended : List ℕ) (fate : Option Fate) → (fate ≡ Some Refused) × (appended ≡ text ++ line_of (fixed words.Memory)) → IsTold (Alters seat kind vsn fate) seat seat text appended
+pub unaltered-told : (kind : ReleaseChange) (vsn : List ℕ) (seat : SeatState) (text appended : List ℕ) (fate : Option Fate) → (fate ≡ Some Refused) × (appended ≡ text ++ line_of (fixed words.Memory)) → IsAnswered (Alters seat kind vsn fate) seat seat text appended
 unaltered-told releases.Install vsn seat text appended fate said =
-    subst (λ f. IsTold (Installs seat vsn f) seat seat text appended) (sym said.0) (told-alone (Installs seat vsn (Some Refused)) seat text appended _ no_memory_to_install said.1)
+    subst (λ f. IsAnswered (Installs seat vsn f) seat seat text appended) (sym said.0) (told-alone (Installs seat vsn (Some Refused)) seat text appended _ no_memory_to_install said.1)
 unaltered-told releases.Remove vsn seat text appended fate said =
     memory-told (command.Perform (event.Remove vsn)) (naming vsn) (event_told done) seat text appended fate said
 unaltered-told releases.MakePermanent vsn seat text appended fate said =

@@ -16,13 +16,13 @@ use Rattle.release_statuses.specs.declared.listed.Listed.{Listed}
 use Rattle.shell_answers.specs.Answers.{fixed, floor_at, line_of, mark_at, releases_in, replies_in, stopped_undo, undone_steps}
 use Rattle.shell_answers.specs.Refusals.{Subject}
 use Rattle.shell_answers.specs.declared.fixed.Fixed.TheVariants as words
-use Rattle.shell_deeds.specs.Fate.{Fate}
-use Rattle.shell_deeds.specs.Fate.TheVariants.{Refused, StoppedAt, Unread}
+use Rattle.shell_exec.specs.Fate.{Fate}
+use Rattle.shell_exec.specs.Fate.TheVariants.{Refused, StoppedAt, Unread}
 use Rattle.worker_lines.specs.Telling.{fault_told}
 use Rattle.workers.specs.Lines.{line, with_lines}
 
 -- Lines that may come behind those of the seat, and a text that may be told of them, did come, and was.
-pub record IsTold (may : List Line → List ℕ → Type 0) (seat after : SeatState) (text appended : List ℕ) : Type 0 where
+pub record IsAnswered (may : List Line → List ℕ → Type 0) (seat after : SeatState) (text appended : List ℕ) : Type 0 where
   pub lines : List Line
   pub answer : List ℕ
   pub may_be : may lines answer

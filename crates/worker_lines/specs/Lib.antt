@@ -1,4 +1,4 @@
 pub mod Telling
 pub mod Asking
-pub mod Deeds
-pub use Rattle.shell_deeds.specs.Fate
+pub mod Execution
+pub use Rattle.shell_exec.specs.Fate

@@ -12,9 +12,9 @@ use Rattle.workers.specs.LockError.TheVariants as lock
 use Rattle.shell_answers.specs.Answers.{fixed, stopped_undo}
 use Rattle.shell_answers.specs.Refusals.{Subject, refusal_of}
 use Rattle.shell_answers.specs.declared.fixed.Fixed.TheVariants as words
-use Rattle.shell_deeds.specs.Undone.{first_of}
-use Rattle.shell_deeds.specs.Fate.{Fate}
-use Rattle.shell_deeds.specs.Fate.TheVariants as fates
+use Rattle.shell_exec.specs.Undone.{first_of}
+use Rattle.shell_exec.specs.Fate.{Fate}
+use Rattle.shell_exec.specs.Fate.TheVariants as fates
 use Rattle.workers.specs.declared.error.WorkError.{WorkError}
 use Rattle.workers.specs.declared.error.WorkError.TheVariants as work
 

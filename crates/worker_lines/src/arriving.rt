@@ -4,17 +4,17 @@ ghost use Rattle.std.specs.Str.{chars};
 ghost use Rattle.node_types.specs.declared.event.Event.TheVariants.{Arrive};
 ghost use Rattle.shell_answers.specs.Answers.{line_of, replied};
 ghost use Rattle.shell_answers.specs.Refusals.{naming_nothing};
-ghost use Rattle.worker_lines.specs.Asking.{IsTold, done};
-ghost use Rattle.worker_lines.specs.Deeds.{Arrives, Performs, Sends, Waits};
+ghost use Rattle.worker_lines.specs.Asking.{IsAnswered, done};
+ghost use Rattle.worker_lines.specs.Execution.{Arrives, Performs, Sends, Waits};
 
 use crate::office::Office;
 use crate::telling::{tell_error, tell_unworked};
 use erl_term::{Atom, Term};
 use node_types::Event;
 use process_effects::Reply;
-use process_table::Body;
+use process_table::ClientMessage;
 use shell_answers::{Fixed, Subject, write_reply};
-use shell_deeds::{Misread, Said, refuse, say, say_term_fault, term_of};
+use shell_exec::{Misread, Said, refuse, say, say_term_fault, term_of};
 use shell_requests::{Arrival, Name};
 use std::sync::Wait;
 use std::time::Clock;
@@ -32,7 +32,7 @@ pub(crate) fn arrive<N: Naming, R: Wait + Clock>(
     text: &str,
     out: &mut Vec<u8>,
 ) -> Said
-    ensures { IfOk result (λ fate. IsTold (Arrives seat.old kind (chars name.entry.text.now) text.now fate)
+    ensures { IfOk result (λ fate. IsAnswered (Arrives seat.old kind (chars name.entry.text.now) text.now fate)
         seat.old seat.new out.old.items out.new.items) }
 {
     match term_of(office.alloc, text) {
@@ -52,7 +52,7 @@ fn arrive_term<N: Naming, R: Wait + Clock>(
     term: Term,
     out: &mut Vec<u8>,
 ) -> Said
-    ensures { IfOk result (λ fate. IsTold (Sends seat.old kind (chars name.entry.text.now) term fate)
+    ensures { IfOk result (λ fate. IsAnswered (Sends seat.old kind (chars name.entry.text.now) term fate)
         seat.old seat.new out.old.items out.new.items) }
 {
     let Ok(name) = name.atom(office.alloc) else {
@@ -60,8 +60,8 @@ fn arrive_term<N: Naming, R: Wait + Clock>(
     };
     match kind {
         Arrival::Call => tell_call(office, seat, name, term, out),
-        Arrival::Cast => send(office, seat, name, Body::Cast(term), out),
-        Arrival::Info => send(office, seat, name, Body::Info(term), out),
+        Arrival::Cast => send(office, seat, name, ClientMessage::Cast(term), out),
+        Arrival::Info => send(office, seat, name, ClientMessage::Info(term), out),
     }
 }
 
@@ -73,7 +73,7 @@ fn tell_call<N: Naming, R: Wait + Clock>(
     term: Term,
     out: &mut Vec<u8>,
 ) -> Said
-    ensures { IfOk result (λ fate. IsTold (Waits seat.old name term fate) seat.old seat.new out.old.items out.new.items) }
+    ensures { IfOk result (λ fate. IsAnswered (Waits seat.old name term fate) seat.old seat.new out.old.items out.new.items) }
 {
     match call(
         office.rt,
@@ -105,10 +105,10 @@ fn send<N: Naming, R: Wait>(
     office: &Office<'_, '_, '_, N, R>,
     seat: &mut Seat<N>,
     name: Atom,
-    body: Body,
+    body: ClientMessage,
     out: &mut Vec<u8>,
 ) -> Said
-    ensures { IfOk result (λ fate. IsTold (Performs (Arrive seat.old.number name body) naming_nothing done fate)
+    ensures { IfOk result (λ fate. IsAnswered (Performs (Arrive seat.old.number name body) naming_nothing done fate)
         seat.old seat.new out.old.items out.new.items) }
 {
     let event = Event::Arrive {

@@ -3,15 +3,15 @@ ghost use Rattle.std.specs.Prelude.{◌≡◌, ◌++◌, IfOk, None, reverse};
 ghost use Rattle.erl_term.specs.Tree.{list};
 ghost use Rattle.shell_answers.specs.Answers.{line_of, mark_at, replies_in};
 ghost use Rattle.shell_requests.specs.declared.request.Question.TheVariants as questions;
-ghost use Rattle.worker_lines.specs.Asking.{IsTold, IsWritten};
-ghost use Rattle.worker_lines.specs.Deeds.{Asks};
+ghost use Rattle.worker_lines.specs.Asking.{IsAnswered, IsWritten};
+ghost use Rattle.worker_lines.specs.Execution.{Asks};
 
 use crate::office::Office;
 use crate::telling::tell_error;
 use process_effects::Reply;
 use release_statuses::Listed;
 use shell_answers::{Fixed, names_in_releases, write_mark, write_releases, write_replies};
-use shell_deeds::{Said, refuse, say};
+use shell_exec::{Said, refuse, say};
 use shell_requests::Question;
 use std::alloc::{AllocError, Global};
 use std::slice;
@@ -26,7 +26,7 @@ pub(crate) fn tell<N: Naming, R: Wait>(
     question: Question,
     out: &mut Vec<u8>,
 ) -> Said
-    ensures { IfOk result (λ fate. IsTold (Asks question fate) seat.old seat.new out.old.items out.new.items) }
+    ensures { IfOk result (λ fate. IsAnswered (Asks question fate) seat.old seat.new out.old.items out.new.items) }
 {
     match question {
         Question::Modules => say(Fixed::SteppedOnly, out),
@@ -43,7 +43,7 @@ fn tell_mark<N: Naming, R: Wait>(
     seat: &mut Seat<N>,
     out: &mut Vec<u8>,
 ) -> Said
-    ensures { IfOk result (λ fate. IsTold (Asks questions.Mark fate) seat.old seat.new out.old.items out.new.items) }
+    ensures { IfOk result (λ fate. IsAnswered (Asks questions.Mark fate) seat.old seat.new out.old.items out.new.items) }
 {
     match office.shared.mark(office.rt, seat) {
         Ok(mark) => say_mark(mark, out),
@@ -65,7 +65,7 @@ fn tell_replies<N: Naming, R: Wait>(
     seat: &mut Seat<N>,
     out: &mut Vec<u8>,
 ) -> Said
-    ensures { IfOk result (λ fate. IsTold (Asks questions.Replies fate) seat.old seat.new out.old.items out.new.items) }
+    ensures { IfOk result (λ fate. IsAnswered (Asks questions.Replies fate) seat.old seat.new out.old.items out.new.items) }
 {
     match office.shared.replies(office.rt, seat, 0) {
         Ok(replies) => say_replies(replies.get(), out),
@@ -87,7 +87,7 @@ fn tell_releases<N: Naming, R: Wait>(
     seat: &mut Seat<N>,
     out: &mut Vec<u8>,
 ) -> Said
-    ensures { IfOk result (λ fate. IsTold (Asks questions.Which fate) seat.old seat.new out.old.items out.new.items) }
+    ensures { IfOk result (λ fate. IsAnswered (Asks questions.Which fate) seat.old seat.new out.old.items out.new.items) }
 {
     match office.shared.which(office.rt, seat) {
         Ok(releases) => say_releases(office.alloc, releases.get().as_slice(), out),

@@ -5,16 +5,16 @@ ghost use Rattle.erl_term.specs.declared.term.Term.TheVariants.{Atom};
 ghost use Rattle.node_types.specs.declared.event.Event.TheVariants.{Load, Revive, Sweep};
 ghost use Rattle.shell_answers.specs.Answers.{loaded};
 ghost use Rattle.shell_answers.specs.Refusals.{naming_nothing};
-ghost use Rattle.shell_deeds.specs.Deeds.{change_event};
-ghost use Rattle.shell_deeds.specs.Performing.{revived_in, swept_in, truth_in};
-ghost use Rattle.worker_lines.specs.Asking.{IsTold};
-ghost use Rattle.worker_lines.specs.Deeds.{Loads, Performs};
+ghost use Rattle.shell_exec.specs.Execution.{change_event};
+ghost use Rattle.shell_exec.specs.Performing.{revived_in, swept_in, truth_in};
+ghost use Rattle.worker_lines.specs.Asking.{IsAnswered};
+ghost use Rattle.worker_lines.specs.Execution.{Loads, Performs};
 
 use crate::office::Office;
 use crate::telling::tell_error;
-use erl_forms::Module;
+use erl_ir::Module;
 use node_types::Event;
-use shell_deeds::{
+use shell_exec::{
     Said, Unloaded, change_event, refuse, revive_event, say_file_fault, source_in, tell_loaded,
     tell_revived, tell_swept, tell_truth,
 };
@@ -31,7 +31,8 @@ pub(crate) fn change<N: Naming, R: Wait>(
     name: Name<'_>,
     out: &mut Vec<u8>,
 ) -> Said
-    ensures { IfOk result (λ fate. IsTold (Performs (change_event kind (chars name.entry.text.now)) naming_nothing truth_in fate)
+    ensures { IfOk result (λ fate. IsAnswered (Performs (change_event kind (chars name.entry.text.now)) naming_nothing truth_in
+        fate)
         seat.old seat.new out.old.items out.new.items) }
 {
     let Ok(name) = name.atom(office.alloc) else {
@@ -54,7 +55,7 @@ pub(crate) fn load<N: Naming, R: Wait>(
     path: &str,
     out: &mut Vec<u8>,
 ) -> Said
-    ensures { IfOk result (λ fate. IsTold (Loads office.now.files.now (chars name.entry.text.now) path.now fate)
+    ensures { IfOk result (λ fate. IsAnswered (Loads office.now.files.now (chars name.entry.text.now) path.now fate)
         seat.old seat.new out.old.items out.new.items) }
 {
     match source_in(office.alloc, office.hashing, office.files, name, path) {
@@ -71,7 +72,7 @@ fn load_module<N: Naming, R: Wait>(
     code: Module,
     out: &mut Vec<u8>,
 ) -> Said
-    ensures { IfOk result (λ fate. IsTold (Performs (Load code) naming_nothing (λ _. loaded code.name) fate)
+    ensures { IfOk result (λ fate. IsAnswered (Performs (Load code) naming_nothing (λ _. loaded code.name) fate)
         seat.old seat.new out.old.items out.new.items) }
 {
     let Ok(name) = code.name().copy(office.alloc) else {
@@ -94,7 +95,7 @@ pub(crate) fn revive<N: Naming, R: Wait>(
     id: Name<'_>,
     out: &mut Vec<u8>,
 ) -> Said
-    ensures { IfOk result (λ fate. IsTold
+    ensures { IfOk result (λ fate. IsAnswered
         (Performs (Revive (chars app.entry.text.now) (Atom (chars id.entry.text.now))) naming_nothing revived_in fate)
         seat.old seat.new out.old.items out.new.items) }
 {
@@ -113,7 +114,7 @@ pub(crate) fn sweep<N: Naming, R: Wait>(
     seat: &mut Seat<N>,
     out: &mut Vec<u8>,
 ) -> Said
-    ensures { IfOk result (λ fate. IsTold (Performs Sweep naming_nothing swept_in fate)
+    ensures { IfOk result (λ fate. IsAnswered (Performs Sweep naming_nothing swept_in fate)
         seat.old seat.new out.old.items out.new.items) }
 {
     match office

@@ -3,8 +3,8 @@ ghost use Rattle.std.specs.Prelude.{◌≡◌, ◌++◌, IfOk, None, OnOk, true}
 ghost use Rattle.std.specs.Str.{chars};
 ghost use Rattle.workers.specs.Core.{SeatState};
 ghost use Rattle.shell_answers.specs.Answers.{line_of};
-ghost use Rattle.worker_lines.specs.Asking.{IsTold};
-ghost use Rattle.worker_lines.specs.Deeds.{Installs, end_told, patience, wants_releases};
+ghost use Rattle.worker_lines.specs.Asking.{IsAnswered};
+ghost use Rattle.worker_lines.specs.Execution.{Installs, end_told, patience, wants_releases};
 ghost use Rattle.workers.specs.Installing.{InstallFails};
 
 use crate::asking::listed_from_first;
@@ -15,7 +15,7 @@ use install_checks::InstallError;
 use node_types::Refusal;
 use release_statuses::Vsn;
 use shell_answers::{Subject, write_finished, write_recovered, write_restarted};
-use shell_deeds::{Said, refuse};
+use shell_exec::{Said, refuse};
 use std::alloc::AllocError;
 use std::sync::Wait;
 use std::time::Clock;
@@ -33,7 +33,7 @@ pub(crate) fn install<N: Naming, R: Wait + Clock>(
     version: Vsn,
     out: &mut Vec<u8>,
 ) -> Said
-    ensures { IfOk result (λ fate. version ≡ chars vsn.now → IsTold (Installs seat.old (chars vsn.now) fate)
+    ensures { IfOk result (λ fate. version ≡ chars vsn.now → IsAnswered (Installs seat.old (chars vsn.now) fate)
         seat.old seat.new out.old.items out.new.items) }
 {
     match drive_install(
@@ -81,7 +81,7 @@ fn tell_uninstalled<N: Naming, R: Wait>(
     out: &mut Vec<u8>,
 ) -> Said
     ensures { IfOk result (λ fate. (start : SeatState) → InstallFails (chars vsn.now) patience start seat.old error
-        → IsTold (Installs start (chars vsn.now) fate) start seat.new out.old.items out.new.items) }
+        → IsAnswered (Installs start (chars vsn.now) fate) start seat.new out.old.items out.new.items) }
 {
     if wants_releases(&error) {
         return tell_by_releases(office, seat, vsn, error, out);
@@ -113,7 +113,7 @@ fn tell_by_releases<N: Naming, R: Wait>(
 ) -> Said
     ensures { IfOk result (λ fate. (start : SeatState) → wants_releases error ≡ true
         → InstallFails (chars vsn.now) patience start seat.old error
-        → IsTold (Installs start (chars vsn.now) fate) start seat.new out.old.items out.new.items) }
+        → IsAnswered (Installs start (chars vsn.now) fate) start seat.new out.old.items out.new.items) }
 {
     let releases = match office.shared.which(office.rt, seat) {
         Ok(releases) => releases,

@@ -6,7 +6,7 @@ ghost use Rattle.install_checks.specs.Installing.{script_to};
 ghost use Rattle.release_statuses.specs.Statuses.{first_with, has_status, is_status, listed, place_of, place_with};
 ghost use Rattle.release_statuses.specs.Statuses.{running, vsn_of};
 ghost use Rattle.shell_answers.specs.Refusals.{subject_of};
-ghost use Rattle.shell_deeds.specs.Upgrades.{script_in, subject_in};
+ghost use Rattle.shell_exec.specs.Upgrades.{script_in, subject_in};
 
 use low_instructions::Low;
 use release_statuses::{Listed, Status};

@@ -3,8 +3,8 @@ ghost use Rattle.std.specs.Prelude.{◌≡◌, IfOk};
 ghost use Rattle.std.specs.Option.{option_copied};
 ghost use Rattle.shell_requests.specs.Reading.{meant};
 ghost use Rattle.shell_requests.specs.Request.{spoken};
-ghost use Rattle.worker_lines.specs.Asking.{IsTold};
-ghost use Rattle.worker_lines.specs.Deeds.{Obeys, Tells};
+ghost use Rattle.worker_lines.specs.Asking.{IsAnswered};
+ghost use Rattle.worker_lines.specs.Execution.{Executes, ExecutesLine};
 
 use crate::arriving::arrive;
 use crate::asking::tell;
@@ -13,26 +13,27 @@ use crate::office::Office;
 use crate::releasing::{alter, unpack};
 use crate::undoing::{forget, undo};
 use shell_answers::Fixed;
-use shell_deeds::{Said, say, tell_relup_in};
+use shell_exec::{Said, say, tell_relup_in};
 use shell_requests::{Line, Request, read_line};
 use std::sync::Wait;
 use std::time::Clock;
 use workers::{Naming, Seat};
 
-/// Does what a line says, and appends its answer. `None` is a line of too many bytes. What became of it for want of memory is
+/// Does what a line says, and appends its answer. `None` is a line of too many bytes. What became of it for lack of memory is
 /// handed out.
 ///
 /// # Errors
 ///
-/// `AllocError` where there is no memory to write the answer. The line may have been obeyed then, and a front of the answer
+/// `AllocError` where there is no memory to write the answer. The line may have been executed then, and a front of the answer
 /// be there.
-pub fn obey<N: Naming, R: Wait + Clock>(
+pub fn execute<N: Naming, R: Wait + Clock>(
     office: &Office<'_, '_, '_, N, R>,
     seat: &mut Seat<N>,
     line: Option<&[u8]>,
     out: &mut Vec<u8>,
 ) -> Said
-    ensures { IfOk result (λ fate. IsTold (Tells office.now.files.now seat.old (spoken (option_copied line.entry)) fate)
+    ensures { IfOk result (λ fate. IsAnswered (ExecutesLine office.now.files.now seat.old (spoken (option_copied line.entry))
+        fate)
         seat.old seat.new out.old.items out.new.items) }
 {
     let Some(line) = line else {
@@ -41,18 +42,18 @@ pub fn obey<N: Naming, R: Wait + Clock>(
     match read_line(line) {
         Line::Silent => Ok(None),
         Line::Unknown => say(Fixed::BadCommand, out),
-        Line::Asks(request) => obey_request(office, seat, request, out),
+        Line::Asks(request) => execute_request(office, seat, request, out),
     }
 }
 
 /// Does what a request asks for.
-fn obey_request<N: Naming, R: Wait + Clock>(
+fn execute_request<N: Naming, R: Wait + Clock>(
     office: &Office<'_, '_, '_, N, R>,
     seat: &mut Seat<N>,
     request: Request<'_>,
     out: &mut Vec<u8>,
 ) -> Said
-    ensures { IfOk result (λ fate. IsTold (Obeys office.now.files.now seat.old (meant request.entry) fate)
+    ensures { IfOk result (λ fate. IsAnswered (Executes office.now.files.now seat.old (meant request.entry) fate)
         seat.old seat.new out.old.items out.new.items) }
 {
     match request {

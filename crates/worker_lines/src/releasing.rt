@@ -4,8 +4,8 @@ ghost use Rattle.std.specs.Str.{chars};
 ghost use Rattle.node_types.specs.declared.event.Event.TheVariants.{SetUnpacked};
 ghost use Rattle.shell_answers.specs.Answers.{set_unpacked};
 ghost use Rattle.shell_answers.specs.Refusals.{naming};
-ghost use Rattle.worker_lines.specs.Asking.{IsTold, done};
-ghost use Rattle.worker_lines.specs.Deeds.{Alters, Performs, Unpacks};
+ghost use Rattle.worker_lines.specs.Asking.{IsAnswered, done};
+ghost use Rattle.worker_lines.specs.Execution.{Alters, Performs, Unpacks};
 
 use crate::installing::install;
 use crate::office::Office;
@@ -15,7 +15,7 @@ use release_files::read_release;
 use release_statuses::Vsn;
 use release_table::Release;
 use shell_answers::{Fixed, Subject};
-use shell_deeds::{Said, refuse, say, tell_unpacked, tell_unread};
+use shell_exec::{Said, refuse, say, tell_unpacked, tell_unread};
 use shell_requests::ReleaseChange;
 use std::sync::Wait;
 use std::time::Clock;
@@ -28,7 +28,7 @@ pub(crate) fn unpack<N: Naming, R: Wait>(
     vsn: &str,
     out: &mut Vec<u8>,
 ) -> Said
-    ensures { IfOk result (λ fate. IsTold (Unpacks office.now.files.now vsn.now fate)
+    ensures { IfOk result (λ fate. IsAnswered (Unpacks office.now.files.now vsn.now fate)
         seat.old seat.new out.old.items out.new.items) }
 {
     match read_release(office.alloc, office.files, vsn) {
@@ -45,7 +45,7 @@ fn set_unpacked<N: Naming, R: Wait>(
     release: Release,
     out: &mut Vec<u8>,
 ) -> Said
-    ensures { IfOk result (λ fate. IsTold
+    ensures { IfOk result (λ fate. IsAnswered
         (Performs (SetUnpacked release) (naming (chars vsn.now)) (λ _. set_unpacked (chars vsn.now)) fate)
         seat.old seat.new out.old.items out.new.items) }
 {
@@ -67,7 +67,7 @@ pub(crate) fn alter<N: Naming, R: Wait + Clock>(
     vsn: &str,
     out: &mut Vec<u8>,
 ) -> Said
-    ensures { IfOk result (λ fate. IsTold (Alters seat.old kind (chars vsn.now) fate)
+    ensures { IfOk result (λ fate. IsAnswered (Alters seat.old kind (chars vsn.now) fate)
         seat.old seat.new out.old.items out.new.items) }
 {
     let Ok(version) = Vsn::new(office.alloc, vsn) else {
@@ -93,7 +93,7 @@ fn alter_at_once<N: Naming, R: Wait>(
     event: Event,
     out: &mut Vec<u8>,
 ) -> Said
-    ensures { IfOk result (λ fate. IsTold (Performs event (naming (chars vsn.now)) done fate)
+    ensures { IfOk result (λ fate. IsAnswered (Performs event (naming (chars vsn.now)) done fate)
         seat.old seat.new out.old.items out.new.items) }
 {
     match office.shared.perform(office.rt, office.alloc, seat, event) {

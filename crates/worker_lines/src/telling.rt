@@ -6,7 +6,7 @@ ghost use Rattle.worker_lines.specs.Telling.{error_fate, error_told, journal_fat
 
 use node_types::{Note, Refusal};
 use shell_answers::{Fixed, Subject, write_refusal};
-use shell_deeds::{Said, refuse, say, tell_stopped};
+use shell_exec::{Said, refuse, say, tell_stopped};
 use std::alloc::Global;
 use undo_journal::JournalError;
 use values::Shared;

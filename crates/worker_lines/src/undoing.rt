@@ -3,13 +3,13 @@ ghost use Rattle.std.specs.Prelude.{◌≡◌, ◌++◌, IfOk, None};
 ghost use Rattle.node_history.specs.declared.command.Command.TheVariants as command;
 ghost use Rattle.shell_answers.specs.Answers.{floor_at, line_of, undone_steps};
 ghost use Rattle.shell_answers.specs.Refusals.{naming_nothing};
-ghost use Rattle.worker_lines.specs.Asking.{Holds, IsTold, floor_told, undone_told};
+ghost use Rattle.worker_lines.specs.Asking.{Holds, IsAnswered, floor_told, undone_told};
 
 use crate::office::Office;
 use crate::telling::tell_error;
 use node_types::Note;
 use shell_answers::{write_floor, write_undone};
-use shell_deeds::Said;
+use shell_exec::Said;
 use std::sync::Wait;
 use undo_journal::{Mark, Report};
 use workers::{Naming, Seat};
@@ -21,7 +21,7 @@ pub(crate) fn undo<N: Naming, R: Wait>(
     mark: Mark,
     out: &mut Vec<u8>,
 ) -> Said
-    ensures { IfOk result (λ fate. IsTold (Holds (command.Undo mark) naming_nothing undone_told fate)
+    ensures { IfOk result (λ fate. IsAnswered (Holds (command.Undo mark) naming_nothing undone_told fate)
         seat.old seat.new out.old.items out.new.items) }
 {
     match office.shared.undo(office.rt, seat, mark) {
@@ -45,7 +45,7 @@ pub(crate) fn forget<N: Naming, R: Wait>(
     mark: Mark,
     out: &mut Vec<u8>,
 ) -> Said
-    ensures { IfOk result (λ fate. IsTold (Holds (command.Forget mark) naming_nothing (floor_told mark) fate)
+    ensures { IfOk result (λ fate. IsAnswered (Holds (command.Forget mark) naming_nothing (floor_told mark) fate)
         seat.old seat.new out.old.items out.new.items) }
 {
     match office.shared.forget(office.rt, seat, mark) {

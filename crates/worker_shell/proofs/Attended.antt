@@ -1,6 +1,6 @@
 -- A run of a release that was read, by what comes of its node.
 use Rattle.std.proofs.Common.{ℕ, ◌+◌, ◌≤◌, List, Option, Result, Ok, Err, IfOk, IfErr}
-use Rattle.line_server.specs.declared.ended.Ended.{Ended}
+use Rattle.line_server.specs.declared.ended.ServeEnd.{ServeEnd}
 use Rattle.release_files.specs.Files.{Contents}
 use Rattle.release_files.specs.Releases.{IsRelease}
 use Rattle.release_table.specs.declared.table.Release.{Release}
@@ -9,7 +9,7 @@ use Rattle.worker_shell.specs.Run.{AttendFails, Attends, RunsWorkers, WorkersFai
 use Rattle.worker_shell.specs.declared.fault.WorkersFault.{WorkersFault}
 use Rattle.worker_shell.specs.declared.fault.WorkersFault.TheVariants as fault
 
-pub attended : (files : Contents) (vsn : List ℕ) (workers : ℕ) (release : Release) (left rest held holds : Option (List ℕ)) (r : Result Ended WorkersFault) → 1 ≤ workers → workers ≤ 15 → IsRelease files vsn release → IfOk r (Attends files release (workers + 1) left rest held holds) → IfOk r (RunsWorkers files vsn workers left rest held holds)
+pub attended : (files : Contents) (vsn : List ℕ) (workers : ℕ) (release : Release) (left rest held holds : Option (List ℕ)) (r : Result ServeEnd WorkersFault) → 1 ≤ workers → workers ≤ 15 → IsRelease files vsn release → IfOk r (Attends files release (workers + 1) left rest held holds) → IfOk r (RunsWorkers files vsn workers left rest held holds)
 attended files vsn workers release left rest held holds (Ok ended) some few is attends =
     record { some = some; few = few; release = release; is_release = is; attends = attends }
 attended files vsn workers release left rest held holds (Err why) some few is attends = tt
@@ -22,6 +22,6 @@ fails_so fault.WorkerCount files vsn workers release left rest held holds some f
 fails_so fault.Foreign files vsn workers release left rest held holds some few is fails = (release, is, fails)
 fails_so fault.SeatsLost files vsn workers release left rest held holds some few is fails = (release, is, fails)
 
-pub unattended : (files : Contents) (vsn : List ℕ) (workers : ℕ) (release : Release) (left rest held holds : Option (List ℕ)) (r : Result Ended WorkersFault) → 1 ≤ workers → workers ≤ 15 → IsRelease files vsn release → IfErr r (λ why. AttendFails why files release (workers + 1) left rest held holds) → IfErr r (λ why. WorkersFail why files vsn workers left rest held holds)
+pub unattended : (files : Contents) (vsn : List ℕ) (workers : ℕ) (release : Release) (left rest held holds : Option (List ℕ)) (r : Result ServeEnd WorkersFault) → 1 ≤ workers → workers ≤ 15 → IsRelease files vsn release → IfErr r (λ why. AttendFails why files release (workers + 1) left rest held holds) → IfErr r (λ why. WorkersFail why files vsn workers left rest held holds)
 unattended files vsn workers release left rest held holds (Ok ended) some few is fails = tt
 unattended files vsn workers release left rest held holds (Err why) some few is fails = fails_so why files vsn workers release left rest held holds some few is fails

@@ -5,8 +5,8 @@ use Rattle.workers.specs.Core.{SeatState}
 use Rattle.release_files.specs.Files.{Contents}
 use Rattle.shell_requests.specs.Request.{spoken}
 use Rattle.worker_lines.specs.Fate.{Fate}
-use Rattle.worker_lines.specs.Asking.{IsTold}
-use Rattle.worker_lines.specs.Deeds.{Tells}
+use Rattle.worker_lines.specs.Asking.{IsAnswered}
+use Rattle.worker_lines.specs.Execution.{ExecutesLine}
 use Rattle.worker_shell.specs.Desk.{DeskState, desk_turn}
 use Rattle.workers.specs.Lines.{with_lines}
 
@@ -14,7 +14,7 @@ use Rattle.workers.specs.Lines.{with_lines}
 abbrev desk : Contents → SeatState → DeskState
 desk files seat = record { files = files; seat = seat }
 
-pub turn-done : (fate : Option Fate) (files : Contents) (seat after : SeatState) (line : Option (List ℕ)) (none answer old appended : List ℕ) → none ≡ [] → IsTold (Tells files seat (spoken line) fate) seat after none answer → appended ≡ old ++ answer → IsTurn (desk_turn fate (record { files = files; seat = seat }) line) (record { files = files; seat = after }) old appended
+pub turn-done : (fate : Option Fate) (files : Contents) (seat after : SeatState) (line : Option (List ℕ)) (none answer old appended : List ℕ) → none ≡ [] → IsAnswered (ExecutesLine files seat (spoken line) fate) seat after none answer → appended ≡ old ++ answer → IsTurn (desk_turn fate (record { files = files; seat = seat }) line) (record { files = files; seat = after }) old appended
 turn-done fate files seat after line none answer old appended empty told more =
     let text : answer ≡ told.answer = told.written ∙ ap (λ l. l ++ told.answer) empty in
     let t : Turn DeskState = record { text = told.answer; after = desk files (with_lines seat told.lines) } in

@@ -6,7 +6,7 @@ use Rattle.workers.specs.Core.{SeatState}
 use Rattle.release_files.specs.Files.{Contents}
 use Rattle.shell_requests.specs.Request.{spoken}
 use Rattle.worker_lines.specs.Fate.{Fate}
-use Rattle.worker_lines.specs.Deeds.{Tells}
+use Rattle.worker_lines.specs.Execution.{ExecutesLine}
 use Rattle.workers.specs.Lines.{with_lines}
 
 -- The session: its files, and the seat that asks.
@@ -16,5 +16,5 @@ pub record DeskState : Type 0 where
 
 -- The line adds lines to the seat's list, and they and what is written are as the table says.
 abbrev pub desk_turn : Turns DeskState Fate
-desk_turn fate s line t = (lines : List Line) × Tells s.files s.seat (spoken line) fate lines t.text ×
+desk_turn fate s line t = (lines : List Line) × ExecutesLine s.files s.seat (spoken line) fate lines t.text ×
     (t.after ≡ record s { seat = with_lines s.seat lines })

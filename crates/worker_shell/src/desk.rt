@@ -8,11 +8,11 @@ use std::alloc::AllocError;
 use std::marker::Model;
 use std::sync::Wait;
 use std::time::Clock;
-use worker_lines::{Fate, Office, Said, may_wait, obey};
+use worker_lines::{Fate, Office, Said, execute, may_wait};
 use workers::{Naming, Seat};
 
 /// What answers lines: the seat that asks, with what it is answered with, and room to write an answer in, which is there from
-/// the start: so a session that is in want of memory goes on answering. The bell rings where a line is answered.
+/// the start: so a session that runs out of memory goes on answering. The bell rings where a line is answered.
 #[derive(Drop)]
 pub(crate) struct Desk<'r, 'f, 'n, N: Naming, R> {
     pub(crate) office: Office<'r, 'f, 'n, N, R>,
@@ -24,7 +24,7 @@ pub(crate) struct Desk<'r, 'f, 'n, N: Naming, R> {
 impl<'r, 'f, 'n, N: Naming, R> Model for Desk<'r, 'f, 'n, N, R> {
     ghost use Rattle.std.specs.Coded.{codes};
     ghost use Rattle.erl_term.specs.contracts.term.Terms as terms;
-    ghost use Rattle.erl_forms.specs.contracts.module.Module as forms;
+    ghost use Rattle.erl_ir.specs.contracts.module.Module as forms;
     ghost use Rattle.worker_shell.specs.Desk.{DeskState};
 
     ghost Value = { DeskState };
@@ -56,7 +56,7 @@ impl<'r, 'f, 'n, N: Naming, R: Wait + Clock> Desk<'r, 'f, 'n, N, R> {
     {
         self.answer.clear();
         self.bell.ring_for_line(self.office.rt, waits(line));
-        let said = obey(&self.office, &mut self.seat, line, &mut self.answer);
+        let said = execute(&self.office, &mut self.seat, line, &mut self.answer);
         self.bell.ring_for_line(self.office.rt, false);
         let fate = said?;
         out.extend_from_slice(self.answer.as_slice())?;

@@ -11,7 +11,7 @@
 //!   commands says; at the end the node is closed, and the seat's list has just its entries of the node's legal history, in
 //!   order (`RunsWorkers`).
 //! - `failed`: why no node has started, and that then nothing was read or written; or the lines were answered as above, but a
-//!   seat's list is not what the history says, or seats were lost for want of memory (`WorkersFail`).
+//!   seat's list is not what the history says, or seats were lost for lack of memory (`WorkersFail`).
 //!
 //! # What no contract says
 //!

@@ -11,7 +11,7 @@ use crate::bell::Bell;
 use crate::desk::Desk;
 use crate::fault::{WorkersFault, not_opened};
 use crate::threads::{Workshop, is_send, work_with, workshop_is_sync};
-use line_server::{Ended, serve};
+use line_server::{ServeEnd, serve};
 use node_shell::StartFault;
 use release_files::{Files, read_release};
 use release_table::Release;
@@ -56,7 +56,7 @@ pub fn run_workers<R: Threads + Wait + Clock + Sync, I: Read, W: Write>(
     workers: u64,
     reader: &mut I,
     writer: &mut W,
-) -> Result<Ended, WorkersFault>
+) -> Result<ServeEnd, WorkersFault>
     ensures ran { IfOk result (RunsWorkers files vsn.now workers (I.remaining reader.old) (I.remaining reader.new)
         (W.contents writer.old) (W.contents writer.new)) }
     ensures failed { IfErr result (λ fault. WorkersFail fault files vsn.now workers (I.remaining reader.old)
@@ -82,7 +82,7 @@ pub fn run_gated<G: Gate + Sync, R: Threads + Wait + Clock + Sync, I: Read, W: W
     gate: &G,
     reader: &mut I,
     writer: &mut W,
-) -> Result<Ended, WorkersFault>
+) -> Result<ServeEnd, WorkersFault>
     ensures ran { IfOk result (RunsWorkers files vsn.now workers (I.remaining reader.old) (I.remaining reader.new)
         (W.contents writer.old) (W.contents writer.new)) }
     ensures failed { IfErr result (λ fault. WorkersFail fault files vsn.now workers (I.remaining reader.old)
@@ -135,7 +135,7 @@ fn attend<
     answer: Vec<u8>,
     reader: &mut I,
     writer: &mut W,
-) -> Result<Ended, WorkersFault>
+) -> Result<ServeEnd, WorkersFault>
     requires name { blank.name ≡ N.name }
     requires parts { (blank.parts ≡ N.parts) × (N.parts ≡ 17) }
     requires release { release ≡ N.opened }
@@ -188,7 +188,7 @@ fn meet<
     answer: Vec<u8>,
     reader: &mut I,
     writer: &mut W,
-) -> (Ended, Result<Vec<Seat<N>>, AllocError>)
+) -> (ServeEnd, Result<Vec<Seat<N>>, AllocError>)
     ensures { (end : DeskState) × HasServed files.now first end (I.remaining reader.old) (I.remaining reader.new)
         (W.contents writer.old) (W.contents writer.new) result.0 × IfOk result.1 (λ seats. Contains seats.items end.seat) }
 {
@@ -198,7 +198,7 @@ fn meet<
     seat_is_send::<N>();
     workshop_is_sync::<N>();
     is_send::<Option<Vec<Seat<N>>>>();
-    let mut sits = || -> Option<(Ended, Seat<N>)>
+    let mut sits = || -> Option<(ServeEnd, Seat<N>)>
         ensures { IfSome place.entry (λ it. IsSomeAnd result (λ back. (end : DeskState) × (back.1 ≡ end.seat)
             × HasServed files.entry.now it.0 end (I.remaining reader.entry.now) (I.remaining reader.exit.now)
             (W.contents writer.entry.now) (W.contents writer.exit.now) back.0)) }
@@ -245,7 +245,7 @@ fn sit<N: Naming, R: Wait + Clock, I: Read, W: Write>(
     place: Option<(Seat<N>, Vec<u8>)>,
     reader: &mut I,
     writer: &mut W,
-) -> Option<(Ended, Seat<N>)>
+) -> Option<(ServeEnd, Seat<N>)>
     ensures { IfSome place (λ it. IsSomeAnd result (λ back. (end : DeskState) × (back.1 ≡ end.seat)
         × HasServed files.now it.0 end (I.remaining reader.old) (I.remaining reader.new)
         (W.contents writer.old) (W.contents writer.new) back.0)) }
@@ -273,7 +273,7 @@ fn answer_lines<N: Naming, R: Wait + Clock, I: Read, W: Write>(
     desk: &mut Desk<'_, '_, '_, N, R>,
     reader: &mut I,
     writer: &mut W,
-) -> Ended
+) -> ServeEnd
     ensures { HasServed desk.old.files desk.old.seat desk.new (I.remaining reader.old) (I.remaining reader.new)
         (W.contents writer.old) (W.contents writer.new) result }
 {
@@ -286,7 +286,8 @@ fn answer_lines<N: Naming, R: Wait + Clock, I: Read, W: Write>(
 /// Closes the node with its seats.
 fn close<N: Naming>(workshop: Workshop<N>, seats: Vec<Seat<N>>) -> Result<(), WorkersFault>
     ensures ok { OnOk result ((history : List Entry) × (end : NodeTimeline) × IsClosed N.opened N.seats seats.items history end) }
-    ensures err { IfErr result (λ fault. (seat : SeatState) → Contains seats.items seat → CloseFails fault N.opened N.seats seat) }
+    ensures err { IfErr result (λ fault. (seat : SeatState) → Contains seats.items seat →
+        CloseFails fault N.opened N.seats seat) }
 {
     let Workshop { shared, bell: _ } = workshop;
     match shared.close(seats) {

@@ -79,12 +79,13 @@ pub record HasRead (number from next often : ℕ) (old now : SeatState) : Type 0
   pub ends : next ≡ end_of_reads from before
   pub lines : now ≡ with_lines old (lines_of_reads from before)
 
--- One read from a place on fails for want of memory: nothing is listed; or no reply to the call of a number is there, and where
+-- One read from a place on fails for lack of memory: nothing is listed; or no reply to the call of a number is there, and where
 -- the read ends can't be counted; or the reply is there, and can't be copied.
 pub data LookFails (number from : ℕ) (old new : SeatState) : WorkError → Type 0 where
   not_read : new ≡ old → LookFails number from old new work.Memory
   not_counted : (next : ℕ) → Looks number from next None old new → LookFails number from old new work.Memory
-  not_copied : (next : ℕ) (reply : Reply) → Looks number from next (Some reply) old new → LookFails number from old new work.Memory
+  not_copied : (next : ℕ) (reply : Reply) → Looks number from next (Some reply) old new →
+      LookFails number from old new work.Memory
 
 -- Why the reply to the call of a number is not told: no read has had it, be it that all turns are over or that memory was
 -- refused; or the last one has, and memory to copy it was refused.

@@ -11,21 +11,21 @@ use super::AppTable;
 use crate::child::ChildState;
 use crate::children::{pids_back, states_of};
 use crate::spot::Spot;
-use crate::undo::{ChildProcess, Rerun, Undo, Unloaded};
+use crate::undo::{AppsUndo, ChildProcess, Rerun, Unloaded};
 use std::alloc::{AllocError, Global};
 use values::Row;
 
 impl AppTable {
     /// Children that run are stopped, whatever their Restart: they have no process, and none of them is due. One may stand
     /// among them twice. Takes no memory.
-    pub fn stop(&mut self, children: Row<ChildProcess>) -> Undo
+    pub fn stop(&mut self, children: Row<ChildProcess>) -> AppsUndo
         requires { All (λ c. RunsAs c self.old) children }
         ensures stopped { self.new ≡ all_stopped children self.old }
         ensures inverse { undone result self.new ≡ self.old }
         ensures pieces { held result self.new ≡ [] }
     {
         self.stop_each(children.as_slice());
-        Undo::AllEnded(children)
+        AppsUndo::AllEnded(children)
     }
 
     /// Children are stopped.
@@ -65,7 +65,7 @@ impl AppTable {
     }
 
     /// Children that have no process run as these processes, in order. Takes no memory.
-    pub fn run(&mut self, reruns: Row<Rerun>, pids: &[u64]) -> Undo
+    pub fn run(&mut self, reruns: Row<Rerun>, pids: &[u64]) -> AppsUndo
         requires noted { AreNoted reruns self.old }
         requires enough { length pids.now ≡ length reruns }
         ensures run { self.new ≡ all_run (at_spots (map (λ r. r.spot) reruns) pids.now) self.old }
@@ -73,7 +73,7 @@ impl AppTable {
         ensures pieces { held result self.new ≡ [] }
     {
         self.run_each(reruns.as_slice(), pids);
-        Undo::AllRun(reruns)
+        AppsUndo::AllRun(reruns)
     }
 
     /// Children run as these processes.
@@ -127,7 +127,7 @@ impl AppTable {
 
     /// The application at a place, counted from 0, is stopped. It keeps its children: none has a process or is due. Takes no
     /// memory.
-    pub fn stop_app(&mut self, place: usize, states: Row<ChildState>) -> Undo
+    pub fn stop_app(&mut self, place: usize, states: Row<ChildState>) -> AppsUndo
         requires { (a : Application) × (slice_get self.old place ≡ Some a) × (a.is_started ≡ true) ×
             (states ≡ map (λ c. c.state) a.children) }
         ensures stopped { self.new ≡ app_stopped place self.old }
@@ -135,7 +135,7 @@ impl AppTable {
         ensures pieces { held result self.new ≡ [] }
     {
         self.stop_at(place);
-        Undo::AppStopped(place, states)
+        AppsUndo::AppStopped(place, states)
     }
 
     /// The application at a place, if there is one, is stopped.

@@ -8,7 +8,7 @@ ghost use Rattle.values.specs.Edits.{changed_at};
 
 use super::AppTable;
 use crate::renewing::ChildEdit;
-use crate::undo::Undo;
+use crate::undo::AppsUndo;
 use child_specs::ChildSpec;
 use std::alloc::AllocError;
 use values::Row;
@@ -23,7 +23,7 @@ impl AppTable {
     /// # Errors
     ///
     /// `AllocError` where memory is refused. All is then as it was.
-    pub fn renew(&mut self, place: usize, specs: Row<ChildSpec>) -> Result<Undo, AllocError>
+    pub fn renew(&mut self, place: usize, specs: Row<ChildSpec>) -> Result<AppsUndo, AllocError>
         requires { place < length self.old }
         ensures renewed { OnOk result (self.new ≡ children_renewed place specs self.old) }
         ensures inverse { IfOk result (λ undo. undone undo self.new ≡ self.old) }
@@ -34,7 +34,7 @@ impl AppTable {
     {
         let alloc = self.alloc;
         let edits = self.list[place].renew(alloc, specs)?;
-        Ok(Undo::Renewed(place, edits))
+        Ok(AppsUndo::Renewed(place, edits))
     }
 
     /// The children of the application at a place, if there is one, are as they were before they were specified anew.

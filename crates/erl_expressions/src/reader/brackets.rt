@@ -1,14 +1,14 @@
 // Brackets, and rows of trees in them.
 ghost use Rattle.std.specs.Prelude.{◌≡◌, IfOk, MatchResult, Some, None};
-ghost use Rattle.erl_syntax.specs.Grammar.{in_brackets as brackets_in, first_level as first_in, has as has_in};
-ghost use Rattle.erl_syntax.specs.Grammar.{is_erlang as erlang_in, calls as calls_in, calls_remote as remote_in};
-ghost use Rattle.erl_syntax.specs.Terminal.{terminals};
+ghost use Rattle.erl_ast.specs.Grammar.{in_brackets as brackets_in, first_level as first_in, has as has_in};
+ghost use Rattle.erl_ast.specs.Grammar.{is_erlang as erlang_in, calls as calls_in, calls_remote as remote_in};
+ghost use Rattle.erl_ast.specs.Terminal.{terminals};
 ghost use Rattle.erl_expressions.specs.Delimiters.{after as after_in};
 ghost use Rattle.erl_expressions.specs.Reading.{read as read_in, row as row_in, parts as parts_in, bracketed as bracketed_in};
 ghost use Rattle.erl_expressions.specs.Reading.{made as made_in, opens as opens_in, closing as closing_in};
 ghost use Rattle.erl_expressions.specs.Reading.{parenthesized as parenthesized_in, listed as listed_in, tailed as tailed_in};
 ghost use Rattle.erl_expressions.specs.Reading.{rest_of_trees, with_last};
-ghost use Rattle.erl_syntax.specs.Tree.{none};
+ghost use Rattle.erl_ast.specs.Tree.{none};
 ghost use Rattle.erl_expressions.specs.Refusing.{Leaves, IsToldOf};
 
 use super::{Reading, read};
@@ -16,8 +16,8 @@ use crate::deep::{Deep, DeepRow};
 use crate::delimiter::{Delimiter, after};
 use crate::operators::{MATCHES, OPERATIONS, has_operator, left_level};
 use crate::refusal::{Reason, Refusal};
+use erl_ast::{Qualifier, Role, Shape, guard_arity, is_guard_function};
 use erl_scan::Spot;
-use erl_syntax::{Qualifier, Role, Shape, guard_arity, is_guard_function};
 use std::alloc::Global;
 
 /// How many trees a row of more than two has room for while it is read, at first.
@@ -64,7 +64,8 @@ fn row_of_more<'a>(
     tokens: &'a [Spot],
 ) -> Reading<'a, DeepRow>
     ensures read { IfOk result (λ answer. MatchResult answer
-        (λ f. rest_of_trees others (read_in levels role most) (with_last none first) (terminals tokens.now) ≡ Some (f.0, terminals f.1.now))
+        (λ f. rest_of_trees others (read_in levels role most) (with_last none first) (terminals tokens.now) ≡ Some
+        (f.0, terminals f.1.now))
         (λ _. rest_of_trees others (read_in levels role most) (with_last none first) (terminals tokens.now) ≡ None)) }
     ensures told { IfOk result (λ answer. MatchResult answer (λ f. Leaves tokens.now f.1.now) (λ r. IsToldOf tokens.now r)) }
 {

@@ -1,6 +1,6 @@
 // Clauses: guard sequences and bodies.
 ghost use Rattle.std.specs.Prelude.{◌≡◌, IfOk, MatchResult, Some, None};
-ghost use Rattle.erl_syntax.specs.Terminal.{terminals};
+ghost use Rattle.erl_ast.specs.Terminal.{terminals};
 ghost use Rattle.erl_expressions.specs.Reading.{read as read_in, guarded as guarded_in, alternatives as alternatives_in, arm as arm_in, one_clause as clause_in};
 ghost use Rattle.erl_expressions.specs.Reading.{clauses_to_end as clauses_in, cased as cased_in, closed as closed_in};
 ghost use Rattle.erl_expressions.specs.Refusing.{Leaves, IsToldOf};
@@ -11,8 +11,8 @@ use crate::deep::{Deep, DeepArm, DeepClause, DeepClauses, DeepGuards};
 use crate::delimiter::{Delimiter, after};
 use crate::operators::{MATCHES, OPERATIONS};
 use crate::refusal::{Choice, Reason, Refusal};
+use erl_ast::Role;
 use erl_scan::Spot;
-use erl_syntax::Role;
 use std::alloc::Global;
 
 /// A guard sequence, if there is one.
@@ -84,7 +84,8 @@ pub(super) fn arm<'a>(alloc: Global, levels: u32, tokens: &'a [Spot]) -> Reading
 #[tactic(auto, unfolding(crate::specs::Reading::one_clause))]
 fn one_clause<'a>(alloc: Global, levels: u32, tokens: &'a [Spot]) -> Reading<'a, DeepClause>
     ensures read { IfOk result (λ answer. MatchResult answer
-        (λ f. clause_in (read_in levels) (terminals tokens.now) ≡ Some ((f.0.pattern, (f.0.arm.guards, f.0.arm.body)), terminals f.1.now))
+        (λ f. clause_in (read_in levels) (terminals tokens.now) ≡ Some
+        ((f.0.pattern, (f.0.arm.guards, f.0.arm.body)), terminals f.1.now))
         (λ _. clause_in (read_in levels) (terminals tokens.now) ≡ None)) }
     ensures told { IfOk result (λ answer. MatchResult answer (λ f. Leaves tokens.now f.1.now) (λ r. IsToldOf tokens.now r)) }
 {

@@ -1,8 +1,8 @@
 // What operators stand between, and operators.
 ghost use Rattle.std.specs.Prelude.{◌≡◌, ◌≤◌, ◌-◌, IfOk, MatchResult, Some, None, false};
-ghost use Rattle.erl_syntax.specs.Grammar.{level as level_in, is_leaf as is_leaf_in};
-ghost use Rattle.erl_syntax.specs.Terminal.{terminal, terminals};
-ghost use Rattle.erl_syntax.specs.TreeForms.{tree as tree_of};
+ghost use Rattle.erl_ast.specs.Grammar.{level as level_in, is_leaf as is_leaf_in};
+ghost use Rattle.erl_ast.specs.Terminal.{terminal, terminals};
+ghost use Rattle.erl_ast.specs.TreeForms.{tree as tree_of};
 ghost use Rattle.erl_expressions.specs.Reading.{read as read_in, begun as begun_in, construct as construct_in, leaf_read as leaf_in};
 ghost use Rattle.erl_expressions.specs.Reading.{begun_by_mark as by_mark, begun_by_word as by_word, called as called_in};
 ghost use Rattle.erl_expressions.specs.Reading.{own_called as own_in, remote as remote_in, prefixed as prefixed_in};
@@ -19,8 +19,8 @@ use crate::leaves::{colon_ahead, is_module, leaf_ahead, named, paren_ahead};
 use crate::operators::{level_of, operator_ahead, right_level};
 use crate::patterns::may_be_left_of;
 use crate::refusal::{Reason, Refusal};
+use erl_ast::{Infix, Leaf, Named, Prefix, Qualifier, Role, Shape, Sign, SyntaxTree};
 use erl_scan::{Mark, Spot, Token, Word};
-use erl_syntax::{Infix, Leaf, Named, Prefix, Qualifier, Role, Shape, Sign, SyntaxTree};
 use std::alloc::{AllocError, Global};
 use values::Shared;
 
@@ -318,7 +318,8 @@ pub(super) fn climbed<'a>(
 ) -> Reading<'a, Deep>
     requires { 1 ≤ levels }
     ensures read { IfOk result (λ answer. MatchResult answer
-        (λ f. climbed_in levels (read_in (levels - 1)) role most levels first (terminals tokens.now) ≡ Some (f.0, terminals f.1.now))
+        (λ f. climbed_in levels (read_in (levels - 1)) role most levels first (terminals tokens.now) ≡ Some
+        (f.0, terminals f.1.now))
         (λ _. climbed_in levels (read_in (levels - 1)) role most levels first (terminals tokens.now) ≡ None)) }
     ensures told { IfOk result (λ answer. MatchResult answer (λ f. Leaves tokens.now f.1.now) (λ r. IsToldOf tokens.now r)) }
 {

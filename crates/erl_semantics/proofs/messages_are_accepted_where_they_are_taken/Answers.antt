@@ -1,6 +1,6 @@
 use Rattle.std.specs.Prelude.{refl}
 use Rattle.erl_term.specs.Tree.{count}
-use Rattle.erl_forms.specs.Module.{function_of}
+use Rattle.erl_ir.specs.Module.{function_of}
 use Rattle.erl_semantics.specs.Jobs.{heard}
 use Rattle.erl_semantics.proofs.Hearing.{selects_one, taken_at, refused_at}
 use Rattle.erl_semantics.proofs.messages_are_accepted_where_they_are_taken.Goals as goal

@@ -1,12 +1,12 @@
 // Rows of terms.
 ghost use Rattle.std.specs.Prelude.{◌≡◌, ◌∷◌, [], ◌+◌, ◌++◌, ◌-◌, ◌^◌, ◌<◌, ◌≤◌, ◌↔◌, min, IsTrue, IfOk, IfSome, length, drop};
 ghost use Rattle.erl_term.specs.Stored.{listed};
-ghost use Rattle.erl_term.specs.Parts.{behind, IsTold};
+ghost use Rattle.erl_term.specs.Parts.{behind, HasExtent};
 ghost use Rattle.erl_term.specs.Rows.{append_trees};
 ghost use Rattle.erl_term.specs.Term.{trees};
 ghost use Rattle.erl_term.specs.Tree.{none, count, greatest_depth, total_size};
 
-use super::told::{Told, told_of};
+use super::told::{Extent, told_of};
 use super::{Row, Stored, Term, Terms};
 use std::alloc::{AllocError, Global};
 use std::sync::Arc;
@@ -69,7 +69,7 @@ impl Terms {
         let row: &Row = &back.row;
         let from = back.from as usize;
         let back_terms = seen(row.items.as_slice(), from);
-        let told = Told {
+        let told = Extent {
             depth: u64::from(row.depth),
             last: row.last as usize - from,
             size: row.size - u64::from(back.hidden),
@@ -180,11 +180,11 @@ fn place_before(place: usize) -> u32
 }
 
 /// The row of these terms, of which this is told. No memory holds terms that are nested too deep for a row to tell it.
-fn row_of(alloc: Global, items: Stored, told: Told) -> Result<Terms, AllocError>
-    requires { IsTold (listed items) told.depth told.last told.size }
+fn row_of(alloc: Global, items: Stored, told: Extent) -> Result<Terms, AllocError>
+    requires { HasExtent (listed items) told.depth told.last told.size }
     ensures { IfOk result (λ it. it ≡ trees (listed items)) }
 {
-    let Told { depth, last, size } = told;
+    let Extent { depth, last, size } = told;
     if depth > u64::from(u32::MAX) {
         return Err(AllocError);
     }

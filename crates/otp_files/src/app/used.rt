@@ -107,7 +107,8 @@ fn all_under<T: FromValue>(
     key: &str,
 ) -> Result<Option<Row<T>>, AllocError>
     requires { IsTrue (is_ascii_text key.now) }
-    ensures { IfOk result (λ found. found ≡ given (all_of property_of (trees row.now)) (λ ps. all_of T.reading (values_of key.now ps))) }
+    ensures { IfOk result (λ found. found ≡ given (all_of property_of (trees row.now))
+        (λ ps. all_of T.reading (values_of key.now ps))) }
 {
     let mut values = Vec::new(alloc);
     for term in row {

@@ -7,9 +7,9 @@ ghost use Rattle.process.specs.Ended.{EndedProcessesLive, activity_by, code_foun
 
 use super::{Process, first_of};
 use crate::activity::{Activity, Running};
-use crate::{NamedInstance, instance_of, instances_of, named_of};
+use crate::{CodeRef, instance_of, instances_of, named_of};
 use code_server::Modules;
-use erl_forms::Module;
+use erl_ir::Module;
 use erl_semantics::{Instance, Place};
 use erl_term::{Atom, Term};
 use std::alloc::{AllocError, Global};
@@ -36,23 +36,23 @@ pub struct NamedRunning {
     /// The message.
     pub message: Term,
     /// What tells the instances of its code, in their order.
-    pub code: Row<NamedInstance>,
+    pub code: Row<CodeRef>,
 }
 
 /// A process that was taken out whole, so that it can live again. It holds no code: the instances that it used are told by
 /// names and serials.
 #[derive(Drop)]
-pub struct Ended {
+pub struct DeadProcess {
     pid: u64,
     name: Option<Atom>,
     place: Place,
-    rests_in: Option<NamedInstance>,
+    rests_in: Option<CodeRef>,
     did: Did,
     turn: u64,
     mailbox: VecDeque<Term>,
 }
 
-impl Model for Ended {
+impl Model for DeadProcess {
     ghost use Rattle.std.specs.Coded.{codes};
     ghost use Rattle.erl_term.specs.contracts.term.Terms as terms;
     ghost use Rattle.process.specs.Ended.{EndedState};
@@ -61,16 +61,25 @@ impl Model for Ended {
 
     ghost coded = { Prim.hlevel (codes, terms.the_row.coded) };
 
-    ghost view = { λ e. record { pid = e.pid; name = e.name; place = e.place; rests_in = e.rests_in; did = e.did; turn = e.turn; mailbox = e.mailbox.items } };
+    ghost view = { λ e. record {
+      pid = e.pid;
+      name = e.name;
+      place = e.place;
+      rests_in = e.rests_in;
+      did = e.did;
+      turn =
+          e.turn;
+      mailbox = e.mailbox.items;
+    } };
 }
 
 /// What tells the instances that a process uses: a name and a serial for each.
 #[derive(Drop)]
-pub struct Told {
+pub struct CodeRefs {
     /// The instance of its place, where this is a loop function.
-    pub rests_in: Option<NamedInstance>,
+    pub rests_in: Option<CodeRef>,
     /// The code that it runs in, in order, where it runs.
-    pub code: Row<NamedInstance>,
+    pub code: Row<CodeRef>,
 }
 
 /// The instances that an ended process used, and the position of the message that it takes next.
@@ -85,20 +94,17 @@ struct Found {
 }
 
 /// What tells an instance.
-fn name_of(alloc: Global, item: &Instance) -> Result<NamedInstance, AllocError>
+fn name_of(alloc: Global, item: &Instance) -> Result<CodeRef, AllocError>
     ensures { IfOk result (λ it. it ≡ named item.now) }
 {
-    Ok(NamedInstance {
+    Ok(CodeRef {
         name: item.name.copy(alloc)?,
         serial: item.serial,
     })
 }
 
 /// What tells the instance of a place, where there is one.
-fn place_told(
-    alloc: Global,
-    rests_in: Option<&Instance>,
-) -> Result<Option<NamedInstance>, AllocError>
+fn place_told(alloc: Global, rests_in: Option<&Instance>) -> Result<Option<CodeRef>, AllocError>
     ensures { IfOk result (λ it. it ≡ option_map named (option_copied rests_in.entry)) }
 {
     let Some(it) = rests_in else {
@@ -108,7 +114,7 @@ fn place_told(
 }
 
 /// What tells the code that a process runs in.
-fn code_told(alloc: Global, activity: &Activity) -> Result<Row<NamedInstance>, AllocError>
+fn code_told(alloc: Global, activity: &Activity) -> Result<Row<CodeRef>, AllocError>
     ensures { IfOk result (λ it. it ≡ code_named activity.now) }
 {
     match activity {
@@ -121,7 +127,7 @@ fn code_told(alloc: Global, activity: &Activity) -> Result<Row<NamedInstance>, A
 pub(super) fn place_found(
     alloc: Global,
     modules: &Modules<Module>,
-    told: Option<&NamedInstance>,
+    told: Option<&CodeRef>,
 ) -> Result<Option<Option<Instance>>, AllocError>
     ensures { IfOk result (λ it. it ≡ rests_found modules.now (option_copied told.entry)) }
 {
@@ -138,7 +144,7 @@ pub(super) fn place_found(
 pub(super) fn code_in(
     alloc: Global,
     modules: &Modules<Module>,
-    told: &[NamedInstance],
+    told: &[CodeRef],
 ) -> Result<Option<Row<Instance>>, AllocError>
     ensures { IfOk result (λ it. it ≡ option_map (map held) (all_found told.now modules.now)) }
 {
@@ -168,17 +174,17 @@ impl Process {
     /// # Errors
     ///
     /// `AllocError` where memory is refused.
-    pub fn told(&self, alloc: Global) -> Result<Told, AllocError>
+    pub fn told(&self, alloc: Global) -> Result<CodeRefs, AllocError>
         ensures { IfOk result (λ told. ended_with told.rests_in told.code self.now ≡ ended self.now) }
     {
-        Ok(Told {
+        Ok(CodeRefs {
             rests_in: place_told(alloc, self.rests_in.as_ref())?,
             code: code_told(alloc, &self.activity)?,
         })
     }
 
     /// The process taken out whole, with its instances told so. Takes no memory.
-    pub fn into_ended(self, told: Told) -> Ended
+    pub fn into_ended(self, told: CodeRefs) -> DeadProcess
         ensures { result ≡ ended_with told.rests_in told.code self }
     {
         let Process {
@@ -190,7 +196,7 @@ impl Process {
             mailbox,
             ..
         } = self;
-        let Told { rests_in, code } = told;
+        let CodeRefs { rests_in, code } = told;
         let did = match activity {
             Activity::Idle => Did::Idle,
             Activity::Suspended => Did::Suspended,
@@ -207,7 +213,7 @@ impl Process {
                 })
             }
         };
-        Ended {
+        DeadProcess {
             pid,
             name,
             place,
@@ -221,7 +227,7 @@ impl Process {
 
 impl Did {
     /// What the process does again, in this code, and what tells the code.
-    fn into_activity(self, alloc: Global, code: Row<Instance>) -> (Activity, Row<NamedInstance>)
+    fn into_activity(self, alloc: Global, code: Row<Instance>) -> (Activity, Row<CodeRef>)
         ensures activity { result.0 ≡ activity_by code self }
         ensures told { did_by result.1 result.0 ≡ self }
     {
@@ -245,10 +251,11 @@ impl Did {
     }
 }
 
-impl Ended {
+impl DeadProcess {
     /// The instances that it used, in the table, and the message that it takes next; none where one of them is not there.
     fn found(&self, alloc: Global, modules: &Modules<Module>) -> Result<Option<Found>, AllocError>
-        ensures is { IfOk result (λ it. IfSome it (λ found. lives modules.now self.now ≡ Some (lived found.rests_in found.code self.now))) }
+        ensures is { IfOk result (λ it. IfSome it (λ found. lives modules.now self.now ≡ Some
+            (lived found.rests_in found.code self.now))) }
         ensures next { IfOk result (λ it. IfSome it (λ found. found.next ≡ awaited (lived found.rests_in found.code self.now))) }
     {
         let Some(rests_in) = place_found(alloc, modules, self.rests_in.as_ref())? else {
@@ -277,12 +284,12 @@ impl Ended {
     }
 
     /// The process, with these instances, and what tells them.
-    fn into_live(self, alloc: Global, found: Found) -> (Process, Told)
+    fn into_live(self, alloc: Global, found: Found) -> (Process, CodeRefs)
         requires { found.next ≡ awaited (lived found.rests_in found.code self) }
         ensures process { result.0 ≡ lived found.rests_in found.code self }
         ensures told { ended_with result.1.rests_in result.1.code result.0 ≡ self }
     {
-        let Ended {
+        let DeadProcess {
             pid,
             name,
             place,
@@ -302,16 +309,20 @@ impl Ended {
             mailbox,
             next: found.next,
         };
-        (process, Told { rests_in, code })
+        (process, CodeRefs { rests_in, code })
     }
 
-    /// The process lives again, with the instances that it used, as they stand in the table. What tells them is handed out with it,
-    /// so that [`Process::into_ended`] takes it out again without memory.
+    /// The process lives again, with the instances that it used, as they stand in the table. What tells them is handed out
+    /// with it, so that [`Process::into_ended`] takes it out again without memory.
     ///
     /// # Errors
     ///
     /// The ended process, as it was, where memory is refused, and where one of the instances is not in the table.
-    pub fn live(self, alloc: Global, modules: &Modules<Module>) -> Result<(Process, Told), Ended>
+    pub fn live(
+        self,
+        alloc: Global,
+        modules: &Modules<Module>,
+    ) -> Result<(Process, CodeRefs), DeadProcess>
         ensures ok { IfOk result (λ it. lives modules.now self ≡ Some it.0) }
         ensures told { IfOk result (λ it. ended_with it.1.rests_in it.1.code it.0 ≡ self) }
         ensures err { IfErr result (λ it. it ≡ self) }

@@ -3,11 +3,11 @@ ghost use Rattle.std.specs.Prelude.{◌≡◌, IfOk, IfSome, Some};
 ghost use Rattle.process.specs.Rerun.{JobsRunAgain, ran_in, ran_with, runs_again};
 
 use super::Ran;
-use super::ending::{NamedRunning, Told, code_in, place_found};
-use crate::NamedInstance;
+use super::ending::{CodeRefs, NamedRunning, code_in, place_found};
+use crate::CodeRef;
 use crate::activity::Running;
 use code_server::Modules;
-use erl_forms::Module;
+use erl_ir::Module;
 use erl_semantics::{Instance, Place};
 use std::alloc::{AllocError, Global};
 use values::Row;
@@ -19,7 +19,7 @@ pub struct NamedRan {
     /// The place where the process rested.
     pub place: Place,
     /// What tells the instance of the place, where this is a loop function.
-    pub rests_in: Option<NamedInstance>,
+    pub rests_in: Option<CodeRef>,
     /// What it ran.
     pub running: NamedRunning,
 }
@@ -35,11 +35,11 @@ pub struct Used {
 
 impl Ran {
     /// The same without code: its instances are told so. Takes no memory.
-    pub fn named(self, told: Told) -> NamedRan
+    pub fn named(self, told: CodeRefs) -> NamedRan
         ensures { result ≡ ran_with told.rests_in told.code self }
     {
         let Ran { place, running, .. } = self;
-        let Told { rests_in, code } = told;
+        let CodeRefs { rests_in, code } = told;
         let Running {
             entry_serial,
             message,
@@ -64,7 +64,8 @@ impl NamedRan {
     ///
     /// `AllocError` where memory is refused.
     pub fn used(&self, alloc: Global, modules: &Modules<Module>) -> Result<Option<Used>, AllocError>
-        ensures { IfOk result (λ it. IfSome it (λ used. runs_again modules.now self.now ≡ Some (ran_in used.rests_in used.code self.now))) }
+        ensures { IfOk result (λ it. IfSome it (λ used. runs_again modules.now self.now ≡ Some
+            (ran_in used.rests_in used.code self.now))) }
     {
         let Some(rests_in) = place_found(alloc, modules, self.rests_in.as_ref())? else {
             return Ok(None);

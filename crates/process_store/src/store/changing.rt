@@ -113,7 +113,8 @@ impl ProcessStore {
     }
 
     /// The process of a pid, which lives and runs, rests at a place, one turn on, and takes next the message that
-    /// [`ProcessStore::next_at`] tells. What it ran is handed out, by which [`ProcessStore::unrest`] takes it back. Takes no memory.
+    /// [`ProcessStore::next_at`] tells. What it ran is handed out, by which [`ProcessStore::unrest`] takes it back. Takes
+    /// no memory.
     pub fn rest_next(
         &mut self,
         pid: u64,

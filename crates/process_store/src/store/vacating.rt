@@ -6,7 +6,7 @@ ghost use Rattle.process_store.specs.Table.{living, living_at};
 ghost use Rattle.process_store.specs.Vacating.{AreFreeNumbers, CanReturn, IsFreeName, all_answered, all_asked, occupied, vacated};
 
 use super::{ProcessStore, register, unregister};
-use crate::living::Living;
+use crate::living::ProcessEntry;
 use process_index::{CallIndex, Calls, NameIndex, Owner};
 use std::alloc::{AllocError, Global};
 
@@ -47,7 +47,7 @@ fn enter(
     open_calls: &mut CallIndex,
     alloc: Global,
     pid: u64,
-    living: &Living,
+    living: &ProcessEntry,
 ) -> Result<(), AllocError>
     requires name { IsFreeName living.now.process.name names.old }
     requires calls { AreFreeNumbers living.now.calls open_calls.old }
@@ -69,7 +69,7 @@ fn enter(
 }
 
 /// The name of a process is registered no more, and its calls are open no more.
-fn leave(names: &mut NameIndex, open_calls: &mut CallIndex, living: &Living)
+fn leave(names: &mut NameIndex, open_calls: &mut CallIndex, living: &ProcessEntry)
     ensures unnamed { names.new ≡ unregistered living.now.process.name names.old }
     ensures answered { open_calls.new ≡ all_answered living.now.calls open_calls.old }
 {
@@ -79,7 +79,7 @@ fn leave(names: &mut NameIndex, open_calls: &mut CallIndex, living: &Living)
 
 impl ProcessStore {
     /// Takes a process out of the table, with its name and its open calls, where it lives. Takes no memory.
-    pub fn remove(&mut self, pid: u64) -> Option<Living>
+    pub fn remove(&mut self, pid: u64) -> Option<ProcessEntry>
         ensures process { result ≡ living pid self.old }
         ensures table { self.new ≡ vacated pid self.old }
         ensures returns { IfSome result (λ l. CanReturn pid l self.new) }
@@ -99,7 +99,7 @@ impl ProcessStore {
     /// # Errors
     ///
     /// The process, where memory is refused. The table is then as it was.
-    pub fn restore(&mut self, pid: u64, living: Living) -> Result<(), Living>
+    pub fn restore(&mut self, pid: u64, living: ProcessEntry) -> Result<(), ProcessEntry>
         requires { CanReturn pid living self.old }
         ensures ok { OnOk result (self.new ≡ occupied pid living self.old) }
         ensures lives { OnOk result (living_at self.new.slots pid ≡ Some living) }

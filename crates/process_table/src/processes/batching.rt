@@ -10,7 +10,7 @@ ghost use Rattle.process_effects.specs.Telling.{IsReadyFor};
 ghost use Rattle.process_table.specs.Undo.{TakesBack, held};
 
 use super::Processes;
-use crate::undo::Undo;
+use crate::undo::ProcessesUndo;
 use erl_semantics::{Act, Instance};
 use erl_term::Atom;
 use process_effects::{Batch, Batched, Reply, Telling, begin, finish, give_up, revert_batch};
@@ -32,8 +32,12 @@ impl Processes {
         acts: Row<Act>,
     ) -> Result<(), AllocError>
         requires { is_taken name self.old ≡ false }
-        ensures begun { OnOk result ((before after : Table) (told : List Told) → IsUnderWay batch.old.changes.items batch.old.answers.items before self.old after told → IsUnderWay batch.new.changes.items batch.new.answers.items before self.new (acts_begun name code.now acts after) (told ++ begun_told name code.now acts after)) }
-        ensures back { (before : Table) → CanGiveUp batch.old.changes.items before self.old → CanGiveUp batch.new.changes.items before self.new }
+        ensures begun { OnOk result ((before after : Table) (told : List Told) →
+            IsUnderWay batch.old.changes.items batch.old.answers.items before self.old after told →
+            IsUnderWay batch.new.changes.items batch.new.answers.items before self.new (acts_begun name code.now acts after)
+            (told ++ begun_told name code.now acts after)) }
+        ensures back { (before : Table) → CanGiveUp batch.old.changes.items before self.old →
+            CanGiveUp batch.new.changes.items before self.new }
     {
         begin(&mut self.store, self.alloc, batch, name, code, acts)
     }
@@ -85,31 +89,41 @@ impl Processes {
     /// # Errors
     ///
     /// `AllocError` where memory is refused. The batch is then given up.
-    pub fn finish(&mut self, batch: Batch, n: usize) -> Result<(Vec<Row<Reply>>, Undo), AllocError>
+    pub fn finish(
+        &mut self,
+        batch: Batch,
+        n: usize,
+    ) -> Result<(Vec<Row<Reply>>, ProcessesUndo), AllocError>
         requires { AllFit batch.changes.items self.old }
-        ensures stands { OnOk result ((before after : Table) (told : List Told) → IsUnderWay batch.changes.items batch.answers.items before self.old after told → self.new ≡ after) }
-        ensures told { IfOk result (λ it. (before after : Table) (told : List Told) → IsUnderWay batch.changes.items batch.answers.items before self.old after told → it.0.items ≡ replicate n told) }
-        ensures inverse { IfOk result (λ it. (before : Table) → CanGiveUp batch.changes.items before self.old → TakesBack it.1 before self.new) }
+        ensures stands { OnOk result ((before after : Table) (told : List Told) →
+            IsUnderWay batch.changes.items batch.answers.items before self.old after told → self.new ≡ after) }
+        ensures told { IfOk result (λ it. (before after : Table) (told : List Told) →
+            IsUnderWay batch.changes.items batch.answers.items before self.old after told → it.0.items ≡ replicate n told) }
+        ensures inverse { IfOk result (λ it. (before : Table) → CanGiveUp batch.changes.items before self.old →
+            TakesBack it.1 before self.new) }
         ensures pieces { IfOk result (λ it. (before : Table) → HoldsLost (held it.1 self.new) before self.new) }
         ensures err { OnErr result (self.new ≡ all_undone batch.changes.items self.old) }
     {
         let (batch, room) = self.room_to_finish(batch)?;
         let (batch, telling) = self.ready_to_finish(batch, n)?;
         let (replies, batched) = finish(&mut self.store, self.alloc, batch)?;
-        Ok((telling.tell(replies), Undo::Batched(room.fill(batched))))
+        Ok((
+            telling.tell(replies),
+            ProcessesUndo::Batched(room.fill(batched)),
+        ))
     }
 
     /// What was evaluated inside a step is taken back.
-    pub(super) fn revert_batched(&mut self, batched: Boxed<Batched>) -> Result<(), Undo>
+    pub(super) fn revert_batched(&mut self, batched: Boxed<Batched>) -> Result<(), ProcessesUndo>
         requires { CanUnbatch batched self.old }
         ensures ok { OnOk result (self.new ≡ unbatched batched self.old) }
-        ensures back { IfErr result (λ it. it ≡ Undo.Batched batched) }
+        ensures back { IfErr result (λ it. it ≡ ProcessesUndo.Batched batched) }
         ensures err { OnErr result (self.new ≡ self.old) }
     {
         let (batched, room) = batched.open();
         match revert_batch(&mut self.store, batched) {
             Ok(()) => Ok(()),
-            Err(batched) => Err(Undo::Batched(room.fill(batched))),
+            Err(batched) => Err(ProcessesUndo::Batched(room.fill(batched))),
         }
     }
 }

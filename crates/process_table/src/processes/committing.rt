@@ -8,13 +8,13 @@ ghost use Rattle.process_store.specs.Table.{living};
 ghost use Rattle.process_effects.specs.Exits.{exit_told, exited};
 ghost use Rattle.process_table.specs.Commit.{CanCommit, RefusesCommit, commit_told, committed, concluded, normal, told_by};
 ghost use Rattle.process_store.specs.Pieces.{HoldsLost};
-ghost use Rattle.process_table.specs.Undo.{Fits, IsKept, TakesBackEnds, held, undone};
+ghost use Rattle.process_table.specs.Undo.{Fits, LosesNothing, TakesBackEnds, held, undone};
 
 use super::Processes;
 use crate::error::ProcError;
-use crate::undo::Undo;
+use crate::undo::ProcessesUndo;
 use code_server::Modules;
-use erl_forms::Module;
+use erl_ir::Module;
 use erl_semantics::{Act, Done, End, Job, Place};
 use erl_term::{Atom, Predefined, Term};
 use process_effects::{
@@ -51,15 +51,15 @@ impl Processes {
         }
     }
 
-    /// The acts of a job are done that its process runs, and the process rests again at a place. What clients are told is handed out
-    /// in `n` equal values.
+    /// The acts of a job are done that its process runs, and the process rests again at a place. What clients are told is
+    /// handed out in `n` equal values.
     fn rest(
         &mut self,
         job: &Job,
         acts: &[Act],
         place: &Place,
         n: usize,
-    ) -> Result<(Vec<Row<Reply>>, Undo), AllocError>
+    ) -> Result<(Vec<Row<Reply>>, ProcessesUndo), AllocError>
         requires running { IsRunning job.now self.old }
         requires turns { CanTurnAt job.now.pid self.old }
         ensures rested { OnOk result (self.new ≡ rested_after job.now place.now acts.now self.old) }
@@ -70,7 +70,7 @@ impl Processes {
     {
         let telling = Telling::of_rest(self.alloc, acts, n)?;
         let (replies, rested) = commit_rest(&mut self.store, self.alloc, job, acts, place)?;
-        Ok((telling.tell(replies), Undo::Rested(rested)))
+        Ok((telling.tell(replies), ProcessesUndo::Rested(rested)))
     }
 
     /// The acts of a job are done, and its process, which lives, ends for a reason. What clients are told is handed out in `n`
@@ -81,7 +81,7 @@ impl Processes {
         acts: &[Act],
         reason: &Term,
         n: usize,
-    ) -> Result<(Vec<Row<Reply>>, Undo), AllocError>
+    ) -> Result<(Vec<Row<Reply>>, ProcessesUndo), AllocError>
         requires { IsSome (living pid self.old) }
         ensures exited { OnOk result (self.new ≡ exited pid acts.now self.old) }
         ensures told { IfOk result (λ it. it.0.items ≡ replicate n (exit_told pid reason.now acts.now self.old)) }
@@ -92,7 +92,10 @@ impl Processes {
         let telling = Telling::of_exit(self.alloc, &self.store, pid, reason, acts, n)?;
         let room = Reserved::new(self.alloc)?;
         let (replies, exited) = commit_exit(&mut self.store, self.alloc, pid, acts, reason)?;
-        Ok((telling.tell(replies), Undo::Exited(room.fill(exited))))
+        Ok((
+            telling.tell(replies),
+            ProcessesUndo::Exited(room.fill(exited)),
+        ))
     }
 
     /// What a job that a process runs has done is done, and the process rests or ends. What clients are told is handed out in `n`
@@ -103,7 +106,7 @@ impl Processes {
         acts: &[Act],
         end: &End,
         n: usize,
-    ) -> Result<(Vec<Row<Reply>>, Undo), AllocError>
+    ) -> Result<(Vec<Row<Reply>>, ProcessesUndo), AllocError>
         requires running { IsRunning job.now self.old }
         requires turns { CanTurnAt job.now.pid self.old }
         ensures concluded { OnOk result (self.new ≡ concluded job.now acts.now end.now self.old) }
@@ -119,7 +122,7 @@ impl Processes {
         }
     }
 
-    /// Why the commit of what a job gives would be refused, whatever that is, but for want of memory. Takes no memory.
+    /// Why the commit of what a job gives would be refused, whatever that is, but for lack of memory. Takes no memory.
     pub fn commit_refusal(&self, job: &Job) -> Option<ProcError>
         ensures { MatchOption result (CanCommit job.now self.now) (λ why. RefusesCommit why job.now self.now) }
     {
@@ -132,25 +135,26 @@ impl Processes {
         None
     }
 
-    /// Commits what a job gave: its acts are done, in order, and then its process rests, one turn on, or ends. What clients are told
-    /// is handed out in `n` equal values: the replies, in order, and then, where the process ends, its open calls, in order of client
-    /// and number.
+    /// Commits what a job gave: its acts are done, in order, and then its process rests, one turn on, or ends. What clients
+    /// are told is handed out in `n` equal values: the replies, in order, and then, where the process ends, its open calls,
+    /// in order of client and number.
     ///
     /// # Errors
     ///
-    /// In this order: `Stale` where the process of the job's pid doesn't run an equal job, code included; `CounterEnd` where its turn
-    /// is the last; `Memory`. The table is then as it was.
+    /// In this order: `Stale` where the process of the job's pid doesn't run an equal job, code included; `CounterEnd`
+    /// where its turn is the last; `Memory`. The table is then as it was.
     pub fn commit(
         &mut self,
         done: &Done,
         n: usize,
-    ) -> Result<(Vec<Row<Reply>>, Undo), Failure<ProcError>>
+    ) -> Result<(Vec<Row<Reply>>, ProcessesUndo), Failure<ProcError>>
         ensures committed { OnOk result (self.new ≡ committed done.now self.old) }
         ensures told { IfOk result (λ it. it.0.items ≡ replicate n (commit_told done.now self.old)) }
         ensures inverse { IfOk result (λ it. TakesBackEnds it.1 self.old self.new) }
         ensures pieces { IfOk result (λ it. HoldsLost (held it.1 self.new) self.old self.new) }
         ensures ok { OnOk result (CanCommit done.now.job self.old) }
-        ensures refused { IfErr result (Fails (λ why. RefusesCommit why done.now.job self.old) (CanCommit done.now.job self.old)) }
+        ensures refused { IfErr result (Fails (λ why. RefusesCommit why done.now.job self.old)
+            (CanCommit done.now.job self.old)) }
         ensures err { OnErr result (self.new ≡ self.old) }
     {
         let (job, outcome) = (done.job(), done.outcome());
@@ -168,16 +172,16 @@ impl Processes {
         &mut self,
         modules: &Modules<Module>,
         rested: Boxed<Rested>,
-    ) -> Result<(), Undo>
-        requires { Fits modules.now (Undo.Rested rested) self.old }
-        ensures ok { OnOk result (self.new ≡ undone modules.now (Undo.Rested rested) self.old) }
-        ensures kept { OnOk result (IsKept modules.now (Undo.Rested rested)) }
-        ensures back { IfErr result (λ it. it ≡ Undo.Rested rested) }
+    ) -> Result<(), ProcessesUndo>
+        requires { Fits modules.now (ProcessesUndo.Rested rested) self.old }
+        ensures ok { OnOk result (self.new ≡ undone modules.now (ProcessesUndo.Rested rested) self.old) }
+        ensures kept { OnOk result (LosesNothing modules.now (ProcessesUndo.Rested rested)) }
+        ensures back { IfErr result (λ it. it ≡ ProcessesUndo.Rested rested) }
         ensures err { OnErr result (self.new ≡ self.old) }
     {
         match revert_rest(&mut self.store, self.alloc, modules, rested) {
             Ok(()) => Ok(()),
-            Err(rested) => Err(Undo::Rested(rested)),
+            Err(rested) => Err(ProcessesUndo::Rested(rested)),
         }
     }
 
@@ -186,17 +190,17 @@ impl Processes {
         &mut self,
         modules: &Modules<Module>,
         exited: Boxed<Exited>,
-    ) -> Result<(), Undo>
-        requires { Fits modules.now (Undo.Exited exited) self.old }
-        ensures ok { OnOk result (self.new ≡ undone modules.now (Undo.Exited exited) self.old) }
-        ensures kept { OnOk result (IsKept modules.now (Undo.Exited exited)) }
-        ensures back { IfErr result (λ it. it ≡ Undo.Exited exited) }
+    ) -> Result<(), ProcessesUndo>
+        requires { Fits modules.now (ProcessesUndo.Exited exited) self.old }
+        ensures ok { OnOk result (self.new ≡ undone modules.now (ProcessesUndo.Exited exited) self.old) }
+        ensures kept { OnOk result (LosesNothing modules.now (ProcessesUndo.Exited exited)) }
+        ensures back { IfErr result (λ it. it ≡ ProcessesUndo.Exited exited) }
         ensures err { OnErr result (self.new ≡ self.old) }
     {
         let (exited, room) = exited.open();
         match revert_exit(&mut self.store, self.alloc, modules, exited) {
             Ok(()) => Ok(()),
-            Err(exited) => Err(Undo::Exited(room.fill(exited))),
+            Err(exited) => Err(ProcessesUndo::Exited(room.fill(exited))),
         }
     }
 }

@@ -1,7 +1,7 @@
 // Several processes are suspended or resumed, get another state, or end.
 ghost use Rattle.std.specs.Prelude.{◌≡◌, All, IfOk, OnErr, OnOk, map, replicate};
 ghost use Rattle.process_effects.specs.Ends.{all_vacated};
-ghost use Rattle.process_effects.specs.Kills.{all_downs};
+ghost use Rattle.process_effects.specs.Kills.{downs_of_each};
 ghost use Rattle.process_store.specs.Pieces.{HoldsLost};
 ghost use Rattle.process_store.specs.Table.{living};
 ghost use Rattle.process_table.specs.States.{CanRestateAll, CanUnrestateAll, IsIdle, all_restated, all_resumed, all_suspended};
@@ -14,9 +14,9 @@ use crate::states::{
     unresume,
 };
 use crate::taking::equal_values;
-use crate::undo::Undo;
+use crate::undo::ProcessesUndo;
 use erl_term::Term;
-use process_effects::{Reply, all_downs, end_all};
+use process_effects::{Reply, downs_of_each, end_all};
 use std::alloc::AllocError;
 use values::Row;
 
@@ -78,36 +78,37 @@ impl Processes {
     }
 
     /// Processes end together: each of them that lives leaves, with its name, its mailbox and its open calls. What their clients
-    /// are told is asked of [`Processes::all_downs`] before.
+    /// are told is asked of [`Processes::downs_of_each`] before.
     ///
     /// # Errors
     ///
     /// `AllocError` where memory is refused. The table is then as it was.
-    pub fn end_all(&mut self, pids: &[u64]) -> Result<Undo, AllocError>
+    pub fn end_all(&mut self, pids: &[u64]) -> Result<ProcessesUndo, AllocError>
         ensures ended { OnOk result (self.new ≡ all_vacated pids.now self.old) }
         ensures inverse { IfOk result (λ undo. TakesBackEnds undo self.old self.new) }
         ensures pieces { IfOk result (λ undo. HoldsLost (held undo self.new) self.old self.new) }
         ensures err { OnErr result (self.new ≡ self.old) }
     {
         let ended = end_all(&mut self.store, self.alloc, pids)?;
-        Ok(Undo::Killed(Row::new(ended)))
+        Ok(ProcessesUndo::Killed(Row::new(ended)))
     }
 
     /// What clients would be told where these processes ended now, in `n` equal values: of each open call of the first that it is
-    /// down, and for what reason, in order of client and number, then of the next, and so on. Nothing of a pid that no process has.
+    /// down, and for what reason, in order of client and number, then of the next, and so on. Nothing of a pid that no
+    /// process has.
     ///
     /// # Errors
     ///
     /// `AllocError` where memory is refused.
-    pub fn all_downs(
+    pub fn downs_of_each(
         &self,
         pids: &[u64],
         reason: &Term,
         n: usize,
     ) -> Result<Vec<Row<Reply>>, AllocError>
-        ensures { IfOk result (λ it. it.items ≡ replicate n (all_downs reason.now pids.now self.now)) }
+        ensures { IfOk result (λ it. it.items ≡ replicate n (downs_of_each reason.now pids.now self.now)) }
     {
-        let replies = all_downs(&self.store, self.alloc, pids, reason)?;
+        let replies = downs_of_each(&self.store, self.alloc, pids, reason)?;
         equal_values(self.alloc, Row::new(replies), n)
     }
 }

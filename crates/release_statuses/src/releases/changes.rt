@@ -8,7 +8,7 @@ use crate::places::{place_of, statuses};
 use crate::releases::Releases;
 use crate::status::Status;
 use crate::turns::{install, make_permanent, reboot, restore, turn};
-use crate::undo::Undo;
+use crate::undo::ReleasesUndo;
 use release_table::Release;
 use std::alloc::AllocError;
 use values::{Failure, Row};
@@ -23,7 +23,7 @@ fn push(list: &mut Vec<Listed>, it: Listed) -> Result<(), AllocError>
 }
 
 impl Releases {
-    ghost use Rattle.values.specs.Failure.{Tells};
+    ghost use Rattle.values.specs.Failure.{TellsFailure};
     ghost use Rattle.values.specs.declared.failure.Failure.TheVariants.{Memory};
     ghost use Rattle.release_statuses.specs.Statuses.{installed, made_permanent, permanent_refusal, place_of, reboot_refusal};
     ghost use Rattle.release_statuses.specs.Statuses.{rebooted, remove_refusal, removed, restarted, unpack_refusal, unpacked};
@@ -34,11 +34,11 @@ impl Releases {
     /// # Errors
     ///
     /// What [`Releases::unpack_refusal`] says, and else `Memory`. The releases are then as they were; the release is dropped.
-    pub fn set_unpacked(&mut self, release: Release) -> Result<Undo, Failure<RelError>>
+    pub fn set_unpacked(&mut self, release: Release) -> Result<ReleasesUndo, Failure<RelError>>
         ensures ok { OnOk result (self.new ≡ unpacked release self.old) }
         ensures unrefused { OnOk result (unpack_refusal release.rel.vsn self.old ≡ None) }
         ensures takes_back { IfOk result (λ undo. TakesBack undo self.old self.new) }
-        ensures refused { IfErr result (λ e. Tells e (unpack_refusal release.rel.vsn self.old)) }
+        ensures refused { IfErr result (λ e. TellsFailure e (unpack_refusal release.rel.vsn self.old)) }
         ensures err { OnErr result (self.new ≡ self.old) }
     {
         if let Some(refusal) = self.unpack_refusal(release.rel.vsn.as_str()) {
@@ -49,7 +49,7 @@ impl Releases {
             status: Status::Unpacked,
         };
         push(&mut self.list, it)?;
-        Ok(Undo::Added)
+        Ok(ReleasesUndo::Added)
     }
 
     /// Removes the release of a version, which is not permanent. Takes no memory.
@@ -57,11 +57,11 @@ impl Releases {
     /// # Errors
     ///
     /// What [`Releases::remove_refusal`] says. The releases are then as they were.
-    pub fn remove(&mut self, vsn: &str) -> Result<Undo, Failure<RelError>>
+    pub fn remove(&mut self, vsn: &str) -> Result<ReleasesUndo, Failure<RelError>>
         ensures ok { OnOk result (self.new ≡ removed (chars vsn.now) self.old) }
         ensures unrefused { OnOk result (remove_refusal (chars vsn.now) self.old ≡ None) }
         ensures takes_back { IfOk result (λ undo. TakesBack undo self.old self.new) }
-        ensures refused { IfErr result (λ e. Tells e (remove_refusal (chars vsn.now) self.old)) }
+        ensures refused { IfErr result (λ e. TellsFailure e (remove_refusal (chars vsn.now) self.old)) }
         ensures memory { IfErr result (λ e. e ≢ Memory) }
         ensures err { OnErr result (self.new ≡ self.old) }
     {
@@ -69,7 +69,7 @@ impl Releases {
             return Err(Failure::Refused(refusal));
         }
         match place_of(&self.list, vsn) {
-            Some(place) => Ok(Undo::Removed(place, self.list.remove(place))),
+            Some(place) => Ok(ReleasesUndo::Removed(place, self.list.remove(place))),
             None => Err(Failure::Refused(RelError::NoSuchRelease)),
         }
     }
@@ -80,7 +80,7 @@ impl Releases {
     /// # Errors
     ///
     /// `AllocError` where memory is refused. The releases are then as they were.
-    pub fn installed(&mut self, vsn: &str) -> Result<Undo, AllocError>
+    pub fn installed(&mut self, vsn: &str) -> Result<ReleasesUndo, AllocError>
         requires { IsSome (place_of (chars vsn.now) self.old) }
         ensures ok { OnOk result (self.new ≡ installed (chars vsn.now) self.old) }
         ensures takes_back { IfOk result (λ undo. TakesBack undo self.old self.new) }
@@ -89,7 +89,7 @@ impl Releases {
     {
         let former = statuses(self.alloc, &self.list)?;
         install(self.list.as_mut_slice(), vsn);
-        Ok(Undo::Statuses(Row::new(former)))
+        Ok(ReleasesUndo::Statuses(Row::new(former)))
     }
 
     /// Makes the release of a version permanent, which is current: what was permanent is old. Of a permanent one nothing
@@ -98,12 +98,12 @@ impl Releases {
     /// # Errors
     ///
     /// What [`Releases::permanent_refusal`] says, and else `Memory`. The releases are then as they were.
-    pub fn make_permanent(&mut self, vsn: &str) -> Result<Undo, Failure<RelError>>
+    pub fn make_permanent(&mut self, vsn: &str) -> Result<ReleasesUndo, Failure<RelError>>
         ensures ok { OnOk result (self.new ≡ made_permanent (chars vsn.now) self.old) }
         ensures unrefused { OnOk result (permanent_refusal (chars vsn.now) self.old ≡ None) }
         ensures takes_back { IfOk result (λ undo. TakesBack undo self.old self.new) }
         ensures statuses { IfOk result (λ undo. IsRemoval undo → ⊥) }
-        ensures refused { IfErr result (λ e. Tells e (permanent_refusal (chars vsn.now) self.old)) }
+        ensures refused { IfErr result (λ e. TellsFailure e (permanent_refusal (chars vsn.now) self.old)) }
         ensures err { OnErr result (self.new ≡ self.old) }
     {
         if let Some(refusal) = self.permanent_refusal(vsn) {
@@ -111,7 +111,7 @@ impl Releases {
         }
         let former = statuses(self.alloc, &self.list)?;
         make_permanent(self.list.as_mut_slice(), vsn);
-        Ok(Undo::Statuses(Row::new(former)))
+        Ok(ReleasesUndo::Statuses(Row::new(former)))
     }
 
     /// The node restarts with the release of a version, which is old: it is permanent, and what was permanent or current is
@@ -120,12 +120,12 @@ impl Releases {
     /// # Errors
     ///
     /// What [`Releases::reboot_refusal`] says, and else `Memory`. The releases are then as they were.
-    pub fn reboot_old(&mut self, vsn: &str) -> Result<Undo, Failure<RelError>>
+    pub fn reboot_old(&mut self, vsn: &str) -> Result<ReleasesUndo, Failure<RelError>>
         ensures ok { OnOk result (self.new ≡ rebooted (chars vsn.now) self.old) }
         ensures unrefused { OnOk result (reboot_refusal (chars vsn.now) self.old ≡ None) }
         ensures takes_back { IfOk result (λ undo. TakesBack undo self.old self.new) }
         ensures statuses { IfOk result (λ undo. IsRemoval undo → ⊥) }
-        ensures refused { IfErr result (λ e. Tells e (reboot_refusal (chars vsn.now) self.old)) }
+        ensures refused { IfErr result (λ e. TellsFailure e (reboot_refusal (chars vsn.now) self.old)) }
         ensures err { OnErr result (self.new ≡ self.old) }
     {
         if let Some(refusal) = self.reboot_refusal(vsn) {
@@ -133,7 +133,7 @@ impl Releases {
         }
         let former = statuses(self.alloc, &self.list)?;
         reboot(self.list.as_mut_slice(), vsn);
-        Ok(Undo::Statuses(Row::new(former)))
+        Ok(ReleasesUndo::Statuses(Row::new(former)))
     }
 
     /// The node restarts with the permanent release: what was current is old.
@@ -141,7 +141,7 @@ impl Releases {
     /// # Errors
     ///
     /// `AllocError` where memory is refused. The releases are then as they were.
-    pub fn restarted(&mut self) -> Result<Undo, AllocError>
+    pub fn restarted(&mut self) -> Result<ReleasesUndo, AllocError>
         ensures ok { OnOk result (self.new ≡ restarted self.old) }
         ensures takes_back { IfOk result (λ undo. TakesBack undo self.old self.new) }
         ensures statuses { IfOk result (λ undo. IsRemoval undo → ⊥) }
@@ -149,7 +149,7 @@ impl Releases {
     {
         let former = statuses(self.alloc, &self.list)?;
         turn(self.list.as_mut_slice(), Status::Current, Status::Old);
-        Ok(Undo::Statuses(Row::new(former)))
+        Ok(ReleasesUndo::Statuses(Row::new(former)))
     }
 
     /// Takes the newest change back. Memory is asked for only where a release comes back to the list.
@@ -157,7 +157,7 @@ impl Releases {
     /// # Errors
     ///
     /// The undo, where memory is refused. The releases are then as they were.
-    pub fn revert(&mut self, undo: Undo) -> Result<(), Undo>
+    pub fn revert(&mut self, undo: ReleasesUndo) -> Result<(), ReleasesUndo>
         requires { Fits undo self.old }
         ensures ok { OnOk result (self.new ≡ undone undo self.old) }
         ensures back { IfErr result (λ it. it ≡ undo) }
@@ -165,15 +165,15 @@ impl Releases {
         ensures err { OnErr result (self.new ≡ self.old) }
     {
         match undo {
-            Undo::Added => {
+            ReleasesUndo::Added => {
                 let _ = self.list.pop();
                 Ok(())
             }
-            Undo::Removed(place, it) => match self.list.insert(place, it) {
+            ReleasesUndo::Removed(place, it) => match self.list.insert(place, it) {
                 Ok(()) => Ok(()),
-                Err(refused) => Err(Undo::Removed(place, refused.value)),
+                Err(refused) => Err(ReleasesUndo::Removed(place, refused.value)),
             },
-            Undo::Statuses(former) => {
+            ReleasesUndo::Statuses(former) => {
                 restore(self.list.as_mut_slice(), former.as_slice());
                 Ok(())
             }

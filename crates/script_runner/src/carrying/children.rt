@@ -7,11 +7,11 @@ ghost use Rattle.script_runner.specs.Parts.{parts_of};
 use crate::carrying::Carried;
 use crate::children::{start_children, stop_children};
 use crate::halt::Halt;
-use crate::undo::Undo;
+use crate::undo::InstructionUndo;
 use app_table::AppTable;
 use code_loading::current_code;
 use code_server::Modules;
-use erl_forms::Module;
+use erl_ir::Module;
 use erl_term::{Atom, Terms};
 use process_table::Processes;
 use release_table::Release;
@@ -42,7 +42,7 @@ pub(crate) fn stop(
     match stop_children(apps, processes, alloc, names.as_slice(), stopped, n) {
         Ok(it) => Ok(Carried {
             told: it.told,
-            undo: Undo::Children(it.undo, it.count),
+            undo: InstructionUndo::Children(it.undo, it.count),
         }),
         Err(_) => Err(Failure::Memory),
     }
@@ -70,7 +70,7 @@ pub(crate) fn start(
     match start_children(modules, apps, processes, alloc, noted, names.as_slice(), n) {
         Ok(it) => Ok(Carried {
             told: it.told,
-            undo: Undo::Children(it.undo, it.count),
+            undo: InstructionUndo::Children(it.undo, it.count),
         }),
         Err(Failure::Refused(reason)) => Err(Failure::Refused(Halt::Failed(reason))),
         Err(Failure::Memory) => Err(Failure::Memory),
@@ -112,7 +112,7 @@ pub(crate) fn apply_function(
     ) {
         Ok(it) => Ok(Carried {
             told: it.told,
-            undo: Undo::Children(it.undo, 0),
+            undo: InstructionUndo::Children(it.undo, 0),
         }),
         Err(Failure::Refused(reason)) => Err(Failure::Refused(Halt::Failed(reason))),
         Err(Failure::Memory) => Err(Failure::Memory),

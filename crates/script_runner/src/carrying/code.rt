@@ -8,10 +8,10 @@ use crate::carrying::Carried;
 use crate::halt::Halt;
 use crate::reading::read_object_code;
 use crate::replacing::{load_code, purge_code, remove_code};
-use crate::undo::Undo;
+use crate::undo::InstructionUndo;
 use app_table::AppTable;
 use code_server::Modules;
-use erl_forms::Module;
+use erl_ir::Module;
 use erl_term::Atom;
 use process_table::Processes;
 use release_table::Release;
@@ -43,7 +43,7 @@ pub(crate) fn pass_point(
     };
     Ok(Carried {
         told,
-        undo: Undo::Nothing,
+        undo: InstructionUndo::Nothing,
     })
 }
 
@@ -80,7 +80,7 @@ pub(crate) fn read(
     ) {
         Ok(it) => Ok(Carried {
             told: it.told,
-            undo: Undo::Read(it.count),
+            undo: InstructionUndo::Read(it.count),
         }),
         Err(Failure::Refused(reason)) => Err(Failure::Refused(Halt::Failed(reason))),
         Err(Failure::Memory) => Err(Failure::Memory),
@@ -113,7 +113,7 @@ pub(crate) fn load(
     ) {
         Ok(it) => Ok(Carried {
             told: it.told,
-            undo: Undo::Replaced(it.undo, it.noted),
+            undo: InstructionUndo::Replaced(it.undo, it.noted),
         }),
         Err(failure) => Err(failure),
     }
@@ -144,7 +144,7 @@ pub(crate) fn remove(
     ) {
         Ok(it) => Ok(Carried {
             told: it.told,
-            undo: Undo::Replaced(it.undo, it.noted),
+            undo: InstructionUndo::Replaced(it.undo, it.noted),
         }),
         Err(_) => Err(Failure::Memory),
     }
@@ -171,7 +171,7 @@ pub(crate) fn purge(
     match purge_code(modules, processes, apps, alloc, names.as_slice(), n) {
         Ok(it) => Ok(Carried {
             told: it.told,
-            undo: Undo::Purged(it.undo),
+            undo: InstructionUndo::Purged(it.undo),
         }),
         Err(_) => Err(Failure::Memory),
     }

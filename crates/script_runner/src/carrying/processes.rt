@@ -7,10 +7,10 @@ ghost use Rattle.script_runner.specs.Parts.{parts_of};
 use crate::carrying::Carried;
 use crate::halt::Halt;
 use crate::suspending::{change_children, resume_children, suspend_children};
-use crate::undo::Undo;
+use crate::undo::InstructionUndo;
 use app_table::AppTable;
 use code_server::Modules;
-use erl_forms::Module;
+use erl_ir::Module;
 use erl_term::Atom;
 use low_instructions::{Direction, ModuleChange, Suspension};
 use process_table::Processes;
@@ -49,7 +49,7 @@ pub(crate) fn suspend(
     ) {
         Ok(it) => Ok(Carried {
             told: it.told,
-            undo: Undo::Suspended(it.count),
+            undo: InstructionUndo::Suspended(it.count),
         }),
         Err(Failure::Refused(busy)) => Err(Failure::Refused(Halt::Busy(busy.pid))),
         Err(Failure::Memory) => Err(Failure::Memory),
@@ -78,7 +78,7 @@ pub(crate) fn resume(
     match resume_children(apps, processes, alloc, names.as_slice(), suspended, n) {
         Ok(it) => Ok(Carried {
             told: it.told,
-            undo: Undo::Resumed(it.undo),
+            undo: InstructionUndo::Resumed(it.undo),
         }),
         Err(_) => Err(Failure::Memory),
     }
@@ -116,7 +116,7 @@ pub(crate) fn change_code(
     ) {
         Ok(it) => Ok(Carried {
             told: it.told,
-            undo: Undo::Changed(it.undo),
+            undo: InstructionUndo::Changed(it.undo),
         }),
         Err(failure) => Err(failure),
     }

@@ -3,7 +3,7 @@ use Rattle.std.proofs.Common.{◌≡◌, ap, ◌∙◌, map, option_map}
 use Rattle.std.specs.Option.{option_copied}
 use Rattle.erl_term.specs.Term.{tree, trees}
 use Rattle.erl_term.specs.Tree.{count}
-use Rattle.erl_forms.specs.Module.{exported_of}
+use Rattle.erl_ir.specs.Module.{exported_of}
 use Rattle.erl_semantics.specs.Acts.{act_of}
 use Rattle.erl_semantics.specs.Jobs.{Handles, arguments_of, callback_of, name_of, served, unexported}
 use Rattle.callback_lang.specs.Views.{callback}

@@ -4,7 +4,7 @@ use Rattle.std.specs.Prelude.{MatchOption}
 use Rattle.std.specs.Option.{option_copied}
 use Rattle.erl_term.specs.Term.{tree}
 use Rattle.erl_term.specs.Tree.{count}
-use Rattle.erl_forms.specs.Module.{function_of}
+use Rattle.erl_ir.specs.Module.{function_of}
 use Rattle.erl_semantics.specs.Jobs.{heard, heard_by, nowhere, Receives}
 use Rattle.callback_lang.specs.Leading.{LoopComes}
 use Rattle.erl_semantics.specs.Views.{job_of, outcome_of, instance}

@@ -6,7 +6,7 @@ use Rattle.code_changes.proofs.Renewed.{drop_changed, is_renewed, messages_given
 use Rattle.code_changes.proofs.Backs.{its_supervisor, renewals_more}
 use Rattle.app_table.specs.Applications.{Application}
 use Rattle.app_table.specs.Renewing.{with_renewed}
-use Rattle.app_table.specs.declared.undo.Undo.{Undo}
+use Rattle.app_table.specs.declared.undo.AppsUndo.{AppsUndo}
 use Rattle.code_changes.specs.Undo.{AreRenewalsIn}
 use Rattle.values.proofs.Edits.{length-changed_at}
 use Rattle.code_changes.specs.Renewing.{RenewsOne, supervisor_in}
@@ -69,6 +69,6 @@ returns-clause-renewals c =
     let acts = c.in_ok-specs.field-0.acts in
     let is : supervisor_in name a ≡ Some m = sym c.supervisor_in.ensures ∙ ap option_copied c.in-Some.is in
     let so_far = c.args.renewals.now.items in
-    let pushed = c.push_reserved.ensures.items ∙ ap (λ (us : List Undo). us ++ undo ∷ []) c.in_ok-reserve.ensures.items in
-    λ before x. subst (λ (us : List Undo). AreRenewalsIn code us before c.renew.new.self) (sym pushed)
+    let pushed = c.push_reserved.ensures.items ∙ ap (λ (us : List AppsUndo). us ++ undo ∷ []) c.in_ok-reserve.ensures.items in
+    λ before x. subst (λ (us : List AppsUndo). AreRenewalsIn code us before c.renew.new.self) (sym pushed)
     (renewals_more code so_far undo before c.args.apps.now c.renew.new.self c.args.place a m specs acts c.app_at.ensures (its_supervisor name a m is) c.in_ok-specs.ensures.given c.in_ok-renew.ensures.renewed c.in_ok-renew.ensures.inverse c.in_ok-renew.ensures.renewal c.in_ok-renew.ensures.pieces x)

@@ -1,6 +1,6 @@
 -- A load that finds no memory finds no old code, so nobody was killed; else the old code is taken, and those who lingered in it.
 use Rattle.std.proofs.Common.{◌∙◌, ℕ, List, subst, sym}
-use Rattle.values.specs.Failure.{Tells}
+use Rattle.values.specs.Failure.{TellsFailure}
 use Rattle.code_loading.proofs.CodePieces.{load_taken, takes_back}
 use Rattle.code_loading.proofs.Users.{all_spared, memory_alone}
 use Rattle.code_server.specs.Modules.{load_refusal, purged}
@@ -15,7 +15,7 @@ returns-clause-err c =
 
 pub returns-clause-refused : goal.returns-clause-refused
 returns-clause-refused c =
-    subst (λ (name : List ℕ). Tells c.in-Err.failure (load_refusal name (purged name c.args.modules.now))) (c.in-Ok.ensures ∙ c.name.ensures) c.in-Err.ensures.refused
+    subst (λ (name : List ℕ). TellsFailure c.in-Err.failure (load_refusal name (purged name c.args.modules.now))) (c.in-Ok.ensures ∙ c.name.ensures) c.in-Err.ensures.refused
 
 pub returns-in-Ok-purge_and_load-clause-inverse : goal.returns-in-Ok-purge_and_load-clause-inverse
 returns-in-Ok-purge_and_load-clause-inverse c =

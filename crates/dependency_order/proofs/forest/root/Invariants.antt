@@ -1,6 +1,6 @@
 use Rattle.std.proofs.Common.{◌≡◌, ◌<◌, ◌≤◌, ℕ, Bool, length}
 use Rattle.dependency_order.specs.Groups.{IsJoined}
-use Rattle.dependency_order.specs.Forests.{IsFlatter, IsSound, Respects}
+use Rattle.dependency_order.specs.Forests.{IsFlatter, JoinsOnlyJoined, Respects}
 use Rattle.dependency_order.proofs.forest.root.Given as goal
 
 abbrev pub invariant-loop-parents : goal.invariant-loop-parents
@@ -8,7 +8,7 @@ invariant-loop-parents l = record {
   flatter : IsFlatter l.initial.parents l.parents;
   before : l.at ≤ l.place;
   known : l.at < length l.parents;
-  joined : (names : ℕ → ℕ → Bool) → IsSound names l.initial.parents → IsJoined names l.place l.at;
+  joined : (names : ℕ → ℕ → Bool) → JoinsOnlyJoined names l.initial.parents → IsJoined names l.place l.at;
   one : (label : ℕ → ℕ) → Respects label l.parents → label l.place ≡ label l.at;
 }
 

@@ -163,7 +163,8 @@ impl Parser {
 
     /// Ends an element of the bracket that was taken out, and goes on in it.
     fn end_element(&mut self, opened: Open, bracket: Bracket, at: usize) -> Result<(), ReadError>
-        ensures { Gives (element_ended (seen self.old) (frame_seen opened) (seen self.old).open_ones (bracket_seen bracket) (term_of_last (seen self.old).last) at) (seen self.new) result }
+        ensures { Gives (element_ended (seen self.old) (frame_seen opened) (seen self.old).open_ones (bracket_seen bracket)
+            (term_of_last (seen self.old).last) at) (seen self.new) result }
     {
         let last = mem::replace(&mut self.last, Last::Nothing);
         let term = last.into_term(&mut self.rows, at)?;
@@ -216,7 +217,8 @@ impl Parser {
 
 /// The innermost of some open brackets.
 pub(super) fn innermost(brackets: &[Open]) -> Option<&Open>
-    ensures { MatchOption result (frames brackets.now ≡ []) (λ o. innermost_frame (frames brackets.now) ≡ Some (frame_seen o.now)) }
+    ensures { MatchOption result (frames brackets.now ≡ [])
+        (λ o. innermost_frame (frames brackets.now) ≡ Some (frame_seen o.now)) }
 {
     brackets.last()
 }

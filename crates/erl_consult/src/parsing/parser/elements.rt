@@ -227,7 +227,8 @@ pub(super) fn push_characters(
     mut text: String,
     at: usize,
 ) -> Result<(), ReadError>
-    ensures ok { OnOk result (trees items.new.items ≡ append_trees (trees items.old.items) (integers (chars (string_bytes text)))) }
+    ensures ok { OnOk result (trees items.new.items ≡ append_trees (trees items.old.items)
+        (integers (chars (string_bytes text)))) }
     ensures err { IfErr result (λ e. e.kind ≡ refused) }
 {
     make_room(items, text.as_str(), at)?;

@@ -90,7 +90,8 @@ impl Parser {
 
     /// Goes on with a string behind these characters.
     fn go_on(&mut self, mut items: Vec<Term>, string: Text, at: usize) -> Result<(), ReadError>
-        ensures { Gives (with_last (seen self.old) (text (append_trees (trees items.items) (integers string)))) (seen self.new) result }
+        ensures { Gives (with_last (seen self.old) (text (append_trees (trees items.items) (integers string)))) (seen self.new)
+            result }
     {
         push_characters(&mut items, string.into_string(), at)?;
         self.last = Last::Text(items);

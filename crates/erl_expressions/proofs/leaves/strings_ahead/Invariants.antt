@@ -1,6 +1,6 @@
 -- The strings that were read stand before those that are left.
 use Rattle.std.proofs.Common.{◌≡◌, ◌∷◌, ◌++◌, length}
-use Rattle.erl_syntax.specs.Terminal.{terminals}
+use Rattle.erl_ast.specs.Terminal.{terminals}
 use Rattle.erl_expressions.specs.Leaves.{strings_ahead, after_strings}
 use Rattle.erl_expressions.specs.Refusing.{Leaves}
 use Rattle.erl_expressions.proofs.leaves.strings_ahead.Given as goal

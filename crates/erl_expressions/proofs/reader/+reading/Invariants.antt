@@ -1,10 +1,10 @@
 -- Each call goes down, a level or within it; and what is kept from turn to turn.
 use Rattle.std.proofs.Common.{◌≡◌, ◌+◌, ◌-◌, ◌*◌, length}
-use Rattle.erl_syntax.specs.Terminal.{terminals}
-use Rattle.erl_syntax.specs.declared.role.Role.TheVariants.{Test}
+use Rattle.erl_ast.specs.Terminal.{terminals}
+use Rattle.erl_ast.specs.declared.role.Role.TheVariants.{Test}
 use Rattle.erl_expressions.specs.declared.delimiter.Delimiter.TheVariants.{Comma, Semicolon}
 use Rattle.erl_expressions.specs.Reading.{read, row, one_clause, clauses_to_end, alternatives, separated, and_then, climbed, rest_of_row, rest_of_trees, rest_of_guards, rest_of_clauses}
-use Rattle.erl_syntax.specs.Grammar.{operations}
+use Rattle.erl_ast.specs.Grammar.{operations}
 use Rattle.erl_expressions.specs.Refusing.{Leaves}
 use Rattle.erl_expressions.proofs.reader.+reading.Given as goal
 

@@ -1,6 +1,6 @@
 -- What is read is there.
-use Rattle.erl_syntax.specs.Terminal.{terminals}
-use Rattle.erl_syntax.specs.TreeForms.{tree as tree_of}
+use Rattle.erl_ast.specs.Terminal.{terminals}
+use Rattle.erl_ast.specs.TreeForms.{tree as tree_of}
 use Rattle.erl_expressions.proofs.Trees.{is_begun}
 use Rattle.std.proofs.Common.{rules}
 use Rattle.erl_expressions.proofs.whole.read_tree.Goals as goal

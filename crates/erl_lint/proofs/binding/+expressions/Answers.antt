@@ -2,7 +2,7 @@
 use Rattle.std.proofs.Common.{rules}
 use Rattle.std.specs.Str.{bytes_eq}
 use Rattle.indexmap.specs.IndexSet.{insert_key}
-use Rattle.erl_syntax.specs.TreeForms.{tree, trees}
+use Rattle.erl_ast.specs.TreeForms.{tree, trees}
 use Rattle.erl_lint.specs.Scopes.{binds, binds_in}
 use Rattle.erl_lint.proofs.Rows.{tree_in, grown, binds_push}
 use Rattle.erl_lint.proofs.binding.+expressions.Goals as goal

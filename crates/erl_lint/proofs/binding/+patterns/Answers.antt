@@ -2,7 +2,7 @@
 use Rattle.std.proofs.Common.{rules}
 use Rattle.std.specs.Str.{bytes_eq}
 use Rattle.indexmap.specs.IndexSet.{insert_key}
-use Rattle.erl_syntax.specs.TreeForms.{tree, trees}
+use Rattle.erl_ast.specs.TreeForms.{tree, trees}
 use Rattle.erl_lint.specs.Scopes.{pattern_names, pattern_names_in}
 use Rattle.erl_lint.proofs.Rows.{tree_in, grown, patterns_push}
 use Rattle.erl_lint.proofs.binding.+patterns.Goals as goal

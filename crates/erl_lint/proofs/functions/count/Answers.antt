@@ -1,6 +1,6 @@
 -- As many as the slice has.
 use Rattle.std.proofs.Common.{ap, ◌∙◌}
-use Rattle.erl_syntax.specs.Tree.{tree_count}
+use Rattle.erl_ast.specs.Tree.{tree_count}
 use Rattle.erl_lint.proofs.Rows.{counted}
 use Rattle.erl_lint.proofs.functions.count.Goals as goal
 

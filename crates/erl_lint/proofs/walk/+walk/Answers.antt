@@ -1,6 +1,6 @@
 -- One item more is passed, none is higher than its row, and what was bound first is kept.
 use Rattle.std.proofs.Common.{◌∙◌, ap, take, rules}
-use Rattle.erl_syntax.specs.TreeForms.{trees}
+use Rattle.erl_ast.specs.TreeForms.{trees}
 use Rattle.erl_lint.specs.First.{soonest}
 use Rattle.erl_lint.specs.Scopes.{binds_in, pattern_names_in}
 use Rattle.erl_lint.specs.Faults.{faults_apart}

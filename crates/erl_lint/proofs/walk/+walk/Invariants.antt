@@ -1,7 +1,7 @@
 -- The first fault of what was passed is found, and each call goes down.
 use Rattle.std.proofs.Common.{◌≡◌, ◌+◌, ◌*◌, take, length}
-use Rattle.erl_syntax.specs.TreeForms.{tree, trees, guards, clauses}
-use Rattle.erl_syntax.specs.Heights.{tree_height, trees_height, guards_height, clauses_height}
+use Rattle.erl_ast.specs.TreeForms.{tree, trees, guards, clauses}
+use Rattle.erl_ast.specs.Heights.{tree_height, trees_height, guards_height, clauses_height}
 use Rattle.erl_lint.specs.First.{soonest}
 use Rattle.erl_lint.specs.Scopes.{with_names, binds_in}
 use Rattle.erl_lint.specs.Faults.{faults_apart, faults_in_turn, faults_in_guards, faults_in_clauses}

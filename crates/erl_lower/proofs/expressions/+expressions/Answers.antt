@@ -1,9 +1,9 @@
 -- One item more is made, and none is left at the end; what was bound first is kept.
 use Rattle.std.proofs.Common.{◌++◌, ◌∙◌, ap, arith, refl, rules}
-use Rattle.erl_syntax.specs.TreeForms.{tree, trees, guards as guards_in, clauses as clauses_in}
+use Rattle.erl_ast.specs.TreeForms.{tree, trees, guards as guards_in, clauses as clauses_in}
 use Rattle.erl_lint.specs.Scopes.{binds, binds_in, pattern_names_in, with_names}
 use Rattle.erl_lint.proofs.Walking.{kept}
-use Rattle.erl_forms.specs.ExpressionForms.{exprs, guards, clauses}
+use Rattle.erl_ir.specs.ExpressionForms.{exprs, guards, clauses}
 use Rattle.erl_lower.specs.Expressions.{clauses_of, guards_of, row_of}
 use Rattle.erl_lower.proofs.Rows.{clause_in, ended, ended_bound, first_binds, names_append, next_bound, next_clause, next_expression, next_guard, onto_clauses, onto_clauses-none, onto_exprs, onto_exprs-none, onto_guards, onto_guards-none, tests_in, tree_in}
 use Rattle.erl_lower.proofs.expressions.+expressions.Goals as goal

@@ -1,7 +1,7 @@
 -- What is made so far and what is left make the row, and each call goes down.
 use Rattle.std.proofs.Common.{◌≡◌, ◌+◌, ◌*◌, drop}
-use Rattle.erl_syntax.specs.TreeForms.{tree, trees, guards, clauses}
-use Rattle.erl_syntax.specs.Heights.{tree_height, trees_height, guards_height, clauses_height}
+use Rattle.erl_ast.specs.TreeForms.{tree, trees, guards, clauses}
+use Rattle.erl_ast.specs.Heights.{tree_height, trees_height, guards_height, clauses_height}
 use Rattle.erl_lint.specs.Scopes.{with_names, binds_in}
 use Rattle.erl_lower.specs.Expressions.{clauses_of, guards_of, row_of}
 use Rattle.erl_lower.proofs.Rows.{clause_height, onto_clauses, onto_exprs, onto_guards}

@@ -1,6 +1,6 @@
 -- One term more is made, and none is left at the end.
 use Rattle.std.proofs.Common.{ap, arith, rules, ℕ}
-use Rattle.erl_syntax.specs.TreeForms.{trees as trees_of}
+use Rattle.erl_ast.specs.TreeForms.{trees as trees_of}
 use Rattle.erl_term.specs.Term.{trees}
 use Rattle.erl_lower.specs.Literals.{terms_in}
 use Rattle.erl_lower.proofs.Rows.{ended, next_term, onto_terms, onto_terms-none, tree_in}

@@ -1,7 +1,7 @@
 -- The terms so far and what is left make the row, and each call goes down.
 use Rattle.std.proofs.Common.{◌≡◌, ◌+◌, ◌*◌, drop}
-use Rattle.erl_syntax.specs.TreeForms.{tree, trees}
-use Rattle.erl_syntax.specs.Heights.{tree_height, trees_height}
+use Rattle.erl_ast.specs.TreeForms.{tree, trees}
+use Rattle.erl_ast.specs.Heights.{tree_height, trees_height}
 use Rattle.erl_lower.specs.Literals.{terms_in}
 use Rattle.erl_lower.proofs.Rows.{onto_terms}
 use Rattle.erl_lower.proofs.literals.+terms.Given as goal

@@ -1,8 +1,8 @@
 -- One pattern more is made, and none is left at the end.
 use Rattle.std.proofs.Common.{ap, arith, refl, rules}
-use Rattle.erl_syntax.specs.TreeForms.{tree, trees}
+use Rattle.erl_ast.specs.TreeForms.{tree, trees}
 use Rattle.erl_lint.specs.Scopes.{pattern_names, pattern_names_in, with_names}
-use Rattle.erl_forms.specs.PatternForms.{pats}
+use Rattle.erl_ir.specs.PatternForms.{pats}
 use Rattle.erl_lower.specs.Patterns.{patterns_of}
 use Rattle.erl_lower.proofs.Rows.{ended, ended_bound, next_bound, next_pattern, onto_pats, onto_pats-none, tree_in}
 use Rattle.erl_lower.proofs.patterns.+patterns.Goals as goal

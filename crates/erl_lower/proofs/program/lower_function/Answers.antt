@@ -1,7 +1,7 @@
 -- One clause more is made, and none is left at the end.
 use Rattle.std.proofs.Common.{◌∙◌, ap, arith, ℕ}
-use Rattle.erl_forms.specs.declared.function.Definition.TheVariants as definition
-use Rattle.erl_forms.specs.ExpressionForms.{clauses}
+use Rattle.erl_ir.specs.declared.function.Definition.TheVariants as definition
+use Rattle.erl_ir.specs.ExpressionForms.{clauses}
 use Rattle.erl_lower.specs.Meaning.{function_clauses}
 use Rattle.erl_lower.proofs.Rows.{ended, next_function_clause, onto_clauses, onto_clauses-none}
 use Rattle.erl_lower.proofs.program.lower_function.Goals as goal

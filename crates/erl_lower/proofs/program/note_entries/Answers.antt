@@ -1,7 +1,7 @@
 -- One entry more is noted.
 use Rattle.std.proofs.Common.{◌∙◌, ◌∷◌, [], ap, refl}
 use Rattle.indexmap.specs.IndexSet.{insert_all, insert_key}
-use Rattle.erl_forms.specs.Module.{key_eq}
+use Rattle.erl_ir.specs.Module.{key_eq}
 use Rattle.erl_lower.specs.Meaning.{entries_of}
 use Rattle.erl_lower.proofs.Rows.{next_taken}
 use Rattle.erl_lower.proofs.program.note_entries.Goals as goal

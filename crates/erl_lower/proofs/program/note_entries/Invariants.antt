@@ -1,7 +1,7 @@
 -- The entries so far, and those that are left, are all.
 use Rattle.std.proofs.Common.{◌≡◌, drop}
 use Rattle.indexmap.specs.IndexSet.{insert_all}
-use Rattle.erl_forms.specs.Module.{key_eq}
+use Rattle.erl_ir.specs.Module.{key_eq}
 use Rattle.erl_lower.specs.Meaning.{entries_of}
 use Rattle.erl_lower.proofs.program.note_entries.Given as goal
 

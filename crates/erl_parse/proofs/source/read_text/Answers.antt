@@ -3,8 +3,8 @@ use Rattle.std.proofs.Common.{◌≡◌, rules, length, Some, subst, sym}
 use Rattle.std.specs.Prelude.{IfErr}
 use Rattle.std.specs.Str.{chars}
 use Rattle.erl_scan.specs.Scan.{IsScanOf}
-use Rattle.erl_syntax.specs.Forms.{IsModule}
-use Rattle.erl_syntax.specs.Terminal.{terminals}
+use Rattle.erl_ast.specs.Forms.{IsModule}
+use Rattle.erl_ast.specs.Terminal.{terminals}
 use Rattle.values.specs.Failure.{Fails}
 use Rattle.erl_parse.specs.Sources.{IsWritten}
 use Rattle.erl_parse.specs.Telling.{faulty, TellsTokens}

@@ -1,7 +1,7 @@
 -- What is told of a refusal is told of the tokens.
-use Rattle.erl_syntax.specs.declared.form.ModuleTree.{ModuleTree}
-use Rattle.erl_syntax.specs.Forms.{IsModule}
-use Rattle.erl_syntax.specs.Terminal.{terminals}
+use Rattle.erl_ast.specs.declared.form.ModuleTree.{ModuleTree}
+use Rattle.erl_ast.specs.Forms.{IsModule}
+use Rattle.erl_ast.specs.Terminal.{terminals}
 use Rattle.module_forms.specs.FirstFault.{IsToldFirst}
 use Rattle.erl_parse.proofs.source.tree_of.Goals as goal
 

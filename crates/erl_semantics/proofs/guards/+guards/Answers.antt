@@ -2,7 +2,7 @@
 use Rattle.std.proofs.Common.{rules, ap, sym, ◌∙◌, drop}
 use Rattle.std.proofs.lemmas.List.{drop_all}
 use Rattle.erl_term.specs.Term.{tree}
-use Rattle.erl_forms.proofs.ExpressionRows.{expression_in}
+use Rattle.erl_ir.proofs.ExpressionRows.{expression_in}
 use Rattle.erl_semantics.proofs.Tests.{row_next, row_ends, row_whole, alone_else}
 use Rattle.erl_semantics.specs.Bindings.{bindings}
 use Rattle.erl_semantics.specs.Given.{result_of}

@@ -1,7 +1,7 @@
 -- What comes of the other operands, behind the values that are there, is what comes of all; and each call goes down.
 use Rattle.std.proofs.Common.{◌≡◌, ◌+◌, ◌*◌, max, drop}
-use Rattle.erl_forms.specs.ExpressionForms.{expr, exprs}
-use Rattle.erl_forms.specs.Heights.{expr_height, exprs_height}
+use Rattle.erl_ir.specs.ExpressionForms.{expr, exprs}
+use Rattle.erl_ir.specs.Heights.{expr_height, exprs_height}
 use Rattle.erl_semantics.specs.Bindings.{bindings}
 use Rattle.erl_semantics.specs.Guards.{tested_row}
 use Rattle.erl_semantics.proofs.Tests.{behind_values}

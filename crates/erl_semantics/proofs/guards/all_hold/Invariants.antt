@@ -1,6 +1,6 @@
 -- The tests that are left hold where all do.
 use Rattle.std.proofs.Common.{◌≡◌, drop}
-use Rattle.erl_forms.specs.ExpressionForms.{exprs}
+use Rattle.erl_ir.specs.ExpressionForms.{exprs}
 use Rattle.erl_semantics.specs.Bindings.{bindings}
 use Rattle.erl_semantics.specs.Guards.{all_hold}
 use Rattle.erl_semantics.proofs.guards.all_hold.Given as goal

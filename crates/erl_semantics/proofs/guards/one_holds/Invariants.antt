@@ -1,6 +1,6 @@
 -- One of the guards that are left is true where one of all is.
 use Rattle.std.proofs.Common.{◌≡◌, drop}
-use Rattle.erl_forms.specs.ExpressionForms.{guards}
+use Rattle.erl_ir.specs.ExpressionForms.{guards}
 use Rattle.erl_semantics.specs.Bindings.{bindings}
 use Rattle.erl_semantics.specs.Guards.{one_holds}
 use Rattle.erl_semantics.proofs.guards.one_holds.Given as goal

@@ -1,7 +1,7 @@
 -- What is selected of the clauses that are left is selected of all.
 use Rattle.std.proofs.Common.{◌≡◌, map, drop}
 use Rattle.erl_term.specs.Term.{tree, trees}
-use Rattle.erl_forms.specs.ExpressionForms.{clauses}
+use Rattle.erl_ir.specs.ExpressionForms.{clauses}
 use Rattle.erl_semantics.specs.Guards.{selected}
 use Rattle.erl_semantics.proofs.guards.select.Given as goal
 

@@ -2,7 +2,7 @@
 use Rattle.std.specs.Prelude.{[]}
 use Rattle.std.proofs.Common.{arith, rules, ap, ◌∙◌}
 use Rattle.erl_semantics.specs.Bindings.{bindings, bound_if}
-use Rattle.erl_forms.proofs.PatternRows.{depth_in}
+use Rattle.erl_ir.proofs.PatternRows.{depth_in}
 use Rattle.erl_semantics.proofs.Matched.{each_unequal, front_too_short, front_fails, front_then, front_depth, last_depth}
 use Rattle.erl_semantics.proofs.matching.+matching.Goals as goal
 

@@ -1,8 +1,8 @@
 -- What is left to match gives what all gives, and each call goes down.
 use Rattle.std.proofs.Common.{◌≡◌, ◌+◌, ◌*◌, drop}
 use Rattle.erl_term.specs.Term.{tree, trees}
-use Rattle.erl_forms.specs.Pattern.{pat_depth, pats_depth}
-use Rattle.erl_forms.specs.PatternForms.{pat, pats}
+use Rattle.erl_ir.specs.Pattern.{pat_depth, pats_depth}
+use Rattle.erl_ir.specs.PatternForms.{pat, pats}
 use Rattle.erl_semantics.specs.Bindings.{bindings}
 use Rattle.erl_semantics.specs.Matching.{matched_each, matched_all}
 use Rattle.erl_semantics.proofs.matching.+matching.Given as goal

@@ -1,8 +1,8 @@
 -- What is left are terms where all are, and each call goes down.
 use Rattle.std.proofs.Common.{◌≡◌, ◌+◌, ◌*◌, drop}
-use Rattle.erl_syntax.specs.Forms.{are_terms}
-use Rattle.erl_syntax.specs.Tree.{tree_depth, trees_depth}
-use Rattle.erl_syntax.specs.TreeForms.{tree, trees}
+use Rattle.erl_ast.specs.Forms.{are_terms}
+use Rattle.erl_ast.specs.Tree.{tree_depth, trees_depth}
+use Rattle.erl_ast.specs.TreeForms.{tree, trees}
 use Rattle.module_forms.proofs.attributes.+term.Given as goal
 
 abbrev pub decreases-is_term : goal.decreases-is_term

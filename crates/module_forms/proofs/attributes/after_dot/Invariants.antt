@@ -1,7 +1,7 @@
 -- The next dot of what is left is the next of all.
 use Rattle.std.proofs.Common.{◌≡◌, ◌+◌, length}
-use Rattle.erl_syntax.specs.Forms.{after_dot}
-use Rattle.erl_syntax.specs.Terminal.{terminals}
+use Rattle.erl_ast.specs.Forms.{after_dot}
+use Rattle.erl_ast.specs.Terminal.{terminals}
 use Rattle.erl_expressions.specs.Refusing.{Leaves}
 use Rattle.module_forms.proofs.attributes.after_dot.Given as goal
 

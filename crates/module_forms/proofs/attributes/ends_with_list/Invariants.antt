@@ -1,7 +1,7 @@
 -- The last of those that were seen.
 use Rattle.std.proofs.Common.{◌≡◌, take}
-use Rattle.erl_syntax.specs.Forms.{ends_with_list}
-use Rattle.erl_syntax.specs.TreeForms.{trees}
+use Rattle.erl_ast.specs.Forms.{ends_with_list}
+use Rattle.erl_ast.specs.TreeForms.{trees}
 use Rattle.module_forms.proofs.attributes.ends_with_list.Given as goal
 
 abbrev pub invariant-loop-part : goal.invariant-loop-part

@@ -1,6 +1,6 @@
 -- The entries that were read stand before those that are left.
 use Rattle.std.proofs.Common.{◌≡◌, ◌-◌, length}
-use Rattle.erl_syntax.specs.Terminal.{terminals}
+use Rattle.erl_ast.specs.Terminal.{terminals}
 use Rattle.erl_expressions.specs.declared.delimiter.Delimiter.TheVariants.{Comma}
 use Rattle.erl_expressions.specs.Reading.{and_then, separated}
 use Rattle.erl_expressions.specs.Refusing.{Leaves}

@@ -1,6 +1,6 @@
 -- The clauses that were read stand before those that are left.
 use Rattle.std.proofs.Common.{◌≡◌, ◌+◌, ◌-◌, length}
-use Rattle.erl_syntax.specs.Terminal.{terminals}
+use Rattle.erl_ast.specs.Terminal.{terminals}
 use Rattle.erl_expressions.specs.Reading.{and_then}
 use Rattle.erl_expressions.specs.Refusing.{Leaves}
 use Rattle.module_forms.specs.FormReading.{function_from, clauses_like, rest_of_function}

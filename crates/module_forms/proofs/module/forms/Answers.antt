@@ -1,7 +1,7 @@
 -- The form that was read stands behind the others, and a refusal is told of the form that stands behind all that were read.
 use Rattle.std.proofs.Common.{◌≡◌, ◌+◌, ◌-◌, ◌<◌, false, List, [], ◌∷◌, ◌++◌, length, Some, None, subst, sym, ◌∙◌, arith}
-use Rattle.erl_syntax.specs.declared.form.FormTree.{FormTree}
-use Rattle.erl_syntax.specs.Terminal.{terminals}
+use Rattle.erl_ast.specs.declared.form.FormTree.{FormTree}
+use Rattle.erl_ast.specs.Terminal.{terminals}
 use Rattle.erl_expressions.specs.Refusing.{IsToldOf}
 use Rattle.module_forms.specs.FormReading.{form, all_forms, forms_from, is_end}
 use Rattle.module_forms.proofs.FirstFault.{AreRead, one_is_read, told_in_form}

@@ -1,6 +1,6 @@
 -- The forms that were read stand before those that are left.
 use Rattle.std.proofs.Common.{◌≡◌, ◌+◌, ◌-◌, length}
-use Rattle.erl_syntax.specs.Terminal.{terminals}
+use Rattle.erl_ast.specs.Terminal.{terminals}
 use Rattle.module_forms.specs.FormReading.{all_forms, forms_from}
 use Rattle.module_forms.proofs.FirstFault.{AreRead}
 use Rattle.module_forms.proofs.module.forms.Given as goal

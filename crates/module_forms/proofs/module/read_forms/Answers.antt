@@ -1,6 +1,6 @@
 -- What is refused is no module.
 use Rattle.std.proofs.Common.{rules}
-use Rattle.erl_syntax.specs.Terminal.{terminals}
+use Rattle.erl_ast.specs.Terminal.{terminals}
 use Rattle.module_forms.proofs.Modules.{none_read}
 use Rattle.module_forms.proofs.module.read_forms.Goals as goal
 

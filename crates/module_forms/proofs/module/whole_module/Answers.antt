@@ -1,6 +1,6 @@
 -- A refusal is told of the head, or of the first form that is none.
 use Rattle.std.proofs.Common.{◌≡◌, ◌≤◌, length, Some, None}
-use Rattle.erl_syntax.specs.Terminal.{terminals}
+use Rattle.erl_ast.specs.Terminal.{terminals}
 use Rattle.erl_expressions.specs.Refusing.{IsToldOf}
 use Rattle.module_forms.specs.FirstFault.{FaultsBehind}
 use Rattle.module_forms.specs.FormReading.{module_head}

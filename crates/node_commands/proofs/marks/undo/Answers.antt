@@ -1,4 +1,4 @@
--- An undo that met want of memory.
+-- An undo that ran out of memory.
 use Rattle.std.proofs.Common.{subst}
 use Rattle.undo_journal.specs.Journal.{UndoFails}
 use Rattle.undo_journal.specs.declared.error.JournalError.{JournalError}

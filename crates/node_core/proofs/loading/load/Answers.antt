@@ -7,11 +7,11 @@ use Rattle.script_events.specs.Scripts.{Outcome, reporting, running_in, with_run
 use Rattle.node_types.specs.declared.event.Answer.{Answer}
 use Rattle.node_types.specs.declared.event.Answer.TheVariants as answer
 use Rattle.node_types.specs.Note.{Note}
-use Rattle.code_loading.specs.Loading.{purge_told}
+use Rattle.code_loading.specs.Loading.{downs_of_purge}
 use Rattle.code_replacement.specs.Replacing.{code_loaded, running}
 use Rattle.code_replacement.specs.Undo.{TakesBack}
-use Rattle.code_replacement.specs.declared.undo.Undo.{Undo}
-use Rattle.erl_forms.specs.Module.{Forms}
+use Rattle.code_replacement.specs.declared.undo.ReplacementUndo.{ReplacementUndo}
+use Rattle.erl_ir.specs.Module.{Forms}
 use Rattle.script_events.proofs.Accepting.{unless_none, while_idle}
 use Rattle.script_events.specs.Step.{load_refused, loaded_as, loads}
 use Rattle.node_types.specs.declared.event.Refusal.TheVariants.{OfModules}
@@ -25,6 +25,6 @@ returns-in-Ok-replace c =
     let a : Accepted NodeState Answer Note = loaded_as m n in
     let ruled = while_idle n.runner (λ (it : Outcome). it ≡ loads m n) (Ok a) c.requires.0 (unless_none (load_refused m n) OfModules a c.requires.1) in
     let loaded = c.in-Ok-replace.ensures.loaded ∙ ap (λ (x : Forms). code_loaded x (running_in n)) c.in-Ok-copy.ensures in
-    let told = c.in-Ok.ensures ∙ ap (λ (name : List ℕ). replicate c.args.n (record { answer = answer.Unit; note = reporting (purge_told name n.modules n.processes) })) c.name-name.ensures in
-    let back = subst (λ (u : Undo). TakesBack u (running_in n) after) (sym c.fill.ensures) c.in-Ok-replace.ensures.inverse in
+    let told = c.in-Ok.ensures ∙ ap (λ (name : List ℕ). replicate c.args.n (record { answer = answer.Unit; note = reporting (downs_of_purge name n.modules n.processes) })) c.name-name.ensures in
+    let back = subst (λ (u : ReplacementUndo). TakesBack u (running_in n) after) (sym c.fill.ensures) c.in-Ok-replace.ensures.inverse in
     ((a, ruled, ap (λ s. with_running s n) (sym loaded), told), (back, refl))

@@ -9,7 +9,7 @@ use Rattle.node_types.specs.Note.{Note}
 use Rattle.app_table.specs.Applications.{Application}
 use Rattle.app_table.specs.Pieces.{held}
 use Rattle.app_table.specs.Undo.{undone}
-use Rattle.app_table.specs.declared.undo.Undo.{Undo}
+use Rattle.app_table.specs.declared.undo.AppsUndo.{AppsUndo}
 use Rattle.erl_semantics.specs.declared.instance.Instance.{Instance}
 use Rattle.process_effects.specs.declared.told.Reply.{Reply}
 use Rattle.sys_protocol.specs.ChildStarts.{Restarts}
@@ -32,6 +32,6 @@ returns-in-Ok-start_again c =
     let said : List Reply → Told Answer Note = λ rs. record { answer = answer.Revived it.pid; note = record { replies = rs; arrival = None } } in
     let is = ap (λ (xs : List Application). record n { processes = after; apps = xs }) (sym changed) in
     let ruled : IsRevived app id n a = record { child = child; found = found; due = due; pid = it.pid; after = after; told = told; restarts = again; is = refl } in
-    let back = subst (λ (u : Undo). undone u c.revive.new.apps ≡ n.apps) (sym c.fill.ensures) c.in-Ok-start_again.ensures.inverse in
-    let none = subst (λ (u : Undo). held u c.revive.new.apps ≡ []) (sym c.fill.ensures) c.in-Ok-start_again.ensures.app_pieces in
+    let back = subst (λ (u : AppsUndo). undone u c.revive.new.apps ≡ n.apps) (sym c.fill.ensures) c.in-Ok-start_again.ensures.inverse in
+    let none = subst (λ (u : AppsUndo). held u c.revive.new.apps ≡ []) (sym c.fill.ensures) c.in-Ok-start_again.ensures.app_pieces in
     ((a, ruled, is, c.tell_revived.ensures ∙ ap (map said) tells ∙ each_of said told c.args.n), (ends_back it.processes n.processes after c.in-Ok-start_again.ensures.processes, back, refl, c.in-Ok-start_again.ensures.pieces, none))

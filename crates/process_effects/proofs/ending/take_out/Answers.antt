@@ -1,9 +1,9 @@
 -- The process lives again, with its name and its open calls, and its record holds what nobody has any more.
 use Rattle.std.proofs.Common.{◌≡◌, Some, refl, sym, ap, subst, ◌∙◌}
 use Rattle.process.specs.Ended.{ended_with}
-use Rattle.process_store.specs.declared.living.Living.{Living}
+use Rattle.process_store.specs.declared.living.ProcessEntry.{ProcessEntry}
 use Rattle.process_store.specs.Table.{living}
-use Rattle.process_effects.specs.Ends.{EndsBack, IsTold, ended_of}
+use Rattle.process_effects.specs.Ends.{EndsBack, HasCodeRefs, ended_of}
 use Rattle.process_effects.specs.declared.ending.EndedProcess.{EndedProcess}
 use Rattle.process_effects.proofs.Ends.{ended_back, ended_fits}
 use Rattle.process_effects.proofs.EndedPieces.{one_left}
@@ -11,7 +11,7 @@ use Rattle.process_effects.proofs.ending.take_out.Goals as goal
 
 pub returns-in-Some-clause-back : goal.returns-in-Some-clause-back
 returns-in-Some-clause-back c = λ told.
-    let l : Living = c.in-Some.living in
+    let l : ProcessEntry = c.in-Some.living in
     let before = c.args.store.now in
     let pid = c.args.leaves.pid in
     let there : living pid before ≡ Some l = sym c.in-Some.ensures.process in
@@ -19,7 +19,7 @@ returns-in-Some-clause-back c = λ told.
     let is = sym c.ended_process.ensures in
     subst (λ (x : EndedProcess). EndsBack x before c.remove.new.self) is (λ modules. (
       ended_fits modules c.remove.new.self l e pid refl refl c.in-Some.ensures.returns,
-      λ sound stands. ended_back modules before c.remove.new.self l e pid sound stands there (subst (IsTold c.args.leaves.told) there told) c.in-Some.ensures.back,
+      λ sound stands. ended_back modules before c.remove.new.self l e pid sound stands there (subst (HasCodeRefs c.args.leaves.told) there told) c.in-Some.ensures.back,
     ))
 
 pub returns-in-Some-clause-pieces : goal.returns-in-Some-clause-pieces

@@ -1,6 +1,6 @@
 -- One more has left, or nobody lives there.
 use Rattle.std.proofs.Common.{sym, subst, ◌∙◌, arith}
-use Rattle.process_effects.specs.Ends.{KillsBack}
+use Rattle.process_effects.specs.Ends.{UndoesEnds}
 use Rattle.process_effects.specs.EndedPieces.{held_by_all}
 use Rattle.process_effects.proofs.EndedPieces.{HaveLeft, left_lost, more_left}
 use Rattle.process_effects.proofs.Returns.{kills_back, leaves_last, nobody_leaves, still_stand, told_last, told_others}
@@ -41,7 +41,7 @@ loop-leaves-preserved c =
       table = leaves_last ps others p t after last gone ∙ i.table;
       told = told_others ps others p t after last gone i.told;
       stands = still_stand before t after p.pid gone i.stands;
-      back = subst (KillsBack c.loop-leaves.ended.items before) (sym (nobody_leaves p t after c.in_default-take_out.ensures.process gone)) i.back;
+      back = subst (UndoesEnds c.loop-leaves.ended.items before) (sym (nobody_leaves p t after c.in_default-take_out.ensures.process gone)) i.back;
       room = omega (arith, i.room, c.in-Some.ensures.cases);
       left = subst (HaveLeft (held_by_all c.loop-leaves.ended.items) before) (sym (nobody_leaves p t after c.in_default-take_out.ensures.process gone)) i.left;
     }

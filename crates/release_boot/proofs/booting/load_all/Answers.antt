@@ -4,7 +4,7 @@ use Rattle.erl_semantics.proofs.Tests.{from_here}
 use Rattle.release_boot.proofs.Orders.{loaded_both}
 use Rattle.release_boot.specs.Boot.{all_loaded, modules_of}
 use Rattle.release_table.specs.declared.table.AppFiles.{AppFiles}
-use Rattle.erl_forms.specs.Module.{Forms}
+use Rattle.erl_ir.specs.Module.{Forms}
 use Rattle.release_boot.proofs.booting.load_all.Goals as goal
 
 pub loop-app-preserved : goal.loop-app-preserved

@@ -5,7 +5,7 @@ use Rattle.erl_semantics.specs.declared.instance.Instance.{Instance}
 use Rattle.process_effects.specs.declared.told.Reply.{Reply}
 use Rattle.process_store.specs.Pieces.{HoldsLost}
 use Rattle.process_store.specs.Table.{Table}
-use Rattle.script_children.specs.Applying.{AppUnloads, Does}
+use Rattle.script_children.specs.Applying.{AppUnloads, DoesAppCall}
 use Rattle.script_children.specs.Children.{Supervised}
 use Rattle.script_children.specs.Pieces.{held_processes}
 use Rattle.script_children.specs.declared.applying.Applied.{Applied}
@@ -24,7 +24,7 @@ Goes name before after it =
 
 abbrev Did : List Instance → AppCall → List ℕ → ℕ → Supervised → Supervised → Applied → Type 0
 Did code call name n s after it =
-    (told : List Reply) × Does code call (Some name) s after told × (it.told.items ≡ replicate n told)
+    (told : List Reply) × DoesAppCall code call (Some name) s after told × (it.told.items ≡ replicate n told)
 
 unloads : (t : Table) (code : List Instance) (call : AppCall) (name : List ℕ) (n : ℕ) (before after : List Application) →
     (r : Result Applied (Failure AppError)) → call ≡ Unload → IfOk r (Goes name before after) →
@@ -34,7 +34,7 @@ unloads t code call name n before after (Err failure) is goes tells = tt
 unloads t code call name n before after (Ok it) is goes tells =
     let s : Supervised = record { apps = before; processes = t } in
     let now : Supervised = record { apps = after; processes = t } in
-    ([], subst (λ (k : AppCall). Does code k (Some name) s now []) (sym is) (goes t), tells)
+    ([], subst (λ (k : AppCall). DoesAppCall code k (Some name) s now []) (sym is) (goes t), tells)
 
 holds : (t : Table) (r : Result Applied (Failure AppError)) →
     IfOk r (λ it. (u : Table) → HoldsLost (held_processes it.undo u) u u) →

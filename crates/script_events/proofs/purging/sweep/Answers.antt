@@ -1,6 +1,6 @@
 -- Old code is purged.
 use Rattle.std.proofs.Common.{◌≡◌, ◌∙◌, ℕ, List, Ok, replicate, refl, sym, ap, subst}
-use Rattle.code_loading.specs.Purging.{all_purge_told}
+use Rattle.code_loading.specs.Purging.{downs_of_purges}
 use Rattle.code_replacement.specs.Replacing.{all_without, running}
 use Rattle.code_replacement.specs.Undo.{PurgesBack}
 use Rattle.code_replacement.specs.declared.undo.Purges.{Purges}
@@ -22,7 +22,7 @@ returns-in-Ok c =
     let a : Accepted NodeState Answer Note = swept_as names n in
     let purged = c.in-Ok.ensures.purged ∙ ap (λ (ns : List (List ℕ)). all_without ns (running_in n)) c.as_slice-3.ensures.value in
     let is = ap (λ s. with_running s n) (sym purged) in
-    let told = c.in_ok-told.ensures ∙ ap (λ (ns : List (List ℕ)). replicate c.args.n (record { answer = answer.Swept ns; note = reporting (all_purge_told ns n.modules n.processes) })) c.as_slice-2.ensures.value in
+    let told = c.in_ok-told.ensures ∙ ap (λ (ns : List (List ℕ)). replicate c.args.n (record { answer = answer.Swept ns; note = reporting (downs_of_purges ns n.modules n.processes) })) c.as_slice-2.ensures.value in
     let purges = subst (λ (u : Purges). PurgesBack u (running_in n) after) (sym c.fill.ensures) c.in-Ok.ensures.inverse in
     let swept = subst (λ ns. AreSwept n.modules n.processes ns names) c.as_slice.ensures.value c.in_ok-names.ensures in
     ((a, (names, swept, refl), is, told), (purges, refl, refl))

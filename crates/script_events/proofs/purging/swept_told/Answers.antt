@@ -1,6 +1,6 @@
 -- Each list is told so.
 use Rattle.std.proofs.Common.{◌≡◌, ◌∙◌, List, None, ap, map, replicate}
-use Rattle.code_loading.specs.Purging.{all_purge_told}
+use Rattle.code_loading.specs.Purging.{downs_of_purges}
 use Rattle.process_effects.specs.declared.told.Reply.{Reply}
 use Rattle.undo_journal.specs.declared.reversible.Told.{Told}
 use Rattle.node_parts.proofs.Accepting.{each_of, if_ok}
@@ -12,6 +12,6 @@ use Rattle.script_events.proofs.purging.swept_told.Goals as goal
 pub returns : goal.returns
 returns c =
     let said : List Reply → Told Answer Note = λ rs. record { answer = answer.Swept c.args.names.now; note = record { replies = rs; arrival = None } } in
-    let told = all_purge_told c.args.names.now c.args.parts.now.modules c.args.parts.now.processes in
+    let told = downs_of_purges c.args.names.now c.args.parts.now.modules c.args.parts.now.processes in
     if_ok c.tell_swept.result (λ it. it.items ≡ map said c.in_ok-lists.lists.items) (λ it. it.items ≡ replicate c.args.n (said told))
     (λ it is. is ∙ ap (map said) c.in_ok-lists.ensures ∙ each_of said told c.args.n) c.tell_swept.ensures

@@ -1,7 +1,7 @@
 -- What the files say is told, and nothing changes.
 use Rattle.std.proofs.Common.{refl, subst}
 use Rattle.release_files.specs.Files.{Contents}
-use Rattle.shell_holdings.proofs.Done.{IfOk-then}
+use Rattle.shell_state.proofs.Done.{IfOk-then}
 use Rattle.shell_relups.specs.Relups.{RelupTold}
 use Rattle.shell_relups.proofs.telling.tell_relup.Goals as goal
 

@@ -1,6 +1,6 @@
 -- The first fault of the files of the one release, or else of the other, or what comes of making their relup.
 use Rattle.std.proofs.Common.{string_bytes}
-use Rattle.shell_holdings.proofs.Done.{IfOk-then}
+use Rattle.shell_state.proofs.Done.{IfOk-then}
 use Rattle.shell_relups.specs.Relups.{no_source, no_target}
 use Rattle.shell_relups.proofs.Told.{made-told, unmade-told, unread-told}
 use Rattle.shell_relups.proofs.telling.tell_relup_in.Goals as goal

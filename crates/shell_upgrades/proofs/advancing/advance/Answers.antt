@@ -3,15 +3,15 @@ use Rattle.std.proofs.Common.{◌≡◌, Some, ap, refl, subst, sym, ◌∙◌}
 use Rattle.std.specs.Prelude.{option_map}
 use Rattle.erl_term.specs.Term.{tree}
 use Rattle.low_instructions.specs.Forms.{low_tree}
-use Rattle.shell_holdings.specs.Node.{NodeState}
+use Rattle.shell_state.specs.Node.{NodeState}
 use Rattle.node_types.specs.declared.event.Event.TheVariants as event
 use Rattle.shell_answers.specs.Answers.{line_of}
 use Rattle.shell_answers.specs.Refusals.{naming_nothing}
-use Rattle.shell_holdings.proofs.Done.{IfOk-then}
-use Rattle.shell_holdings.proofs.Performing.{halted, performed}
-use Rattle.shell_holdings.specs.Done.{IsDone}
-use Rattle.shell_holdings.specs.Performing.{Performs, done_by}
-use Rattle.shell_holdings.specs.State.{ShellState, node_of, stepped}
+use Rattle.shell_state.proofs.Done.{IfOk-then}
+use Rattle.shell_state.proofs.Performing.{halted, performed}
+use Rattle.shell_state.specs.Done.{IsDone}
+use Rattle.shell_state.specs.Performing.{Performs, done_by}
+use Rattle.shell_state.specs.State.{ShellState, node_of, stepped}
 use Rattle.undo_journal.specs.declared.history.Command.TheVariants.{Perform}
 use Rattle.shell_upgrades.proofs.Advanced.{advance_told}
 use Rattle.shell_upgrades.specs.Advancing.{advanced_by, next_of}

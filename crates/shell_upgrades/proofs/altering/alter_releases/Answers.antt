@@ -2,17 +2,17 @@
 use Rattle.std.proofs.Common.{◌++◌, IfOk, ap, refl, subst, sym, ◌∙◌}
 use Rattle.std.specs.Str.{chars}
 use Rattle.undo_journal.specs.Reversible.{Accepted}
-use Rattle.shell_holdings.specs.Node.{NodeState}
+use Rattle.shell_state.specs.Node.{NodeState}
 use Rattle.node_types.specs.Note.{Note}
 use Rattle.node_types.specs.declared.event.Answer.{Answer}
 use Rattle.node_types.specs.declared.event.Event.{Event}
 use Rattle.shell_answers.specs.Answers.{line_of}
-use Rattle.shell_holdings.proofs.Done.{IfOk-then}
-use Rattle.shell_holdings.proofs.Performing.{halted, performed}
-use Rattle.shell_holdings.specs.Done.{IsDone}
-use Rattle.shell_holdings.specs.Halts.{halt_answer}
-use Rattle.shell_holdings.specs.Performing.{Performs, done_by}
-use Rattle.shell_holdings.specs.State.{Deed, ShellState, carried, node_of, stepped}
+use Rattle.shell_state.proofs.Done.{IfOk-then}
+use Rattle.shell_state.proofs.Performing.{halted, performed}
+use Rattle.shell_state.specs.Done.{IsDone}
+use Rattle.shell_state.specs.Halts.{halt_answer}
+use Rattle.shell_state.specs.Performing.{Performs, done_by}
+use Rattle.shell_state.specs.State.{Effect, ShellState, carried, node_of, stepped}
 use Rattle.shell_upgrades.proofs.Altered.{alteration_done}
 use Rattle.shell_upgrades.specs.Upgrades.{release_answer, release_event, subject_in}
 use Rattle.shell_upgrades.proofs.altering.alter_releases.Goals as goal
@@ -36,7 +36,7 @@ returns-in-Ok-perform c =
     let text = c.args.out.now.items in
     let new = c.perform.new.self in
     let out = c.tell_altered.new.out.items in
-    subst (λ (done : Accepted NodeState Answer Note → Deed). IfOk c.tell_altered.result (λ fate. IsDone (Performs s s (release_event kind vsn) about done fate) new text out)) (alteration_done s kind vsn) (subst (λ (x : Event). IfOk c.tell_altered.result (λ fate. IsDone (Performs s s x about (λ a. carried (stepped a s) x (release_answer kind a.answer)) fate) new text out)) is (IfOk-then c.tell_altered.result _ _ c.tell_altered.ensures (λ fate told. performed s new e about (λ a. carried (stepped a s) e (release_answer kind a.answer)) c.in-Ok-perform.answer fate new text out (λ after a. after) (λ after a. line_of (release_answer kind a)) c.in-Ok-perform.ensures.stepped (λ a rule. refl) (told.0, refl, told.1))))
+    subst (λ (done : Accepted NodeState Answer Note → Effect). IfOk c.tell_altered.result (λ fate. IsDone (Performs s s (release_event kind vsn) about done fate) new text out)) (alteration_done s kind vsn) (subst (λ (x : Event). IfOk c.tell_altered.result (λ fate. IsDone (Performs s s x about (λ a. carried (stepped a s) x (release_answer kind a.answer)) fate) new text out)) is (IfOk-then c.tell_altered.result _ _ c.tell_altered.ensures (λ fate told. performed s new e about (λ a. carried (stepped a s) e (release_answer kind a.answer)) c.in-Ok-perform.answer fate new text out (λ after a. after) (λ after a. line_of (release_answer kind a)) c.in-Ok-perform.ensures.stepped (λ a rule. refl) (told.0, refl, told.1))))
 
 pub returns-in-Err : goal.returns-in-Err
 returns-in-Err c =

@@ -1,8 +1,8 @@
 -- A refusal that is told without memory, or none.
 use Rattle.std.proofs.Common.{false, true, ap, ◌∙◌}
 use Rattle.std.specs.Str.{chars}
-use Rattle.shell_holdings.proofs.Performing.{runner_told, unfull}
-use Rattle.shell_holdings.specs.State.{node_of}
+use Rattle.shell_state.proofs.Performing.{runner_told, unfull}
+use Rattle.shell_state.specs.State.{node_of}
 use Rattle.shell_upgrades.proofs.Altered.{alteration_may, alteration_meanwhile, alteration_refused}
 use Rattle.shell_upgrades.specs.Upgrades.{refusal_of_alteration}
 use Rattle.shell_upgrades.proofs.altering.halt_of_alteration.Goals as goal

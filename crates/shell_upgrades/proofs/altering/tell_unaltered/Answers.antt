@@ -1,10 +1,10 @@
 -- The refusal is told of what the node has of the release.
 use Rattle.std.proofs.Common.{◌++◌, ap, ◌∙◌}
 use Rattle.std.specs.Str.{chars}
-use Rattle.shell_holdings.specs.Node.{NodeState}
+use Rattle.shell_state.specs.Node.{NodeState}
 use Rattle.shell_answers.specs.Answers.{line_of}
-use Rattle.shell_holdings.proofs.Done.{IfOk-then}
-use Rattle.shell_holdings.specs.Halts.{halt_answer}
+use Rattle.shell_state.proofs.Done.{IfOk-then}
+use Rattle.shell_state.specs.Halts.{halt_answer}
 use Rattle.shell_upgrades.specs.Upgrades.{subject_in}
 use Rattle.shell_upgrades.proofs.altering.tell_unaltered.Goals as goal
 

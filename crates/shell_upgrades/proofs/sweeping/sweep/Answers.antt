@@ -3,11 +3,11 @@ use Rattle.std.proofs.Common.{refl, subst, sym}
 use Rattle.node_types.specs.declared.event.Event.TheVariants as event
 use Rattle.shell_answers.specs.Answers.{line_of}
 use Rattle.shell_answers.specs.Refusals.{naming_nothing}
-use Rattle.shell_holdings.proofs.Done.{IfOk-then}
-use Rattle.shell_holdings.proofs.Performing.{halted, performed}
-use Rattle.shell_holdings.specs.Done.{IsDone}
-use Rattle.shell_holdings.specs.Performing.{Performs, done_by, swept_in}
-use Rattle.shell_holdings.specs.State.{ShellState}
+use Rattle.shell_state.proofs.Done.{IfOk-then}
+use Rattle.shell_state.proofs.Performing.{halted, performed}
+use Rattle.shell_state.specs.Done.{IsDone}
+use Rattle.shell_state.specs.Performing.{Performs, done_by, swept_in}
+use Rattle.shell_state.specs.State.{ShellState}
 use Rattle.shell_upgrades.proofs.sweeping.sweep.Goals as goal
 
 pub returns-in-Ok : goal.returns-in-Ok

@@ -2,10 +2,10 @@
 use Rattle.std.proofs.Common.{◌≡◌, None, Some, ap, subst, sym, ◌∙◌}
 use Rattle.std.specs.Str.{chars}
 use Rattle.release_statuses.specs.Statuses.{unpack_refusal}
-use Rattle.shell_holdings.specs.Node.{NodeState}
-use Rattle.shell_holdings.proofs.Performing.{unfull}
+use Rattle.shell_state.specs.Node.{NodeState}
+use Rattle.shell_state.proofs.Performing.{unfull}
 use Rattle.shell_upgrades.proofs.Unpacked.{refuses-release}
-use Rattle.shell_holdings.specs.State.{node_of}
+use Rattle.shell_state.specs.State.{node_of}
 use Rattle.shell_upgrades.proofs.unpacking.halt_of_unpack.Goals as goal
 
 pub returns-in-Some : goal.returns-in-Some

@@ -4,12 +4,12 @@ use Rattle.std.specs.Str.{chars}
 use Rattle.node_types.specs.declared.event.Event.TheVariants as event
 use Rattle.shell_answers.specs.Answers.{line_of, set_unpacked}
 use Rattle.shell_answers.specs.Refusals.{naming}
-use Rattle.shell_holdings.proofs.Done.{IfOk-then}
-use Rattle.shell_holdings.proofs.Performing.{halted, performed}
-use Rattle.shell_holdings.specs.Done.{IsDone}
-use Rattle.shell_holdings.specs.Halts.{halt_answer}
-use Rattle.shell_holdings.specs.Performing.{Performs, done_by}
-use Rattle.shell_holdings.specs.State.{ShellState}
+use Rattle.shell_state.proofs.Done.{IfOk-then}
+use Rattle.shell_state.proofs.Performing.{halted, performed}
+use Rattle.shell_state.specs.Done.{IsDone}
+use Rattle.shell_state.specs.Halts.{halt_answer}
+use Rattle.shell_state.specs.Performing.{Performs, done_by}
+use Rattle.shell_state.specs.State.{ShellState}
 use Rattle.shell_upgrades.proofs.unpacking.set_unpacked.Goals as goal
 
 pub returns-in-Ok : goal.returns-in-Ok

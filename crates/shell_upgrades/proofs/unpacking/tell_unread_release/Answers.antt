@@ -3,9 +3,9 @@ use Rattle.std.proofs.Common.{◌++◌, ap, refl, ◌∙◌}
 use Rattle.std.specs.Str.{chars}
 use Rattle.shell_answers.specs.Answers.{line_of}
 use Rattle.shell_answers.specs.Refusals.{naming}
-use Rattle.shell_holdings.proofs.Done.{IfOk-then}
-use Rattle.shell_holdings.proofs.Performing.{done-as, missed}
-use Rattle.shell_holdings.specs.Halts.{halt_answer}
+use Rattle.shell_state.proofs.Done.{IfOk-then}
+use Rattle.shell_state.proofs.Performing.{done-as, missed}
+use Rattle.shell_state.specs.Halts.{halt_answer}
 use Rattle.shell_upgrades.proofs.Unpacked.{fault-told}
 use Rattle.shell_upgrades.specs.Upgrades.{release_unread, unpack_event}
 use Rattle.shell_upgrades.proofs.unpacking.tell_unread_release.Goals as goal

@@ -4,8 +4,8 @@ use Rattle.release_files.specs.Faults.{IsFirstFault}
 use Rattle.release_files.specs.Files.{Contents}
 use Rattle.release_files.specs.Releases.{IsRelease}
 use Rattle.release_files.specs.declared.fault.FileFault.TheVariants.{Memory}
-use Rattle.shell_holdings.proofs.Done.{IfOk-then}
-use Rattle.shell_holdings.proofs.Performing.{done-as}
+use Rattle.shell_state.proofs.Done.{IfOk-then}
+use Rattle.shell_state.proofs.Performing.{done-as}
 use Rattle.shell_upgrades.specs.Upgrades.{release_read}
 use Rattle.shell_upgrades.proofs.unpacking.unpack.Goals as goal
 

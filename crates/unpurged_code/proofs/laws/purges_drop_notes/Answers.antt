@@ -5,7 +5,7 @@ use Rattle.std.specs.Cmp.Lexicographic.{nat_list_eq_equiv}
 use Rattle.std.specs.Str.{bytes_eq}
 use Rattle.code_loading.proofs.Emptied.{IsEmptied, emptied, other, own, own_purged}
 use Rattle.code_server.specs.Modules.{Table as Loaded, old_of, purged}
-use Rattle.erl_forms.specs.Module.{Forms}
+use Rattle.erl_ir.specs.Module.{Forms}
 use Rattle.unpurged_code.specs.Unpurged.{note_on}
 use Rattle.unpurged_code.proofs.laws.purges_drop_notes.Goals as goal
 

@@ -2,7 +2,7 @@
 use Rattle.std.proofs.Common.{◌≡◌, ◌+◌, ◌∙◌, Bool, List, drop, None, Option, Some, sym, ap}
 use Rattle.std.specs.List.{flat_map}
 use Rattle.std.specs.Str.{bytes_eq}
-use Rattle.erl_forms.specs.Module.{Forms}
+use Rattle.erl_ir.specs.Module.{Forms}
 use Rattle.release_table.specs.declared.table.AppFiles.{AppFiles}
 use Rattle.script_state.proofs.Firsts.{behind, from_here, in_front}
 use Rattle.script_state.specs.ObjectCode.{source_in, sources}

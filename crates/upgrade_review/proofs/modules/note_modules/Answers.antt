@@ -1,6 +1,6 @@
 -- The next one has its turn, and then none is left.
 use Rattle.std.proofs.Common.{ℕ, List, subst}
-use Rattle.erl_forms.specs.Module.{Forms}
+use Rattle.erl_ir.specs.Module.{Forms}
 use Rattle.upgrade_review.proofs.Adding.{ends, goes_on}
 use Rattle.upgrade_review.specs.Gathering.{Adds, FromEach, IsNotLoaded}
 use Rattle.upgrade_review.specs.declared.finding.Finding.{Finding}

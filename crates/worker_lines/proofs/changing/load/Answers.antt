@@ -1,9 +1,9 @@
 -- The module of the file is loaded, or it is told what stands against it.
 use Rattle.std.proofs.Common.{subst}
 use Rattle.std.specs.Str.{chars}
-use Rattle.shell_deeds.specs.Done.{Unsourced}
-use Rattle.shell_deeds.specs.declared.loading.Unloaded.{Unloaded}
-use Rattle.worker_lines.specs.Deeds.{Loads, Performs, read}
+use Rattle.shell_exec.specs.Done.{Unsourced}
+use Rattle.shell_exec.specs.declared.loading.Unloaded.{Unloaded}
+use Rattle.worker_lines.specs.Execution.{Loads, Performs, read}
 use Rattle.worker_lines.proofs.Files.{source-faulted, source-unread}
 use Rattle.worker_lines.proofs.Heard.{IfOk-then, told-as}
 use Rattle.worker_lines.proofs.changing.load.Goals as goal

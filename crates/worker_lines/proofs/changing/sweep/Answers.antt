@@ -4,7 +4,7 @@ use Rattle.node_history.specs.declared.command.Said.TheVariants as said
 use Rattle.worker_lines.specs.Asking.{event_told}
 use Rattle.node_types.specs.declared.event.Event.TheVariants as event
 use Rattle.shell_answers.specs.Refusals.{naming_nothing}
-use Rattle.shell_deeds.specs.Performing.{swept_in}
+use Rattle.shell_exec.specs.Performing.{swept_in}
 use Rattle.worker_lines.proofs.Heard.{IfOk-then, heard-told, unheard-told}
 use Rattle.worker_lines.proofs.changing.sweep.Goals as goal
 

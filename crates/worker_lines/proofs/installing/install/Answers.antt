@@ -2,7 +2,7 @@
 use Rattle.std.proofs.Common.{List, ℕ, subst}
 use Rattle.std.specs.Str.{chars}
 use Rattle.workers.specs.Installing.{Drives, InstallFails}
-use Rattle.worker_lines.specs.Deeds.{patience}
+use Rattle.worker_lines.specs.Execution.{patience}
 use Rattle.worker_lines.proofs.Heard.{IfOk-then}
 use Rattle.worker_lines.proofs.Waiting.{install-told}
 use Rattle.worker_lines.proofs.installing.install.Goals as goal

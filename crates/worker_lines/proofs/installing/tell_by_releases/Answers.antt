@@ -3,7 +3,7 @@ use Rattle.std.proofs.Common.{◌++◌, List, reverse, ap, ◌∙◌}
 use Rattle.std.specs.Str.{chars}
 use Rattle.release_statuses.specs.declared.listed.Listed.{Listed}
 use Rattle.shell_answers.specs.Answers.{line_of}
-use Rattle.shell_deeds.specs.Upgrades.{subject_in}
+use Rattle.shell_exec.specs.Upgrades.{subject_in}
 use Rattle.worker_lines.specs.Telling.{work_told}
 use Rattle.shell_answers.specs.Refusals.{Subject}
 use Rattle.worker_lines.proofs.Heard.{IfOk-then}

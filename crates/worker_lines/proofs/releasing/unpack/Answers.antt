@@ -1,6 +1,6 @@
 -- The release of the files is known, or it is told what stands against it.
 use Rattle.std.proofs.Common.{string_bytes}
-use Rattle.worker_lines.specs.Deeds.{release_read}
+use Rattle.worker_lines.specs.Execution.{release_read}
 use Rattle.worker_lines.proofs.Files.{release-unread}
 use Rattle.worker_lines.proofs.Heard.{IfOk-then, told-as}
 use Rattle.worker_lines.proofs.releasing.unpack.Goals as goal

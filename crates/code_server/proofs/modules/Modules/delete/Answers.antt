@@ -2,7 +2,7 @@
 use Rattle.std.proofs.Common.{◌≡◌, ◌+◌, None, is_some, sym, ap, ◌∙◌}
 use Rattle.code_server.specs.Modules.{Table, delete_refusal}
 use Rattle.code_server.proofs.Changes.{IsDeletable-unrefused, Retired-back, current_of-slots, current_at-slots, none_unless, old_of-slots}
-use Rattle.code_server.proofs.Sound.{IsSound-retired}
+use Rattle.code_server.proofs.Sound.{IsModuleTable-retired}
 use Rattle.code_server.proofs.Standing.{Stands-place}
 use Rattle.code_server.proofs.modules.Modules.delete.Goals as goal
 
@@ -14,7 +14,7 @@ invariant_of-self g c =
     let able = IsDeletable-unrefused c.args.name.now t unrefused in
     let at = Stands-place c.args.name.now t.entries place (sym c.get_index_of.ensures.index ∙ c.in-Some-get_index_of.is) in
     let there = ap is_some (current_at-slots c.args.name.now t.entries place at ∙ sym (current_of-slots c.args.name.now t place at)) ∙ able.has_current in
-    rw c.change_at.ensures.changed (IsSound-retired t place c.self.invariant there)
+    rw c.change_at.ensures.changed (IsModuleTable-retired t place c.self.invariant there)
 
 pub returns-in-Some-get_index_of-clause-inverse : goal.returns-in-Some-get_index_of-clause-inverse
 returns-in-Some-get_index_of-clause-inverse g c =

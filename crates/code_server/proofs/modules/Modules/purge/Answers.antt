@@ -2,14 +2,14 @@
 use Rattle.std.proofs.Common.{◌+◌, None, Some, true, false, sym, ap, ◌∙◌}
 use Rattle.code_server.specs.Modules.{Table, purged}
 use Rattle.code_server.proofs.Changes.{Nothing-back, Purged-back, Removed-back, codeless, current_of-at, former-taken, held-absent, held-taken, no_current, none_taken, none_unless, purged-gone, purged-kept, some_taken}
-use Rattle.code_server.proofs.Sound.{IsSound-purged_slots, IsSound-removed}
+use Rattle.code_server.proofs.Sound.{IsModuleTable-purged_slots, IsModuleTable-removed}
 use Rattle.code_server.proofs.Standing.{Stands-place, absent_from_place}
 use Rattle.code_server.proofs.modules.Modules.purge.Goals as goal
 
 pub invariant_of-self : goal.invariant_of-self
 invariant_of-self g c =
     let t : Table g.row.C.Denot = record { entries = c.self.inside.table.entries; next = c.self.inside.last + 1 } in
-    rw c.change_at.ensures.changed (IsSound-purged_slots t c.in-Some.place c.self.invariant (sym c.has_current.ensures ∙ c.if-has_current.true))
+    rw c.change_at.ensures.changed (IsModuleTable-purged_slots t c.in-Some.place c.self.invariant (sym c.has_current.ensures ∙ c.if-has_current.true))
 
 pub returns-in_default-change_at-clause-purged : goal.returns-in_default-change_at-clause-purged
 returns-in_default-change_at-clause-purged g c =
@@ -31,7 +31,7 @@ returns-in_default-change_at-clause-inverse g c =
 pub invariant_of-self-then-has_current : goal.invariant_of-self-then-has_current
 invariant_of-self-then-has_current g c =
     let t : Table g.row.C.Denot = record { entries = c.self.inside.table.entries; next = c.self.inside.last + 1 } in
-    rw c.change_at.ensures.changed (IsSound-purged_slots t c.in-Some.place c.self.invariant (sym c.has_current.ensures ∙ c.if-has_current.true))
+    rw c.change_at.ensures.changed (IsModuleTable-purged_slots t c.in-Some.place c.self.invariant (sym c.has_current.ensures ∙ c.if-has_current.true))
 
 pub returns-then-has_current-clause-purged : goal.returns-then-has_current-clause-purged
 returns-then-has_current-clause-purged g c =
@@ -61,7 +61,7 @@ unreachable-requires g c =
 pub invariant_of-self-2 : goal.invariant_of-self-2
 invariant_of-self-2 g c =
     let t : Table g.row.C.Denot = record { entries = c.self.inside.table.entries; next = c.self.inside.last + 1 } in
-    rw c.take_out.ensures.removed (IsSound-removed t c.in-Some.place c.self.invariant)
+    rw c.take_out.ensures.removed (IsModuleTable-removed t c.in-Some.place c.self.invariant)
 
 pub returns-clause-purged : goal.returns-clause-purged
 returns-clause-purged g c =

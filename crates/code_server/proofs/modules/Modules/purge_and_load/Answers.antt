@@ -2,8 +2,8 @@
 use Rattle.std.proofs.Common.{◌+◌, ◌^◌, ◌<◌, None, Some, true, false, refl, sym, ap, ◌∙◌, arith}
 use Rattle.code_server.specs.Modules.{Table, loaded, purged}
 use Rattle.code_server.proofs.Changes.{Added-back, Replaced-back, Stacked-back, codeless, current_of-at, former-taken, held-absent, held-taken, no_current, none_unless}
-use Rattle.code_server.proofs.Reloads.{IsSound-reloaded, Moved-back, former-last, loaded-gone, loaded-kept, refused-end, refused-never, stacked-last}
-use Rattle.code_server.proofs.Sound.{IsSound-added, IsSound-stacked}
+use Rattle.code_server.proofs.Reloads.{IsModuleTable-reloaded, Moved-back, former-last, loaded-gone, loaded-kept, refused-end, refused-never, stacked-last}
+use Rattle.code_server.proofs.Sound.{IsModuleTable-added, IsModuleTable-stacked}
 use Rattle.code_server.proofs.Standing.{Stands-place, absent_from_place}
 use Rattle.code_server.proofs.modules.Modules.purge_and_load.Goals as goal
 
@@ -17,7 +17,7 @@ invariant_of-self-in_default g c =
     let t : Table g.row.C.Denot = record { entries = c.self.inside.table.entries; next = c.self.inside.last + 1 } in
     let below : c.self.inside.last + 1 < 2 ^ 64 = omega (arith, c.self.invariant.counted.1, c.if-self.false) in
     let absent = absent_from_place c.args.name.now t.entries (sym c.get_index_of.ensures.index ∙ none_unless c.get_index_of.result c.in_default.not-Some) in
-    rw c.in_ok-add.ensures.added (IsSound-added t c.args.name.now _ c.self.invariant absent refl below)
+    rw c.in_ok-add.ensures.added (IsModuleTable-added t c.args.name.now _ c.self.invariant absent refl below)
 
 pub returns-in_default-clause-inverse : goal.returns-in_default-clause-inverse
 returns-in_default-clause-inverse g c =
@@ -28,7 +28,7 @@ pub invariant_of-self-in_default-change_at : goal.invariant_of-self-in_default-c
 invariant_of-self-in_default-change_at g c =
     let t : Table g.row.C.Denot = record { entries = c.self.inside.table.entries; next = c.self.inside.last + 1 } in
     let below : c.self.inside.last + 1 < 2 ^ 64 = omega (arith, c.self.invariant.counted.1, c.if-self.false) in
-    rw c.change_at.ensures.changed (IsSound-stacked t c.in-Some.place _ c.self.invariant refl below)
+    rw c.change_at.ensures.changed (IsModuleTable-stacked t c.in-Some.place _ c.self.invariant refl below)
 
 pub returns-in_default-change_at-clause-ok : goal.returns-in_default-change_at-clause-ok
 returns-in_default-change_at-clause-ok g c =
@@ -58,7 +58,7 @@ pub invariant_of-self-then-has_current : goal.invariant_of-self-then-has_current
 invariant_of-self-then-has_current g c =
     let t : Table g.row.C.Denot = record { entries = c.self.inside.table.entries; next = c.self.inside.last + 1 } in
     let below : c.self.inside.last + 1 < 2 ^ 64 = omega (arith, c.self.invariant.counted.1, c.if-self.false) in
-    rw c.change_at.ensures.changed (IsSound-stacked t c.in-Some.place _ c.self.invariant refl below)
+    rw c.change_at.ensures.changed (IsModuleTable-stacked t c.in-Some.place _ c.self.invariant refl below)
 
 pub returns-then-has_current-clause-ok : goal.returns-then-has_current-clause-ok
 returns-then-has_current-clause-ok g c =
@@ -101,7 +101,7 @@ invariant_of-self-2 g c =
     let found = sym c.get_index_of.ensures.index ∙ c.in-Some.is in
     let at = Stands-place c.args.name.now t.entries place found in
     let none = no_current c.args.name.now t.entries place at (sym c.has_current.ensures ∙ c.if-has_current.false) in
-    rw (c.stack_last.ensures.stacked ∙ stacked-last c.args.name.now t.entries place _ at none) (IsSound-reloaded c.args.name.now t place _ c.self.invariant at refl below)
+    rw (c.stack_last.ensures.stacked ∙ stacked-last c.args.name.now t.entries place _ at none) (IsModuleTable-reloaded c.args.name.now t place _ c.self.invariant at refl below)
 
 pub returns-clause-ok : goal.returns-clause-ok
 returns-clause-ok g c =

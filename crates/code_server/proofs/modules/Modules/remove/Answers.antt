@@ -3,14 +3,14 @@ use Rattle.std.proofs.Common.{◌+◌, None, Some, true, false, sym, ap, ◌∙�
 use Rattle.code_server.specs.Modules.{Table, removed}
 use Rattle.code_server.proofs.Changes.{Demoted-back, Removed-back, Retired-back, codeless, current_of-at, former-taken, held-absent, held-taken, no_current, none_taken, none_unless, some_taken}
 use Rattle.code_server.proofs.Removing.{removed-absent, removed-gone, removed-kept}
-use Rattle.code_server.proofs.Sound.{IsSound-removed, IsSound-retired}
+use Rattle.code_server.proofs.Sound.{IsModuleTable-removed, IsModuleTable-retired}
 use Rattle.code_server.proofs.Standing.{Stands-place, absent_from_place}
 use Rattle.code_server.proofs.modules.Modules.remove.Goals as goal
 
 pub invariant_of-self : goal.invariant_of-self
 invariant_of-self g c =
     let t : Table g.row.C.Denot = record { entries = c.self.inside.table.entries; next = c.self.inside.last + 1 } in
-    rw c.change_at.ensures.changed (IsSound-retired t c.in-Some.place c.self.invariant (sym c.has_current.ensures ∙ c.if-has_current.true))
+    rw c.change_at.ensures.changed (IsModuleTable-retired t c.in-Some.place c.self.invariant (sym c.has_current.ensures ∙ c.if-has_current.true))
 
 pub returns-in_default-change_at-clause-removed : goal.returns-in_default-change_at-clause-removed
 returns-in_default-change_at-clause-removed g c =
@@ -32,7 +32,7 @@ returns-in_default-change_at-clause-inverse g c =
 pub invariant_of-self-then-has_current : goal.invariant_of-self-then-has_current
 invariant_of-self-then-has_current g c =
     let t : Table g.row.C.Denot = record { entries = c.self.inside.table.entries; next = c.self.inside.last + 1 } in
-    rw c.change_at.ensures.changed (IsSound-retired t c.in-Some.place c.self.invariant (sym c.has_current.ensures ∙ c.if-has_current.true))
+    rw c.change_at.ensures.changed (IsModuleTable-retired t c.in-Some.place c.self.invariant (sym c.has_current.ensures ∙ c.if-has_current.true))
 
 pub returns-then-has_current-clause-removed : goal.returns-then-has_current-clause-removed
 returns-then-has_current-clause-removed g c =
@@ -62,7 +62,7 @@ unreachable-requires g c =
 pub invariant_of-self-2 : goal.invariant_of-self-2
 invariant_of-self-2 g c =
     let t : Table g.row.C.Denot = record { entries = c.self.inside.table.entries; next = c.self.inside.last + 1 } in
-    rw c.take_out.ensures.removed (IsSound-removed t c.in-Some.place c.self.invariant)
+    rw c.take_out.ensures.removed (IsModuleTable-removed t c.in-Some.place c.self.invariant)
 
 pub returns-clause-removed : goal.returns-clause-removed
 returns-clause-removed g c =

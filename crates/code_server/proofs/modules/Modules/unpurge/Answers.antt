@@ -1,7 +1,7 @@
 -- What makes the change again: what was taken away, at its place.
 use Rattle.std.proofs.Common.{◌≡◌, ◌+◌, ◌-◌, arith}
 use Rattle.code_server.specs.declared.undo.Redo.TheVariants.{Replace, Demote, Move, Purge, Remove}
-use Rattle.code_server.specs.declared.undo.Undo.TheVariants.{Replaced, Demoted, Moved, Purged, Removed}
+use Rattle.code_server.specs.declared.undo.ModulesUndo.TheVariants.{Replaced, Demoted, Moved, Purged, Removed}
 use Rattle.code_server.specs.Modules.{Table}
 use Rattle.code_server.proofs.Redoing.{Demoted-again, Moved-again, Purged-again, Removed-again, Replaced-again, again_of}
 use Rattle.code_server.proofs.modules.Modules.unpurge.Goals as goal

@@ -1,7 +1,7 @@
 -- What comes of the values so far and of the operands that are left, is what comes of all.
 use Rattle.std.proofs.Common.{◌≡◌, length}
 use Rattle.erl_term.specs.Term.{trees}
-use Rattle.erl_forms.specs.ExpressionForms.{exprs}
+use Rattle.erl_ir.specs.ExpressionForms.{exprs}
 use Rattle.erl_steps.specs.Machine.{going_on}
 use Rattle.erl_steps.specs.Views.{machine_of, world_of}
 use Rattle.erl_steps.proofs.machine.Machine.go_on.Given as goal

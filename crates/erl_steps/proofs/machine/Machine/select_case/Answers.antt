@@ -2,7 +2,7 @@
 use Rattle.std.proofs.Common.{ap, sym, ◌∙◌, rules}
 use Rattle.std.specs.Prelude.{codes}
 use Rattle.erl_term.specs.Term.{tree, trees}
-use Rattle.erl_forms.specs.ExpressionForms.{clauses}
+use Rattle.erl_ir.specs.ExpressionForms.{clauses}
 use Rattle.erl_semantics.specs.State.{exit_by_pair}
 use Rattle.erl_steps.specs.Machine.{selecting}
 use Rattle.erl_steps.specs.Views.{control_or, machine_of, world_of}

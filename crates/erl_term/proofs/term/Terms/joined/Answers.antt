@@ -1,6 +1,6 @@
 -- What is told of both rows is told of them together.
 use Rattle.std.proofs.Common.{◌≡◌, ◌-◌, ◌++◌, IfOk, drop, refl, sym, ap, ◌∙◌, subst}
-use Rattle.erl_term.specs.Parts.{IsPart, IsTold}
+use Rattle.erl_term.specs.Parts.{IsPart, HasExtent}
 use Rattle.erl_term.specs.Rows.{append_trees}
 use Rattle.erl_term.specs.Stored.{listed}
 use Rattle.erl_term.specs.Term.{trees}
@@ -14,11 +14,11 @@ row_of-requires c =
     let front = c.args.front.now in
     let part = subst (λ r. IsPart (listed r.items) r.depth r.last r.size from c.back.inside.hidden) (sym c.deref-row.ensures) c.back.invariant in
     let behind = told_part (listed row.items) row.depth row.last row.size from c.back.inside.hidden part in
-    let hidden = subst (λ n. IsTold (drop from (listed row.items)) row.depth (row.last - from) (row.size - n)) (sym c.from-2.ensures) behind in
-    let all_told = subst (λ d. IsTold (drop from (listed row.items)) d (row.last - from) (row.size - c.from-2.result)) (sym c.from.ensures) hidden in
+    let hidden = subst (λ n. HasExtent (drop from (listed row.items)) row.depth (row.last - from) (row.size - n)) (sym c.from-2.ensures) behind in
+    let all_told = subst (λ d. HasExtent (drop from (listed row.items)) d (row.last - from) (row.size - c.from-2.result)) (sym c.from.ensures) hidden in
     let told = c.then-told.ensures front (drop from (listed row.items)) refl c.told_of.ensures all_told in
     let items : c.in_ok-copies.field-0.items ≡ front ++ drop from (listed row.items) = c.in_ok-copies.ensures ∙ ap (λ ys. front ++ ys) (c.seen-back_terms.ensures ∙ ap (λ ys. drop from ys) c.as_slice.ensures.value) in
-    subst (λ it. IsTold it c.then-told.result.depth c.then-told.result.last c.then-told.result.size) (sym items) told
+    subst (λ it. HasExtent it c.then-told.result.depth c.then-told.result.last c.then-told.result.size) (sym items) told
 
 pub returns : goal.returns
 returns c =

@@ -1,6 +1,6 @@
 -- One term more in each turn.
 use Rattle.std.proofs.Common.{◌+◌, ◌-◌, ◌^◌, min, take, sym, ap, ◌∙◌, subst, arith}
-use Rattle.erl_term.specs.Parts.{IsTold}
+use Rattle.erl_term.specs.Parts.{HasExtent}
 use Rattle.erl_term.proofs.Parts.{told_deeper, told_flatter}
 use Rattle.erl_term.proofs.term.told.told_of.Goals as goal
 use Rattle.erl_term.proofs.term.told.told_of.Goals.{then-told-depth, else-told-depth}
@@ -17,8 +17,8 @@ loop-i-preserved c =
     elim c.if-told-depth.branch [
       | then-told-depth w ↦
           let whole = sum.ensures ∙ ap (λ told. min (told.size + size.result) (2 ^ 64 - 1)) w.told-is in
-          subst (λ told. IsTold (take (i + 1) items) told.depth told.last sum.result) (sym w.told-is) (told_deeper items i t l.depth l.last l.size depth.result size.result sum.result c.loop-i-test.true c.index-items-i.is c.loop-i.invariant depth.ensures size.ensures (omega arith) whole)
+          subst (λ told. HasExtent (take (i + 1) items) told.depth told.last sum.result) (sym w.told-is) (told_deeper items i t l.depth l.last l.size depth.result size.result sum.result c.loop-i-test.true c.index-items-i.is c.loop-i.invariant depth.ensures size.ensures (omega arith) whole)
       | else-told-depth w ↦
           let whole = sum.ensures ∙ ap (λ told. min (told.size + size.result) (2 ^ 64 - 1)) w.told-is in
-          subst (λ told. IsTold (take (i + 1) items) told.depth told.last sum.result) (sym w.told-is) (told_flatter items i t l.depth l.last l.size depth.result size.result sum.result c.loop-i-test.true c.index-items-i.is c.loop-i.invariant depth.ensures size.ensures (omega arith) whole)
+          subst (λ told. HasExtent (take (i + 1) items) told.depth told.last sum.result) (sym w.told-is) (told_flatter items i t l.depth l.last l.size depth.result size.result sum.result c.loop-i-test.true c.index-items-i.is c.loop-i.invariant depth.ensures size.ensures (omega arith) whole)
     ]

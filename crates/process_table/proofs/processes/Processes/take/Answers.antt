@@ -2,7 +2,7 @@
 use Rattle.std.proofs.Common.{◌≡◌, List, Some, option_map, sym, ap, subst, ◌∙◌}
 use Rattle.std.specs.Option.{option_copied}
 use Rattle.erl_semantics.specs.declared.instance.Instance.{Instance}
-use Rattle.process_store.specs.declared.living.Living.{Living}
+use Rattle.process_store.specs.declared.living.ProcessEntry.{ProcessEntry}
 use Rattle.process_store.specs.Living.{run, takes_next}
 use Rattle.process_store.specs.Table.{Table, changed, living}
 use Rattle.process_table.proofs.Jobs.{job_is, taken_is}
@@ -16,7 +16,7 @@ pub returns-clause-taken : goal.returns-clause-taken
 returns-clause-taken c =
     let pid = c.args.pid in
     let t : Table = c.args.self.now in
-    let l : Living = c.in-Some.living.now in
+    let l : ProcessEntry = c.in-Some.living.now in
     let there : living pid c.self.inside.store ≡ Some l = sym c.get.ensures ∙ ap option_copied c.in-Some.is in
     let lives : living pid t ≡ Some l = ap (living pid) (sym c.self.view_is) ∙ there in
     let job = c.in-Ok-Some.job in

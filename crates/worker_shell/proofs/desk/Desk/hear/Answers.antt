@@ -11,5 +11,5 @@ returns-clause-answered g c =
     let files = c.self.inside.office.files.now in
     let out = c.args.out.now.items in
     let line = option_copied c.args.line in
-    let turn = turn-done c.in_ok-fate.fate files c.self.inside.seat c.obey-said.new.seat line c.clear.new.self.items c.obey-said.new.out.items out c.extend_from_slice.new.self.items c.clear.ensures.items c.in_ok-fate.ensures (c.in_ok-extend_from_slice.ensures.items ∙ ap (λ l. out ++ l) c.as_slice.ensures.value) in
-    subst (λ (d : DeskState). IsTurn (desk_turn c.in_ok-fate.fate d line) (record { files = files; seat = c.obey-said.new.seat }) out c.extend_from_slice.new.self.items) c.self.view_is turn
+    let turn = turn-done c.in_ok-fate.fate files c.self.inside.seat c.execute-said.new.seat line c.clear.new.self.items c.execute-said.new.out.items out c.extend_from_slice.new.self.items c.clear.ensures.items c.in_ok-fate.ensures (c.in_ok-extend_from_slice.ensures.items ∙ ap (λ l. out ++ l) c.as_slice.ensures.value) in
+    subst (λ (d : DeskState). IsTurn (desk_turn c.in_ok-fate.fate d line) (record { files = files; seat = c.execute-said.new.seat }) out c.extend_from_slice.new.self.items) c.self.view_is turn

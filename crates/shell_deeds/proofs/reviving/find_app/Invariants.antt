@@ -1,8 +1,0 @@
--- None of the applications passed so far has the name.
-use Rattle.std.specs.Str.{chars}
-use Rattle.app_table.specs.Applications.{has_name}
-use Rattle.shell_deeds.proofs.Finding.{NonePasses}
-use Rattle.shell_deeds.proofs.reviving.find_app.Given as goal
-
-abbrev pub invariant-loop-place : goal.invariant-loop-place
-invariant-loop-place l = NonePasses (has_name (chars l.text)) l.place l.apps
