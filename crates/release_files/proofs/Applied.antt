@@ -14,13 +14,13 @@ use Rattle.release_files.specs.Releases.{AreAppsOf, AreDistinct, AreFilesOf, is_
 use Rattle.release_files.proofs.Known.{none_distinct}
 use Rattle.release_files.proofs.Sourced.{front_more, item_between, zip_more}
 
-abbrev has_files : RelApp → Bool
+abbrev pub has_files : RelApp → Bool
 has_files app = not (is_built_in app)
 
-built_in_front : (xs : List RelApp) (app : RelApp) → is_built_in app ≡ true → with_files (xs ++ app ∷ []) ≡ with_files xs
+pub built_in_front : (xs : List RelApp) (app : RelApp) → is_built_in app ≡ true → with_files (xs ++ app ∷ []) ≡ with_files xs
 built_in_front xs app is = filter-append has_files xs (app ∷ []) ∙ ap (λ b. with_files xs ++ cond (not b) (app ∷ []) []) is ∙ append-nil (with_files xs)
 
-other_front : (xs : List RelApp) (app : RelApp) → is_built_in app ≡ false → with_files (xs ++ app ∷ []) ≡ with_files xs ++ app ∷ []
+pub other_front : (xs : List RelApp) (app : RelApp) → is_built_in app ≡ false → with_files (xs ++ app ∷ []) ≡ with_files xs ++ app ∷ []
 other_front xs app is = filter-append has_files xs (app ∷ []) ∙ ap (λ b. with_files xs ++ cond (not b) (app ∷ []) []) is
 
 other_between : (xs ys : List RelApp) (app : RelApp) → is_built_in app ≡ false → with_files (xs ++ app ∷ ys) ≡ with_files xs ++ app ∷ with_files ys

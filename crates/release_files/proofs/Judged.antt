@@ -1,5 +1,5 @@
 -- What is wrong with a file, by what is found at its path.
-use Rattle.std.proofs.Common.{◌≡◌, ◌⊎◌, ℕ, List, None, Some, Result, Ok, Err, Contains, inl, inr, sym, ap, ◌∙◌, subst, string_bytes}
+use Rattle.std.proofs.Common.{◌≡◌, ◌⊎◌, ℕ, List, None, Some, Result, Ok, Err, Contains, inl, inr, refl, sym, ap, ◌∙◌, subst, string_bytes}
 use Rattle.std.specs.Prelude.{◌≢◌, MatchResult}
 use Rattle.std.specs.Str.{chars}
 use Rattle.erl_ir.specs.Module.{Forms}
@@ -125,6 +125,13 @@ appup_judged files app path key text error fault at same stands read told =
 
 -- A source
 
+pub source_judged : (files : Contents) (before : List (List ℕ)) (name path : List ℕ) (fault : FileFault) → (fault ≡ Memory) ⊎ ModuleWrong files name path fault → (fault ≡ Memory) ⊎ (SourceWrong files before name path fault × (before ≡ before))
+source_judged files before name path fault told =
+    elim told [
+      | inl memory ↦ inl memory
+      | inr wrong ↦ inr (wrong_source wrong, refl)
+    ]
+
 pub module_judged : (files : Contents) (name path text : List ℕ) (failure : Failure LangError) (fault : FileFault) → file_of path files ≡ Some text → Fails (Says text) (Unit {0}) failure → Fails (λ _. IsNoSource text) (Unit {0}) failure → Fails (λ error. fault ≡ Lang error) (fault ≡ Memory) failure → (fault ≡ Memory) ⊎ ModuleWrong files name path fault
 module_judged files name path text failure fault stands says none told =
     elim (source_told files path text failure fault stands says none told) [
@@ -132,18 +139,11 @@ module_judged files name path text failure fault stands says none told =
       | inr wrong ↦ inr (no_module wrong)
     ]
 
-pub source_judged : (files : Contents) (before : List (List ℕ)) (name path : List ℕ) (fault : FileFault) → (fault ≡ Memory) ⊎ ModuleWrong files name path fault → (fault ≡ Memory) ⊎ SourceWrong files before name path fault
-source_judged files before name path fault told =
+pub source_wrong_at : (files : Contents) (app : RelApp) (before after : List (List ℕ)) (name path text : List ℕ) (fault : FileFault) → path ≡ source_path app name → text ≡ path → (fault ≡ Memory) ⊎ (SourceWrong files before name text fault × (after ≡ before)) → (fault ≡ Memory) ⊎ (SourceFault files app before name path fault × (after ≡ before))
+source_wrong_at files app before after name path text fault at same told =
     elim told [
       | inl memory ↦ inl memory
-      | inr wrong ↦ inr (wrong_source wrong)
-    ]
-
-pub source_wrong_at : (files : Contents) (app : RelApp) (before : List (List ℕ)) (name path text : List ℕ) (fault : FileFault) → path ≡ source_path app name → text ≡ path → (fault ≡ Memory) ⊎ SourceWrong files before name text fault → (fault ≡ Memory) ⊎ SourceFault files app before name path fault
-source_wrong_at files app before name path text fault at same told =
-    elim told [
-      | inl memory ↦ inl memory
-      | inr wrong ↦ inr (record { at = at; wrong = subst (λ p. SourceWrong files before name p fault) same wrong })
+      | inr wrong ↦ inr (record { at = at; wrong = subst (λ p. SourceWrong files before name p fault) same wrong.0 }, wrong.1)
     ]
 
 pub module_stands : (files : Contents) (app : RelApp) (name path text : List ℕ) (m : Forms) → path ≡ source_path app name → text ≡ path → StandsAs IsSource files text m → m.name ≡ name → IsModuleOf files app name m

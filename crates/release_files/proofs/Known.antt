@@ -21,17 +21,21 @@ told names name is = list_any_at (bytes_eq name) names is.0 name is.1 ((bytes_eq
 stands_not : (names : List (List ℕ)) (name : List ℕ) → list_any (bytes_eq name) names ≡ false → Contains names name → ⊥
 stands_not names name none is = let yes = told names name is in let impossible : ⊥ = cc in impossible
 
+-- what is known of a name by whether it is new
+abbrev IsAdded : List (List ℕ) → List (List ℕ) → List ℕ → Bool → Type 0
+IsAdded names new name is_new = MatchBool is_new ((Contains names name → ⊥) × (new ≡ names ++ name ∷ [])) (Contains names name × (new ≡ names))
+
 -- a set of names, behind one that is put in
-pub added : (names new : List (List ℕ)) (name : List ℕ) (is_new : Bool) → is_new ≡ not (list_any (bytes_eq name) names) → new ≡ (if list_any (bytes_eq name) names then names else names ++ name ∷ []) → MatchBool is_new ((Contains names name → ⊥) × (new ≡ names ++ name ∷ [])) (Contains names name)
+pub added : (names new : List (List ℕ)) (name : List ℕ) (is_new : Bool) → is_new ≡ not (list_any (bytes_eq name) names) → new ≡ (if list_any (bytes_eq name) names then names else names ++ name ∷ []) → IsAdded names new name is_new
 added names new name is_new is keys = by (list_any (bytes_eq name) names) refl
   where
-    by : (b : Bool) → list_any (bytes_eq name) names ≡ b → MatchBool is_new ((Contains names name → ⊥) × (new ≡ names ++ name ∷ [])) (Contains names name)
-    by true e = subst (λ b. MatchBool b ((Contains names name → ⊥) × (new ≡ names ++ name ∷ [])) (Contains names name)) (sym (is ∙ ap not e)) (stands names name e)
-    by false e = subst (λ b. MatchBool b ((Contains names name → ⊥) × (new ≡ names ++ name ∷ [])) (Contains names name)) (sym (is ∙ ap not e)) (stands_not names name e, keys ∙ ap (λ b. if b then names else names ++ name ∷ []) e)
+    by : (b : Bool) → list_any (bytes_eq name) names ≡ b → IsAdded names new name is_new
+    by true e = subst (IsAdded names new name) (sym (is ∙ ap not e)) (stands names name e, keys ∙ ap (λ b. if b then names else names ++ name ∷ []) e)
+    by false e = subst (IsAdded names new name) (sym (is ∙ ap not e)) (stands_not names name e, keys ∙ ap (λ b. if b then names else names ++ name ∷ []) e)
 
-pub added_as : (names old new : List (List ℕ)) (key name : List ℕ) (is_new : Bool) → names ≡ old → key ≡ name → is_new ≡ not (list_any (bytes_eq key) names) → new ≡ (if list_any (bytes_eq key) names then names else names ++ key ∷ []) → MatchBool is_new ((Contains old name → ⊥) × (new ≡ old ++ name ∷ [])) (Contains old name)
+pub added_as : (names old new : List (List ℕ)) (key name : List ℕ) (is_new : Bool) → names ≡ old → key ≡ name → is_new ≡ not (list_any (bytes_eq key) names) → new ≡ (if list_any (bytes_eq key) names then names else names ++ key ∷ []) → IsAdded old new name is_new
 added_as names old new key name is_new same named is keys =
-    subst (λ ns. MatchBool is_new ((Contains ns name → ⊥) × (new ≡ ns ++ name ∷ [])) (Contains ns name)) same (subst (λ n. MatchBool is_new ((Contains names n → ⊥) × (new ≡ names ++ n ∷ [])) (Contains names n)) named (added names new key is_new is keys))
+    subst (λ ns. IsAdded ns new name is_new) same (subst (λ n. IsAdded names new n is_new) named (added names new key is_new is keys))
 
 pub distinct_more : (names : List (List ℕ)) (name : List ℕ) → AreDistinct names → (Contains names name → ⊥) → AreDistinct (names ++ name ∷ [])
 distinct_more names name distinct new =

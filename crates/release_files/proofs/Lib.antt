@@ -1,9 +1,13 @@
+pub mod AllTold
+pub mod Apart
 pub mod Applied
+pub mod Faultless
 pub mod Firsts
 pub mod Fronts
 pub mod Held
 pub mod Judged
 pub mod Known
+pub mod Looked
 pub mod Sourced
 pub mod Told
 pub mod Whole

@@ -76,9 +76,9 @@ sources_end files app before names seen modules i over so_far =
     let all = take_all i names over in
     (subst (λ ns. AllZip (IsModuleOf files app) ns modules) all so_far.fine, so_far.seen_are ∙ ap (λ ns. before ++ ns) all, so_far.distinct)
 
-pub sources_wrong : (files : Contents) (app : RelApp) (before names seen : List (List ℕ)) (modules : List Forms) (i : ℕ) (name path : List ℕ) (fault : FileFault) → i < length names → name ≡ get_or names i name → AreSoFar files app before (take i names) seen modules → (fault ≡ Memory) ⊎ SourceFault files app seen name path fault → (fault ≡ Memory) ⊎ SourcesFault files app before names path fault
-sources_wrong files app before names seen modules i name path fault below is so_far told =
+pub sources_wrong : (files : Contents) (app : RelApp) (before names seen after : List (List ℕ)) (modules : List Forms) (i : ℕ) (name path : List ℕ) (fault : FileFault) → i < length names → name ≡ get_or names i name → AreSoFar files app before (take i names) seen modules → (fault ≡ Memory) ⊎ (SourceFault files app seen name path fault × (after ≡ seen)) → (fault ≡ Memory) ⊎ SourcesFault files app before names path fault
+sources_wrong files app before names seen after modules i name path fault below is so_far told =
     elim told [
       | inl memory ↦ inl memory
-      | inr wrong ↦ inr (source_wrong files app before names seen modules i name path fault below is so_far wrong)
+      | inr wrong ↦ inr (source_wrong files app before names seen modules i name path fault below is so_far wrong.0)
     ]

@@ -42,7 +42,7 @@ pub(crate) fn apps_of(
 }
 
 /// Whether an application has no files.
-fn is_built_in(app: &RelApp) -> bool
+pub(crate) fn is_built_in(app: &RelApp) -> bool
     ensures { result ≡ is_built_in app.now }
 {
     app.name.is("kernel") || app.name.is("stdlib") || app.name.is("sasl")

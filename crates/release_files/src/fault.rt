@@ -34,7 +34,7 @@ pub enum FileFault {
     Memory,
 }
 
-/// The first fault of a release's files, and where it is.
+/// A fault of a release's files, and where it is.
 #[derive(Debug, Drop, Error)]
 #[error("{path}: {fault}")]
 pub struct ReleaseFault {

@@ -39,7 +39,8 @@ impl Names {
     /// `AllocError` where memory is refused.
     pub(crate) fn add(&mut self, alloc: Global, name: &Atom) -> Result<bool, AllocError>
         ensures { IfOk result (λ is_new. MatchBool is_new
-            ((Contains self.old name.now → ⊥) × (self.new ≡ self.old ++ name.now ∷ [])) (Contains self.old name.now)) }
+            ((Contains self.old name.now → ⊥) × (self.new ≡ self.old ++ name.now ∷ []))
+            (Contains self.old name.now × (self.new ≡ self.old))) }
     {
         let name = name.copy(alloc)?;
         let is_new = self.set.insert(name)?;

@@ -48,7 +48,7 @@ pub(crate) fn sources_of(
 }
 
 /// Reads the source of a module.
-fn source_of(
+pub(crate) fn source_of(
     alloc: Global,
     files: &Files,
     app: &RelApp,
@@ -58,7 +58,8 @@ fn source_of(
     ensures { MatchResult result
         (λ read. IsModuleOf files.now app.now name.now read × (Contains seen.old name.now → ⊥) ×
         (seen.new ≡ seen.old ++ name.now ∷ []))
-        (λ f. (f.fault ≡ refused) ⊎ SourceFault files.now app.now seen.old name.now (string_bytes f.path) f.fault) }
+        (λ f. (f.fault ≡ refused) ⊎
+        (SourceFault files.now app.now seen.old name.now (string_bytes f.path) f.fault × (seen.new ≡ seen.old))) }
 {
     let Ok(path) = app_file(alloc, app, "/src/", name, ".erl") else {
         return Err(no_memory(alloc));
@@ -80,7 +81,8 @@ fn source_at(
     ensures { MatchResult result
         (λ read. StandsAs IsSource files.now path.now read × (read.name ≡ name.now) × (Contains seen.old name.now → ⊥) ×
         (seen.new ≡ seen.old ++ name.now ∷ []))
-        (λ fault. (fault ≡ refused) ⊎ SourceWrong files.now seen.old name.now path.now fault) }
+        (λ fault. (fault ≡ refused) ⊎
+        (SourceWrong files.now seen.old name.now path.now fault × (seen.new ≡ seen.old))) }
 {
     match module_at(alloc, files, path, name) {
         Ok(read) => match seen.add(alloc, name) {

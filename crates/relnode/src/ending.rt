@@ -5,7 +5,7 @@ ghost use Rattle.relnode.specs.Ending.{EndsServing, EndsSo, end_by, end_without,
 
 use file_tree::TreeError;
 use node_shell::{Files, StartFault, run};
-use relnode_options::OptionsError;
+use relnode_options::WordsError;
 use std::alloc::Global;
 use std::hash::RandomState;
 use std::io;
@@ -22,7 +22,7 @@ use worker_shell::{WorkersFault, run_workers};
 pub enum Fault {
     /// The command line is bad.
     #[error(transparent)]
-    CommandLine(#[from] OptionsError),
+    CommandLine(#[from] WordsError),
     /// The system gives no random bytes.
     #[error("cannot get random bytes: {0}")]
     NoRandomBytes(io::Error),
@@ -135,11 +135,11 @@ fn status(end: &Result<(), Fault>) -> u8
 }
 
 /// The status after a bad command line: 2 for bad words, and else 1.
-fn status_of_words(fault: &OptionsError) -> u8
+fn status_of_words(fault: &WordsError) -> u8
     ensures { result ≡ status_of_words fault.now }
 {
     match fault {
-        OptionsError::Words(_) | OptionsError::NotUtf8(_) => 2,
-        OptionsError::Unread(_) | OptionsError::Memory(_) => 1,
+        WordsError::Words(_) | WordsError::NotUtf8(_) => 2,
+        WordsError::Unread(_) | WordsError::Memory(_) => 1,
     }
 }

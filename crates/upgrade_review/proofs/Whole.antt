@@ -6,7 +6,7 @@ use Rattle.low_instructions.specs.declared.low.Low.{Low}
 use Rattle.low_instructions.specs.declared.low.Low.TheVariants.{LoadObjectCode, PointOfNoReturn, Load, Remove, Purge, Suspend}
 use Rattle.low_instructions.specs.declared.low.Low.TheVariants.{Resume, CodeChange, Stop, Start, Apply}
 use Rattle.release_table.specs.declared.table.Release.{Release}
-use Rattle.upgrade_review.proofs.Adding.{adds_both}
+use Rattle.upgrade_review.proofs.Adding.{adds_both, from_nothing, none_twice}
 use Rattle.upgrade_review.specs.Findings.{AreDifferent, IsAmiss, IsFound, not_loaded, loaded_again, no_code_change, starts}
 use Rattle.upgrade_review.specs.Findings.{restarts, stops, no_way_down, not_undone}
 use Rattle.upgrade_review.specs.Gathering.{Adds, FromEach, IsFoundAt, IsFoundIn, IsNotLoadedIn, IsNotLoadedOf, IsNotUndoneAt}
@@ -99,20 +99,6 @@ module _ (left installed : Release) (script : List Low) (f : Finding) where
   in_parts (starts i low app at by before is) = inr (i, low, at, start_at i low app by (inl (before, is)))
   in_parts (restarts i low app at by before is) = inr (i, low, at, start_at i low app by (inr (before, is)))
   in_parts (stops i low app at by behind is) = inr (i, low, at, stop_at i low app by (behind, is))
-
--- there is nothing among no findings, and none of them is twice
-none_there : (f : Finding) → Contains [] f → ⊥
-none_there f there = omega (arith, there.1)
-
-none_twice : AreDifferent []
-none_twice i j d below within = absurd (omega arith)
-
--- what has come to nothing is all that is there
-pub from_nothing : (P : Finding → Type 0) (found : List Finding) → Adds P [] found → (f : Finding) → Contains found f ↔ P f
-from_nothing P found adds f = (
-  (λ there. elim ((adds.all f).0 there) [ inl none ↦ absurd (none_there f none) | inr p ↦ p ]),
-  (λ p. (adds.all f).1 (inr p)),
-)
 
 -- what has come of the modules, and then of the instructions, is what is found
 pub found_of_parts : (left installed : Release) (script : List Low) (before between found : List Finding) → before ≡ [] →

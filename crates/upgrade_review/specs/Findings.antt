@@ -49,5 +49,5 @@ pub data IsAmiss (up : List Low) (down : Option (List Low)) (f : Finding) : Type
       IsAmiss up down f
 
 -- No finding stands at two places.
-abbrev pub AreDifferent : List Finding → Type 0
+abbrev pub AreDifferent : {F : Type 0} → List F → Type 0
 AreDifferent found = AllPairs (λ one another. one ≢ another) found

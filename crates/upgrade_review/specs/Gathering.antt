@@ -17,13 +17,13 @@ use Rattle.upgrade_review.specs.declared.finding.Finding.TheVariants.{LoadedAgai
 use Rattle.upgrade_review.specs.declared.finding.Finding.TheVariants.{Restarts, Starts, Stops}
 
 -- Just the findings of a kind have come to those that were there, and none of them stands twice for it.
-pub record Adds (P : Finding → Type 0) (old new : List Finding) : Type 0 where
-  pub all : (f : Finding) → Contains new f ↔ (Contains old f ⊎ P f)
+pub record Adds {F : Type 0} (P : F → Type 0) (old new : List F) : Type 0 where
+  pub all : (f : F) → Contains new f ↔ (Contains old f ⊎ P f)
   pub once : AreDifferent old → AreDifferent new
 
 -- A finding about an item of a list, at its place.
-abbrev pub FromEach : {X : Type 0} → (ℕ → X → Finding → Type 0) → List X → Finding → Type 0
-FromEach {X} R xs f = (i : ℕ) × (x : X) × (slice_get xs i ≡ Some x) × R i x f
+abbrev pub FromEach : {X F : Type 0} → (ℕ → X → F → Type 0) → List X → F → Type 0
+FromEach {X} {F} R xs f = (i : ℕ) × (x : X) × (slice_get xs i ≡ Some x) × R i x f
 
 -- A module of an application isn't as the release that is left has it, and the script doesn't load it.
 abbrev pub IsNotLoaded : Release → List Low → List ℕ → Forms → Finding → Type 0

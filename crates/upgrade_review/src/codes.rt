@@ -111,7 +111,7 @@ pub(crate) fn is_started_with(release: &Release, script: &[Low], name: &Atom) ->
 }
 
 /// Whether a module is this callback module of an application.
-fn is_start_module(start: &Option<StartModule>, name: &Atom) -> bool
+pub fn is_start_module(start: &Option<StartModule>, name: &Atom) -> bool
     ensures { result ≡ is_start_module name.now start.now }
 {
     match start {

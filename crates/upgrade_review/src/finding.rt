@@ -1,7 +1,4 @@
-// Findings, and how they are gathered.
-ghost use Rattle.std.specs.Prelude.{◌≡◌, ◌↔◌, Contains, IsTrue, OnOk};
-ghost use Rattle.upgrade_review.specs.Gathering.{Adds};
-
+// Findings.
 use erl_term::Atom;
 use release_words::{copied_variants, same_variants};
 use std::alloc::{AllocError, Global};
@@ -102,21 +99,4 @@ impl Duplicate for Finding {
             NotUndone { index, module }
         )
     }
-}
-
-/// Whether a finding is among others.
-fn is_among(found: &[Finding], finding: &Finding) -> bool
-    ensures { IsTrue result ↔ Contains found.now finding.now }
-{
-    found.iter().any(|one| one.same(finding))
-}
-
-/// Puts a finding behind others, unless it is there.
-pub(crate) fn note(found: &mut Vec<Finding>, finding: Finding) -> Result<(), AllocError>
-    ensures { OnOk result (Adds (λ f. f ≡ finding) found.old.items found.new.items) }
-{
-    if !is_among(found.as_slice(), &finding) {
-        found.push(finding)?;
-    }
-    Ok(())
 }

@@ -30,10 +30,13 @@
 
 mod codes;
 mod finding;
+mod gathering;
 mod looking;
 mod modules;
 mod script_findings;
 mod scripts;
 
+pub use codes::is_start_module;
 pub use finding::Finding;
+pub use gathering::note;
 pub use looking::{look_back, look_through};

@@ -4,7 +4,8 @@ ghost use Rattle.std.specs.Option.{option_copied};
 ghost use Rattle.upgrade_review.specs.Findings.{AreDifferent, IsAmiss, IsFound};
 ghost use Rattle.upgrade_review.specs.declared.finding.Finding.{Finding};
 
-use crate::finding::{Finding, note};
+use crate::finding::Finding;
+use crate::gathering::note;
 use crate::modules::note_not_loaded;
 use crate::script_findings::{note_instructions, note_not_undone};
 use low_instructions::Low;

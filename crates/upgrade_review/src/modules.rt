@@ -3,7 +3,8 @@ ghost use Rattle.std.specs.Prelude.{OnOk};
 ghost use Rattle.upgrade_review.specs.Gathering.{Adds, IsNotLoaded, IsNotLoadedIn, IsNotLoadedOf};
 
 use crate::codes::{code_in, is_code};
-use crate::finding::{Finding, note};
+use crate::finding::Finding;
+use crate::gathering::note;
 use crate::scripts::is_loaded;
 use erl_ir::Module;
 use erl_term::Atom;

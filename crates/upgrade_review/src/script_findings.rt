@@ -5,7 +5,8 @@ ghost use Rattle.upgrade_review.specs.Gathering.{Adds, FromEach, IsFoundAt, IsFo
 ghost use Rattle.upgrade_review.specs.Gathering.{IsStart, IsStop, IsUnchanged, IsUnchangedOf, OfApp};
 
 use crate::codes::{is_callback_module, is_kept, is_started_with, lacks_behind};
-use crate::finding::{Finding, note};
+use crate::finding::Finding;
+use crate::gathering::note;
 use crate::scripts::{is_loaded, is_removed, is_started, is_stopped, started_by, stopped_by};
 use erl_term::Atom;
 use low_instructions::{Low, ModuleChange};

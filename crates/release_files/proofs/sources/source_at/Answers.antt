@@ -11,7 +11,8 @@ returns-in-Ok-true c =
 
 pub returns-in-Ok-false : goal.returns-in-Ok-false
 returns-in-Ok-false c =
-    inr (known_module c.in-Ok.read c.in-Ok.ensures.0 c.in-Ok.ensures.1 (rw c.in-Ok-false.field-0-test at c.in-Ok-false.ensures) refl)
+    let known = rw c.in-Ok-false.field-0-test at c.in-Ok-false.ensures in
+    inr (known_module c.in-Ok.read c.in-Ok.ensures.0 c.in-Ok.ensures.1 known.0 refl, known.1)
 
 pub returns-in-Err : goal.returns-in-Err
 returns-in-Err c =

@@ -10,4 +10,4 @@ returns-in-Ok-source_at c =
 
 pub returns-in-Err : goal.returns-in-Err
 returns-in-Err c =
-    source_wrong_at c.args.files.now c.args.app.now c.args.seen.now c.args.name.now (string_bytes c.in-Ok.path) c.as_str.result.now c.in-Err.fault c.in-Ok.ensures c.as_str.ensures.value c.in-Err.ensures
+    source_wrong_at c.args.files.now c.args.app.now c.args.seen.now c.source_at.new.seen c.args.name.now (string_bytes c.in-Ok.path) c.as_str.result.now c.in-Err.fault c.in-Ok.ensures c.as_str.ensures.value c.in-Err.ensures

@@ -10,7 +10,7 @@ loop-name-init c =
 
 pub returns-in_err-read : goal.returns-in_err-read
 returns-in_err-read c =
-    passed _ _ c.from_residual.result c.in_err-read.field-0.0 c.from_residual.ensures (sources_wrong c.args.files.now c.args.app.now c.args.seen.now c.args.names.now c.loop-name.seen c.loop-name.modules.items c.loop-name.name-index c.name-item.result (string_bytes c.in_err-read.field-0.0.path) c.in_err-read.field-0.0.fault c.loop-name-test.true c.name-item.is c.loop-name.invariant c.in_err-read.ensures)
+    passed _ _ c.from_residual.result c.in_err-read.field-0.0 c.from_residual.ensures (sources_wrong c.args.files.now c.args.app.now c.args.seen.now c.args.names.now c.loop-name.seen c.source_of.new.seen c.loop-name.modules.items c.loop-name.name-index c.name-item.result (string_bytes c.in_err-read.field-0.0.path) c.in_err-read.field-0.0.fault c.loop-name-test.true c.name-item.is c.loop-name.invariant c.in_err-read.ensures)
 
 pub loop-name-preserved : goal.loop-name-preserved
 loop-name-preserved c =

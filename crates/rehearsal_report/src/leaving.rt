@@ -1,0 +1,45 @@
+// What a failure of an instruction would leave.
+use crate::writing::{INDENT, put, put_number};
+use node_views::NodeView;
+use std::alloc::{AllocError, Global};
+
+/// How many processes live.
+fn living(view: &NodeView) -> u64 {
+    let mut count: u64 = 0;
+    for process in view.processes.as_slice() {
+        if process.is_some() {
+            count = count.saturating_add(1);
+        }
+    }
+    count
+}
+
+/// How many messages wait.
+fn waiting(view: &NodeView) -> u64 {
+    let mut count: u64 = 0;
+    for process in view.processes.as_slice() {
+        if let Some(process) = process {
+            count = count.saturating_add(process.mailbox.as_slice().len() as u64);
+        }
+    }
+    count
+}
+
+/// Writes the begin of a line: what OTP's release handler leaves where an instruction fails (release_handler(3)). Before the point of
+/// no return it gives the script up; behind it, it restarts the node, and what processes hold is lost.
+pub(crate) fn put_left(
+    is_behind_point: bool,
+    before: &NodeView,
+    alloc: Global,
+    out: &mut Vec<u8>,
+) -> Result<(), AllocError> {
+    put(INDENT, out)?;
+    if !is_behind_point {
+        return put(b"a failure here: OTP gives the script up", out);
+    }
+    put(b"a failure here: OTP restarts the node; lost are ", out)?;
+    put_number(living(before), alloc, out)?;
+    put(b" states and ", out)?;
+    put_number(waiting(before), alloc, out)?;
+    put(b" messages", out)
+}

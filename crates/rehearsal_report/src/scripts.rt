@@ -1,0 +1,35 @@
+// Scripts, as numbered lists.
+use crate::writing::{put, put_place, put_term};
+use low_instructions::{Low, low_term};
+use std::alloc::{AllocError, Global};
+
+/// Writes a script, an instruction a line.
+pub(crate) fn put_script(
+    script: &[Low],
+    alloc: Global,
+    out: &mut Vec<u8>,
+) -> Result<(), AllocError> {
+    for (place, instruction) in script.iter().enumerate() {
+        put_place(place + 1, alloc, out)?;
+        put_instruction(instruction, alloc, out)?;
+        put(b"\n", out)?;
+    }
+    Ok(())
+}
+
+/// Appends an instruction.
+///
+/// # Errors
+///
+/// `AllocError` where memory is refused.
+pub fn put_instruction(
+    instruction: &Low,
+    alloc: Global,
+    out: &mut Vec<u8>,
+) -> Result<(), AllocError> {
+    put_term(&low_term(alloc, instruction)?, alloc, out)?;
+    match instruction {
+        Low::PointOfNoReturn => put(b"  (a failure behind it restarts the node)", out),
+        _ => Ok(()),
+    }
+}

@@ -1,0 +1,8 @@
+-- It is looked at where it was gone.
+use Rattle.low_instructions.specs.declared.modules.Direction.TheVariants.{Down}
+use Rattle.rehearsals.proofs.Pids.{on_some}
+use Rattle.rehearsals.specs.Observing.{IsOnWay}
+use Rattle.rehearsals.proofs.observing.note_way_down.Goals as goal
+
+pub returns-in-Some : goal.returns-in-Some
+returns-in-Some c = on_some _ (IsOnWay Down) c.args.down.now c.in-Some.way _ _ c.in-Some.is c.note_way.ensures

@@ -1,0 +1,2 @@
+pub mod Observing
+pub mod Ways

@@ -1,0 +1,82 @@
+// What was seen on a way, and of a whole upgrade.
+ghost use Rattle.std.specs.Prelude.{◌≡◌};
+ghost use Rattle.rehearsals.specs.Observing.{before_of};
+ghost use Rattle.rehearsals.specs.Ways.{is_down, is_finished, would_go};
+
+use crate::station::Station;
+use erl_term::Atom;
+use node_types::Refusal;
+use node_views::NodeView;
+use values::Row;
+
+/// What was seen on one way, up or down.
+#[derive(Drop)]
+pub struct Way {
+    /// Why the install was refused, if it was.
+    pub refusal: Option<Refusal>,
+    /// The node where the script begins.
+    pub begun: NodeView,
+    /// What was seen of the instructions, in order, and last of the end.
+    pub stations: Vec<Station>,
+    /// The modules with old code at the end of the script, each with a process that still uses it.
+    pub lingering: Row<(Atom, u64)>,
+}
+
+impl Way {
+    /// The node before the instruction at an index.
+    pub fn before(&self, index: usize) -> &NodeView
+        ensures { result.now ≡ before_of self.now index }
+    {
+        match index.checked_sub(1) {
+            Some(last) => match self.stations.get(last) {
+                Some(station) => &station.view,
+                None => &self.begun,
+            },
+            None => &self.begun,
+        }
+    }
+
+    /// Whether the script has come to its end.
+    pub fn is_finished(&self) -> bool
+        ensures { result ≡ is_finished self.now }
+    {
+        match self.stations.last() {
+            Some(station) => station.outcome.is_end(),
+            None => false,
+        }
+    }
+}
+
+/// Whether there was a way down, and it has come to its end.
+pub fn is_down(down: &Option<Way>) -> bool
+    ensures { result ≡ is_down down.now }
+{
+    match down {
+        Some(way) => way.is_finished(),
+        None => false,
+    }
+}
+
+/// What was seen of an upgrade that was rehearsed.
+#[derive(Drop)]
+pub struct Rehearsal {
+    /// The node before the way up, behind the traffic.
+    pub before: NodeView,
+    /// The way up.
+    pub up: Way,
+    /// The way down, where the way up came to its end.
+    pub down: Option<Way>,
+    /// Whether the node was as before once all was undone.
+    pub is_as_before: bool,
+    /// The node behind the way up and the way down without traffic in between, where both came to their ends.
+    pub returned: Option<NodeView>,
+}
+
+impl Rehearsal {
+    /// Whether the upgrade would go up and down without a failure.
+    pub fn would_go(&self) -> bool
+        ensures { result ≡ would_go self.now }
+    {
+        self.up.is_finished() && is_down(&self.down)
+    }
+}
