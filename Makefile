@@ -10,11 +10,14 @@
 # make demo: a session of the program on the example tree, tried with checks and not proved: in two minutes on a new machine (tools/demo).
 # The kit's rt, by a tool that keeps what rt asks again and again of crates.txt; RT=rt is the kit's alone.
 RT ?= $(CURDIR)/tools/rt
+# As many crates at a time as there are processors, each in one process. Left alone rt ci reckons 80 kB for each line that stands below a
+# crate, and so would prove the upper crates one at a time; those that were measured took 2 to 3 GB.
+JOBS ?= $(shell nproc)
 
 .PHONY: test transcripts check edits trials demo relnode
 
 test:
-	@$(RT) ci
+	@RT_JOBS=$(JOBS) $(RT) ci
 	@tools/transcripts
 
 transcripts: relnode

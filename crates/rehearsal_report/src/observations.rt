@@ -81,6 +81,10 @@ pub fn put_observation_fact(
                 out,
             )
         }
+        Observation::FailsWithoutTraffic => put(
+            b"without the traffic it doesn't go up and down",
+            out,
+        ),
     }
 }
 
@@ -97,5 +101,8 @@ pub fn observation_advice(observation: &Observation) -> &'static [u8] {
             b"have it leave the old code, by a call with the module's name, before the next upgrade"
         }
         Observation::NotRestored { .. } => b"let code_change/3 down undo what it does up",
+        Observation::FailsWithoutTraffic => {
+            b"rehearse it without traffic, and see which instruction fails"
+        }
     }
 }

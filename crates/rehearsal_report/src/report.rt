@@ -5,7 +5,7 @@ use crate::scripts::put_script;
 use crate::steps::put_way;
 use crate::writing::put;
 use low_instructions::Low;
-use rehearsals::{Observation, Rehearsal};
+use rehearsals::{Observation, Rehearsal, is_down};
 use std::alloc::{AllocError, Global};
 use upgrade_review::Finding;
 
@@ -39,6 +39,8 @@ pub const NOT_AS_BEFORE: &[u8] = b"All undone, the node is NOT as before.";
 pub fn verdict(rehearsal: &Rehearsal) -> &'static [u8] {
     if rehearsal.would_go() {
         b"It would go up and down without a failure."
+    } else if is_down(&rehearsal.down) {
+        b"It would go up and down with the traffic, and NOT without."
     } else if rehearsal.up.is_finished() {
         b"It would go up, and NOT down."
     } else {

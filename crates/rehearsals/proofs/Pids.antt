@@ -5,6 +5,10 @@ use Rattle.std.proofs.lemmas.Option.{get_or_from_slice_get, slice_get_read, slic
 use Rattle.upgrade_review.proofs.Adding.{adds_alike, adds_both}
 use Rattle.upgrade_review.proofs.Noting.{on_ok}
 use Rattle.upgrade_review.specs.Gathering.{Adds, FromEach}
+use Rattle.node_views.specs.declared.node_view.NodeView.{NodeView}
+use Rattle.rehearsals.specs.Observing.{IsOnReturn}
+use Rattle.rehearsals.specs.declared.observing.Observation.{Observation}
+use Rattle.rehearsals.specs.declared.way.Returned.{Returned}
 
 module _ {F : Type 0} (D : ℕ → Type 0) (make : ℕ → F) where
   abbrev pub Below : ℕ → F → Type 0
@@ -53,3 +57,8 @@ on_some {T} {E} {X} {F} r R o x old new is on =
     on_ok r (Adds (R x) old new) (Adds (λ f. (y : X) × (o ≡ Some y) × R y f) old new)
     (λ adds. adds_alike (R x) (λ f. (y : X) × (o ≡ Some y) × R y f) old new (λ f w. (x, is, w))
     (λ f w. let same : w.0 ≡ x = (let both : Some w.0 ≡ Some x = sym w.1 ∙ is in cc) in subst (λ y. R y f) same w.2) adds) on
+
+-- of what was seen where both ways were gone without traffic
+pub on_return : {T E : Type 0} (r : Result T E) (before : NodeView) (seen returned : Returned) (old new : List Observation) →
+    returned ≡ seen → OnOk r (Adds (IsOnReturn before seen) old new) → OnOk r (Adds (IsOnReturn before returned) old new)
+on_return r before seen returned old new is on = subst (λ s. OnOk r (Adds (IsOnReturn before s) old new)) (sym is) on

@@ -11,9 +11,11 @@ use Rattle.node_views.specs.Changes.{process_of}
 use Rattle.node_views.specs.declared.node_view.NodeView.{NodeView}
 use Rattle.node_views.specs.declared.process_view.ProcessView.{ProcessView}
 use Rattle.rehearsals.specs.declared.observing.Observation.{Observation}
-use Rattle.rehearsals.specs.declared.observing.Observation.TheVariants.{SuspendsNobody, Kills, Lingers, NotRestored}
+use Rattle.rehearsals.specs.declared.observing.Observation.TheVariants.{SuspendsNobody, Kills, Lingers, NotRestored, FailsWithoutTraffic}
 use Rattle.rehearsals.specs.declared.station.Station.{Station}
 use Rattle.rehearsals.specs.declared.way.Rehearsal.{Rehearsal}
+use Rattle.rehearsals.specs.declared.way.Returned.{Returned}
+use Rattle.rehearsals.specs.declared.way.Returned.TheVariants.{Untried, Failed, Behind}
 use Rattle.rehearsals.specs.declared.way.Way.{Way}
 
 -- The node before the instruction at an index: the one behind the traffic of the instruction before it, or where the script begins.
@@ -83,14 +85,18 @@ abbrev pub IsUnrestored : NodeView → NodeView → Observation → Type 0
 IsUnrestored before after o =
     (pid : ℕ) × (IsRestored (process_of pid before) (process_of pid after) → ⊥) × (o ≡ NotRestored pid)
 
--- What is seen on the way down, if it was gone, and of the states behind both ways, if they were gone.
+-- What is seen on the way down, if it was gone.
 
 abbrev pub IsOnWayDown : Option Way → Observation → Type 0
 IsOnWayDown down o = (w : Way) × (down ≡ Some w) × IsOnWay Down w o
 
-abbrev pub IsUnrestoredIn : NodeView → Option NodeView → Observation → Type 0
-IsUnrestoredIn before returned o = (after : NodeView) × (returned ≡ Some after) × IsUnrestored before after o
+-- What is seen where both ways were gone without traffic: that one of them fails, or which process has not the state that it had.
 
--- What a rehearsal shows: of one of its ways, or of the states behind both.
+abbrev pub IsOnReturn : NodeView → Returned → Observation → Type 0
+IsOnReturn before Untried o = ⊥
+IsOnReturn before Failed o = o ≡ FailsWithoutTraffic
+IsOnReturn before (Behind after) o = IsUnrestored before after o
+
+-- What a rehearsal shows: of one of its ways, or of both without traffic.
 abbrev pub IsObserved : Rehearsal → Observation → Type 0
-IsObserved r o = IsOnWay Up r.up o ⊎ (IsOnWayDown r.down o ⊎ IsUnrestoredIn r.before r.returned o)
+IsObserved r o = IsOnWay Up r.up o ⊎ (IsOnWayDown r.down o ⊎ IsOnReturn r.before r.returned o)

@@ -1,9 +1,11 @@
 -- How ways end (release_handler(3)).
-use Rattle.std.specs.Prelude.{ℕ, ◌-◌, Bool, true, false, ◌&&◌, length, Option, None, Some, slice_get}
+use Rattle.std.specs.Prelude.{ℕ, ◌-◌, Bool, true, false, not, ◌&&◌, length, Option, None, Some, slice_get}
 use Rattle.rehearsals.specs.declared.station.Outcome.{Outcome}
 use Rattle.rehearsals.specs.declared.station.Outcome.TheVariants.{Ran, Finished, Recovered, Restarted, Refused}
 use Rattle.rehearsals.specs.declared.station.Station.{Station}
 use Rattle.rehearsals.specs.declared.way.Rehearsal.{Rehearsal}
+use Rattle.rehearsals.specs.declared.way.Returned.{Returned}
+use Rattle.rehearsals.specs.declared.way.Returned.TheVariants.{Untried, Failed, Behind}
 use Rattle.rehearsals.specs.declared.way.Way.{Way}
 
 -- Whether an instruction was carried out, and whether its script is finished.
@@ -34,11 +36,17 @@ is_finished_by (Some s) = is_end s.outcome
 abbrev pub is_finished : Way → Bool
 is_finished w = is_finished_by (last_of w)
 
--- Whether there was a way down, and it has come to its end; and whether both ways have.
+-- Whether there was a way down, and it has come to its end; whether one of the ways fails without traffic; and whether an upgrade would
+-- go up and down, with traffic and without.
 
 abbrev pub is_down : Option Way → Bool
 is_down None = false
 is_down (Some w) = is_finished w
 
+abbrev pub has_failed : Returned → Bool
+has_failed Untried = false
+has_failed Failed = true
+has_failed (Behind view) = false
+
 abbrev pub would_go : Rehearsal → Bool
-would_go r = is_finished r.up && is_down r.down
+would_go r = is_finished r.up && is_down r.down && not (has_failed r.returned)

@@ -3,13 +3,13 @@ ghost use Rattle.std.specs.Prelude.{◌≡◌, ◌↔◌, ◌⊎◌, Contains, I
 ghost use Rattle.std.specs.Option.{option_copied};
 ghost use Rattle.node_views.specs.Changes.{process_of};
 ghost use Rattle.rehearsals.specs.Observing.{IsAtStation, IsKill, IsLingering, IsNobody, IsObserved, IsOnWay, IsOnWayDown, IsOneState, IsRestored, IsUnrestored};
-ghost use Rattle.rehearsals.specs.Observing.{IsUnrestoredIn, Purges};
+ghost use Rattle.rehearsals.specs.Observing.{IsOnReturn, Purges};
 ghost use Rattle.rehearsals.specs.declared.observing.Observation.TheVariants.{Lingers, SuspendsNobody};
 ghost use Rattle.upgrade_review.specs.Findings.{AreDifferent};
 ghost use Rattle.upgrade_review.specs.Gathering.{Adds, FromEach};
 
 use crate::station::Station;
-use crate::way::{Rehearsal, Way};
+use crate::way::{Rehearsal, Returned, Way};
 use erl_semantics::Place;
 use erl_term::Atom;
 use low_instructions::{Direction, Low};
@@ -57,6 +57,8 @@ pub enum Observation {
         /// The process.
         pid: u64,
     },
+    /// Without traffic the way up or the way down doesn't come to its end, though with the traffic both do.
+    FailsWithoutTraffic,
 }
 
 impl Same for Observation {
@@ -67,6 +69,7 @@ impl Same for Observation {
             Kills { way: w, index: i, pid: p }
             Lingers { way: w, module: m, pid: p }
             NotRestored { pid: p }
+            FailsWithoutTraffic {}
         )
     }
 }
@@ -111,17 +114,18 @@ fn note_way_down(
     }
 }
 
-/// Notes which processes have not the state that they had, if both ways were gone.
+/// Notes what is seen of both ways without traffic, if they were gone so.
 fn note_return(
     before: &NodeView,
-    returned: &Option<NodeView>,
+    returned: &Returned,
     found: &mut Vec<Observation>,
 ) -> Result<(), AllocError>
-    ensures { OnOk result (Adds (IsUnrestoredIn before.now returned.now) found.old.items found.new.items) }
+    ensures { OnOk result (Adds (IsOnReturn before.now returned.now) found.old.items found.new.items) }
 {
     match returned {
-        Some(after) => note_returned(before, after, found),
-        None => Ok(()),
+        Returned::Untried => Ok(()),
+        Returned::Failed => note(found, Observation::FailsWithoutTraffic),
+        Returned::Behind(after) => note_returned(before, after, found),
     }
 }
 

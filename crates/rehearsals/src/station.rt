@@ -53,7 +53,7 @@ pub struct Station {
     pub is_as_before: bool,
     /// The modules that it suspends, and of which no child runs.
     pub nobody: Row<Atom>,
-    /// How it goes while jobs run, where the traffic gives any.
+    /// How it goes while jobs run, where anybody can take a message once all of the traffic has come.
     pub jobs: Option<JobsRun>,
     /// The node behind the traffic that was played behind it.
     pub view: NodeView,

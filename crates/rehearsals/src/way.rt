@@ -1,7 +1,7 @@
 // What was seen on a way, and of a whole upgrade.
 ghost use Rattle.std.specs.Prelude.{◌≡◌};
 ghost use Rattle.rehearsals.specs.Observing.{before_of};
-ghost use Rattle.rehearsals.specs.Ways.{is_down, is_finished, would_go};
+ghost use Rattle.rehearsals.specs.Ways.{has_failed, is_down, is_finished, would_go};
 
 use crate::station::Station;
 use erl_term::Atom;
@@ -18,7 +18,7 @@ pub struct Way {
     pub begun: NodeView,
     /// What was seen of the instructions, in order, and last of the end.
     pub stations: Vec<Station>,
-    /// The modules with old code at the end of the script, each with a process that still uses it.
+    /// The modules with old code when nothing more was made of the script, each with every process that still uses it.
     pub lingering: Row<(Atom, u64)>,
 }
 
@@ -57,6 +57,26 @@ pub fn is_down(down: &Option<Way>) -> bool
     }
 }
 
+/// What was seen where both ways were gone once more, without traffic.
+#[derive(Drop)]
+pub enum Returned {
+    /// They were not, for with traffic they had not come to their ends.
+    Untried,
+    /// One of them has not come to its end.
+    Failed,
+    /// The node behind both.
+    Behind(NodeView),
+}
+
+impl Returned {
+    /// Whether one of the ways has not come to its end.
+    pub fn has_failed(&self) -> bool
+        ensures { result ≡ has_failed self.now }
+    {
+        matches!(self, Returned::Failed)
+    }
+}
+
 /// What was seen of an upgrade that was rehearsed.
 #[derive(Drop)]
 pub struct Rehearsal {
@@ -68,15 +88,15 @@ pub struct Rehearsal {
     pub down: Option<Way>,
     /// Whether the node was as before once all was undone.
     pub is_as_before: bool,
-    /// The node behind the way up and the way down without traffic in between, where both came to their ends.
-    pub returned: Option<NodeView>,
+    /// What was seen of both ways without traffic.
+    pub returned: Returned,
 }
 
 impl Rehearsal {
-    /// Whether the upgrade would go up and down without a failure.
+    /// Whether the upgrade would go up and down without a failure, with the traffic and without.
     pub fn would_go(&self) -> bool
         ensures { result ≡ would_go self.now }
     {
-        self.up.is_finished() && is_down(&self.down)
+        self.up.is_finished() && is_down(&self.down) && !self.returned.has_failed()
     }
 }

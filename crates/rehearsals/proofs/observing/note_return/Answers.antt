@@ -1,7 +1,11 @@
--- They are noted where both ways were gone.
-use Rattle.rehearsals.proofs.Pids.{on_some}
-use Rattle.rehearsals.specs.Observing.{IsUnrestored}
+-- It is noted as what was seen.
+use Rattle.rehearsals.proofs.Pids.{on_return}
+use Rattle.rehearsals.specs.declared.way.Returned.TheVariants.{Failed, Behind}
 use Rattle.rehearsals.proofs.observing.note_return.Goals as goal
 
-pub returns-in-Some : goal.returns-in-Some
-returns-in-Some c = on_some _ (IsUnrestored c.args.before.now) c.args.returned.now c.in-Some.after _ _ c.in-Some.is c.note_returned.ensures
+pub returns-in-Failed : goal.returns-in-Failed
+returns-in-Failed c = on_return _ c.args.before.now Failed c.args.returned.now _ _ c.in-Failed.is c.note.ensures
+
+pub returns-in-Behind : goal.returns-in-Behind
+returns-in-Behind c =
+    on_return _ c.args.before.now (Behind c.in-Behind.after) c.args.returned.now _ _ c.in-Behind.is c.note_returned.ensures

@@ -1,0 +1,114 @@
+//! The traffic of a rehearsal, read from lines as the shell reads them: `call NAME TERM`, `cast NAME TERM`, `send NAME TERM`.
+//!
+//! # What is proved
+//!
+//! [`read_traffic`] has what each line sends, in order (`AllSend`); or the first line that sends nothing and is neither blank nor a
+//! comment, and why (`IsFirstAmiss`).
+#![tactic(auto)]
+
+ghost use Rattle.std.specs.Prelude.{◌≡◌, ◌⊎◌, ◌∷◌, [], MatchResult};
+ghost use Rattle.std.specs.Str.{chars};
+ghost use Rattle.client_traffic.specs.Traffic.{Adds, AllSend, IsAmissBy, IsAmissIn, IsFirstAmiss, SentBy, lines_of};
+ghost use Rattle.shell_requests.specs.Request.{arrive};
+
+use erl_scan::ReadError;
+use shell_exec::{Misread, term_of};
+use shell_requests::{Arrival as Kind, Line, Name, Request, read_line};
+use std::alloc::Global;
+use thiserror::Error;
+
+mod arrival;
+
+pub use arrival::Arrival;
+
+/// Why a line is no traffic.
+#[derive(Clone, Copy, Debug, PartialEq, Eq, Error)]
+pub enum TrafficError {
+    /// It is none of the lines that send something.
+    #[error("a line is `call NAME TERM`, `cast NAME TERM` or `send NAME TERM`")]
+    NoArrival,
+    /// There is no term, or there are several.
+    #[error("one term is sent")]
+    NotOneTerm,
+    /// The term is faulty, so many bytes behind its begin.
+    #[error("the term is faulty: {0}")]
+    Term(ReadError),
+    /// Memory was refused.
+    #[error("out of memory")]
+    Memory,
+}
+
+/// The first line that is no traffic, and why.
+#[derive(Clone, Copy, Debug, PartialEq, Eq, Error)]
+#[error("line {line}: {error}")]
+pub struct TrafficFault {
+    /// The line, counted from 1.
+    pub line: usize,
+    /// What stands against it.
+    pub error: TrafficError,
+}
+
+/// Reads what clients send, a line each, in order. Blank lines and comments send nothing.
+///
+/// # Errors
+///
+/// The first line that is no traffic, and why; or the one that was read when memory was refused.
+pub fn read_traffic(alloc: Global, text: &str) -> Result<Vec<Arrival>, TrafficFault>
+    ensures { MatchResult result (λ found. AllSend (lines_of text.now) found.items) (IsFirstAmiss (lines_of text.now)) }
+{
+    let mut found = Vec::new(alloc);
+    let mut number = 0;
+    for line in text.split('\n') {
+        number += 1;
+        match push_line(alloc, line, &mut found) {
+            Ok(()) => (),
+            Err(error) => {
+                return Err(TrafficFault {
+                    line: number,
+                    error,
+                });
+            }
+        }
+    }
+    Ok(found)
+}
+
+/// Puts what a line sends behind others, if it sends something.
+fn push_line(alloc: Global, line: &str, found: &mut Vec<Arrival>) -> Result<(), TrafficError>
+    ensures { MatchResult result (λ _. Adds line.now found.old.items found.new.items) (IsAmissIn line.now) }
+{
+    match read_line(line.as_bytes()) {
+        Line::Silent => Ok(()),
+        Line::Asks(Request::Arrive(kind, name, text)) => {
+            let arrival = arrival_of(alloc, kind, name, text)?;
+            match found.push(arrival) {
+                Ok(()) => Ok(()),
+                Err(_) => Err(TrafficError::Memory),
+            }
+        }
+        Line::Unknown | Line::Asks(_) => Err(TrafficError::NoArrival),
+    }
+}
+
+/// What a client sends.
+fn arrival_of(
+    alloc: Global,
+    kind: Kind,
+    name: Name<'_>,
+    text: &str,
+) -> Result<Arrival, TrafficError>
+    ensures { MatchResult result
+        (λ arrival. SentBy (arrive kind (chars name.entry.text.now) text.now) (arrival ∷ []))
+        (λ e. (e ≡ TrafficError.Memory) ⊎ IsAmissBy (arrive kind (chars name.entry.text.now) text.now) e) }
+{
+    let term = match term_of(alloc, text) {
+        Ok(term) => term,
+        Err(Misread::NotOne) => return Err(TrafficError::NotOneTerm),
+        Err(Misread::Faulty(error)) => return Err(TrafficError::Term(error)),
+        Err(Misread::NoMemory) => return Err(TrafficError::Memory),
+    };
+    match name.atom(alloc) {
+        Ok(name) => Ok(Arrival { kind, name, term }),
+        Err(_) => Err(TrafficError::Memory),
+    }
+}

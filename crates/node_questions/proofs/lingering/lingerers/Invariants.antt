@@ -1,0 +1,8 @@
+-- Those of the modules so far.
+use Rattle.std.proofs.Common.{◌≡◌, take}
+use Rattle.std.specs.List.{flat_map}
+use Rattle.node_questions.specs.Lingering.{lingerers_of}
+use Rattle.node_questions.proofs.lingering.lingerers.Given as goal
+
+abbrev pub invariant-loop-place : goal.invariant-loop-place
+invariant-loop-place l = l.found.items ≡ flat_map (lingerers_of l.processes) (take l.place l.modules.entries)

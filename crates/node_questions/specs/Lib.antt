@@ -1,0 +1,2 @@
+pub mod Lingering
+pub mod Unsuspended

@@ -1,0 +1,40 @@
+-- The modules that an instruction suspends, and nobody for them (appup(4), suspend).
+use Rattle.std.specs.Prelude.{ℕ, Bool, true, false, not, ◌&&◌, List, [], ◌∷◌, map, filter, Option, None, Some}
+use Rattle.std.specs.List.{list_any}
+use Rattle.app_table.specs.Applications.{Application}
+use Rattle.app_table.specs.Modules.{running_with}
+use Rattle.low_instructions.specs.declared.low.Low.{Low}
+use Rattle.low_instructions.specs.declared.low.Low.TheVariants.{LoadObjectCode, PointOfNoReturn, Load, Remove, Purge, Suspend}
+use Rattle.low_instructions.specs.declared.low.Low.TheVariants.{Resume, CodeChange, Stop, Start, Apply}
+use Rattle.upgrade_review.specs.Codes.{is_start_module}
+
+-- the modules that an instruction suspends
+abbrev pub suspended_by : Option Low → List (List ℕ)
+suspended_by None = []
+suspended_by (Some (LoadObjectCode application version modules)) = []
+suspended_by (Some PointOfNoReturn) = []
+suspended_by (Some (Load name pre post)) = []
+suspended_by (Some (Remove name pre post)) = []
+suspended_by (Some (Purge modules)) = []
+suspended_by (Some (Suspend modules)) = map (λ m. m.name) modules
+suspended_by (Some (Resume modules)) = []
+suspended_by (Some (CodeChange direction changes)) = []
+suspended_by (Some (Stop modules)) = []
+suspended_by (Some (Start modules)) = []
+suspended_by (Some (Apply name function arguments)) = []
+
+-- Nobody is suspended for a module where no child that runs names it in its specification: a child that runs a loop function counts,
+-- though no instruction suspends it. A callback module of an application is not told so, for its supervisor is no process here.
+
+abbrev pub is_empty : {X : Type 0} → List X → Bool
+is_empty [] = true
+is_empty (x ∷ xs) = false
+
+abbrev pub is_callback_module : List ℕ → List Application → Bool
+is_callback_module m apps = list_any (λ a. is_start_module m a.spec.start) apps
+
+abbrev pub is_nobody : List Application → List ℕ → Bool
+is_nobody apps m = is_empty (running_with (m ∷ []) apps) && not (is_callback_module m apps)
+
+abbrev pub nobody_of : List Application → Option Low → List (List ℕ)
+nobody_of apps instruction = filter (is_nobody apps) (suspended_by instruction)

@@ -1,0 +1,96 @@
+// The two releases, read from their files.
+ghost use Rattle.std.specs.Prelude.{◌≡◌, ◌⊎◌, ◌∷◌, ◌++◌, [], IfOk, MatchResult, OnOk, string_bytes};
+ghost use Rattle.upgrade_files.specs.Reading.{AreFaults, ComesNew, IsUnread, has_path};
+ghost use Rattle.release_files.specs.Releases.{IsRelease};
+
+use release_files::{Files, ReleaseFault, all_faults, read_release};
+use release_table::Release;
+use std::alloc::{AllocError, Global};
+
+/// Two releases.
+#[derive(Drop)]
+pub struct Both {
+    /// The one that is left.
+    pub from: Release,
+    /// The one that is installed.
+    pub to: Release,
+}
+
+/// What stands against files that are not two releases.
+#[derive(Drop)]
+pub struct UnreadFaults {
+    /// The files.
+    pub files: Files,
+    /// The faults: those of the release that is left, and then those of the other one, but for paths that were told already.
+    pub faults: Vec<ReleaseFault>,
+}
+
+/// Why there are no two releases.
+#[derive(Drop)]
+pub enum Unread {
+    /// The files are none.
+    Faults(UnreadFaults),
+    /// Memory was refused.
+    Memory,
+}
+
+/// Reads two releases.
+///
+/// # Errors
+///
+/// All faults of both. `Memory` where memory is refused, which may hide faults.
+pub fn read_both(alloc: Global, files: Files, from: &str, to: &str) -> Result<Both, Unread>
+    ensures { MatchResult result
+        (λ both. IsRelease files from.now both.from × IsRelease files to.now both.to)
+        (IsUnread files from.now to.now) }
+{
+    let one = read_release(alloc, &files, from);
+    let other = read_release(alloc, &files, to);
+    match (one, other) {
+        (Ok(from), Ok(to)) => Ok(Both { from, to }),
+        (_, _) => Err(why_unread(alloc, files, from, to)),
+    }
+}
+
+/// What stands against files that are not two releases.
+fn why_unread(alloc: Global, files: Files, from: &str, to: &str) -> Unread
+    ensures { IsUnread files from.now to.now result }
+{
+    match faults_of_both(alloc, &files, from, to) {
+        Ok(faults) if !faults.is_empty() => Unread::Faults(UnreadFaults { files, faults }),
+        Ok(_) | Err(_) => Unread::Memory,
+    }
+}
+
+/// The faults of both releases.
+fn faults_of_both(
+    alloc: Global,
+    files: &Files,
+    from: &str,
+    to: &str,
+) -> Result<Vec<ReleaseFault>, AllocError>
+    ensures { IfOk result (λ found. AreFaults files.now from.now to.now found.items) }
+{
+    let mut found = all_faults(alloc, files, from)?;
+    for fault in all_faults(alloc, files, to)? {
+        push_new(fault, &mut found)?;
+    }
+    Ok(found)
+}
+
+/// Puts a fault behind others, unless one of its path is among them.
+fn push_new(fault: ReleaseFault, found: &mut Vec<ReleaseFault>) -> Result<(), AllocError>
+    ensures { OnOk result (ComesNew fault found.old.items found.new.items) }
+{
+    if !is_told(fault.path.as_str(), found.as_slice()) {
+        found.push(fault)?;
+    }
+    Ok(())
+}
+
+/// Whether a fault of a path is told.
+fn is_told(path: &str, found: &[ReleaseFault]) -> bool
+    ensures { result ≡ has_path path.now found.now }
+{
+    found.iter().any(|fault| fault.path.as_str() == path)
+}
