@@ -1,6 +1,7 @@
 // The two releases, read from their files.
-ghost use Rattle.std.specs.Prelude.{◌≡◌, ◌⊎◌, ◌∷◌, ◌++◌, [], IfOk, MatchResult, OnOk, string_bytes};
-ghost use Rattle.upgrade_files.specs.Reading.{AreFaults, ComesNew, IsUnread, has_path};
+ghost use Rattle.std.specs.Prelude.{◌≡◌, IfOk, MatchResult};
+ghost use Rattle.std.specs.List.{filter};
+ghost use Rattle.upgrade_files.specs.Reading.{AreFaults, IsUnread, has_path, is_untold};
 ghost use Rattle.release_files.specs.Releases.{IsRelease};
 
 use release_files::{Files, ReleaseFault, all_faults, read_release};
@@ -21,7 +22,7 @@ pub struct Both {
 pub struct UnreadFaults {
     /// The files.
     pub files: Files,
-    /// The faults: those of the release that is left, and then those of the other one, but for paths that were told already.
+    /// The faults: those of the release that is left, and then those of the other one, but for the files that both have.
     pub faults: Vec<ReleaseFault>,
 }
 
@@ -72,20 +73,17 @@ fn faults_of_both(
     ensures { IfOk result (λ found. AreFaults files.now from.now to.now found.items) }
 {
     let mut found = all_faults(alloc, files, from)?;
-    for fault in all_faults(alloc, files, to)? {
-        push_new(fault, &mut found)?;
-    }
+    let mut others = all_faults(alloc, files, to)?;
+    keep_untold(&mut others, found.as_slice());
+    found.append(&mut others)?;
     Ok(found)
 }
 
-/// Puts a fault behind others, unless one of its path is among them.
-fn push_new(fault: ReleaseFault, found: &mut Vec<ReleaseFault>) -> Result<(), AllocError>
-    ensures { OnOk result (ComesNew fault found.old.items found.new.items) }
+/// Leaves the faults of whose paths none is told.
+fn keep_untold(faults: &mut Vec<ReleaseFault>, told: &[ReleaseFault])
+    ensures { faults.new.items ≡ filter (is_untold told.now) faults.old.items }
 {
-    if !is_told(fault.path.as_str(), found.as_slice()) {
-        found.push(fault)?;
-    }
-    Ok(())
+    faults.retain(|fault| !is_told(fault.path.as_str(), told));
 }
 
 /// Whether a fault of a path is told.

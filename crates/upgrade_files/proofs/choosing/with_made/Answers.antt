@@ -1,6 +1,5 @@
 -- It is made of copies, which are the releases.
 use Rattle.std.proofs.Common.{refl, subst}
-use Rattle.otp_files.specs.declared.upgrade.Upgrades.{Upgrades}
 use Rattle.release_relups.specs.Parts.{appups_of, rel_apps}
 use Rattle.release_table.specs.declared.table.Release.{Release}
 use Rattle.relup_make.specs.Relups.{IsTranslation}
