@@ -1,10 +1,13 @@
 // Which script leads from one release to another.
-ghost use Rattle.std.specs.Prelude.{◌≡◌, None, MatchResult};
+ghost use Rattle.std.specs.Prelude.{◌≡◌, None, IfOk, MatchResult};
 ghost use Rattle.std.specs.Option.{option_map};
 ghost use Rattle.otp_files.specs.Entries.{entry_for};
+ghost use Rattle.release_relups.specs.Parts.{appups_of, rel_apps};
+ghost use Rattle.relup_make.specs.Relups.{IsTranslation};
 ghost use Rattle.upgrade_files.specs.Choosing.{IsChosen, IsMade, IsUnmade, down_of, up_of};
 
 use low_instructions::Low;
+use otp_files::Relup;
 use release_relups::relup_between;
 use release_table::Release;
 use relup_make::MakeError;
@@ -47,20 +50,43 @@ pub fn choose(alloc: Global, from: Release, to: Release) -> Result<Chosen, MakeE
 fn with_made(alloc: Global, from: Release, to: Release) -> Result<Chosen, MakeError>
     ensures { MatchResult result (IsMade from to) (IsUnmade from to) }
 {
-    let (Ok(left), Ok(installed)) = (from.copy(alloc), to.copy(alloc)) else {
-        return Err(MakeError::Memory);
-    };
-    match relup_between(alloc, left, installed) {
-        Ok(relup) => Ok(Chosen {
-            from,
-            to: Release {
-                rel: to.rel,
-                relup,
-                apps: to.apps,
-            },
-            is_made: true,
-        }),
-        Err(why) => Err(why),
+    let relup = made_of(alloc, &from, &to)?;
+    let to = with_relup(to, relup);
+    Ok(Chosen {
+        from,
+        to,
+        is_made: true,
+    })
+}
+
+/// The relup that is made of the appups.
+fn made_of(alloc: Global, from: &Release, to: &Release) -> Result<Relup, MakeError>
+    ensures { MatchResult result
+        (IsTranslation (rel_apps from.now) (rel_apps to.now) (appups_of to.now)) (IsUnmade from.now to.now) }
+{
+    match copies(alloc, from, to) {
+        Ok((left, installed)) => relup_between(alloc, left, installed),
+        Err(_) => Err(MakeError::Memory),
+    }
+}
+
+/// Copies of two releases.
+fn copies(alloc: Global, from: &Release, to: &Release) -> Result<(Release, Release), AllocError>
+    ensures { IfOk result (λ both. (both.0 ≡ from.now) × (both.1 ≡ to.now)) }
+{
+    let left = from.copy(alloc)?;
+    let installed = to.copy(alloc)?;
+    Ok((left, installed))
+}
+
+/// A release with another relup.
+fn with_relup(release: Release, relup: Relup) -> Release
+    ensures { result ≡ record release { relup = relup } }
+{
+    Release {
+        rel: release.rel,
+        relup,
+        apps: release.apps,
     }
 }
 
