@@ -1,4 +1,0 @@
-pub mod Escaped
-pub mod Showing
-pub mod Standing
-pub mod Written

@@ -1,3 +1,0 @@
-pub mod Escaping
-pub mod Page
-pub mod Parts
