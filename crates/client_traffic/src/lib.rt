@@ -52,7 +52,7 @@ pub struct TrafficFault {
 ///
 /// # Errors
 ///
-/// The first line that is no traffic, and why; or the one that was read when memory was refused.
+/// The first line that is no traffic, and why; or the one that was read when memory was refused. Nothing of the lines before it is kept.
 pub fn read_traffic(alloc: Global, text: &str) -> Result<Vec<Arrival>, TrafficFault>
     ensures { MatchResult result (λ found. AllSend (lines_of text.now) found.items) (IsFirstAmiss (lines_of text.now)) }
 {

@@ -31,7 +31,7 @@ pub struct Chosen {
 ///
 /// # Errors
 ///
-/// Why no relup can be made, where one is to be; `Memory` where memory is refused.
+/// Why no relup can be made, where one is to be; `Memory` where memory is refused. The releases are dropped then.
 pub fn choose(alloc: Global, from: Release, to: Release) -> Result<Chosen, MakeError>
     ensures { MatchResult result (IsChosen from to)
         (λ e. (entry_for from.rel.vsn to.relup.up ≡ None) × IsUnmade from to e) }

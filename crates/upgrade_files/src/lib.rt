@@ -11,7 +11,7 @@
 //! # What no contract says
 //!
 //! That there is memory, and what a call costs: that of its readers, and where files are faulty they are read once more. To see
-//! which faults are told already each path is compared with those of all faults.
+//! which faults of the second are told already each path is compared with those of the first's.
 #![tactic(auto)]
 
 mod choosing;

@@ -39,7 +39,7 @@ pub enum Unread {
 ///
 /// # Errors
 ///
-/// All faults of both. `Memory` where memory is refused, which may hide faults.
+/// All faults of both, and the files. `Memory` where memory is refused, which may hide faults; the files are dropped then.
 pub fn read_both(alloc: Global, files: Files, from: &str, to: &str) -> Result<Both, Unread>
     ensures { MatchResult result
         (λ both. IsRelease files from.now both.from × IsRelease files to.now both.to)
