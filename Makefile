@@ -1,8 +1,6 @@
 # make test: the merge gate, and then the transcripts on the program that it has built. Its last line is 'N passed, M failed'.
 # make transcripts: plays the sessions of transcripts/ on the program, which it builds first (tools/transcripts);
 #   make transcripts NAME=name plays one file of them. Its last line is 'N passed, M failed'.
-# make contracts: the merge gate with a trial more, which it leaves out for time: of each contract, whether any call can meet what it asks. A
-#   warning names each that none can, and a line of each crate has their number; 'empty contracts: 0 found' is what it should say.
 # make check: proves the crates alone, over what earlier checks kept, and tries no edit and no test: for the working day.
 # make edits: sees that the prover refuses each must-fail edit, those of edits/ too, many in one check (tools/edits);
 #   make edits CRATE=name tries one crate's. Its last line is 'N passed, M failed'.
@@ -10,21 +8,17 @@
 #   make trials NAME=name runs one crate of them. Its last line is 'N passed, M failed'.
 # make relnode: proves and builds the program, and leaves it at crates/relnode/out/relnode.
 # make demo: a session of the program on the example tree, tried with checks and not proved: in two minutes on a new machine (tools/demo).
-# The kit's rt, by a tool that keeps what rt asks again and again of crates.txt, and leaves out the trial of contracts; RT=rt is the kit's
-# alone.
+# The kit's rt, by a tool that keeps what rt asks again and again of crates.txt; RT=rt is the kit's alone.
 RT ?= $(CURDIR)/tools/rt
 # As many crates at a time as there are processors, each in one process. Left alone rt ci reckons 80 kB for each line that stands below a
 # crate, and so would prove the upper crates one at a time; those that were measured took 2 to 3 GB.
 JOBS ?= $(shell nproc)
 
-.PHONY: test contracts transcripts check edits trials demo relnode
+.PHONY: test transcripts check edits trials demo relnode
 
 test:
 	@RT_JOBS=$(JOBS) $(RT) ci
 	@tools/transcripts
-
-contracts:
-	@EMPTY_CONTRACTS=1 RT_JOBS=$(JOBS) $(RT) ci
 
 transcripts: relnode
 	@tools/transcripts $(NAME)
