@@ -23,11 +23,21 @@ use std::mem;
 use values::{Duplicate, Row};
 
 /// An application of a node: its specification, whether it is started, and the children of its supervisor.
-#[derive(Drop)]
 pub struct App {
     spec: AppSpec,
     is_started: bool,
     children: Children,
+}
+
+/// It is taken apart here, so that who drops one above has nothing to prove of its parts.
+impl Drop for App {
+    fn drop(self) {
+        let App {
+            spec: _spec,
+            is_started: _is_started,
+            children: _children,
+        } = self;
+    }
 }
 
 impl Model for App {

@@ -26,10 +26,19 @@ use std::marker::Model;
 use values::Row;
 
 /// The applications of a node, in order, each with its specification and the children of its supervisor.
-#[derive(Drop)]
 pub struct AppTable {
     alloc: Global,
     list: Vec<App>,
+}
+
+/// It is taken apart here, so that who drops one above has nothing to prove of its parts.
+impl Drop for AppTable {
+    fn drop(self) {
+        let AppTable {
+            alloc: _alloc,
+            list: _list,
+        } = self;
+    }
 }
 
 impl Model for AppTable {

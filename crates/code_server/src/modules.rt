@@ -41,11 +41,21 @@ pub struct Slots<C> {
 pub(crate) type ByName<C> = IndexMap<Atom, Slots<C>, RandomState>;
 
 /// The modules and their code, first loaded first.
-#[derive(Drop)]
 pub struct Modules<C> {
     alloc: Global,
     table: ByName<C>,
     last: u64,
+}
+
+/// It is taken apart here, so that who drops one above has nothing to prove of its parts.
+impl<C: Drop> Drop for Modules<C> {
+    fn drop(self) {
+        let Modules {
+            alloc: _alloc,
+            table: _table,
+            last: _last,
+        } = self;
+    }
 }
 
 impl<C> Model for Modules<C> {

@@ -25,9 +25,15 @@ type Functions = IndexMap<(Atom, u32), Function, RandomState>;
 /// A module of Erlang as its source says (Erlang Reference Manual, Modules). Its copies share it.
 ///
 /// It keeps the bytes that tell all that it is, so that two modules are compared in the time that it takes to compare those.
-#[derive(Drop)]
 pub struct Module {
     parts: Arc<Parts>,
+}
+
+/// It is taken apart here, so that who drops one above has nothing to prove of its parts.
+impl Drop for Module {
+    fn drop(self) {
+        let Module { parts: _parts } = self;
+    }
 }
 
 /// What the owners of a module share.

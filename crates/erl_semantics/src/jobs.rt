@@ -20,7 +20,6 @@ use std::alloc::{AllocError, Global};
 use values::{Duplicate, Row, Same};
 
 /// A message that a process has taken.
-#[derive(Drop)]
 pub struct Job {
     /// The process.
     pub pid: u64,
@@ -35,6 +34,20 @@ pub struct Job {
     /// First the instance that is entered, if there is one, and then the current code of each module that the process can
     /// reach.
     pub code: Row<Instance>,
+}
+
+/// It is taken apart here, so that who drops one above has nothing to prove of its parts.
+impl Drop for Job {
+    fn drop(self) {
+        let Job {
+            pid: _pid,
+            turn: _turn,
+            place: _place,
+            entry_serial: _entry_serial,
+            message: _message,
+            code: _code,
+        } = self;
+    }
 }
 
 /// What a message selects of a loop function.
@@ -109,11 +122,20 @@ pub fn hear<'a>(
 
 /// A job that was run, and what it gave: nobody can make one up, for who makes one owes the proof that the outcome comes of
 /// the job.
-#[derive(Drop)]
 pub struct Done {
     job: Job,
     outcome: Outcome,
     ghost gives: { ∥ GivesJob (job_of job) (outcome_of outcome) ∥₁ },
+}
+
+/// It is taken apart here, so that who drops one above has nothing to prove of its parts.
+impl Drop for Done {
+    fn drop(self) {
+        let Done {
+            job: _job,
+            outcome: _outcome,
+        } = self;
+    }
 }
 
 impl Done {

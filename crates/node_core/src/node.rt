@@ -20,10 +20,19 @@ use values::Duplicate;
 
 /// A node: its modules, its processes, its applications and its releases; the old code that is to be purged later; and the
 /// script that it runs, if it runs one.
-#[derive(Drop)]
 pub struct Node {
     pub(crate) alloc: Global,
     pub(crate) parts: NodeParts,
+}
+
+/// It is taken apart here, so that who drops one above has nothing to prove of its parts.
+impl Drop for Node {
+    fn drop(self) {
+        let Node {
+            alloc: _alloc,
+            parts: _parts,
+        } = self;
+    }
 }
 
 impl Model for Node {

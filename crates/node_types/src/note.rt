@@ -18,9 +18,17 @@ enum Reported {
 }
 
 /// What an undo of an event reports: the replies that were sent, in order, or the name and the message of an arrival.
-#[derive(Drop)]
 pub struct Note {
     reported: Reported,
+}
+
+/// It is taken apart here, so that who drops one above has nothing to prove of its parts.
+impl Drop for Note {
+    fn drop(self) {
+        let Note {
+            reported: _reported,
+        } = self;
+    }
 }
 
 impl Model for Note {
@@ -79,7 +87,8 @@ impl Note {
     pub fn into_replies(self, alloc: Global) -> Row<Reply>
         ensures { result ≡ self.replies }
     {
-        match self.reported {
+        let Note { reported } = self;
+        match reported {
             Reported::Replies(replies) => replies,
             Reported::Arrival(_) => Row::new(Vec::new(alloc)),
         }

@@ -20,7 +20,6 @@ use std::mem;
 use values::{Duplicate, Row, Same};
 
 /// A process.
-#[derive(Drop)]
 pub struct Process {
     // What tells whether it uses an instance lies first, so that a look at every process reads little of each.
     rests_in: Option<Instance>,
@@ -32,6 +31,22 @@ pub struct Process {
     mailbox: VecDeque<Term>,
     /// The position of the message that it takes next.
     next: Option<usize>,
+}
+
+/// It is taken apart here, so that who drops one above has nothing to prove of its parts.
+impl Drop for Process {
+    fn drop(self) {
+        let Process {
+            rests_in: _rests_in,
+            activity: _activity,
+            pid: _pid,
+            name: _name,
+            place: _place,
+            turn: _turn,
+            mailbox: _mailbox,
+            next: _next,
+        } = self;
+    }
 }
 
 impl Model for Process {

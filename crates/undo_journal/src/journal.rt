@@ -22,7 +22,6 @@ use values::Failure;
 pub type Mark = u64;
 
 /// A machine with the records of its steps, seen by contracts as a timeline.
-#[derive(Drop)]
 pub struct Journal<S: Reversible> {
     alloc: Global,
     state: S,
@@ -31,6 +30,21 @@ pub struct Journal<S: Reversible> {
     first: Snapshot<S>,
     past: Vec<Entry<S, S::Record, S::Note>>,
     last: u64,
+}
+
+/// It is taken apart here, so that who drops one above has nothing to prove of its parts.
+impl<S: Reversible> Drop for Journal<S> {
+    fn drop(self) {
+        let Journal {
+            alloc: _alloc,
+            state: _state,
+            floor: _floor,
+            first_note: _first_note,
+            first: _first,
+            past: _past,
+            last: _last,
+        } = self;
+    }
 }
 
 impl<S: Reversible> Model for Journal<S> {

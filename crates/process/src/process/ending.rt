@@ -41,7 +41,6 @@ pub struct NamedRunning {
 
 /// A process that was taken out whole, so that it can live again. It holds no code: the instances that it used are told by
 /// names and serials.
-#[derive(Drop)]
 pub struct DeadProcess {
     pid: u64,
     name: Option<Atom>,
@@ -50,6 +49,21 @@ pub struct DeadProcess {
     did: Did,
     turn: u64,
     mailbox: VecDeque<Term>,
+}
+
+/// It is taken apart here, so that who drops one above has nothing to prove of its parts.
+impl Drop for DeadProcess {
+    fn drop(self) {
+        let DeadProcess {
+            pid: _pid,
+            name: _name,
+            place: _place,
+            rests_in: _rests_in,
+            did: _did,
+            turn: _turn,
+            mailbox: _mailbox,
+        } = self;
+    }
 }
 
 impl Model for DeadProcess {
@@ -188,13 +202,14 @@ impl Process {
         ensures { result ≡ ended_with told.rests_in told.code self }
     {
         let Process {
+            rests_in: _rests_in,
+            activity,
             pid,
             name,
             place,
-            activity,
             turn,
             mailbox,
-            ..
+            next: _next,
         } = self;
         let CodeRefs { rests_in, code } = told;
         let did = match activity {
