@@ -8,16 +8,14 @@
 #   make trials NAME=name runs one crate of them. Its last line is 'N passed, M failed'.
 # make relnode: proves and builds the program, and leaves it at crates/relnode/out/relnode.
 # make demo: a session of the program on the example tree, tried with checks and not proved: in two minutes on a new machine (tools/demo).
-# The kit's rt, by a tool that keeps what rt asks again and again of crates.txt; RT=rt is the kit's alone.
+# The kit's rt, by a tool that keeps what rt asks again and again of crates.txt, and reckons the memory of proofs by what they took;
+# RT=rt is the kit's alone.
 RT ?= $(CURDIR)/tools/rt
-# As many crates at a time as there are processors, each in one process. Left alone rt ci reckons 80 kB for each line that stands below a
-# crate, and so would prove the upper crates one at a time; those that were measured took 2 to 3 GB.
-JOBS ?= $(shell nproc)
 
 .PHONY: test transcripts check edits trials demo relnode
 
 test:
-	@RT_JOBS=$(JOBS) $(RT) ci
+	@$(RT) ci
 	@tools/transcripts
 
 transcripts: relnode
