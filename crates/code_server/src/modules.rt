@@ -47,7 +47,7 @@ pub struct Modules<C> {
     last: u64,
 }
 
-/// It is taken apart here, so that who drops one above has nothing to prove of its parts.
+/// It is taken apart here. Who drops one above proves what the code that it holds has in it, for its type is a parameter.
 impl<C: Drop> Drop for Modules<C> {
     fn drop(self) {
         let Modules {

@@ -32,7 +32,7 @@ pub struct Journal<S: Reversible> {
     last: u64,
 }
 
-/// It is taken apart here, so that who drops one above has nothing to prove of its parts.
+/// It is taken apart here. Who drops one above proves what its state, its records and its notes hold, for their types are parameters.
 impl<S: Reversible> Drop for Journal<S> {
     fn drop(self) {
         let Journal {
