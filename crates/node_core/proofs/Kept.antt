@@ -9,11 +9,11 @@ use Rattle.node_types.specs.Note.{Note}
 use Rattle.undo_journal.specs.Past.{IsRecordAt}
 use Rattle.undo_journal.specs.Timeline.{Station, Timeline}
 
-of_stations : (r : Record) (o p : Option (Station NodeState Note)) → IfSome o (λ before. IfSome p (λ after. Undoes r before.node after.node)) → IfSome o (λ before. IfSome p (λ after. HoldsLost r before.node after.node))
+of_stations : (r : Record) (o p : Option (Station NodeState Note)) → IfSome o (λ before. IfSome p (λ after. Undoes r before.node after.node)) → IfSome o (λ before. IfSome p (λ after. HoldsLost r.way_back before.node after.node))
 of_stations r None p undoes = tt
 of_stations r (Some before) None undoes = tt
-of_stations r (Some before) (Some after) undoes = held_lost r before.node after.node undoes.1
+of_stations r (Some before) (Some after) undoes = held_lost r.way_back before.node after.node undoes.1
 
-pub of_record : (place : ℕ) (t : Timeline NodeState Note) (o : Option (Bor Record)) → IfSome o (λ it. IsRecordAt Undoes place t it.now) → IfSome o (λ it. IsRecordAt HoldsLost place t it.now)
+pub of_record : (place : ℕ) (t : Timeline NodeState Note) (o : Option (Bor Record)) → IfSome o (λ it. IsRecordAt Undoes place t it.now) → IfSome o (λ it. IsRecordAt (λ (r : Record). HoldsLost r.way_back) place t it.now)
 of_record place t None undoes = tt
 of_record place t (Some it) undoes = of_stations it.now (slice_get (t.first ∷ t.later) place) (slice_get t.later place) undoes

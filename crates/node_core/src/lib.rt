@@ -48,5 +48,5 @@ mod stations;
 mod stepping;
 
 pub use node::Node;
-pub use script_events::{Displaced, Record};
+pub use script_events::{Displaced, Record, WayBack};
 pub use stations::record_at;

@@ -14,7 +14,7 @@ use erl_ir::Module;
 use erl_term::Atom;
 use node_types::{Answer, Note};
 use process_table::Processes;
-use script_events::{NodeParts, Record, Step, reporting, tell};
+use script_events::{NodeParts, Record, Step, WayBack, reporting, tell};
 use std::alloc::{AllocError, Global};
 use undo_journal::{Stepped, Told};
 use values::{Duplicate, Failure, Reserved};
@@ -66,7 +66,9 @@ pub(crate) fn load(parts: &mut NodeParts, alloc: Global, code: &Module, n: usize
     ) {
         Ok(undo) => Ok(Stepped {
             told,
-            trace: Record::OfCode(room.fill(undo)),
+            trace: Record {
+                way_back: WayBack::OfCode(room.fill(undo)),
+            },
         }),
         Err(_) => Err(Failure::Memory),
     }
@@ -93,7 +95,9 @@ pub(crate) fn purge(parts: &mut NodeParts, alloc: Global, name: &Atom, n: usize)
     ) {
         Ok(undo) => Ok(Stepped {
             told,
-            trace: Record::OfCode(room.fill(undo)),
+            trace: Record {
+                way_back: WayBack::OfCode(room.fill(undo)),
+            },
         }),
         Err(_) => Err(Failure::Memory),
     }
@@ -123,7 +127,9 @@ pub(crate) fn delete(parts: &mut NodeParts, alloc: Global, name: &Atom, n: usize
     };
     Ok(Stepped {
         told,
-        trace: Record::OfDeletion(room.fill(undo)),
+        trace: Record {
+            way_back: WayBack::OfDeletion(room.fill(undo)),
+        },
     })
 }
 
@@ -144,6 +150,8 @@ pub(crate) fn soft_purge(parts: &mut NodeParts, alloc: Global, name: &Atom, n: u
     let undo = code_replacement::ReplacementUndo { code, ended: None };
     Ok(Stepped {
         told,
-        trace: Record::OfCode(room.fill(undo)),
+        trace: Record {
+            way_back: WayBack::OfCode(room.fill(undo)),
+        },
     })
 }

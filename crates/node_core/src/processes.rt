@@ -14,7 +14,9 @@ use app_table::AppTable;
 use erl_semantics::{Done, End};
 use erl_term::{Atom, Predefined, Term};
 use process_table::ClientMessage;
-use script_events::{NodeParts, Record, Step, room, tell_arrivals, tell_done, tell_jobs, unend};
+use script_events::{
+    NodeParts, Record, Step, WayBack, room, tell_arrivals, tell_done, tell_jobs, unend,
+};
 use std::alloc::{AllocError, Global};
 use undo_journal::Stepped;
 use values::{Boxed, Failure, Reserved};
@@ -58,19 +60,19 @@ fn end_child(
     }
 }
 
-/// What takes a change of processes back, and with it that of children, if any.
-fn record_of(
+/// The way back of a change of processes, and with it that of children, if any.
+fn way_back_of(
     undo: process_table::ProcessesUndo,
     ended: Option<Boxed<app_table::AppsUndo>>,
-) -> Record
+) -> WayBack
     ensures { (before after : NodeState) → TakesBackEnds undo before.processes after.processes →
         AppsBack ended before.apps after.apps → (after ≡ record before { processes = after.processes; apps = after.apps }) →
         HoldsLost (held undo after.processes) before.processes after.processes →
         IfSome ended (λ it. held_specs it after.apps ≡ []) → Restores result before after }
 {
     match ended {
-        None => Record::OfProcesses(undo),
-        Some(ended) => Record::OfChildren(undo, ended),
+        None => WayBack::OfProcesses(undo),
+        Some(ended) => WayBack::OfChildren(undo, ended),
     }
 }
 
@@ -94,7 +96,9 @@ pub(crate) fn arrive(
     };
     Ok(Stepped {
         told: tell_arrivals(told, arrivals),
-        trace: Record::OfProcesses(undo),
+        trace: Record {
+            way_back: WayBack::OfProcesses(undo),
+        },
     })
 }
 
@@ -111,7 +115,9 @@ pub(crate) fn take(parts: &mut NodeParts, alloc: Global, pid: u64, n: usize) -> 
     };
     Ok(Stepped {
         told: tell_jobs(told, alloc, jobs),
-        trace: Record::OfProcesses(undo),
+        trace: Record {
+            way_back: WayBack::OfProcesses(undo),
+        },
     })
 }
 
@@ -129,7 +135,9 @@ pub(crate) fn commit(parts: &mut NodeParts, alloc: Global, done: &Done, n: usize
     match parts.processes.commit(done, n) {
         Ok((lists, undo)) => Ok(Stepped {
             told: tell_done(told, lists),
-            trace: record_of(undo, ended),
+            trace: Record {
+                way_back: way_back_of(undo, ended),
+            },
         }),
         Err(_) => {
             unend(&mut parts.apps, ended);

@@ -6,7 +6,7 @@ ghost use Rattle.node_types.specs.declared.event.Event.TheVariants as event;
 use crate::loading::quiet;
 use release_statuses::Vsn;
 use release_table::Release;
-use script_events::{NodeParts, Record, Step};
+use script_events::{NodeParts, Record, Step, WayBack};
 use std::alloc::Global;
 use undo_journal::Stepped;
 use values::{Duplicate, Failure, Reserved};
@@ -35,7 +35,9 @@ pub(crate) fn set_unpacked(
     };
     Ok(Stepped {
         told,
-        trace: Record::OfReleases(room.fill(undo)),
+        trace: Record {
+            way_back: WayBack::OfReleases(room.fill(undo)),
+        },
     })
 }
 
@@ -55,6 +57,8 @@ pub(crate) fn remove(parts: &mut NodeParts, alloc: Global, vsn: &Vsn, n: usize) 
     };
     Ok(Stepped {
         told,
-        trace: Record::OfReleases(room.fill(undo)),
+        trace: Record {
+            way_back: WayBack::OfReleases(room.fill(undo)),
+        },
     })
 }

@@ -6,7 +6,7 @@ ghost use Rattle.node_types.specs.declared.event.Event.TheVariants as event;
 use code_loading::current_code;
 use erl_term::{Atom, Term};
 use node_types::Refusal;
-use script_events::{NodeParts, Record, Step, room, tell_revived};
+use script_events::{NodeParts, Record, Step, WayBack, room, tell_revived};
 use std::alloc::Global;
 use sys_protocol::revive as start_again;
 use undo_journal::Stepped;
@@ -37,7 +37,9 @@ pub(crate) fn revive(parts: &mut NodeParts, alloc: Global, app: &Atom, id: &Term
     ) {
         Ok(revival) => Ok(Stepped {
             told: tell_revived(told, revival.pid, revival.told),
-            trace: Record::OfChildren(revival.processes, memory.fill(revival.undo)),
+            trace: Record {
+                way_back: WayBack::OfChildren(revival.processes, memory.fill(revival.undo)),
+            },
         }),
         Err(Failure::Refused(refusal)) => Err(Failure::Refused(Refusal::OfApps(refusal))),
         Err(Failure::Memory) => Err(Failure::Memory),

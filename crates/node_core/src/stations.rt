@@ -11,7 +11,7 @@ use undo_journal::Journal;
 /// last station. It holds only what its step has lost, and each piece once (`HoldsLost`). Takes no memory.
 pub fn record_at(journal: &Journal<Node>, place: usize) -> Option<&Record>
     ensures kept { IsTrue (is_some result) ↔ (place < length journal.now.later) }
-    ensures lost { IfSome result (λ it. IsRecordAt HoldsLost place journal.now it.now) }
+    ensures lost { IfSome result (λ it. IsRecordAt (λ r. HoldsLost r.way_back) place journal.now it.now) }
 {
     journal.record(place)
 }

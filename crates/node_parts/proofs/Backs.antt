@@ -6,8 +6,8 @@ use Rattle.code_replacement.specs.Replacing.{HasItsCode, RunningSystem}
 use Rattle.code_replacement.specs.Undo as replacing
 use Rattle.code_replacement.specs.declared.undo.Purges.{Purges}
 use Rattle.code_replacement.specs.declared.undo.ReplacementUndo as replacing_undo
-use Rattle.node_parts.specs.Record.{ReleasesBack, Undoes}
-use Rattle.node_parts.specs.declared.record.Record.TheVariants.{OfCode, OfInstall, OfInstruction, OfPurges}
+use Rattle.node_parts.specs.Record.{LeadsBack, ReleasesBack}
+use Rattle.node_parts.specs.declared.record.WayBack.TheVariants.{OfCode, OfInstall, OfInstruction, OfPurges}
 use Rattle.node_rules.specs.Node.{IsSoundNode, NodeState}
 use Rattle.node_rules.specs.Scripts.{parts_in, running_in}
 use Rattle.release_statuses.specs.declared.listed.Listed.{Listed}
@@ -24,7 +24,7 @@ abbrev kept_code : (n : NodeState) → IsSoundNode n → HasItsCode (running_in 
 kept_code n kept = record { sound = kept.consistent.sound; stand = kept.consistent.stand }
 
 -- code was replaced
-pub code_back : (u undo : replacing_undo.ReplacementUndo) (before now : NodeState) (r : RunningSystem) → u ≡ undo → Undoes (OfCode undo) before now →
+pub code_back : (u undo : replacing_undo.ReplacementUndo) (before now : NodeState) (r : RunningSystem) → u ≡ undo → LeadsBack (OfCode undo) before now →
     ((b : RunningSystem) → HasItsCode b → replacing.TakesBack u b (running_in now) → r ≡ b) →
     record now { modules = r.modules; processes = r.processes; apps = r.apps } ≡ before
 code_back u undo before now r same (kept, (takes, others)) gives =
@@ -41,7 +41,7 @@ code_back u undo before now r same (kept, (takes, others)) gives =
 
 -- code was purged, and statuses were changed, or not
 pub purges_back : (u undo : Purges) (statuses : Option releases_undo.ReleasesUndo) (before now : NodeState) (r : RunningSystem) (releases : List Listed) →
-    u ≡ undo → Undoes (OfPurges undo statuses) before now →
+    u ≡ undo → LeadsBack (OfPurges undo statuses) before now →
     ((b : RunningSystem) → HasItsCode b → replacing.PurgesBack u b (running_in now) → r ≡ b) →
     ((b : List Listed) → ReleasesBack statuses b now.releases → releases ≡ b) →
     record now { modules = r.modules; processes = r.processes; apps = r.apps; releases = releases } ≡ before
@@ -59,7 +59,7 @@ purges_back u undo statuses before now r releases same (kept, (takes, of_release
     })
 
 -- a script has begun: its specifications can be put back
-pub install_fits : (before now : NodeState) (runner : Runner) → now.runner ≡ Some (runner_of runner) → Undoes OfInstall before now →
+pub install_fits : (before now : NodeState) (runner : Runner) → now.runner ≡ Some (runner_of runner) → LeadsBack OfInstall before now →
     Fits runner.former now.apps
 install_fits before now runner runs (kept, (s, back)) =
     let same = same_Some (runner_of runner) s (sym runs ∙ ap (λ (n : NodeState). n.runner) back.is) in
@@ -70,7 +70,7 @@ less_one a b same = omega arith
 
 -- an instruction was carried out
 pub instruction_back : (u undo : instructions_undo.InstructionUndo) (before now : NodeState) (here : RunnerState) (p : Parts) (next : ℕ) →
-    u ≡ undo → now.runner ≡ Some here → Undoes (OfInstruction undo) before now →
+    u ≡ undo → now.runner ≡ Some here → LeadsBack (OfInstruction undo) before now →
     ((b : Parts) → HasItsCode (running_of b) → instructions.TakesBack u b (parts_in here now) → p ≡ b) →
     next + 1 ≡ here.progress.next →
     record {

@@ -26,8 +26,8 @@ use Rattle.node_rules.specs.Scripts.{parts_in}
 use Rattle.node_parts.specs.Pieces.{AllTaken, HoldsLost, ReleasesLost, ScriptLost, specs_kept, instances_in, removed_by, removed_if_any, specs_of}
 use Rattle.node_parts.specs.Record.{ReleasesBack, RestartBack, Restores}
 use Rattle.node_parts.specs.declared.record.Displaced.{Displaced}
-use Rattle.node_parts.specs.declared.record.Record.{Record}
-use Rattle.node_parts.specs.declared.record.Record.TheVariants.{OfProcesses, OfChildren, OfCode, OfDeletion, OfReleases, OfInstall, OfInstruction, OfFinish, OfRecovery, OfPurges, OfRestart}
+use Rattle.node_parts.specs.declared.record.WayBack.{WayBack}
+use Rattle.node_parts.specs.declared.record.WayBack.TheVariants.{OfProcesses, OfChildren, OfCode, OfDeletion, OfReleases, OfInstall, OfInstruction, OfFinish, OfRecovery, OfPurges, OfRestart}
 
 -- of releases
 
@@ -110,8 +110,8 @@ script_stopped : (held before after : Option RunnerState) → held ≡ before �
 script_stopped None before after is none = tt
 script_stopped (Some s) before after is none = (sym is, none)
 
--- of each record
-pub held_lost : (r : Record) (before after : NodeState) → Restores r before after → HoldsLost r before after
+-- of each way back
+pub held_lost : (w : WayBack) (before after : NodeState) → Restores w before after → HoldsLost w before after
 held_lost (OfProcesses undo) before after (takes, is, lost) = record {
   processes = lost;
   instances = no_instance before.modules after.modules;

@@ -1,4 +1,4 @@
--- What a record holds of a node, by the kinds of its pieces: the messages and places of processes, the instances of code, the
+-- What the way back of a record holds of a node, by the kinds of its pieces: the messages and places of processes, the instances of code, the
 -- specifications of applications and of their children, the releases, and the script that runs, with its description and
 -- what is noted for it. Besides pieces it holds numbers, names, statuses, flags and positions.
 use Rattle.std.specs.Prelude.{◌≡◌, ℕ, ◌⊎◌, ◌++◌, IsPermutation, List, [], ◌∷◌, Option, None, Some, option_map, option_to_list}
@@ -22,11 +22,11 @@ use Rattle.script_ends.specs.Ends.{abandoned_of}
 use Rattle.script_runner.specs.Pieces as instructions
 use Rattle.script_state.specs.Runner.{RunnerState, runner_of}
 use Rattle.node_rules.specs.Node.{NodeState}
-use Rattle.node_parts.specs.declared.record.Record.{Record}
-use Rattle.node_parts.specs.declared.record.Record.TheVariants.{OfProcesses, OfChildren, OfCode, OfDeletion, OfReleases, OfInstall, OfInstruction, OfFinish, OfRecovery, OfPurges, OfRestart}
+use Rattle.node_parts.specs.declared.record.WayBack.{WayBack}
+use Rattle.node_parts.specs.declared.record.WayBack.TheVariants.{OfProcesses, OfChildren, OfCode, OfDeletion, OfReleases, OfInstall, OfInstruction, OfFinish, OfRecovery, OfPurges, OfRestart}
 
 -- of the process of a pid, by the processes after the step
-abbrev pub held_processes : Record → Table → ℕ → List Piece
+abbrev pub held_processes : WayBack → Table → ℕ → List Piece
 held_processes (OfProcesses undo) t = held undo t
 held_processes (OfChildren undo ended) t = held undo t
 held_processes (OfCode undo) t = held_killed undo.code.killed t
@@ -43,7 +43,7 @@ held_processes (OfRestart d) t = λ pid. pieces_at pid d.processes
 abbrev pub instances_in : Entry Forms → List (Instance Forms)
 instances_in entry = option_to_list entry.1.current ++ option_to_list entry.1.former
 
-abbrev pub held_instances : Record → List (Instance Forms)
+abbrev pub held_instances : WayBack → List (Instance Forms)
 held_instances (OfProcesses undo) = []
 held_instances (OfChildren undo ended) = []
 held_instances (OfCode undo) = option_to_list (code.held undo.code.modules)
@@ -71,7 +71,7 @@ AllTaken held before left = IsPermutation (held ++ left) before
 
 -- Of specifications a record holds only what its step has taken: a finished script's former ones, where it was given up the
 -- new ones, and all where the node has restarted.
-abbrev pub SpecsLost : Record → NodeState → NodeState → Type 0
+abbrev pub SpecsLost : WayBack → NodeState → NodeState → Type 0
 SpecsLost (OfProcesses undo) before after = Unit {0}
 SpecsLost (OfChildren undo ended) before after = apps.held ended after.apps ≡ []
 SpecsLost (OfCode undo) before after = replacing.held_of undo.ended after.apps ≡ []
@@ -95,7 +95,7 @@ abbrev pub removed_if_any : Option releases_undo.ReleasesUndo → List Listed
 removed_if_any None = []
 removed_if_any (Some undo) = removed_by undo
 
-abbrev pub held_releases : Record → List Listed
+abbrev pub held_releases : WayBack → List Listed
 held_releases (OfProcesses undo) = []
 held_releases (OfChildren undo ended) = []
 held_releases (OfCode undo) = []
@@ -110,7 +110,7 @@ held_releases (OfRestart d) = removed_by d.statuses
 
 -- The script that it holds, with all that is noted for it: that which has ended, if one has. The specifications that a
 -- script which was given up had kept are in the applications again.
-abbrev pub held_script : Record → NodeState → Option RunnerState
+abbrev pub held_script : WayBack → NodeState → Option RunnerState
 held_script (OfProcesses undo) after = None
 held_script (OfChildren undo ended) after = None
 held_script (OfCode undo) after = None
@@ -130,7 +130,7 @@ ScriptLost (Some held) before after = (before ≡ Some held) × (after ≡ None)
 
 -- What is left with a step: of a restart nothing but the releases, for all that booted is new.
 
-abbrev pub processes_left : Record → NodeState → Table
+abbrev pub processes_left : WayBack → NodeState → Table
 processes_left (OfRestart d) after = empty_table
 processes_left (OfProcesses undo) after = after.processes
 processes_left (OfChildren undo ended) after = after.processes
@@ -143,7 +143,7 @@ processes_left (OfFinish undo) after = after.processes
 processes_left (OfRecovery undo) after = after.processes
 processes_left (OfPurges undo statuses) after = after.processes
 
-abbrev pub code_left : Record → NodeState → Loaded Forms
+abbrev pub code_left : WayBack → NodeState → Loaded Forms
 code_left (OfRestart d) after = without_code after.modules
 code_left (OfProcesses undo) after = after.modules
 code_left (OfChildren undo ended) after = after.modules
@@ -160,10 +160,10 @@ code_left (OfPurges undo statuses) after = after.modules
 abbrev pub ReleasesLost : List Listed → List Listed → List Listed → Type 0
 ReleasesLost held before after = (held ≡ []) ⊎ IsPermutation (held ++ after) before
 
--- Of each kind a record holds only what is lost with its step, and each piece once.
-pub record HoldsLost (r : Record) (before after : NodeState) : Type 0 where
-  pub processes : processes.HoldsLost (held_processes r after.processes) before.processes (processes_left r after)
-  pub instances : CodeLost (held_instances r) before.modules (code_left r after)
-  pub specs : SpecsLost r before after
-  pub releases : ReleasesLost (held_releases r) before.releases after.releases
-  pub script : ScriptLost (held_script r after) before.runner after.runner
+-- Of each kind it holds only what is lost with its step, and each piece once.
+pub record HoldsLost (w : WayBack) (before after : NodeState) : Type 0 where
+  pub processes : processes.HoldsLost (held_processes w after.processes) before.processes (processes_left w after)
+  pub instances : CodeLost (held_instances w) before.modules (code_left w after)
+  pub specs : SpecsLost w before after
+  pub releases : ReleasesLost (held_releases w) before.releases after.releases
+  pub script : ScriptLost (held_script w after) before.runner after.runner

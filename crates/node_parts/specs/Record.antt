@@ -21,7 +21,8 @@ use Rattle.node_rules.specs.Node.{IsSoundNode, NodeState}
 use Rattle.node_rules.specs.Scripts.{parts_in, running_in}
 use Rattle.node_parts.specs.declared.record.Displaced.{Displaced}
 use Rattle.node_parts.specs.declared.record.Record.{Record}
-use Rattle.node_parts.specs.declared.record.Record.TheVariants.{OfProcesses, OfChildren, OfCode, OfDeletion, OfReleases, OfInstall, OfInstruction, OfFinish, OfRecovery, OfPurges, OfRestart}
+use Rattle.node_parts.specs.declared.record.WayBack.{WayBack}
+use Rattle.node_parts.specs.declared.record.WayBack.TheVariants.{OfProcesses, OfChildren, OfCode, OfDeletion, OfReleases, OfInstall, OfInstruction, OfFinish, OfRecovery, OfPurges, OfRestart}
 
 -- of the applications, where any were changed
 abbrev pub AppsBack : Option apps_undo.AppsUndo → List Application → List Application → Type 0
@@ -62,9 +63,9 @@ pub record RestartBack (d : Displaced) (before after : NodeState) : Type 0 where
   pub releases : of_releases.TakesBack d.statuses before.releases after.releases
   pub kept : of_releases.IsRemoval d.statuses → ⊥
 
--- What a record says of the parts that its step has changed, and of the node: nothing else was changed. Of processes, code and
+-- What a way back says of the parts that its step has changed, and of the node: nothing else was changed. Of processes, code and
 -- specifications it holds nothing that the step has not taken.
-abbrev pub Restores : Record → NodeState → NodeState → Type 0
+abbrev pub Restores : WayBack → NodeState → NodeState → Type 0
 Restores (OfProcesses undo) before after =
     TakesBackEnds undo before.processes after.processes × (after ≡ record before { processes = after.processes }) ×
     HoldsLost (held undo after.processes) before.processes after.processes
@@ -93,5 +94,9 @@ Restores (OfPurges undo statuses) before after =
 Restores (OfRestart displaced) before after = RestartBack displaced before after
 
 -- It gives the node before, which kept what every node keeps.
+abbrev pub LeadsBack : WayBack → NodeState → NodeState → Type 0
+LeadsBack w before after = IsSoundNode before × Restores w before after
+
+-- A record takes a step back whose way back it holds.
 abbrev pub Undoes : Record → NodeState → NodeState → Type 0
-Undoes r before after = IsSoundNode before × Restores r before after
+Undoes r before after = LeadsBack r.way_back before after

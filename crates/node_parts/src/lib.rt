@@ -21,7 +21,7 @@ mod reverting;
 mod telling;
 
 pub use parts::NodeParts;
-pub use record::{Displaced, Record, Step};
+pub use record::{Displaced, Record, Step, WayBack};
 pub use reverting::{revert, unend};
 pub use telling::{
     reporting, reporting_nothing, room, tell, tell_arrivals, tell_done, tell_jobs, tell_ran,

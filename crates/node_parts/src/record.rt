@@ -29,9 +29,9 @@ pub struct Displaced {
     pub statuses: release_statuses::ReleasesUndo,
 }
 
-/// What takes an event back. What is large and seldom has memory of its own.
+/// The way back of an event, by its kind. What is large and seldom has memory of its own.
 #[derive(Drop)]
-pub enum Record {
+pub enum WayBack {
     /// The processes were changed, and no children.
     OfProcesses(process_table::ProcessesUndo),
     /// The processes were changed, and with them children.
@@ -55,4 +55,29 @@ pub enum Record {
     OfPurges(Boxed<code_replacement::Purges>, Option<Boxed<release_statuses::ReleasesUndo>>),
     /// The node has restarted.
     OfRestart(Boxed<Displaced>),
+}
+
+/// What takes an event back: the record that a journal keeps of it.
+pub struct Record {
+    /// The way back.
+    pub way_back: WayBack,
+}
+
+/// It is taken apart here, so that who drops one above, or a journal that keeps one, has nothing to prove of its parts.
+impl Drop for Record {
+    fn drop(self) {
+        let Record {
+            way_back: _way_back,
+        } = self;
+    }
+}
+
+impl Record {
+    /// Its way back, taken out of it. Takes no memory.
+    pub(crate) fn into_way_back(self) -> WayBack
+        ensures { result ≡ self.way_back }
+    {
+        let Record { way_back } = self;
+        way_back
+    }
 }

@@ -1,14 +1,14 @@
 // Steps are taken back.
 ghost use Rattle.std.specs.Prelude.{◌≡◌, IfSome, List, None};
 ghost use Rattle.app_table.specs.Undo.{undone as apps_before};
-ghost use Rattle.node_parts.specs.Changes.{IsTakenBack, state_of};
+ghost use Rattle.node_parts.specs.Changes.{IsGoneBack, IsTakenBack, state_of};
 ghost use Rattle.node_rules.specs.Node.{NodeState};
-ghost use Rattle.node_parts.specs.Record.{ReleasesBack, Undoes};
-ghost use Rattle.node_parts.specs.declared.record.Record.TheVariants as record_of;
+ghost use Rattle.node_parts.specs.Record.{LeadsBack, ReleasesBack, Undoes};
+ghost use Rattle.node_parts.specs.declared.record.WayBack.TheVariants as way_back;
 ghost use Rattle.release_statuses.specs.declared.listed.Listed.{Listed as Listing};
 
 use crate::parts::NodeParts;
-use crate::record::{Displaced, Record};
+use crate::record::{Displaced, Record, WayBack};
 use app_table::AppTable;
 use code_replacement::{Purges, revert as revert_code_change, revert_purges};
 use erl_ir::Module;
@@ -30,13 +30,16 @@ pub fn unend(apps: &mut AppTable, undo: Option<Boxed<app_table::AppsUndo>>)
 }
 
 /// Takes back what was done to processes alone.
-fn revert_processes(parts: &mut NodeParts, undo: process_table::ProcessesUndo) -> Result<(), Record>
-    requires { (before : NodeState) × Undoes (record_of.OfProcesses undo) before (state_of parts.old) }
-    ensures { IsTakenBack (record_of.OfProcesses undo) (state_of parts.old) (state_of parts.new) result }
+fn revert_processes(
+    parts: &mut NodeParts,
+    undo: process_table::ProcessesUndo,
+) -> Result<(), WayBack>
+    requires { (before : NodeState) × LeadsBack (way_back.OfProcesses undo) before (state_of parts.old) }
+    ensures { IsGoneBack (way_back.OfProcesses undo) (state_of parts.old) (state_of parts.new) result }
 {
     match parts.processes.revert(&parts.modules, undo) {
         Ok(()) => Ok(()),
-        Err(undo) => Err(Record::OfProcesses(undo)),
+        Err(undo) => Err(WayBack::OfProcesses(undo)),
     }
 }
 
@@ -45,16 +48,16 @@ fn revert_children(
     parts: &mut NodeParts,
     undo: process_table::ProcessesUndo,
     ended: Boxed<app_table::AppsUndo>,
-) -> Result<(), Record>
-    requires { (before : NodeState) × Undoes (record_of.OfChildren undo ended) before (state_of parts.old) }
-    ensures { IsTakenBack (record_of.OfChildren undo ended) (state_of parts.old) (state_of parts.new) result }
+) -> Result<(), WayBack>
+    requires { (before : NodeState) × LeadsBack (way_back.OfChildren undo ended) before (state_of parts.old) }
+    ensures { IsGoneBack (way_back.OfChildren undo ended) (state_of parts.old) (state_of parts.new) result }
 {
     match parts.processes.revert(&parts.modules, undo) {
         Ok(()) => {
             unend(&mut parts.apps, Some(ended));
             Ok(())
         }
-        Err(undo) => Err(Record::OfChildren(undo, ended)),
+        Err(undo) => Err(WayBack::OfChildren(undo, ended)),
     }
 }
 
@@ -62,9 +65,9 @@ fn revert_children(
 fn revert_code(
     parts: &mut NodeParts,
     undo: Boxed<code_replacement::ReplacementUndo>,
-) -> Result<(), Record>
-    requires { (before : NodeState) × Undoes (record_of.OfCode undo) before (state_of parts.old) }
-    ensures { IsTakenBack (record_of.OfCode undo) (state_of parts.old) (state_of parts.new) result }
+) -> Result<(), WayBack>
+    requires { (before : NodeState) × LeadsBack (way_back.OfCode undo) before (state_of parts.old) }
+    ensures { IsGoneBack (way_back.OfCode undo) (state_of parts.old) (state_of parts.new) result }
 {
     let (undo, memory) = undo.open();
     match revert_code_change(
@@ -74,7 +77,7 @@ fn revert_code(
         undo,
     ) {
         Ok(()) => Ok(()),
-        Err(undo) => Err(Record::OfCode(memory.fill(undo))),
+        Err(undo) => Err(WayBack::OfCode(memory.fill(undo))),
     }
 }
 
@@ -82,14 +85,14 @@ fn revert_code(
 fn revert_deletion(
     parts: &mut NodeParts,
     undo: Boxed<code_server::ModulesUndo<Module>>,
-) -> Result<(), Record>
-    requires { (before : NodeState) × Undoes (record_of.OfDeletion undo) before (state_of parts.old) }
-    ensures { IsTakenBack (record_of.OfDeletion undo) (state_of parts.old) (state_of parts.new) result }
+) -> Result<(), WayBack>
+    requires { (before : NodeState) × LeadsBack (way_back.OfDeletion undo) before (state_of parts.old) }
+    ensures { IsGoneBack (way_back.OfDeletion undo) (state_of parts.old) (state_of parts.new) result }
 {
     let (undo, memory) = undo.open();
     match parts.modules.revert(undo) {
         Ok(()) => Ok(()),
-        Err(undo) => Err(Record::OfDeletion(memory.fill(undo))),
+        Err(undo) => Err(WayBack::OfDeletion(memory.fill(undo))),
     }
 }
 
@@ -97,21 +100,21 @@ fn revert_deletion(
 fn revert_releases(
     parts: &mut NodeParts,
     undo: Boxed<release_statuses::ReleasesUndo>,
-) -> Result<(), Record>
-    requires { (before : NodeState) × Undoes (record_of.OfReleases undo) before (state_of parts.old) }
-    ensures { IsTakenBack (record_of.OfReleases undo) (state_of parts.old) (state_of parts.new) result }
+) -> Result<(), WayBack>
+    requires { (before : NodeState) × LeadsBack (way_back.OfReleases undo) before (state_of parts.old) }
+    ensures { IsGoneBack (way_back.OfReleases undo) (state_of parts.old) (state_of parts.new) result }
 {
     let (undo, memory) = undo.open();
     match parts.releases.revert(undo) {
         Ok(()) => Ok(()),
-        Err(undo) => Err(Record::OfReleases(memory.fill(undo))),
+        Err(undo) => Err(WayBack::OfReleases(memory.fill(undo))),
     }
 }
 
 /// Takes the beginning of an install back: the specifications are as before it, and no script runs. Takes no memory.
-fn revert_install(parts: &mut NodeParts) -> Result<(), Record>
-    requires { (before : NodeState) × Undoes record_of.OfInstall before (state_of parts.old) }
-    ensures { IsTakenBack record_of.OfInstall (state_of parts.old) (state_of parts.new) result }
+fn revert_install(parts: &mut NodeParts) -> Result<(), WayBack>
+    requires { (before : NodeState) × LeadsBack way_back.OfInstall before (state_of parts.old) }
+    ensures { IsGoneBack way_back.OfInstall (state_of parts.old) (state_of parts.new) result }
 {
     let Some(runner) = parts.runner.take() else {
         unreachable!()
@@ -125,9 +128,9 @@ fn revert_instruction(
     parts: &mut NodeParts,
     alloc: Global,
     undo: Boxed<script_runner::InstructionUndo>,
-) -> Result<(), Record>
-    requires { (before : NodeState) × Undoes (record_of.OfInstruction undo) before (state_of parts.old) }
-    ensures { IsTakenBack (record_of.OfInstruction undo) (state_of parts.old) (state_of parts.new) result }
+) -> Result<(), WayBack>
+    requires { (before : NodeState) × LeadsBack (way_back.OfInstruction undo) before (state_of parts.old) }
+    ensures { IsGoneBack (way_back.OfInstruction undo) (state_of parts.old) (state_of parts.new) result }
 {
     let Some(mut runner) = parts.runner.take() else {
         unreachable!()
@@ -145,14 +148,14 @@ fn revert_instruction(
     parts.runner = Some(runner);
     match reverted {
         Ok(()) => Ok(()),
-        Err(undo) => Err(Record::OfInstruction(memory.fill(undo))),
+        Err(undo) => Err(WayBack::OfInstruction(memory.fill(undo))),
     }
 }
 
 /// Takes it back that the script was finished: it runs again, at its end. Takes no memory.
-fn revert_finish(parts: &mut NodeParts, undo: Boxed<Finish>) -> Result<(), Record>
-    requires { (before : NodeState) × Undoes (record_of.OfFinish undo) before (state_of parts.old) }
-    ensures { IsTakenBack (record_of.OfFinish undo) (state_of parts.old) (state_of parts.new) result }
+fn revert_finish(parts: &mut NodeParts, undo: Boxed<Finish>) -> Result<(), WayBack>
+    requires { (before : NodeState) × LeadsBack (way_back.OfFinish undo) before (state_of parts.old) }
+    ensures { IsGoneBack (way_back.OfFinish undo) (state_of parts.old) (state_of parts.new) result }
 {
     let (undo, _) = undo.open();
     parts.runner = Some(unfinish(&mut parts.processes, &mut parts.releases, undo));
@@ -160,9 +163,9 @@ fn revert_finish(parts: &mut NodeParts, undo: Boxed<Finish>) -> Result<(), Recor
 }
 
 /// Takes it back that the script was given up: it runs again.
-fn revert_recovery(parts: &mut NodeParts, undo: Boxed<Recovery>) -> Result<(), Record>
-    requires { (before : NodeState) × Undoes (record_of.OfRecovery undo) before (state_of parts.old) }
-    ensures { IsTakenBack (record_of.OfRecovery undo) (state_of parts.old) (state_of parts.new) result }
+fn revert_recovery(parts: &mut NodeParts, undo: Boxed<Recovery>) -> Result<(), WayBack>
+    requires { (before : NodeState) × LeadsBack (way_back.OfRecovery undo) before (state_of parts.old) }
+    ensures { IsGoneBack (way_back.OfRecovery undo) (state_of parts.old) (state_of parts.new) result }
 {
     let (undo, memory) = undo.open();
     match unrecover(&mut parts.apps, undo) {
@@ -170,7 +173,7 @@ fn revert_recovery(parts: &mut NodeParts, undo: Boxed<Recovery>) -> Result<(), R
             parts.runner = Some(runner);
             Ok(())
         }
-        Err(undo) => Err(Record::OfRecovery(memory.fill(undo))),
+        Err(undo) => Err(WayBack::OfRecovery(memory.fill(undo))),
     }
 }
 
@@ -197,9 +200,9 @@ fn revert_all_purges(
     alloc: Global,
     undo: Boxed<Purges>,
     statuses: Option<Boxed<release_statuses::ReleasesUndo>>,
-) -> Result<(), Record>
-    requires { (before : NodeState) × Undoes (record_of.OfPurges undo statuses) before (state_of parts.old) }
-    ensures { IsTakenBack (record_of.OfPurges undo statuses) (state_of parts.old) (state_of parts.new) result }
+) -> Result<(), WayBack>
+    requires { (before : NodeState) × LeadsBack (way_back.OfPurges undo statuses) before (state_of parts.old) }
+    ensures { IsGoneBack (way_back.OfPurges undo statuses) (state_of parts.old) (state_of parts.new) result }
 {
     let (undo, memory) = undo.open();
     match revert_purges(
@@ -213,14 +216,14 @@ fn revert_all_purges(
             put_statuses_back(&mut parts.releases, statuses);
             Ok(())
         }
-        Err(undo) => Err(Record::OfPurges(memory.fill(undo), statuses)),
+        Err(undo) => Err(WayBack::OfPurges(memory.fill(undo), statuses)),
     }
 }
 
 /// Takes a restart back: what stood in the node before is in its place again. Takes no memory.
-fn revert_restart(parts: &mut NodeParts, displaced: Boxed<Displaced>) -> Result<(), Record>
-    requires { (before : NodeState) × Undoes (record_of.OfRestart displaced) before (state_of parts.old) }
-    ensures { IsTakenBack (record_of.OfRestart displaced) (state_of parts.old) (state_of parts.new) result }
+fn revert_restart(parts: &mut NodeParts, displaced: Boxed<Displaced>) -> Result<(), WayBack>
+    requires { (before : NodeState) × LeadsBack (way_back.OfRestart displaced) before (state_of parts.old) }
+    ensures { IsGoneBack (way_back.OfRestart displaced) (state_of parts.old) (state_of parts.new) result }
 {
     let (displaced, _) = displaced.open();
     let Displaced {
@@ -243,6 +246,30 @@ fn revert_restart(parts: &mut NodeParts, displaced: Boxed<Displaced>) -> Result<
     Ok(())
 }
 
+/// Goes a way back in the parts of a node.
+///
+/// # Errors
+///
+/// The way back itself, where memory is refused: nothing is changed then.
+fn go_back(parts: &mut NodeParts, alloc: Global, way: WayBack) -> Result<(), WayBack>
+    requires { (before : NodeState) × LeadsBack way before (state_of parts.old) }
+    ensures { IsGoneBack way (state_of parts.old) (state_of parts.new) result }
+{
+    match way {
+        WayBack::OfProcesses(undo) => revert_processes(parts, undo),
+        WayBack::OfChildren(undo, ended) => revert_children(parts, undo, ended),
+        WayBack::OfCode(undo) => revert_code(parts, undo),
+        WayBack::OfDeletion(undo) => revert_deletion(parts, undo),
+        WayBack::OfReleases(undo) => revert_releases(parts, undo),
+        WayBack::OfInstall => revert_install(parts),
+        WayBack::OfInstruction(undo) => revert_instruction(parts, alloc, undo),
+        WayBack::OfFinish(undo) => revert_finish(parts, undo),
+        WayBack::OfRecovery(undo) => revert_recovery(parts, undo),
+        WayBack::OfPurges(undo, statuses) => revert_all_purges(parts, alloc, undo, statuses),
+        WayBack::OfRestart(displaced) => revert_restart(parts, displaced),
+    }
+}
+
 /// Takes a step back in the parts of a node. That the parts are those behind the step is the caller's condition; a journal
 /// keeps it.
 ///
@@ -253,17 +280,8 @@ pub fn revert(parts: &mut NodeParts, alloc: Global, trace: Record) -> Result<(),
     requires { (before : NodeState) × Undoes trace before (state_of parts.old) }
     ensures { IsTakenBack trace (state_of parts.old) (state_of parts.new) result }
 {
-    match trace {
-        Record::OfProcesses(undo) => revert_processes(parts, undo),
-        Record::OfChildren(undo, ended) => revert_children(parts, undo, ended),
-        Record::OfCode(undo) => revert_code(parts, undo),
-        Record::OfDeletion(undo) => revert_deletion(parts, undo),
-        Record::OfReleases(undo) => revert_releases(parts, undo),
-        Record::OfInstall => revert_install(parts),
-        Record::OfInstruction(undo) => revert_instruction(parts, alloc, undo),
-        Record::OfFinish(undo) => revert_finish(parts, undo),
-        Record::OfRecovery(undo) => revert_recovery(parts, undo),
-        Record::OfPurges(undo, statuses) => revert_all_purges(parts, alloc, undo, statuses),
-        Record::OfRestart(displaced) => revert_restart(parts, displaced),
+    match go_back(parts, alloc, trace.into_way_back()) {
+        Ok(()) => Ok(()),
+        Err(way_back) => Err(Record { way_back }),
     }
 }

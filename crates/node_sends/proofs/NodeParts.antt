@@ -7,6 +7,7 @@ use Rattle.code_server.proofs.undo.ModulesUndo.TheSendSync as undo
 use Rattle.node_parts.specs.contracts.parts.NodeParts as NodeParts
 use Rattle.node_parts.specs.contracts.record.Displaced as Displaced
 use Rattle.node_parts.specs.contracts.record.Record as Record
+use Rattle.node_parts.specs.contracts.record.WayBack as WayBack
 use Rattle.node_sends.proofs.AppTable as app_table
 use Rattle.node_sends.proofs.CodeReplacement as code_replacement
 use Rattle.node_sends.proofs.ErlForms as erl_ir
@@ -118,8 +119,8 @@ displaced_sync = declared_sync Displaced.the_type (
   ),
 )
 
-pub record_send : IsSend Record.the_row
-record_send = variants_send Record.enum (
+way_back_send : IsSend WayBack.the_row
+way_back_send = variants_send WayBack.enum (
   (process_table.undo_send, tt),
   (
     (
@@ -157,8 +158,8 @@ record_send = variants_send Record.enum (
   ),
 )
 
-pub record_sync : IsSync Record.the_row
-record_sync = variants_sync Record.enum (
+way_back_sync : IsSync WayBack.the_row
+way_back_sync = variants_sync WayBack.enum (
   (process_table.undo_sync, tt),
   (
     (
@@ -195,3 +196,9 @@ record_sync = variants_sync Record.enum (
     ),
   ),
 )
+
+pub record_send : IsSend Record.the_row
+record_send = declared_send Record.the_type (way_back_send, tt)
+
+pub record_sync : IsSync Record.the_row
+record_sync = declared_sync Record.the_type (way_back_sync, tt)

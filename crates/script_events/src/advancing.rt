@@ -13,7 +13,7 @@ ghost use Rattle.script_steps.specs.declared.stepping.Side.TheVariants.{Before};
 use crate::carrying::{CarriedOn, carry_on};
 use crate::restarting::fall_back;
 use erl_term::Term;
-use node_parts::{NodeParts, Record, Step, reporting_nothing, tell};
+use node_parts::{NodeParts, Record, Step, WayBack, reporting_nothing, tell};
 use node_types::{Answer, Note, Refusal};
 use release_words::Version;
 use script_ends::{finish, recover};
@@ -59,7 +59,9 @@ fn end_script(parts: &mut NodeParts, alloc: Global, n: usize) -> Step
     match finish(&mut parts.processes, &mut parts.releases, alloc, runner) {
         Ok(undo) => Ok(Stepped {
             told,
-            trace: Record::OfFinish(memory.fill(undo)),
+            trace: Record {
+                way_back: WayBack::OfFinish(memory.fill(undo)),
+            },
         }),
         Err(runner) => {
             parts.runner = Some(runner);
@@ -93,7 +95,9 @@ fn give_up_script(parts: &mut NodeParts, alloc: Global, reason: Term, n: usize) 
     match recover(&mut parts.apps, runner) {
         Ok(undo) => Ok(Stepped {
             told,
-            trace: Record::OfRecovery(memory.fill(undo)),
+            trace: Record {
+                way_back: WayBack::OfRecovery(memory.fill(undo)),
+            },
         }),
         Err(runner) => {
             parts.runner = Some(runner);
@@ -144,7 +148,9 @@ pub fn advance(parts: &mut NodeParts, alloc: Global, give_up: bool, n: usize) ->
     match carried {
         Ok(CarriedOn { told, undo }) => Ok(Stepped {
             told,
-            trace: Record::OfInstruction(undo),
+            trace: Record {
+                way_back: WayBack::OfInstruction(undo),
+            },
         }),
         Err(Failure::Refused(stop)) => halt(parts, alloc, stop, n),
         Err(Failure::Memory) => Err(Failure::Memory),

@@ -7,7 +7,7 @@ ghost use Rattle.node_types.specs.declared.event.Answer.TheVariants as answer;
 ghost use Rattle.node_types.specs.declared.event.Event.TheVariants as event;
 
 use install_checks::script_to;
-use node_parts::{NodeParts, Record, Step, reporting_nothing, tell};
+use node_parts::{NodeParts, Record, Step, WayBack, reporting_nothing, tell};
 use node_types::{Answer, Note};
 use release_statuses::Vsn;
 use release_words::Version;
@@ -52,7 +52,9 @@ pub fn install(parts: &mut NodeParts, alloc: Global, vsn: &Vsn, n: usize) -> Ste
             parts.runner = Some(runner);
             Ok(Stepped {
                 told,
-                trace: Record::OfInstall,
+                trace: Record {
+                    way_back: WayBack::OfInstall,
+                },
             })
         }
         Err(_) => Err(Failure::Memory),

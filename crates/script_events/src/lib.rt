@@ -26,8 +26,8 @@ mod restarting;
 pub use advancing::advance;
 pub use installing::install;
 pub use node_parts::{
-    Displaced, NodeParts, Record, Step, reporting, revert, room, tell, tell_arrivals, tell_done,
-    tell_jobs, tell_revived, unend,
+    Displaced, NodeParts, Record, Step, WayBack, reporting, revert, room, tell, tell_arrivals,
+    tell_done, tell_jobs, tell_revived, unend,
 };
 pub use purging::{make_permanent, sweep};
 pub use restarting::reboot_old;

@@ -11,7 +11,7 @@ ghost use Rattle.release_statuses.specs.Statuses.{is_permanent, status_of};
 use code_loading::purges_told;
 use code_replacement::purge_all;
 use erl_term::Atom;
-use node_parts::{NodeParts, Record, Step, room, tell_done, tell_swept};
+use node_parts::{NodeParts, Record, Step, WayBack, room, tell_done, tell_swept};
 use node_types::{Answer, Note};
 use release_statuses::{Status, Vsn};
 use release_words::Purge;
@@ -91,7 +91,9 @@ pub fn make_permanent(parts: &mut NodeParts, alloc: Global, vsn: &Vsn, n: usize)
     ) {
         Ok(undo) => Ok(Stepped {
             told,
-            trace: Record::OfPurges(purges.fill(undo), Some(former.fill(statuses))),
+            trace: Record {
+                way_back: WayBack::OfPurges(purges.fill(undo), Some(former.fill(statuses))),
+            },
         }),
         Err(_) => {
             match parts.releases.revert(statuses) {
@@ -124,7 +126,9 @@ pub fn sweep(parts: &mut NodeParts, alloc: Global, n: usize) -> Step
     ) {
         Ok(undo) => Ok(Stepped {
             told,
-            trace: Record::OfPurges(purges.fill(undo), None),
+            trace: Record {
+                way_back: WayBack::OfPurges(purges.fill(undo), None),
+            },
         }),
         Err(_) => Err(Failure::Memory),
     }

@@ -15,7 +15,7 @@ ghost use Rattle.release_statuses.specs.Undo.{IsRemoval, TakesBack};
 ghost use Rattle.values.specs.Failure.{Fails};
 
 use erl_term::Term;
-use node_parts::{Displaced, NodeParts, Record, Step, reporting, tell};
+use node_parts::{Displaced, NodeParts, Record, Step, WayBack, reporting, tell};
 use node_restart::{Restart, prepare};
 use node_types::{Answer, Note, Refusal};
 use release_boot::Booted;
@@ -107,7 +107,9 @@ fn put_in_place(
     };
     Stepped {
         told,
-        trace: Record::OfRestart(memory.fill(displaced)),
+        trace: Record {
+            way_back: WayBack::OfRestart(memory.fill(displaced)),
+        },
     }
 }
 

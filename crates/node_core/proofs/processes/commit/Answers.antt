@@ -27,4 +27,4 @@ returns-in-Ok-commit c =
     let said : List Reply → Told Answer Note = λ rs. record { answer = answer.Unit; note = record { replies = rs; arrival = None } } in
     let is : a.node ≡ after = (λ i. record n { processes = sym c.in-Ok-commit.ensures.committed i; apps = sym c.in-Ok-end_child.ensures.ended i }) in
     let told = c.tell_done.ensures ∙ ap (map said) c.in-Ok-commit.ensures.told ∙ each_of said (commit_told done n.processes) c.args.n in
-    ((a, (c.in-Ok-commit.ensures.ok, refl), is, told), c.record_of.ensures n after c.in-Ok-commit.ensures.inverse c.in-Ok-end_child.ensures.inverse refl c.in-Ok-commit.ensures.pieces c.in-Ok-end_child.ensures.pieces)
+    ((a, (c.in-Ok-commit.ensures.ok, refl), is, told), c.way_back_of.ensures n after c.in-Ok-commit.ensures.inverse c.in-Ok-end_child.ensures.inverse refl c.in-Ok-commit.ensures.pieces c.in-Ok-end_child.ensures.pieces)

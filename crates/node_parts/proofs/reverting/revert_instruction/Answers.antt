@@ -3,7 +3,7 @@ use Rattle.std.proofs.Common.{◌∙◌, ap, sym}
 use Rattle.std.specs.Prelude.{option_map}
 use Rattle.node_parts.proofs.Backs.{instruction_back, instruction_stays}
 use Rattle.node_parts.specs.Changes.{state_of}
-use Rattle.node_parts.specs.declared.record.Record.TheVariants.{OfInstruction}
+use Rattle.node_parts.specs.declared.record.WayBack.TheVariants.{OfInstruction}
 use Rattle.script_runner.specs.Parts.{parts_of}
 use Rattle.script_state.specs.Runner.{runner_of}
 use Rattle.node_parts.proofs.reverting.revert_instruction.Goals as goal
