@@ -1,4 +1,6 @@
 // What a step of a node gives, and what takes an event back.
+ghost use Rattle.std.specs.Prelude.{◌≡◌};
+
 use code_server::Modules;
 use erl_ir::Module;
 use node_types::{Answer, Note, Refusal};
