@@ -86,7 +86,7 @@ fn put_in_place(
     } }
     ensures displaced { (before : NodeState) → (state_of parts.old ≡ record before { releases = (state_of parts.old).releases }) →
         TakesBack statuses before.releases (state_of parts.old).releases → (IsRemoval statuses → ⊥) →
-        Restores result.trace before (state_of parts.new) }
+        Restores result.trace.way_back before (state_of parts.new) }
 {
     let Ready {
         told,
