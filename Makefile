@@ -1,25 +1,34 @@
-# make test: the merge gate, and then the transcripts on the program that it has built. Its last line is 'N passed, M failed'.
+# make test: the merge gate, and then the transcripts and the rehearsals on the programs that it has built. Its last line is
+#   'N passed, M failed'.
 # make transcripts: plays the sessions of transcripts/ on the program, which it builds first (tools/transcripts);
 #   make transcripts NAME=name plays one file of them. Its last line is 'N passed, M failed'.
+# make rehearsals: plays the runs of rehearsals/ on `rehearse`, which it builds first (tools/rehearsals);
+#   make rehearsals NAME=name plays one file of them. Its last line is 'N passed, M failed'.
 # make check: proves the crates alone, over what earlier checks kept, and tries no edit and no test: for the working day.
 # make edits: sees that the prover refuses each must-fail edit, those of edits/ too, many in one check (tools/edits);
 #   make edits CRATE=name tries one crate's. Its last line is 'N passed, M failed'.
 # make trials: builds and runs the tests in trials/, which are too dear to prove at each gate (tools/trials);
 #   make trials NAME=name runs one crate of them. Its last line is 'N passed, M failed'.
-# make relnode: proves and builds the program, and leaves it at crates/relnode/out/relnode.
-# make demo: a session of the program on the example tree, tried with checks and not proved: in two minutes on a new machine (tools/demo).
+# make relnode, make rehearse: proves and builds a program, and leaves it at crates/relnode/out/relnode or
+#   crates/rehearse/out/rehearse.
+# make demo: a session of relnode on the example tree, tried with checks and not proved: in two minutes on a new machine (tools/demo).
+# make rehearse-demo: the report of an upgrade with two mistakes, so tried.
 # The kit's rt, by a tool that keeps what rt asks again and again of crates.txt, and reckons the memory of proofs by what they took;
 # RT=rt is the kit's alone.
 RT ?= $(CURDIR)/tools/rt
 
-.PHONY: test transcripts check edits trials demo relnode
+.PHONY: test transcripts rehearsals check edits trials demo rehearse-demo relnode rehearse
 
 test:
 	@$(RT) ci
 	@tools/transcripts
+	@tools/rehearsals
 
 transcripts: relnode
 	@tools/transcripts $(NAME)
+
+rehearsals: rehearse
+	@tools/rehearsals $(NAME)
 
 check:
 	@$(RT) all check
@@ -34,5 +43,12 @@ relnode:
 	@cd crates/relnode && $(RT) run -- data/tree Z < /dev/null > /dev/null
 	@echo crates/relnode/out/relnode
 
+rehearse:
+	@cd crates/rehearse && $(RT) run -- ../relnode/data/tree A O > /dev/null
+	@echo crates/rehearse/out/rehearse
+
 demo:
 	@RT="$(RT)" tools/demo
+
+rehearse-demo:
+	@RT="$(RT)" tools/demo rehearse

@@ -4,7 +4,7 @@ use Rattle.std.proofs.lemmas.List.{append-nil, append_assoc, take_all, take_more
 use Rattle.std.proofs.lemmas.Option.{slice_get_read}
 use Rattle.client_traffic.specs.Traffic.{Adds, AllSend, IsAmissIn, IsFirstAmiss}
 use Rattle.client_traffic.specs.declared.TrafficError.{TrafficError}
-use Rattle.client_traffic.specs.declared.arrival.Arrival.{Arrival}
+use Rattle.upgrade_rehearsal.specs.declared.arrival.Arrival.{Arrival}
 
 send_more : (lines : List (List ℕ)) (line : List ℕ) (sent all : List Arrival) → AllSend lines sent → Adds line sent all →
     AllSend (lines ++ line ∷ []) all

@@ -12,7 +12,7 @@ use Rattle.shell_requests.specs.Request.{advance, sweep, Spoken, too_long, silen
 use Rattle.client_traffic.specs.declared.TrafficError.{TrafficError}
 use Rattle.client_traffic.specs.declared.TrafficError.TheVariants.{NoArrival, NotOneTerm, Term as Faulty, Memory}
 use Rattle.client_traffic.specs.declared.TrafficFault.{TrafficFault}
-use Rattle.client_traffic.specs.declared.arrival.Arrival.{Arrival}
+use Rattle.upgrade_rehearsal.specs.declared.arrival.Arrival.{Arrival}
 
 -- The lines of a text: what stands between its newlines (10).
 abbrev pub lines_of : List ℕ → List (List ℕ)

@@ -16,10 +16,7 @@ use shell_exec::{Misread, term_of};
 use shell_requests::{Arrival as Kind, Line, Name, Request, read_line};
 use std::alloc::Global;
 use thiserror::Error;
-
-mod arrival;
-
-pub use arrival::Arrival;
+use upgrade_rehearsal::Arrival;
 
 /// Why a line is no traffic.
 #[derive(Clone, Copy, Debug, PartialEq, Eq, Error)]

@@ -35,7 +35,6 @@ pub struct ReleaseView {
 }
 
 /// What is seen of a node.
-#[derive(Drop)]
 pub struct NodeView {
     /// Its modules, first loaded first.
     pub modules: Row<ModuleView>,
@@ -45,6 +44,18 @@ pub struct NodeView {
     pub apps: Row<AppView>,
     /// The releases that it knows.
     pub releases: Row<ReleaseView>,
+}
+
+/// It is taken apart here, so that who drops one above has nothing to prove of its parts.
+impl Drop for NodeView {
+    fn drop(self) {
+        let NodeView {
+            modules: _modules,
+            processes: _processes,
+            apps: _apps,
+            releases: _releases,
+        } = self;
+    }
 }
 
 impl Same for ModuleView {

@@ -5,7 +5,8 @@
 //!
 //! # What is proved
 //!
-//! Of words that were read which is told not to be UTF-8: the first such. Which words are a good command line is clap's.
+//! Of words that were read which is told not to be UTF-8: the first such. With which status a program ends whose words are no command
+//! line ([`WordsError::status`]). Which words are a good command line is clap's.
 #![tactic(auto)]
 
 ghost use Rattle.std.specs.Prelude.{◌≡◌, not};
@@ -13,6 +14,7 @@ ghost use Rattle.std.specs.List.{position};
 ghost use Rattle.std.specs.Option.{option_map};
 ghost use Rattle.std.specs.Str.{is_utf8};
 ghost use Rattle.program_words.specs.declared.WordsError.TheVariants.{NotUtf8 as not_utf8};
+ghost use Rattle.program_words.specs.Status.{status_of_words};
 
 use clap::error::{Error, ErrorKind};
 use std::alloc::{AllocError, Global};
@@ -40,6 +42,18 @@ pub enum WordsError {
     /// Memory was refused.
     #[error("no memory to read the command line")]
     Memory(#[from(alloc)] AllocError),
+}
+
+impl WordsError {
+    /// The status that a program ends with for it: 2 for words that are no command line, and 1 where the words could not be had.
+    pub fn status(&self) -> u8
+        ensures { result ≡ status_of_words self.now }
+    {
+        match self {
+            WordsError::Words(_) | WordsError::NotUtf8(_) => 2,
+            WordsError::Unread(_) | WordsError::Memory(_) => 1,
+        }
+    }
 }
 
 /// The words that the program was started with, from its name on.

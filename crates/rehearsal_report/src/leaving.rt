@@ -1,5 +1,5 @@
 // What a failure of an instruction would leave.
-use crate::writing::{INDENT, put, put_number};
+use crate::writing::{put, put_number};
 use node_views::NodeView;
 use std::alloc::{AllocError, Global};
 
@@ -25,7 +25,7 @@ fn waiting(view: &NodeView) -> u64 {
     count
 }
 
-/// Writes the begin of a line: what OTP's release handler leaves where an instruction fails (release_handler(3)). Before the point of
+/// Writes what OTP's release handler leaves where an instruction fails (release_handler(3)). Before the point of
 /// no return it gives the script up; behind it, it restarts the node, and what processes hold is lost.
 pub(crate) fn put_left(
     is_behind_point: bool,
@@ -33,7 +33,6 @@ pub(crate) fn put_left(
     alloc: Global,
     out: &mut Vec<u8>,
 ) -> Result<(), AllocError> {
-    put(INDENT, out)?;
     if !is_behind_point {
         return put(b"a failure here: OTP gives the script up", out);
     }

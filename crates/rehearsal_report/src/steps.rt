@@ -54,8 +54,22 @@ fn put_station(
     put_changes(&station.behind, &station.view, b"traffic: ", alloc, out)?;
     put_traffic(station, alloc, out)?;
     put_jobs(station, alloc, out)?;
-    put_left(is_behind_point, before, alloc, out)?;
-    put(b"; ", out)?;
+    put_trial(station, is_behind_point, before, alloc, out)
+}
+
+/// Writes what a failure of the instruction would leave, unless it is the end, and whether the node was as before once it was undone.
+fn put_trial(
+    station: &Station,
+    is_behind_point: bool,
+    before: &NodeView,
+    alloc: Global,
+    out: &mut Vec<u8>,
+) -> Result<(), AllocError> {
+    put(INDENT, out)?;
+    if station.instruction.is_some() {
+        put_left(is_behind_point, before, alloc, out)?;
+        put(b"; ", out)?;
+    }
     put(undone_words(station), out)?;
     put(b"\n", out)
 }

@@ -41,7 +41,6 @@ impl Outcome {
 }
 
 /// What was seen of an instruction that a script came to.
-#[derive(Drop)]
 pub struct Station {
     /// The instruction; none at the end of the script.
     pub instruction: Option<Low>,
@@ -59,6 +58,22 @@ pub struct Station {
     pub view: NodeView,
     /// The replies that were sent with it and with that traffic.
     pub replies: Row<Row<Reply>>,
+}
+
+/// It is taken apart here, so that who drops one above has nothing to prove of its parts.
+impl Drop for Station {
+    fn drop(self) {
+        let Station {
+            instruction: _instruction,
+            outcome: _outcome,
+            behind: _behind,
+            is_as_before: _is_as_before,
+            nobody: _nobody,
+            jobs: _jobs,
+            view: _view,
+            replies: _replies,
+        } = self;
+    }
 }
 
 /// How an instruction goes while jobs run that nobody commits.

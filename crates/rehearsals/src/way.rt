@@ -10,7 +10,6 @@ use node_views::NodeView;
 use values::Row;
 
 /// What was seen on one way, up or down.
-#[derive(Drop)]
 pub struct Way {
     /// Why the install was refused, if it was.
     pub refusal: Option<Refusal>,
@@ -18,8 +17,21 @@ pub struct Way {
     pub begun: NodeView,
     /// What was seen of the instructions, in order, and last of the end.
     pub stations: Vec<Station>,
-    /// The modules with old code when nothing more was made of the script, each with every process that still uses it.
+    /// Each module with old code and each process that still uses it, when nothing more was made of the script; none where the install was
+    /// refused.
     pub lingering: Row<(Atom, u64)>,
+}
+
+/// It is taken apart here, so that who drops one above has nothing to prove of its parts.
+impl Drop for Way {
+    fn drop(self) {
+        let Way {
+            refusal: _refusal,
+            begun: _begun,
+            stations: _stations,
+            lingering: _lingering,
+        } = self;
+    }
 }
 
 impl Way {
@@ -78,7 +90,6 @@ impl Returned {
 }
 
 /// What was seen of an upgrade that was rehearsed.
-#[derive(Drop)]
 pub struct Rehearsal {
     /// The node before the way up, behind the traffic.
     pub before: NodeView,
@@ -90,6 +101,19 @@ pub struct Rehearsal {
     pub is_as_before: bool,
     /// What was seen of both ways without traffic.
     pub returned: Returned,
+}
+
+/// It is taken apart here, so that who drops one above has nothing to prove of its parts.
+impl Drop for Rehearsal {
+    fn drop(self) {
+        let Rehearsal {
+            before: _before,
+            up: _up,
+            down: _down,
+            is_as_before: _is_as_before,
+            returned: _returned,
+        } = self;
+    }
 }
 
 impl Rehearsal {

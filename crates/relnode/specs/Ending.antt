@@ -4,8 +4,7 @@ use Rattle.line_server.specs.declared.ended.ServeEnd.{ServeEnd}
 use Rattle.line_server.specs.declared.ended.Fault.{Fault as CommandsFault}
 use Rattle.relnode.specs.declared.ending.Fault.{Fault}
 use Rattle.relnode.specs.declared.ending.Fault.TheVariants.{CommandLine, NoRandomBytes, Files, Start, Commands, Workers, Output}
-use Rattle.program_words.specs.declared.WordsError.{WordsError}
-use Rattle.program_words.specs.declared.WordsError.TheVariants.{Words, NotUtf8, Unread, Memory}
+use Rattle.program_words.specs.Status.{status_of_words}
 use Rattle.release_files.specs.Files.{Contents}
 use Rattle.node_shell.specs.Run.{RunsShell, StartFails}
 use Rattle.node_shell.specs.declared.fault.StartFault.{StartFault}
@@ -41,13 +40,6 @@ pub data EndsServing (files : Contents) (vsn : List ℕ) (count : ℕ) (left res
       EndsServing files vsn count left rest held holds end
   not_served : (fault : WorkersFault) → WorkersFail fault files vsn count left rest held holds → end ≡ end_without fault →
       EndsServing files vsn count left rest held holds end
-
--- the status of a command line that is bad, or that could not be read
-abbrev pub status_of_words : WordsError → ℕ
-status_of_words (Words message) = 2
-status_of_words (NotUtf8 place) = 2
-status_of_words (Unread error) = 1
-status_of_words (Memory error) = 1
 
 -- The status: 0 at the end of the input, and where the help was written; 2 after a bad command line, and else 1.
 abbrev pub status_of : Result (Unit {0}) Fault → ℕ

@@ -1,7 +1,7 @@
 // How the program ends.
 ghost use Rattle.std.specs.Prelude.{◌≡◌};
 ghost use Rattle.std.specs.Process.{exit_status};
-ghost use Rattle.relnode.specs.Ending.{EndsServing, EndsSo, end_by, end_without, status_of, status_of_words};
+ghost use Rattle.relnode.specs.Ending.{EndsServing, EndsSo, end_by, end_without, status_of};
 
 use file_tree::TreeError;
 use node_shell::{Files, StartFault, run};
@@ -122,7 +122,7 @@ fn status(end: &Result<(), Fault>) -> u8
 {
     match end {
         Ok(()) => 0,
-        Err(Fault::CommandLine(fault)) => status_of_words(fault),
+        Err(Fault::CommandLine(fault)) => fault.status(),
         Err(
             Fault::NoRandomBytes(_)
             | Fault::Files(_)
@@ -131,15 +131,5 @@ fn status(end: &Result<(), Fault>) -> u8
             | Fault::Workers(_)
             | Fault::Output(_),
         ) => 1,
-    }
-}
-
-/// The status after a bad command line: 2 for bad words, and else 1.
-fn status_of_words(fault: &WordsError) -> u8
-    ensures { result ≡ status_of_words fault.now }
-{
-    match fault {
-        WordsError::Words(_) | WordsError::NotUtf8(_) => 2,
-        WordsError::Unread(_) | WordsError::Memory(_) => 1,
     }
 }

@@ -16,7 +16,6 @@ use std::alloc::{AllocError, Global};
 use values::Duplicate;
 
 /// Two releases, and how the second is reached: its relup has the scripts.
-#[derive(Drop)]
 pub struct Chosen {
     /// The release that is left.
     pub from: Release,
@@ -24,6 +23,17 @@ pub struct Chosen {
     pub to: Release,
     /// Whether its relup was made of the appups, for its own has no script up.
     pub is_made: bool,
+}
+
+/// It is taken apart here, so that who drops one above has nothing to prove of its parts.
+impl Drop for Chosen {
+    fn drop(self) {
+        let Chosen {
+            from: _from,
+            to: _to,
+            is_made: _is_made,
+        } = self;
+    }
 }
 
 /// Chooses the scripts: those of the relup of the release that is installed, where it has one up, and else those that are made of

@@ -1,0 +1,4 @@
+pub mod Escaped
+pub mod Showing
+pub mod Standing
+pub mod Written

@@ -1,0 +1,6 @@
+-- What stood there still stands.
+use Rattle.rehearsal_page.specs.Page.{StandsBefore}
+use Rattle.rehearsal_page.proofs.timeline.put_column_heads.Given as goal
+
+abbrev pub invariant-loop-column : goal.invariant-loop-column
+invariant-loop-column l = StandsBefore l.fn.out.items l.out.items

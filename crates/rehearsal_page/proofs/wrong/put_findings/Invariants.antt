@@ -1,0 +1,6 @@
+-- What stood there still stands.
+use Rattle.rehearsal_page.specs.Page.{StandsBefore}
+use Rattle.rehearsal_page.proofs.wrong.put_findings.Given as goal
+
+abbrev pub invariant-loop-finding : goal.invariant-loop-finding
+invariant-loop-finding l = StandsBefore l.fn.out.items l.out.items

@@ -1,0 +1,56 @@
+// The whole page.
+#![tactic(auto, using(crate::proofs::Standing::standing))]
+
+ghost use Rattle.std.specs.Prelude.{◌++◌, OnOk};
+ghost use Rattle.rehearsal_page.specs.Page.{StandsBefore, page_begin};
+
+use crate::columns::{Column, columns_of};
+use crate::head::put_page_head;
+use crate::parts::Part::Markup;
+use crate::parts::put_parts;
+use crate::rows::{Rows, rows_of};
+use crate::script::SCRIPT;
+use crate::steps::put_steps;
+use crate::timeline::put_timeline;
+use crate::wrong::put_wrong;
+use rehearsal_report::Report;
+use std::alloc::{AllocError, Global};
+
+/// Writes a report as a page: one HTML file without any part from elsewhere.
+///
+/// # Errors
+///
+/// `AllocError` where memory is refused.
+pub fn write_page(alloc: Global, report: &Report<'_>, out: &mut Vec<u8>) -> Result<(), AllocError>
+    ensures { OnOk result (StandsBefore (out.old.items ++ page_begin) out.new.items) }
+{
+    let columns = columns_of(alloc, report.rehearsal)?;
+    let rows = rows_of(alloc, columns.as_slice())?;
+    put_page_head(report, alloc, out)?;
+    put_main(report, columns.as_slice(), &rows, alloc, out)?;
+    put_parts(
+        &[
+            Markup(b"</main>\n<script>\n"),
+            Markup(SCRIPT),
+            Markup(b"</script>\n</body>\n</html>\n"),
+        ],
+        alloc,
+        out,
+    )
+}
+
+/// Writes what stands between the head and the script.
+fn put_main(
+    report: &Report<'_>,
+    columns: &[Column<'_>],
+    rows: &Rows<'_>,
+    alloc: Global,
+    out: &mut Vec<u8>,
+) -> Result<(), AllocError>
+    ensures { OnOk result (StandsBefore out.old.items out.new.items) }
+{
+    put_parts(&[Markup(b"<main>\n")], alloc, out)?;
+    put_timeline(columns, rows, alloc, out)?;
+    put_wrong(report, rows, alloc, out)?;
+    put_steps(report.rehearsal, columns, rows, alloc, out)
+}

@@ -1,0 +1,4 @@
+-module(a).
+-export([size/0]).
+size() ->
+  <<1>>.

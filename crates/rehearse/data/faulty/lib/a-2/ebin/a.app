@@ -1,0 +1,1 @@
+{application,a,[{vsn,"2"},{modules,[a]},{registered,[]}]}.

@@ -1,0 +1,1 @@
+{application,b,[{vsn,"1"},{modules,[b]},{registered,[]}]}.

@@ -1,0 +1,7 @@
+{application, basket,
+ [{description, "What a customer has chosen"},
+  {vsn, "1.2.0"},
+  {modules, [basket_app,basket,basket_rules,basket_prices]},
+  {registered, [basket,prices]},
+  {applications, [kernel,stdlib,stock]},
+  {mod, {basket_app,[]}}]}.

@@ -1,0 +1,11 @@
+%% What a customer is to pay: from 10 on 2 less.
+-module(basket_rules).
+-export([total/1]).
+
+total(Prices) -> rebate(sum(Prices)).
+
+rebate(Sum) when Sum >= 10 -> Sum - 2;
+rebate(Sum) -> Sum.
+
+sum([]) -> 0;
+sum([Price|Prices]) -> Price + sum(Prices).

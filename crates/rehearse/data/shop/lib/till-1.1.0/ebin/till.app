@@ -1,0 +1,7 @@
+{application, till,
+ [{description, "Payments"},
+  {vsn, "1.1.0"},
+  {modules, [till_app,till_gateway,till_log,till_fees]},
+  {registered, [till,till_log]},
+  {applications, [kernel,stdlib,stock]},
+  {mod, {till_app,[]}}]}.

@@ -1,0 +1,74 @@
+// What is told of a fault, for the one who is to mend it.
+use crate::ending::Fault;
+use diagnostics::{diagnose, push_shown};
+use erl_term::print;
+use release_boot::BootError;
+use release_files::{Files, ReleaseFault};
+use std::alloc::{AllocError, Global};
+use std::str;
+use upgrade_files::UnreadFaults;
+use upgrade_rehearsal::Fault as RehearsalFault;
+
+/// Tells a fault on the standard error, a line each; below that of a file stands the line in which the fault is, and a mark
+/// below its place. Where standard error cannot be written, the status alone tells of the fault.
+pub fn tell(rt: HostRuntime, fault: &Fault) {
+    let Ok(told) = describe(rt.alloc(), fault) else {
+        let _ = eprintln!(rt; "rehearse: out of memory");
+        return;
+    };
+    let _ = eprintln!(rt; "{told}");
+}
+
+/// What is told of a fault.
+fn describe(alloc: Global, fault: &Fault) -> Result<String, AllocError> {
+    let mut told = String::new(alloc);
+    match fault {
+        Fault::Releases(unread) => push_unread(alloc, unread, &mut told)?,
+        Fault::Rehearsal(RehearsalFault::Boot(BootError::NotStarted { app, reason })) => {
+            let mut shown = Vec::new(alloc);
+            print(reason, &mut shown)?;
+            let shown = str::from_utf8(shown.as_slice()).unwrap_or("");
+            let text = format!(in alloc; "{} doesn't start: {shown}", app.as_str())?;
+            push_line(text.as_str(), &mut told)?;
+        }
+        fault => {
+            let text = format!(in alloc; "{fault}")?;
+            push_line(text.as_str(), &mut told)?;
+        }
+    }
+    Ok(told)
+}
+
+/// Appends a line of the program's.
+fn push_line(text: &str, told: &mut String) -> Result<(), AllocError> {
+    told.push_str("rehearse: ")?;
+    push_shown(text, told)
+}
+
+/// Appends what is told of the files of two releases: each fault, below the one before it.
+fn push_unread(alloc: Global, unread: &UnreadFaults, told: &mut String) -> Result<(), AllocError> {
+    for fault in &unread.faults {
+        if !told.is_empty() {
+            told.push('\n')?;
+        }
+        push_fault(alloc, &unread.files, fault, told)?;
+    }
+    Ok(())
+}
+
+/// Appends what is told of a file.
+fn push_fault(
+    alloc: Global,
+    files: &Files,
+    fault: &ReleaseFault,
+    told: &mut String,
+) -> Result<(), AllocError> {
+    let diagnostic = diagnose(alloc, files, fault)?;
+    let text = format!(in alloc; "{diagnostic}")?;
+    push_line(text.as_str(), told)?;
+    if let Some(excerpt) = &diagnostic.excerpt {
+        let shown = format!(in alloc; "\n{excerpt}")?;
+        told.push_str(shown.as_str())?;
+    }
+    Ok(())
+}

@@ -1,0 +1,2 @@
+{application,ctr_app,[{vsn,"5"},{modules,[ctr_app,ctr,ctr_step,lp]},
+  {registered,[ctr,lp]},{mod,{ctr_app,[]}}]}.

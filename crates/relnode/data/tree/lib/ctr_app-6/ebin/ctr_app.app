@@ -1,0 +1,2 @@
+{application,ctr_app,[{vsn,"6"},{modules,[ctr_app,ctr,ctr_step,lp]},
+  {registered,[ctr,lp]},{mod,{ctr_app,[]}}]}.

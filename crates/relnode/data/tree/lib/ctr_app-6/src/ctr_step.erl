@@ -1,0 +1,3 @@
+-module(ctr_step).
+-export([step/0]).
+step() -> 10.

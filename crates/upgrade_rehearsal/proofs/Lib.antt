@@ -1,0 +1,7 @@
+pub mod Going
+pub mod Leading
+pub mod Performing
+pub mod Turns
+pub mod Waiting
+pub mod Ways
+pub mod Whole

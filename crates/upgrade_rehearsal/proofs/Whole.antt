@@ -1,0 +1,114 @@
+-- A whole rehearsal, by its parts.
+use Rattle.std.proofs.Common.{◌≡◌, ◌∙◌, ℕ, Bool, true, false, List, [], Option, None, Some, Result, IfOk, refl, sym, ap, subst}
+use Rattle.node_core.specs.Node.{NodeState}
+use Rattle.node_types.specs.declared.event.Event.TheVariants.{SetUnpacked}
+use Rattle.node_views.specs.declared.node_view.NodeView.{NodeView}
+use Rattle.rehearsals.specs.Ways.{is_down, is_finished}
+use Rattle.rehearsals.specs.declared.way.Rehearsal.{Rehearsal}
+use Rattle.rehearsals.specs.declared.way.Returned.{Returned}
+use Rattle.rehearsals.specs.declared.way.Returned.TheVariants as quiet
+use Rattle.rehearsals.specs.declared.way.Way.{Way}
+use Rattle.release_table.specs.declared.table.Release.{Release}
+use Rattle.upgrade_rehearsal.specs.declared.arrival.Arrival.{Arrival}
+use Rattle.upgrade_rehearsal.specs.Players.{Leads, stage_of}
+use Rattle.upgrade_rehearsal.specs.Seen.{AreWays, HaltsOn, HasBooted, IsRehearsal, IsReturn, IsReturned, IsShown, IsWay, IsWayDown, node_view, returned_by}
+use Rattle.upgrade_rehearsal.specs.Stages.{Plays, Stage, Undergoes}
+use Rattle.upgrade_rehearsal.specs.declared.halting.Halt.{Halt}
+use Rattle.upgrade_rehearsal.specs.declared.halting.Halt.TheVariants as halt
+use Rattle.upgrade_rehearsal.specs.declared.player.Player.{Player}
+
+-- both ways
+pub both_ways : (traffic : List Arrival) (begin top end : Stage) (up_to down_to : List ℕ) (up : Way) (down : Option Way) (is_up : Bool) →
+    is_up ≡ is_finished up → IsWay traffic begin up_to up top → IsWayDown is_up traffic top down_to down end →
+    AreWays traffic begin up_to down_to up down end
+both_ways traffic begin top end up_to down_to up down is_up is goes_up goes_down = record {
+  top = top;
+  goes_up = goes_up;
+  goes_down = subst (λ b. IsWayDown b traffic top down_to down end) is goes_down;
+}
+
+-- What was seen of the return: where the way down was finished, the node; and else that it failed.
+
+pub returns_seen : (begin end : Stage) (up_to down_to : List ℕ) (up : Way) (down : Option Way) (view : NodeView) (was_down : Bool) →
+    AreWays [] begin up_to down_to up down end → was_down ≡ is_down down → was_down ≡ true → view ≡ node_view end.node →
+    IsReturn begin up_to down_to (quiet.Behind view)
+returns_seen begin end up_to down_to up down view was_down ways is down_then seen = record {
+  up = up;
+  down = down;
+  end = end;
+  ways = ways;
+  view = ap quiet.Behind seen ∙ ap (λ b. returned_by b end.node) (sym down_then ∙ is);
+}
+
+pub returns_failed : (begin end : Stage) (up_to down_to : List ℕ) (up : Way) (down : Option Way) (was_down : Bool) →
+    AreWays [] begin up_to down_to up down end → was_down ≡ is_down down → was_down ≡ false →
+    IsReturn begin up_to down_to quiet.Failed
+returns_failed begin end up_to down_to up down was_down ways is not_down = record {
+  up = up;
+  down = down;
+  end = end;
+  ways = ways;
+  view = ap (λ b. returned_by b end.node) (sym not_down ∙ is);
+}
+
+-- The way down, where the way up was finished.
+
+pub goes_down : (is_up : Bool) (traffic : List Arrival) (top : Stage) (vsn : List ℕ) (w : Way) (end : Stage) → is_up ≡ true →
+    IsWay traffic top vsn w end → IsWayDown is_up traffic top vsn (Some w) end
+goes_down is_up traffic top vsn w end is way = subst (λ b. IsWayDown b traffic top vsn (Some w) end) (sym is) way
+
+pub stays_up : (is_up : Bool) (traffic : List Arrival) (top : Stage) (vsn : List ℕ) → is_up ≡ false →
+    IsWayDown is_up traffic top vsn None top
+stays_up is_up traffic top vsn is = subst (λ b. IsWayDown b traffic top vsn None top) (sym is) refl
+
+-- What was seen of the return, if it was tried.
+
+pub is_tried : {E : Type 0} (r : Result Returned E) (was_down : Bool) (begin : Stage) (up_to down_to : List ℕ) → was_down ≡ true →
+    IfOk r (IsReturn begin up_to down_to) → IfOk r (IsReturned was_down begin up_to down_to)
+is_tried r was_down begin up_to down_to is seen =
+    subst (λ b. IfOk r (IsReturned b begin up_to down_to)) (sym is) seen
+
+pub is_untried : (was_down : Bool) (begin : Stage) (up_to down_to : List ℕ) → was_down ≡ false →
+    IsReturned was_down begin up_to down_to quiet.Untried
+is_untried was_down begin up_to down_to is = subst (λ b. IsReturned b begin up_to down_to quiet.Untried) (sym is) refl
+
+-- What was seen of an upgrade, by what was done: the player was told of the release, the traffic was played, both ways were gone, and it
+-- went back, and then up and down once more.
+pub shown_by : (down_to up_to up_again : List ℕ) (to : Release) (traffic : List Arrival) (r : Rehearsal)
+    (first known begin : Player) (end back : Stage) (was_down : Bool) → up_to ≡ to.rel.vsn → up_again ≡ to.rel.vsn →
+    Leads (Undergoes (SetUnpacked to)) first known → Leads (Plays traffic) known begin → r.before ≡ node_view (stage_of begin).node →
+    AreWays traffic (stage_of begin) up_to down_to r.up r.down end → r.is_as_before ≡ true → back ≡ stage_of begin →
+    was_down ≡ is_down r.down → IsReturned was_down back up_again down_to r.returned →
+    IsShown (stage_of first) down_to to traffic r
+shown_by down_to up_to up_again to traffic r first known begin end back was_down same same_again knows plays before ways undone stands
+    is returned = record {
+      known = stage_of known;
+      with_release = knows.sent;
+      knows = knows.scene;
+      begin = stage_of begin;
+      with_traffic = plays.sent;
+      played = plays.scene;
+      before = before;
+      end = end;
+      ways = subst (λ v. AreWays traffic (stage_of begin) v down_to r.up r.down end) same ways;
+      undone = undone;
+      returned =
+          subst (λ s. IsReturned (is_down r.down) s to.rel.vsn down_to r.returned) stands
+          (subst (λ b. IsReturned b back to.rel.vsn down_to r.returned) is
+          (subst (λ v. IsReturned was_down back v down_to r.returned) same_again returned));
+    }
+
+-- What was seen from where the release has booted is what is seen of the upgrade.
+pub rehearsed_by : (from to : Release) (traffic : List Arrival) (r : Rehearsal) (player : Player) (vsn : List ℕ) →
+    HasBooted from (stage_of player).node → player.arrivals ≡ 0 → vsn ≡ from.rel.vsn →
+    IsShown (stage_of player) vsn to traffic r → IsRehearsal from to traffic r
+rehearsed_by from to traffic r player vsn booted none is shown =
+    let node = (stage_of player).node in
+    let At : ℕ → List ℕ → Type 0 = λ arrivals v. IsShown (record { node = node; arrivals = arrivals }) v to traffic r in
+    record { node = node; booted = booted; shown = subst (λ v. At 0 v) is (subst (λ k. At k vsn) none shown) }
+
+-- the release has booted, whatever halted the rehearsal then
+pub halts_on : (from : Release) (n : NodeState) (why : Halt) → HasBooted from n → HaltsOn from why
+halts_on from n (halt.Endless count) booted = (n, booted)
+halts_on from n halt.Full booted = (n, booted)
+halts_on from n (halt.Memory error) booted = tt

@@ -1,0 +1,16 @@
+-- It is asked of the node where the player stands.
+use Rattle.std.proofs.Common.{◌∙◌, ap}
+use Rattle.node_core.specs.Node.{NodeState}
+use Rattle.upgrade_rehearsal.specs.Seen.{next_of}
+use Rattle.upgrade_rehearsal.proofs.way.ask.Goals as goal
+
+pub returns-clause-instruction : goal.returns-clause-instruction
+returns-clause-instruction c = c.in_ok-instruction.ensures ∙ ap (λ (n : NodeState). next_of n) c.node-node.ensures
+
+pub returns-clause-nobody : goal.returns-clause-nobody
+returns-clause-nobody c =
+    let at = c.node-node.ensures in
+    let apps = c.apps.ensures in
+    let next = c.in_ok-instruction.ensures in
+    let found = c.in_ok-nobody.ensures in
+    cc

@@ -1,0 +1,6 @@
+pub mod Going
+pub mod Parts
+pub mod Players
+pub mod Seen
+pub mod Stages
+pub mod Turns

@@ -1,0 +1,50 @@
+-- What the one who rehearses has, and how that goes on.
+use Rattle.std.specs.Prelude.{◌≡◌, List, [], ◌∷◌, ◌++◌, Some, Result, Ok, Err}
+use Rattle.node_core.specs.Node.{NodeState}
+use Rattle.node_core.specs.Step.{Step}
+use Rattle.node_types.specs.declared.event.Answer.{Answer}
+use Rattle.node_types.specs.declared.event.Event.{Event}
+use Rattle.node_types.specs.declared.event.Refusal.{Refusal}
+use Rattle.node_types.specs.Note.{Note}
+use Rattle.process_effects.specs.declared.told.Reply.{Reply}
+use Rattle.undo_journal.specs.Reversible.{Accepted}
+use Rattle.undo_journal.specs.Timeline.{appended, cut_to, here}
+use Rattle.upgrade_rehearsal.specs.Going.{Extends, IsBack}
+use Rattle.upgrade_rehearsal.specs.Stages.{Scene, Stage}
+use Rattle.upgrade_rehearsal.specs.declared.player.Bookmark.{Bookmark}
+use Rattle.upgrade_rehearsal.specs.declared.player.Player.{Player}
+
+-- where it stands
+abbrev pub stage_of : Player → Stage
+stage_of p = record { node = (here p.journal).node; arrivals = p.arrivals }
+
+-- It is as it was.
+pub record IsAlike (old new : Player) : Type 0 where
+  pub journal : new.journal ≡ old.journal
+  pub sent : new.sent.items ≡ old.sent.items
+  pub arrivals : new.arrivals ≡ old.arrivals
+
+-- It goes on so, and keeps the replies behind those that it has.
+pub record Leads (S : Scene) (old new : Player) : Type 0 where
+  pub journal : Extends old.journal new.journal
+  pub sent : List (List Reply)
+  pub scene : S (stage_of old) sent (stage_of new)
+  pub kept : new.sent.items ≡ old.sent.items ++ sent
+
+-- An event was performed, and comes to this: as the written rule accepts it, and then the journal has a station more; or as it
+-- refuses it.
+abbrev pub Performed : Player → Event → Result Answer Refusal → Player → Type 0
+Performed old e (Ok told) new = (a : Accepted NodeState Answer Note) × Step (here old.journal).node e (Ok a) × (told ≡ a.answer)
+    × (new.journal ≡ appended old.journal a.node a.note) × (new.sent.items ≡ old.sent.items ++ a.note.replies ∷ [])
+    × (new.arrivals ≡ old.arrivals)
+Performed old e (Err why) new = Step (here old.journal).node e (Err why) × IsAlike old new
+
+-- A bookmark names the place where it stands.
+pub record IsBookmark (b : Bookmark) (p : Player) : Type 0 where
+  pub mark : cut_to b.mark p.journal ≡ Some p.journal
+  pub arrivals : b.arrivals ≡ p.arrivals
+
+-- It is back where it stood.
+pub record IsBackAt (old new : Player) : Type 0 where
+  pub journal : IsBack old.journal new.journal
+  pub arrivals : new.arrivals ≡ old.arrivals
