@@ -1,12 +1,12 @@
-# make test: the merge gate, and then the transcripts and the rehearsals on the programs that it has built. Its last line is
-#   'N passed, M failed'.
+# make test: the merge gate, then the wrong bodies of must-fail/ over the libraries that it has built, and then the transcripts and the
+#   rehearsals on its programs. Its last line is 'N passed, M failed'.
 # make transcripts: plays the sessions of transcripts/ on the program, which it builds first (tools/transcripts);
 #   make transcripts NAME=name plays one file of them. Its last line is 'N passed, M failed'.
 # make rehearsals: plays the runs of rehearsals/ on `rehearse`, which it builds first (tools/rehearsals);
 #   make rehearsals NAME=name plays one file of them. Its last line is 'N passed, M failed'.
 # make check: proves the crates alone, over what earlier checks kept, and tries no edit and no test: for the working day.
-# make edits: sees that the prover refuses each must-fail edit, those of edits/ too, many in one check (tools/edits);
-#   make edits CRATE=name tries one crate's. Its last line is 'N passed, M failed'.
+# make edits: sees that the prover refuses each wrong body, those of edits/ too, many in one check (tools/edits), over the libraries of
+#   a gate that has run in this checkout; make edits CRATE=name tries one crate's. Its last line is 'N passed, M failed'.
 # make trials: builds and runs the tests in trials/, which are too dear to prove at each gate (tools/trials);
 #   make trials NAME=name runs one crate of them. Its last line is 'N passed, M failed'.
 # make relnode, make rehearse: proves and builds a program, and leaves it at crates/relnode/out/relnode or
@@ -21,6 +21,7 @@ RT ?= $(CURDIR)/tools/rt
 
 test:
 	@$(RT) ci
+	@tools/edits --gate
 	@tools/transcripts
 	@tools/rehearsals
 
