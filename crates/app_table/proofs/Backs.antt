@@ -14,10 +14,10 @@ use Rattle.app_table.specs.declared.spot.Spot.{Spot}
 use Rattle.app_table.specs.declared.undo.ChildProcess.{ChildProcess}
 
 module _ {A : Type 0} where
-  pub changed_back : (f g : A → A) (xs : List A) (place : ℕ) (x : A) → slice_get xs place ≡ Some x → g (f x) ≡ x → changed_at g (changed_at f xs place) place ≡ xs
-  changed_back f g [] place x at back = refl
+  pub changed_back : (f g : A → A) (xs : List A) (index : ℕ) (x : A) → slice_get xs index ≡ Some x → g (f x) ≡ x → changed_at g (changed_at f xs index) index ≡ xs
+  changed_back f g [] index x at back = refl
   changed_back f g (y ∷ xs) zero x at back = ap (λ z. z ∷ xs) (subst (λ z. g (f z) ≡ z) (sym (some_is at)) back)
-  changed_back f g (y ∷ xs) (suc place) x at back = ap (λ ys. y ∷ ys) (changed_back f g xs place x at back)
+  changed_back f g (y ∷ xs) (suc index) x at back = ap (λ ys. y ∷ ys) (changed_back f g xs index x at back)
 
 -- of a child
 
@@ -33,9 +33,9 @@ child_back f g spot apps c at back = children_back f g spot apps c (slice_get ap
 
 -- of the children that an application has
 
-pub started_back : (children before : List Child) (apps : List Application) (place : ℕ) (a : Application) → slice_get apps place ≡ Some a → a.is_started ≡ false → before ≡ a.children → changed_at (with_children false before) (changed_at (with_children true children) apps place) place ≡ apps
-started_back children before apps place a at stopped same =
-    changed_back (with_children true children) (with_children false before) apps place a at (
+pub started_back : (children before : List Child) (apps : List Application) (index : ℕ) (a : Application) → slice_get apps index ≡ Some a → a.is_started ≡ false → before ≡ a.children → changed_at (with_children false before) (changed_at (with_children true children) apps index) index ≡ apps
+started_back children before apps index a at stopped same =
+    changed_back (with_children true children) (with_children false before) apps index a at (
     ap (λ b. record { spec = a.spec; is_started = b; children = before }) (sym stopped) ∙ ap (λ cs. record { spec = a.spec; is_started = a.is_started; children = cs }) same
     )
 
@@ -51,8 +51,8 @@ states_back : (cs : List Child) → in_states (map (λ c. c.state) cs) (map (in_
 states_back [] = refl
 states_back (c ∷ cs) = ap (λ (rest : List Child). c ∷ rest) (states_back cs)
 
-pub app_back : (states : List ChildState) (apps : List Application) (place : ℕ) (a : Application) → slice_get apps place ≡ Some a → a.is_started ≡ true → states ≡ map (λ c. c.state) a.children → changed_at (unstopped states) (app_stopped place apps) place ≡ apps
-app_back states apps place a at started are =
-    changed_back stopped (unstopped states) apps place a at (
+pub app_back : (states : List ChildState) (apps : List Application) (index : ℕ) (a : Application) → slice_get apps index ≡ Some a → a.is_started ≡ true → states ≡ map (λ c. c.state) a.children → changed_at (unstopped states) (app_stopped index apps) index ≡ apps
+app_back states apps index a at started are =
+    changed_back stopped (unstopped states) apps index a at (
     ap (λ (b : Bool). record { spec = a.spec; is_started = b; children = in_states states (map (in_state Stopped) a.children) }) (sym started) ∙ ap (λ (ss : List ChildState). record { spec = a.spec; is_started = a.is_started; children = in_states ss (map (in_state Stopped) a.children) }) are ∙ ap (λ (cs : List Child). record { spec = a.spec; is_started = a.is_started; children = cs }) (states_back a.children)
     )

@@ -20,7 +20,7 @@ use Rattle.erl_term.specs.Term.{tree}
 use Rattle.erl_term.specs.TermOrder.{term_cmp-total}
 use Rattle.erl_term.specs.declared.term.Term.{Term}
 use Rattle.app_table.proofs.Options.{false_true}
-use Rattle.app_table.proofs.Places.{by_key_same, by_key_total, others, place_at, put, rises_alike, rises_remove, rises_same}
+use Rattle.app_table.proofs.Indices.{by_key_same, by_key_total, others, index_at, put, rises_alike, rises_remove, rises_same}
 use Rattle.app_table.proofs.Spots.{got}
 use Rattle.app_table.specs.Applications.{has_id}
 use Rattle.app_table.specs.Children.{in_state, runs_as, runs_in}
@@ -122,25 +122,25 @@ ids_kept s row p ids o = record {
   rises = rises_same (by_id row) (by_id (changed_at (in_state s) row p)) (ids_alike s row p) ids o.rises;
 }
 
--- the state of a child is set, and its place moves to where it belongs
+-- the state of a child is set, and its index moves to where it belongs
 
-module _ (s : ChildState) (row : List Child) (pids : List ℕ) (from place : ℕ) (order : IsOrderOf (by_pid row) (length row) pids) (below : place < length row) (point : IsPartitionPoint (λ e. is_lt (by_pid row e place) ≡ true) (λ e. is_lt (by_pid row e place) ≡ false) pids from) where
-  pub pid_place : (from < length pids) × (get_or pids from place ≡ place)
-  pid_place = place_at (by_pid row) (by_pid_total row) (length row) pids from place order below point
+module _ (s : ChildState) (row : List Child) (pids : List ℕ) (from index : ℕ) (order : IsOrderOf (by_pid row) (length row) pids) (below : index < length row) (point : IsPartitionPoint (λ e. is_lt (by_pid row e index) ≡ true) (λ e. is_lt (by_pid row e index) ≡ false) pids from) where
+  pub pid_index : (from < length pids) × (get_or pids from index ≡ index)
+  pid_index = index_at (by_pid row) (by_pid_total row) (length row) pids from index order below point
 
-  others_there : All (λ e. e ≡ place → ⊥) (remove pids from)
-  others_there = others (by_pid row) (by_pid_total row) pids from place order.rises pid_place.0 pid_place.1
+  others_there : All (λ e. e ≡ index → ⊥) (remove pids from)
+  others_there = others (by_pid row) (by_pid_total row) pids from index order.rises pid_index.0 pid_index.1
 
-  pub others_rise : Rises (by_pid (changed_at (in_state s) row place)) (remove pids from)
+  pub others_rise : Rises (by_pid (changed_at (in_state s) row index)) (remove pids from)
   others_rise =
-      rises_alike (by_pid row) (by_pid (changed_at (in_state s) row place)) place (pids_alike s row place) (remove pids from) others_there (rises_remove (by_pid row) pids from order.rises)
+      rises_alike (by_pid row) (by_pid (changed_at (in_state s) row index)) index (pids_alike s row index) (remove pids from) others_there (rises_remove (by_pid row) pids from order.rises)
 
-  pub pids_moved : (to : ℕ) → IsPartitionPoint (λ e. is_lt (by_pid (changed_at (in_state s) row place) e place) ≡ true) (λ e. is_lt (by_pid (changed_at (in_state s) row place) e place) ≡ false) (remove pids from) to → IsOrderOf (by_pid (changed_at (in_state s) row place)) (length (changed_at (in_state s) row place)) (insert (remove pids from) to (get_or pids from 0))
+  pub pids_moved : (to : ℕ) → IsPartitionPoint (λ e. is_lt (by_pid (changed_at (in_state s) row index) e index) ≡ true) (λ e. is_lt (by_pid (changed_at (in_state s) row index) e index) ≡ false) (remove pids from) to → IsOrderOf (by_pid (changed_at (in_state s) row index)) (length (changed_at (in_state s) row index)) (insert (remove pids from) to (get_or pids from 0))
   pids_moved to again =
-      let is : get_or pids from 0 ≡ place = sym (get_or_default_zero pids from place pid_place.0) ∙ pid_place.1 in
-      let out = IsPermutation-remove pids from place pid_place.0 (sym pid_place.1) in
-      let once = IsPermutation-trans (range_with_len 0 (length row)) pids (insert (remove pids from) to place) order.once (IsPermutation-trans pids (place ∷ remove pids from) (insert (remove pids from) to place) out (IsPermutation-insert (remove pids from) to place)) in
-      subst (λ v. IsOrderOf (by_pid (changed_at (in_state s) row place)) (length (changed_at (in_state s) row place)) (insert (remove pids from) to v)) (sym is) (record {
-        once = subst (λ n. IsPermutation (range_with_len 0 n) (insert (remove pids from) to place)) (sym (length-changed_at (in_state s) row place)) once;
-        rises = put (by_pid (changed_at (in_state s) row place)) (by_pid_total (changed_at (in_state s) row place)) (by_pid_same (changed_at (in_state s) row place)) (remove pids from) to place others_rise others_there again;
+      let is : get_or pids from 0 ≡ index = sym (get_or_default_zero pids from index pid_index.0) ∙ pid_index.1 in
+      let out = IsPermutation-remove pids from index pid_index.0 (sym pid_index.1) in
+      let once = IsPermutation-trans (range_with_len 0 (length row)) pids (insert (remove pids from) to index) order.once (IsPermutation-trans pids (index ∷ remove pids from) (insert (remove pids from) to index) out (IsPermutation-insert (remove pids from) to index)) in
+      subst (λ v. IsOrderOf (by_pid (changed_at (in_state s) row index)) (length (changed_at (in_state s) row index)) (insert (remove pids from) to v)) (sym is) (record {
+        once = subst (λ n. IsPermutation (range_with_len 0 n) (insert (remove pids from) to index)) (sym (length-changed_at (in_state s) row index)) once;
+        rises = put (by_pid (changed_at (in_state s) row index)) (by_pid_total (changed_at (in_state s) row index)) (by_pid_same (changed_at (in_state s) row index)) (remove pids from) to index others_rise others_there again;
       })

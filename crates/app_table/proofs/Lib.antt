@@ -3,7 +3,7 @@ pub mod Keys
 pub mod NormalEnds
 pub mod Once
 pub mod Options
-pub mod Places
+pub mod Indices
 pub mod Renewals
 pub mod Replacing
 pub mod Restoring

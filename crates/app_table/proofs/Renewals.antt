@@ -15,11 +15,11 @@ use Rattle.app_table.specs.declared.child.Child.{Child}
 use Rattle.app_table.specs.declared.renewing.ChildEdit.{ChildEdit}
 use Rattle.app_table.specs.declared.renewing.ChildEdit.TheVariants.{Added, Kept}
 
--- what stands at a place
-at_place : {A : Type 0} (xs : List A) (k : ℕ) → k < length xs → (x : A) × (slice_get xs k ≡ Some x)
-at_place [] k within = absurd (omega (arith, within))
-at_place (x ∷ xs) zero within = (x, refl)
-at_place (x ∷ xs) (suc k) within = at_place xs k (omega (arith, within))
+-- what stands at an index
+at_index : {A : Type 0} (xs : List A) (k : ℕ) → k < length xs → (x : A) × (slice_get xs k ≡ Some x)
+at_index [] k within = absurd (omega (arith, within))
+at_index (x ∷ xs) zero within = (x, refl)
+at_index (x ∷ xs) (suc k) within = at_index xs k (omega (arith, within))
 
 get_insert : {A : Type 0} (xs : List A) (k : ℕ) (x : A) → k ≤ length xs → slice_get (insert xs k x) k ≡ Some x
 get_insert xs zero x within = refl
@@ -33,7 +33,7 @@ moved_there xs from to c d at there = λ i. moved_if (at i) (there i) from to xs
 
 pub moved_by : (xs : List Child) (from to : ℕ) (c : Child) → from < length xs → to < length xs → slice_get xs from ≡ Some c → moved from to xs ≡ insert (remove xs from) to c
 moved_by xs from to c within there at =
-    let (d, is) = at_place xs to there in
+    let (d, is) = at_index xs to there in
     moved_there xs from to c d at is
 
 pub moved_as : (xs : List Child) (from to : ℕ) (c : Child) → from < length xs → to < length xs → c ≡ get_or xs from c → moved from to xs ≡ insert (remove xs from) to c
@@ -41,7 +41,7 @@ moved_as xs from to c within there is = moved_by xs from to c within there (got 
 
 pub moved_nowhere : (xs : List Child) (from to : ℕ) → from ≡ to → from < length xs → moved from to xs ≡ xs
 moved_nowhere xs from to same within =
-    let (c, at) = at_place xs from within in
+    let (c, at) = at_index xs from within in
     subst (λ k. moved from k xs ≡ xs) same (moved_by xs from from c within within at ∙ insert-remove xs from c at)
 
 pub moved_past : (xs : List Child) (from to : ℕ) → length xs ≤ to → moved from to xs ≡ xs
@@ -63,19 +63,19 @@ long_moved xs from to c within there =
 -- it moves back
 pub moved_back : (xs : List Child) (from to : ℕ) → from < length xs → to < length xs → moved to from (moved from to xs) ≡ xs
 moved_back xs from to within there =
-    let (c, at) = at_place xs from within in
+    let (c, at) = at_index xs from within in
     let less = length-remove xs from within in
-    let place : to ≤ length (remove xs from) = omega (arith, less, there) in
+    let index : to ≤ length (remove xs from) = omega (arith, less, there) in
     let now = insert (remove xs from) to c in
     let long = long_moved xs from to c within there in
     let from_now : from < length now = omega (arith, long, within) in
     let to_now : to < length now = omega (arith, long, there) in
     ap (moved to from) (moved_by xs from to c within there at)
-    ∙ moved_by now to from c to_now from_now (get_insert (remove xs from) to c place)
-    ∙ ap (λ (ys : List Child). insert ys from c) (remove-insert (remove xs from) to c place)
+    ∙ moved_by now to from c to_now from_now (get_insert (remove xs from) to c index)
+    ∙ ap (λ (ys : List Child). insert ys from c) (remove-insert (remove xs from) to c index)
     ∙ insert-remove xs from c at
 
--- What a new specification makes of those from a place on.
+-- What a new specification makes of those from an index on.
 
 insert_front : (xs : List Child) (at k : ℕ) (y : Child) → at + k < length xs → insert (remove xs (at + k)) at y ≡ take at xs ++ y ∷ remove (drop at xs) k
 insert_front [] at k y within = absurd (omega (arith, within))
@@ -120,8 +120,8 @@ kept_renewed xs now at k s there kept =
     ∙ insert_front xs at k (with_spec s c) (within_behind xs at k c is)
     ∙ (λ i. take at xs ++ child_for s (sym by_id i) ∷ without_at (sym there i) (drop at xs))
 
-pub place_within : (xs : List Child) (at k : ℕ) (s : ChildSpec) → position (has_id s.id) (drop at xs) ≡ Some k → at + k < length xs
-place_within xs at k s there =
+pub index_within : (xs : List Child) (at k : ℕ) (s : ChildSpec) → position (has_id s.id) (drop at xs) ≡ Some k → at + k < length xs
+index_within xs at k s there =
     let (c, is, has) = found (has_id s.id) (drop at xs) k there in
     within_behind xs at k c is
 
@@ -188,7 +188,7 @@ pub edits_more : (specs : List ChildSpec) (first : List Child) (before : List Ch
 edits_more specs first before e left s ss so_far one es others =
     subst (AreEdits specs first) (sym (append_one before es e)) (so_far (e ∷ es) (one, others))
 
--- What is taken back of a place where no child stands.
+-- What is taken back of an index where no child stands.
 
 remove_past : (xs : List Child) (k : ℕ) → length xs ≤ k → remove xs k ≡ xs
 remove_past [] zero past = refl
@@ -205,7 +205,7 @@ unedited_past at (Kept from former) row past =
 
 pub long_as_moved : (xs : List Child) (from to : ℕ) → from < length xs → to < length xs → length (moved from to xs) ≡ length xs
 long_as_moved xs from to within there =
-    let (c, at) = at_place xs from within in
+    let (c, at) = at_index xs from within in
     ap (λ (ys : List Child). length ys) (moved_by xs from to c within there at) ∙ long_moved xs from to c within there
 
 module _ (xs ys : List Child) (at from : ℕ) (old w : Child) (s : ChildSpec) (ordered : at ≤ from) (there : from < length xs) (is : ys ≡ moved from at xs) (reads : old ≡ get_or ys at old) (writes : w ≡ with_spec s old) where
@@ -221,10 +221,10 @@ module _ (xs ys : List Child) (at from : ℕ) (old w : Child) (s : ChildSpec) (o
   pub kept_is : (c : Child) → slice_get xs from ≡ Some c → slice_set ys at w ≡ insert (remove xs from) at (with_spec s c)
   kept_is c stands =
       let less = length-remove xs from there in
-      let place : at ≤ length (remove xs from) = omega (arith, less, ordered, there) in
+      let index : at ≤ length (remove xs from) = omega (arith, less, ordered, there) in
       written_at
       ∙ ap (λ (zs : List Child). changed_at (with_spec s) zs at) (is ∙ moved_by xs from at c there at_within stands)
-      ∙ changed_at-insert (with_spec s) (remove xs from) at c place
+      ∙ changed_at-insert (with_spec s) (remove xs from) at c index
 
   pub kept_back : (former : Option ChildSpec) → with_former former w ≡ old → moved at from (changed_at (with_former former) (slice_set ys at w) at) ≡ xs
   kept_back former back =

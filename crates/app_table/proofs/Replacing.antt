@@ -13,7 +13,7 @@ use Rattle.app_table.proofs.Options.{none_some, some_is}
 use Rattle.app_table.specs.Applications.{Application}
 use Rattle.app_table.specs.Changes.{all_replaced, put_back, with_spec}
 use Rattle.app_table.specs.Pieces.{Piece, app_pieces, child_pieces, held_back, held_former, of_app, pieces}
-use Rattle.app_table.specs.Undo.{Fits, GivesBack, IsOfPlace, all_given_up, all_left, all_put, former_of, put_again, with_spec_of}
+use Rattle.app_table.specs.Undo.{Fits, GivesBack, IsOfIndex, all_given_up, all_left, all_put, former_of, put_again, with_spec_of}
 use Rattle.app_table.specs.declared.specs.FormerSpecs.{FormerSpecs}
 use Rattle.app_table.specs.declared.specs.Replaced.{Replaced}
 
@@ -32,7 +32,7 @@ module _ {A : Type 0} where
   taken_out f (y ∷ ys) (suc i) x at =
       IsPermutation-trans (f x ++ (f y ++ flat_map f (remove ys i))) (f y ++ (f x ++ flat_map f (remove ys i))) (f y ++ flat_map f ys) (perm_swap (f x) (f y) (flat_map f (remove ys i))) (IsPermutation-append_right (f y) (f x ++ flat_map f (remove ys i)) (flat_map f ys) (taken_out f ys i x at))
 
--- ---- what stands at a place after a change
+-- ---- what stands at an index after a change
 
 module _ {A : Type 0} where
   pub get_append : (xs ys : List A) (p : ℕ) (x : A) → slice_get xs p ≡ Some x → slice_get (xs ++ ys) p ≡ Some x
@@ -50,7 +50,7 @@ module _ {A : Type 0} where
   changed_append f (y ∷ xs) ys zero x at = refl
   changed_append f (y ∷ xs) ys (suc p) x at = ap (λ zs. y ∷ zs) (changed_append f xs ys p x at)
 
--- an application of a name at a place
+-- an application of a name at an index
 abbrev OfName : List ℕ → ℕ → List Application → Type 0
 OfName name p apps = (a : Application) × (slice_get apps p ≡ Some a) × (a.spec.name ≡ name)
 
@@ -62,41 +62,41 @@ name_kept name zero (suc q) spec (x ∷ xs) has other = (has.0, has.1, has.2)
 name_kept name (suc p) zero spec (x ∷ xs) has other = (has.0, has.1, has.2)
 name_kept name (suc p) (suc q) spec (x ∷ xs) has other = name_kept name p q spec xs (has.0, has.1, has.2) (other.0, other.1, other.2)
 
-all_kept : (name : List ℕ) (p : ℕ) (rs : List Replaced) (apps : List Application) → OfName name p apps → All (λ r. IsOfPlace r apps) rs → OfName name p (all_replaced rs apps)
+all_kept : (name : List ℕ) (p : ℕ) (rs : List Replaced) (apps : List Application) → OfName name p apps → All (λ r. IsOfIndex r apps) rs → OfName name p (all_replaced rs apps)
 all_kept name p [] apps has all = has
 all_kept name p (r ∷ rs) apps has all =
-    let later = All-tail (λ r. IsOfPlace r apps) r rs all in
-    name_kept name p r.place r.spec (all_replaced rs apps) (all_kept name p rs apps has later) (all_kept r.spec.name r.place rs apps (All-head (λ r. IsOfPlace r apps) r rs all) later)
+    let later = All-tail (λ r. IsOfIndex r apps) r rs all in
+    name_kept name p r.index r.spec (all_replaced rs apps) (all_kept name p rs apps has later) (all_kept r.spec.name r.index rs apps (All-head (λ r. IsOfIndex r apps) r rs all) later)
 
--- the application at the place of the first, when the others are put back
-first_there : (r : Replaced) (rs : List Replaced) (apps : List Application) → All (λ r. IsOfPlace r apps) (r ∷ rs) → OfName r.spec.name r.place (all_replaced rs apps)
-first_there r rs apps all = all_kept r.spec.name r.place rs apps (All-head (λ r. IsOfPlace r apps) r rs all) (All-tail (λ r. IsOfPlace r apps) r rs all)
+-- the application at the index of the first, when the others are put back
+first_there : (r : Replaced) (rs : List Replaced) (apps : List Application) → All (λ r. IsOfIndex r apps) (r ∷ rs) → OfName r.spec.name r.index (all_replaced rs apps)
+first_there r rs apps all = all_kept r.spec.name r.index rs apps (All-head (λ r. IsOfIndex r apps) r rs all) (All-tail (λ r. IsOfIndex r apps) r rs all)
 
 pub length-replaced : (rs : List Replaced) (apps : List Application) → length (all_replaced rs apps) ≡ length apps
 length-replaced [] apps = refl
-length-replaced (r ∷ rs) apps = length-changed_at (with_spec r.spec) (all_replaced rs apps) r.place ∙ length-replaced rs apps
+length-replaced (r ∷ rs) apps = length-changed_at (with_spec r.spec) (all_replaced rs apps) r.index ∙ length-replaced rs apps
 
 -- ---- they are put in place, and put back
 
 -- one more that is replaced
-replaced_push : (rs : List Replaced) (r : Replaced) (apps : List Application) → all_replaced (rs ++ r ∷ []) apps ≡ all_replaced rs (changed_at (with_spec r.spec) apps r.place)
+replaced_push : (rs : List Replaced) (r : Replaced) (apps : List Application) → all_replaced (rs ++ r ∷ []) apps ≡ all_replaced rs (changed_at (with_spec r.spec) apps r.index)
 replaced_push [] r apps = refl
-replaced_push (s ∷ rs) r apps = ap (λ (v : List Application). changed_at (with_spec s.spec) v s.place) (replaced_push rs r apps)
+replaced_push (s ∷ rs) r apps = ap (λ (v : List Application). changed_at (with_spec s.spec) v s.index) (replaced_push rs r apps)
 
-replaced_append : (rs : List Replaced) (apps ys : List Application) → All (λ r. IsOfPlace r apps) rs → all_replaced rs (apps ++ ys) ≡ all_replaced rs apps ++ ys
+replaced_append : (rs : List Replaced) (apps ys : List Application) → All (λ r. IsOfIndex r apps) rs → all_replaced rs (apps ++ ys) ≡ all_replaced rs apps ++ ys
 replaced_append [] apps ys all = refl
 replaced_append (r ∷ rs) apps ys all =
     let there = first_there r rs apps all in
-    ap (λ (v : List Application). changed_at (with_spec r.spec) v r.place) (replaced_append rs apps ys (All-tail (λ r. IsOfPlace r apps) r rs all)) ∙ changed_append (with_spec r.spec) (all_replaced rs apps) ys r.place there.0 there.1
+    ap (λ (v : List Application). changed_at (with_spec r.spec) v r.index) (replaced_append rs apps ys (All-tail (λ r. IsOfIndex r apps) r rs all)) ∙ changed_append (with_spec r.spec) (all_replaced rs apps) ys r.index there.0 there.1
 
-pub gives_replaced : (before : List Application) (rs : List Replaced) (apps : List Application) (p : ℕ) (a : Application) (spec : AppSpec) → slice_get apps p ≡ Some a → a.spec.name ≡ spec.name → GivesBack before rs apps → GivesBack before (rs ++ record { place = p; spec = a.spec } ∷ []) (changed_at (with_spec spec) apps p)
+pub gives_replaced : (before : List Application) (rs : List Replaced) (apps : List Application) (p : ℕ) (a : Application) (spec : AppSpec) → slice_get apps p ≡ Some a → a.spec.name ≡ spec.name → GivesBack before rs apps → GivesBack before (rs ++ record { index = p; spec = a.spec } ∷ []) (changed_at (with_spec spec) apps p)
 gives_replaced before rs apps p a spec at name g =
     let apps' = changed_at (with_spec spec) apps p in
-    let r : Replaced = record { place = p; spec = a.spec } in
+    let r : Replaced = record { index = p; spec = a.spec } in
     let long = length-changed_at (with_spec spec) apps p in
     record {
       added = subst (λ n. length before ≤ n) (sym long) g.added;
-      places = All-push (λ s. IsOfPlace s apps') rs r (All-weaker (λ s. IsOfPlace s apps) (λ s. IsOfPlace s apps') (λ s has. name_kept s.spec.name s.place p spec apps has (a, at, name)) rs g.places) (with_spec spec a, slice_get-changed_at (with_spec spec) apps p a at, sym name);
+      indices = All-push (λ s. IsOfIndex s apps') rs r (All-weaker (λ s. IsOfIndex s apps) (λ s. IsOfIndex s apps') (λ s has. name_kept s.spec.name s.index p spec apps has (a, at, name)) rs g.indices) (with_spec spec a, slice_get-changed_at (with_spec spec) apps p a at, sym name);
       gives = ap (take (length before)) (replaced_push rs r apps' ∙ ap (all_replaced rs) (changed_at-back (with_spec spec) (with_spec a.spec) apps p a at refl)) ∙ g.gives;
     }
 
@@ -107,8 +107,8 @@ gives_added before rs apps x g =
     let within : length before ≤ length (all_replaced rs apps) = omega (arith, same, g.added) in
     record {
       added = omega (arith, long, g.added);
-      places = All-weaker (λ s. IsOfPlace s apps) (λ s. IsOfPlace s (apps ++ x ∷ [])) (λ s has. (has.0, get_append apps (x ∷ []) s.place has.0 has.1, has.2)) rs g.places;
-      gives = ap (take (length before)) (replaced_append rs apps (x ∷ []) g.places) ∙ take-append-le (length before) (all_replaced rs apps) (x ∷ []) within ∙ g.gives;
+      indices = All-weaker (λ s. IsOfIndex s apps) (λ s. IsOfIndex s (apps ++ x ∷ [])) (λ s has. (has.0, get_append apps (x ∷ []) s.index has.0 has.1, has.2)) rs g.indices;
+      gives = ap (take (length before)) (replaced_append rs apps (x ∷ []) g.indices) ∙ take-append-le (length before) (all_replaced rs apps) (x ∷ []) within ∙ g.gives;
     }
 
 pub gives_all : (before : List Application) (rs : List Replaced) (apps : List Application) (n : ℕ) → n ≡ length apps - length before → GivesBack before rs apps → put_back (record { replaced = rs; added = n }) apps ≡ before
@@ -120,26 +120,26 @@ gives_all before rs apps n is g =
 pub gives_itself : (apps : List Application) → GivesBack apps [] apps
 gives_itself apps = record {
   added = omega arith;
-  places = λ k d within. absurd (omega (arith, within));
+  indices = λ k d within. absurd (omega (arith, within));
   gives = ap (take (length apps)) (sym (append-nil apps)) ∙ take_at apps [] (length apps) refl;
 }
 
 -- ---- they are put back, and put in place again
 
-changed_back : (r : Replaced) (spec : AppSpec) (apps : List Application) (a : Application) → slice_get apps r.place ≡ Some a → changed_at (with_spec a.spec) (changed_at (with_spec r.spec) apps r.place) r.place ≡ apps
-changed_back r spec apps a at = changed_at-back (with_spec r.spec) (with_spec a.spec) apps r.place a at refl
+changed_back : (r : Replaced) (spec : AppSpec) (apps : List Application) (a : Application) → slice_get apps r.index ≡ Some a → changed_at (with_spec a.spec) (changed_at (with_spec r.spec) apps r.index) r.index ≡ apps
+changed_back r spec apps a at = changed_at-back (with_spec r.spec) (with_spec a.spec) apps r.index a at refl
 
-pub puts_again : (rs : List Replaced) (apps : List Application) → All (λ r. IsOfPlace r apps) rs → all_put (all_given_up rs apps) (all_replaced rs apps) ≡ apps
+pub puts_again : (rs : List Replaced) (apps : List Application) → All (λ r. IsOfIndex r apps) rs → all_put (all_given_up rs apps) (all_replaced rs apps) ≡ apps
 puts_again [] apps all = refl
 puts_again (r ∷ rs) apps all =
     let there = first_there r rs apps all in
     let rest = all_replaced rs apps in
     let left = all_given_up rs apps in
-    subst (λ (o : Option Application). all_put (with_spec_of o r ∷ all_given_up rs apps) (changed_at (with_spec r.spec) (all_replaced rs apps) r.place) ≡ apps) (sym there.1) (
-    ap (all_put left) (changed_back r r.spec rest there.0 there.1) ∙ puts_again rs apps (All-tail (λ r. IsOfPlace r apps) r rs all)
+    subst (λ (o : Option Application). all_put (with_spec_of o r ∷ all_given_up rs apps) (changed_at (with_spec r.spec) (all_replaced rs apps) r.index) ≡ apps) (sym there.1) (
+    ap (all_put left) (changed_back r r.spec rest there.0 there.1) ∙ puts_again rs apps (All-tail (λ r. IsOfIndex r apps) r rs all)
     )
 
-pub leaves_again : (rs : List Replaced) (apps : List Application) → All (λ r. IsOfPlace r apps) rs → all_left (all_given_up rs apps) (all_replaced rs apps) ≡ rs
+pub leaves_again : (rs : List Replaced) (apps : List Application) → All (λ r. IsOfIndex r apps) rs → all_left (all_given_up rs apps) (all_replaced rs apps) ≡ rs
 leaves_again [] apps all = refl
 leaves_again (r ∷ rs) apps all =
     let there = first_there r rs apps all in
@@ -147,13 +147,13 @@ leaves_again (r ∷ rs) apps all =
     let left = all_given_up rs apps in
     let a = there.0 in
     let it : Replaced = record r { spec = a.spec } in
-    subst (λ (o : Option Application). all_left (with_spec_of o r ∷ all_given_up rs apps) (changed_at (with_spec r.spec) (all_replaced rs apps) r.place) ≡ r ∷ rs) (sym there.1) (
-    ap (λ (o : Option Application). with_spec_of o it ∷ all_left left (changed_at (with_spec a.spec) (changed_at (with_spec r.spec) rest r.place) r.place)) (slice_get-changed_at (with_spec r.spec) rest r.place a there.1) ∙ ap (λ (v : List Application). r ∷ all_left left v) (changed_back r r.spec rest a there.1) ∙ ap (λ (ss : List Replaced). r ∷ ss) (leaves_again rs apps (All-tail (λ r. IsOfPlace r apps) r rs all))
+    subst (λ (o : Option Application). all_left (with_spec_of o r ∷ all_given_up rs apps) (changed_at (with_spec r.spec) (all_replaced rs apps) r.index) ≡ r ∷ rs) (sym there.1) (
+    ap (λ (o : Option Application). with_spec_of o it ∷ all_left left (changed_at (with_spec a.spec) (changed_at (with_spec r.spec) rest r.index) r.index)) (slice_get-changed_at (with_spec r.spec) rest r.index a there.1) ∙ ap (λ (v : List Application). r ∷ all_left left v) (changed_back r r.spec rest a there.1) ∙ ap (λ (ss : List Replaced). r ∷ ss) (leaves_again rs apps (All-tail (λ r. IsOfIndex r apps) r rs all))
     )
 
 -- ---- pieces
 
--- a specification changes places with that of an application
+-- a specification changes indices with that of an application
 pieces_changed : (apps : List Application) (p : ℕ) (spec : AppSpec) (a : Application) → slice_get apps p ≡ Some a → a.spec.name ≡ spec.name → IsPermutation (of_app a.spec ∷ pieces (changed_at (with_spec spec) apps p)) (of_app spec ∷ pieces apps)
 pieces_changed [] p spec a at name = absurd (none_some at)
 pieces_changed (x ∷ xs) zero spec a at name =
@@ -172,19 +172,19 @@ pieces_changed (x ∷ xs) (suc p) spec a at name =
 abbrev kept : Replaced → Piece
 kept r = of_app r.spec
 
-pub pieces_back : (rs : List Replaced) (apps : List Application) → All (λ r. IsOfPlace r apps) rs → IsPermutation (map kept (all_given_up rs apps) ++ pieces (all_replaced rs apps)) (map kept rs ++ pieces apps)
+pub pieces_back : (rs : List Replaced) (apps : List Application) → All (λ r. IsOfIndex r apps) rs → IsPermutation (map kept (all_given_up rs apps) ++ pieces (all_replaced rs apps)) (map kept rs ++ pieces apps)
 pieces_back [] apps all = IsPermutation-refl (pieces apps)
 pieces_back (r ∷ rs) apps all =
     let there = first_there r rs apps all in
     let a = there.0 in
     let left = map kept (all_given_up rs apps) in
     let rest = all_replaced rs apps in
-    let after = pieces (changed_at (with_spec r.spec) rest r.place) in
-    subst (λ (o : Option Application). IsPermutation (of_app (with_spec_of o r).spec ∷ (map kept (all_given_up rs apps) ++ pieces (changed_at (with_spec r.spec) (all_replaced rs apps) r.place))) (of_app r.spec ∷ (map kept rs ++ pieces apps))) (sym there.1) (
+    let after = pieces (changed_at (with_spec r.spec) rest r.index) in
+    subst (λ (o : Option Application). IsPermutation (of_app (with_spec_of o r).spec ∷ (map kept (all_given_up rs apps) ++ pieces (changed_at (with_spec r.spec) (all_replaced rs apps) r.index))) (of_app r.spec ∷ (map kept rs ++ pieces apps))) (sym there.1) (
     IsPermutation-trans (of_app a.spec ∷ (left ++ after)) (left ++ (of_app a.spec ∷ after)) (of_app r.spec ∷ (map kept rs ++ pieces apps)) (perm_swap (of_app a.spec ∷ []) left after) (
-    IsPermutation-trans (left ++ (of_app a.spec ∷ after)) (left ++ (of_app r.spec ∷ pieces rest)) (of_app r.spec ∷ (map kept rs ++ pieces apps)) (IsPermutation-append_right left (of_app a.spec ∷ after) (of_app r.spec ∷ pieces rest) (pieces_changed rest r.place r.spec a there.1 there.2)) (
+    IsPermutation-trans (left ++ (of_app a.spec ∷ after)) (left ++ (of_app r.spec ∷ pieces rest)) (of_app r.spec ∷ (map kept rs ++ pieces apps)) (IsPermutation-append_right left (of_app a.spec ∷ after) (of_app r.spec ∷ pieces rest) (pieces_changed rest r.index r.spec a there.1 there.2)) (
     IsPermutation-trans (left ++ (of_app r.spec ∷ pieces rest)) (of_app r.spec ∷ (left ++ pieces rest)) (of_app r.spec ∷ (map kept rs ++ pieces apps)) (perm_swap left (of_app r.spec ∷ []) (pieces rest)) (
-    IsPermutation-cons (of_app r.spec) (left ++ pieces rest) (map kept rs ++ pieces apps) (pieces_back rs apps (All-tail (λ r. IsOfPlace r apps) r rs all))
+    IsPermutation-cons (of_app r.spec) (left ++ pieces rest) (map kept rs ++ pieces apps) (pieces_back rs apps (All-tail (λ r. IsOfIndex r apps) r rs all))
     )))
     )
 
@@ -200,7 +200,7 @@ pieces_split left apps added whole all is perm =
 -- ---- what the calls give
 
 -- one more is put back, from the last to the first
-pub back_more : (xs : List Replaced) (apps now after : List Application) (k n : ℕ) (left : List Replaced) (d it : Replaced) → n ≡ k + 1 → n ≤ length xs → now ≡ all_replaced (drop n xs) apps → left ≡ take n xs ++ all_given_up (drop n xs) apps → after ≡ changed_at (with_spec (get_or left k d).spec) now (get_or left k d).place → it ≡ with_spec_of (slice_get now (get_or left k d).place) (get_or left k d) → (after ≡ all_replaced (drop k xs) apps) × (slice_set left k it ≡ take k xs ++ all_given_up (drop k xs) apps)
+pub back_more : (xs : List Replaced) (apps now after : List Application) (k n : ℕ) (left : List Replaced) (d it : Replaced) → n ≡ k + 1 → n ≤ length xs → now ≡ all_replaced (drop n xs) apps → left ≡ take n xs ++ all_given_up (drop n xs) apps → after ≡ changed_at (with_spec (get_or left k d).spec) now (get_or left k d).index → it ≡ with_spec_of (slice_get now (get_or left k d).index) (get_or left k d) → (after ≡ all_replaced (drop k xs) apps) × (slice_set left k it ≡ take k xs ++ all_given_up (drop k xs) apps)
 back_more xs apps now after k n left d it next within now_is left_is done given =
     let below : k < length xs = omega (arith, next, within) in
     let r = get_or xs k d in
@@ -213,8 +213,8 @@ back_more xs apps now after k n left d it next within now_is left_is done given 
     let same : get_or left k d ≡ r = ap (λ (l : List Replaced). get_or l k d) left_split ∙ get_or_at front r up d k long in
     let seen : now ≡ whole = now_is ∙ ap (λ m. all_replaced (drop m xs) apps) next in
     let parts = drop_more xs k d below in
-    let it_is : it ≡ with_spec_of (slice_get whole r.place) r = given ∙ ap (λ (z : Replaced). with_spec_of (slice_get now z.place) z) same ∙ ap (λ (v : List Application). with_spec_of (slice_get v r.place) r) seen in (
-      done ∙ ap (λ (z : Replaced). changed_at (with_spec z.spec) now z.place) same ∙ ap (λ (v : List Application). changed_at (with_spec r.spec) v r.place) seen ∙ sym (ap (λ (l : List Replaced). all_replaced l apps) parts),
+    let it_is : it ≡ with_spec_of (slice_get whole r.index) r = given ∙ ap (λ (z : Replaced). with_spec_of (slice_get now z.index) z) same ∙ ap (λ (v : List Application). with_spec_of (slice_get v r.index) r) seen in (
+      done ∙ ap (λ (z : Replaced). changed_at (with_spec z.spec) now z.index) same ∙ ap (λ (v : List Application). changed_at (with_spec r.spec) v r.index) seen ∙ sym (ap (λ (l : List Replaced). all_replaced l apps) parts),
       ap (λ (l : List Replaced). slice_set l k it) left_split ∙ set_at front r up it k long ∙ ap (λ (z : Replaced). front ++ z ∷ up) it_is ∙ sym (ap (λ (l : List Replaced). front ++ all_given_up l apps) parts),
     )
 

@@ -19,7 +19,7 @@ use Rattle.app_table.specs.declared.undo.ChildProcess.{ChildProcess}
 use Rattle.app_table.specs.declared.undo.Rerun.{Rerun}
 
 module _ {A : Type 0} where
-  -- two changes at one place
+  -- two changes at one index
   twice : (f g h : A → A) → ((x : A) → g (f x) ≡ h x) → (xs : List A) (i : ℕ) → changed_at g (changed_at f xs i) i ≡ changed_at h xs i
   twice f g h both [] i = refl
   twice f g h both (x ∷ xs) zero = ap (λ y. y ∷ xs) (both x)
@@ -34,7 +34,7 @@ module _ {A : Type 0} where
   commute f g (x ∷ xs) (suc i) (suc j) same = ap (λ ys. x ∷ ys) (commute f g xs i j (λ e. same (ap suc e)))
 
 abbrev setting : ChildState → ℕ → Application → Application
-setting s place a = with_child (λ (b : Bool) (c : Child). in_state s c) place a
+setting s index a = with_child (λ (b : Bool) (c : Child). in_state s c) index a
 
 set_twice : (s t : ChildState) (p : Spot) (apps : List Application) → set_child t p (set_child s p apps) ≡ set_child t p apps
 set_twice s t p apps =

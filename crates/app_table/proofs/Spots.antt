@@ -3,7 +3,7 @@ use Rattle.std.proofs.Common.{◌≡◌, ◌<◌, ℕ, zero, suc, Bool, true, Li
 use Rattle.std.specs.Prelude.{option_and_then, option_map}
 use Rattle.std.proofs.lemmas.List.Quantifiers.{position-Some}
 use Rattle.app_table.proofs.Options.{false_true, none_some, some_is}
-use Rattle.app_table.specs.Applications.{Application, child_at, has_id, has_name, has_process, place_of, spot_by_pid, spot_in, spot_of}
+use Rattle.app_table.specs.Applications.{Application, child_at, has_id, has_name, has_process, index_of, spot_by_pid, spot_in, spot_of}
 use Rattle.app_table.specs.Children.{in_state, is_due, is_due_in, runs_as, runs_in}
 use Rattle.app_table.specs.declared.child.Child.{Child}
 use Rattle.app_table.specs.declared.child.ChildState.{ChildState}
@@ -72,8 +72,8 @@ in_app id apps spot None at = absurd (none_some at)
 in_app id apps spot (Some app) at = spot_in_is (has_id id) app apps spot at
 
 pub by_id : (name : List ℕ) (id : Term) (apps : List Application) (spot : Spot) → spot_of name id apps ≡ Some spot → (c : Child) × (child_at spot apps ≡ Some c) × (has_id id c ≡ true)
-by_id name id apps spot at = in_app id apps spot (place_of name apps) at
+by_id name id apps spot at = in_app id apps spot (index_of name apps) at
 
 -- the application of a name
-pub by_name : (name : List ℕ) (apps : List Application) (place : ℕ) → place_of name apps ≡ Some place → (a : Application) × (slice_get apps place ≡ Some a) × (has_name name a ≡ true)
-by_name name apps place at = found (has_name name) apps place at
+pub by_name : (name : List ℕ) (apps : List Application) (index : ℕ) → index_of name apps ≡ Some index → (a : Application) × (slice_get apps index ≡ Some a) × (has_name name a ≡ true)
+by_name name apps index at = found (has_name name) apps index at

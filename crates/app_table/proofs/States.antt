@@ -11,7 +11,7 @@ use Rattle.std.proofs.lemmas.List.FromFn.{get_or-range_with_len, length-range_wi
 use Rattle.std.proofs.lemmas.List.Sorted.{IsPermutation-refl, length_permutation}
 use Rattle.erl_term.specs.Order.{tree_cmp}
 use Rattle.erl_term.specs.Term.{tree}
-use Rattle.app_table.proofs.Places.{rises_same}
+use Rattle.app_table.proofs.Indices.{rises_same}
 use Rattle.app_table.proofs.Writes.{set_front}
 use Rattle.app_table.specs.Children.{in_state}
 use Rattle.app_table.specs.Ordered.{AreOrdersOf, IsOrderOf, Rises, by_id, by_pid, id_at, pid_at}
@@ -96,7 +96,7 @@ length-in_states (s ∷ states) (c ∷ row) = ap suc (length-in_states states ro
 pub ids_in_states : (states : List ChildState) (row : List Child) (ids : List ℕ) → IsOrderOf (by_id row) (length row) ids → IsOrderOf (by_id (in_states states row)) (length (in_states states row)) ids
 ids_in_states states row ids o = ids_carried row (in_states states row) ids (length-in_states states row) (id_in_states states row) o
 
--- ---- of children that don't run the order is that of the places
+-- ---- of children that don't run the order is that of the indices
 
 pid_of_stopped : (row : List Child) (a : ℕ) → pid_at (map (in_state Stopped) row) a ≡ None
 pid_of_stopped [] a = refl
@@ -115,16 +115,16 @@ rises_range a (suc n) = (
   rises_range (a + 1) n,
 )
 
-pub length_of_order : (order : ℕ → ℕ → Ordering) (count : ℕ) (places : List ℕ) → IsOrderOf order count places → length places ≡ count
-length_of_order order count places o =
-    length_permutation (range_with_len 0 count) places o.once ∙ length-range_with_len 0 count
+pub length_of_order : (order : ℕ → ℕ → Ordering) (count : ℕ) (indices : List ℕ) → IsOrderOf order count indices → length indices ≡ count
+length_of_order order count indices o =
+    length_permutation (range_with_len 0 count) indices o.once ∙ length-range_with_len 0 count
 
-pub orders_stopped : (row : List Child) (ids pids places : List ℕ) → AreOrdersOf row ids pids → places ≡ range_with_len 0 (length pids) → AreOrdersOf (map (in_state Stopped) row) ids places
-orders_stopped row ids pids places o is =
+pub orders_stopped : (row : List Child) (ids pids indices : List ℕ) → AreOrdersOf row ids pids → indices ≡ range_with_len 0 (length pids) → AreOrdersOf (map (in_state Stopped) row) ids indices
+orders_stopped row ids pids indices o is =
     let after = map (in_state Stopped) row in
     let long : length (map (in_state Stopped) row) ≡ length row = length-map row (in_state Stopped) in
     let count : length pids ≡ length (map (in_state Stopped) row) = length_of_order (by_pid row) (length row) pids o.of_pids ∙ sym long in
-    let all : places ≡ range_with_len 0 (length (map (in_state Stopped) row)) = is ∙ ap (range_with_len 0) count in
+    let all : indices ≡ range_with_len 0 (length (map (in_state Stopped) row)) = is ∙ ap (range_with_len 0) count in
     record {
       of_ids = ids_carried row after ids long (id_of_stopped row) o.of_ids;
       of_pids = subst (IsOrderOf (by_pid (map (in_state Stopped) row)) (length (map (in_state Stopped) row))) (sym all) (record {

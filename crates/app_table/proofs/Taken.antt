@@ -149,8 +149,8 @@ module _ (s : ChildSpec) (ss : List ChildSpec) (fresh : list_any (same_id s.id) 
   one_taken e es cs after None at is t = one_added e es cs after is t
   one_taken e es cs after (Some k) at is t =
       let (c, here, has) = found (has_id s.id) cs k at in
-      let place = position-Some (has_id s.id) cs k c at in
-      let taken : IsPermutation cs (c ∷ remove cs k) = IsPermutation-remove cs k c place.0 (got_is cs k c here) in
+      let index = position-Some (has_id s.id) cs k c at in
+      let taken : IsPermutation cs (c ∷ remove cs k) = IsPermutation-remove cs k c index.0 (got_is cs k c here) in
       subst (λ (x : Option Child). TakesSpecs (s ∷ ss) (formers (e ∷ es)) cs (child_for s x ∷ after)) (sym here)
       (one_kept e es c cs (remove cs k) after (subst (λ (x : Option Child). IsEdit s x e) here is) has taken t)
     where
@@ -173,15 +173,15 @@ formers_lost specs cs edits distinct are =
     let t = taken specs cs edits (distinct_back specs distinct) are in
     record { stay = t.stay; new = t.new; were = t.were; are = t.are; lost = t.lost }
 
--- So it is of an application at a place.
-pub lost_at : (place : ℕ) (specs : List ChildSpec) (edits : List ChildEdit) (apps now : List Application) (a b : Application) → slice_get apps place ≡ Some a → slice_get now place ≡ Some b → b ≡ with_renewed specs a → AreEdits specs a.children edits → AreDistinct specs → AreSpecsLost (formers_at place (Renewed place edits)) (children_at place apps) (children_at place now)
-lost_at place specs edits apps now a b stands there is are distinct =
+-- So it is of an application at an index.
+pub lost_at : (index : ℕ) (specs : List ChildSpec) (edits : List ChildEdit) (apps now : List Application) (a b : Application) → slice_get apps index ≡ Some a → slice_get now index ≡ Some b → b ≡ with_renewed specs a → AreEdits specs a.children edits → AreDistinct specs → AreSpecsLost (formers_at index (Renewed index edits)) (children_at index apps) (children_at index now)
+lost_at index specs edits apps now a b stands there is are distinct =
     let lost = formers_lost specs a.children edits distinct are in
-    let held : formers edits ≡ formers_at place (Renewed place edits) = sym (ap (λ (yes : Bool). if yes then formers edits else []) (eq-eqb place place refl)) in
-    let before : a.children ≡ children_at place apps = sym (ap children_in stands) in
-    let after : renewed specs a.children ≡ children_at place now = sym (ap (λ (x : Application). x.children) is) ∙ sym (ap children_in there) in
-    subst (λ (xs : List Child). AreSpecsLost (formers_at place (Renewed place edits)) (children_at place apps) xs) after
-    (subst (λ (xs : List Child). AreSpecsLost (formers_at place (Renewed place edits)) xs (renewed specs a.children)) before
+    let held : formers edits ≡ formers_at index (Renewed index edits) = sym (ap (λ (yes : Bool). if yes then formers edits else []) (eq-eqb index index refl)) in
+    let before : a.children ≡ children_at index apps = sym (ap children_in stands) in
+    let after : renewed specs a.children ≡ children_at index now = sym (ap (λ (x : Application). x.children) is) ∙ sym (ap children_in there) in
+    subst (λ (xs : List Child). AreSpecsLost (formers_at index (Renewed index edits)) (children_at index apps) xs) after
+    (subst (λ (xs : List Child). AreSpecsLost (formers_at index (Renewed index edits)) xs (renewed specs a.children)) before
     (subst (λ (xs : List ChildSpec). AreSpecsLost xs a.children (renewed specs a.children)) held lost))
 
 -- Children that are specified anew a second time, by the same specifications, are as they were.

@@ -1,25 +1,25 @@
--- A write at a place is a change there.
+-- A write at an index is a change there.
 use Rattle.std.proofs.Common.{◌≡◌, ℕ, zero, suc, ◌<◌, ◌≤◌, ◌+◌, List, [], ◌∷◌, ◌++◌, length, slice_set, get_or, drop, append_assoc, refl, sym, ap, ◌∙◌, arith, subst}
 use Rattle.std.proofs.lemmas.List.{drop_more, set_at}
 use Rattle.values.specs.Edits.{changed_at}
 
 module _ {A : Type 0} where
-  pub changed_from_write : (f : A → A) (xs : List A) (place : ℕ) (old w : A) → place < length xs → old ≡ get_or xs place old → w ≡ f old → slice_set xs place w ≡ changed_at f xs place
-  changed_from_write f [] place old w within is done = refl
+  pub changed_from_write : (f : A → A) (xs : List A) (index : ℕ) (old w : A) → index < length xs → old ≡ get_or xs index old → w ≡ f old → slice_set xs index w ≡ changed_at f xs index
+  changed_from_write f [] index old w within is done = refl
   changed_from_write f (x ∷ xs) zero old w within is done = ap (λ y. y ∷ xs) (done ∙ ap f is)
-  changed_from_write f (x ∷ xs) (suc place) old w within is done =
-      ap (λ ys. x ∷ ys) (changed_from_write f xs place old w (omega (arith, within)) is done)
+  changed_from_write f (x ∷ xs) (suc index) old w within is done =
+      ap (λ ys. x ∷ ys) (changed_from_write f xs index old w (omega (arith, within)) is done)
 
-  pub changed_past : (f : A → A) (xs : List A) (place : ℕ) → length xs ≤ place → changed_at f xs place ≡ xs
-  changed_past f [] place past = refl
+  pub changed_past : (f : A → A) (xs : List A) (index : ℕ) → length xs ≤ index → changed_at f xs index ≡ xs
+  changed_past f [] index past = refl
   changed_past f (x ∷ xs) zero past = absurd (omega (arith, past))
-  changed_past f (x ∷ xs) (suc place) past = ap (λ ys. x ∷ ys) (changed_past f xs place (omega (arith, past)))
+  changed_past f (x ∷ xs) (suc index) past = ap (λ ys. x ∷ ys) (changed_past f xs index (omega (arith, past)))
 
   -- two changes that do the same to what stands there
-  pub changed_there : (f g : A → A) (xs : List A) (place : ℕ) (x : A) → x ≡ get_or xs place x → f x ≡ g x → changed_at f xs place ≡ changed_at g xs place
-  changed_there f g [] place x is same = refl
+  pub changed_there : (f g : A → A) (xs : List A) (index : ℕ) (x : A) → x ≡ get_or xs index x → f x ≡ g x → changed_at f xs index ≡ changed_at g xs index
+  changed_there f g [] index x is same = refl
   changed_there f g (y ∷ xs) zero x is same = ap (λ z. z ∷ xs) (subst (λ z. f z ≡ g z) is same)
-  changed_there f g (y ∷ xs) (suc place) x is same = ap (λ ys. y ∷ ys) (changed_there f g xs place x is same)
+  changed_there f g (y ∷ xs) (suc index) x is same = ap (λ ys. y ∷ ys) (changed_there f g xs index x is same)
 
   -- a write behind a front
   pub set_front : (p xs : List A) (n : ℕ) (v : A) → length p ≡ n → n < length xs → slice_set (p ++ drop n xs) n v ≡ (p ++ v ∷ []) ++ drop (n + 1) xs

@@ -30,32 +30,32 @@ with_children is_started children a = record a { is_started = is_started; childr
 abbrev pub has_name : List ℕ → Application → Bool
 has_name name a = bytes_eq a.spec.name name
 
-abbrev pub place_of : List ℕ → List Application → Option ℕ
-place_of name apps = position (has_name name) apps
+abbrev pub index_of : List ℕ → List Application → Option ℕ
+index_of name apps = position (has_name name) apps
 
-abbrev pub at_place : Option ℕ → List Application → Option Application
-at_place place apps = option_and_then (slice_get apps) place
+abbrev pub at_index : Option ℕ → List Application → Option Application
+at_index index apps = option_and_then (slice_get apps) index
 
 abbrev pub app_of : List ℕ → List Application → Option Application
-app_of name apps = at_place (place_of name apps) apps
+app_of name apps = at_index (index_of name apps) apps
 
 -- It starts: it has these children.
 
 abbrev pub started_at : Option ℕ → List Child → List Application → List Application
 started_at None children apps = apps
-started_at (Some place) children apps = changed_at (with_children true children) apps place
+started_at (Some index) children apps = changed_at (with_children true children) apps index
 
 abbrev pub started : List ℕ → List Child → List Application → List Application
-started name children apps = started_at (place_of name apps) children apps
+started name children apps = started_at (index_of name apps) children apps
 
--- A child by its spot: the place of its application, and its own among the children of that.
+-- A child by its spot: the index of its application, and its own among the children of that.
 abbrev pub child_at : Spot → List Application → Option Child
 child_at spot apps = option_and_then (λ a. slice_get a.children spot.child) (slice_get apps spot.app)
 
 -- It is changed, by whether its application is started.
 
 abbrev pub with_child : (Bool → Child → Child) → ℕ → Application → Application
-with_child f place a = record a { children = changed_at (f a.is_started) a.children place }
+with_child f index a = record a { children = changed_at (f a.is_started) a.children index }
 
 abbrev pub changed_child : (Bool → Child → Child) → Spot → List Application → List Application
 changed_child f spot apps = changed_at (with_child f spot.child) apps spot.app
@@ -67,7 +67,7 @@ changed_if f (Some spot) apps = changed_child f spot apps
 abbrev pub set_child : ChildState → Spot → List Application → List Application
 set_child state spot apps = changed_child (λ is_started c. in_state state c) spot apps
 
--- the first child that is so, in the application of a place
+-- the first child that is so, in the application of an index
 
 abbrev pub spot_in : (Child → Bool) → ℕ → List Application → Option Spot
 spot_in is app apps = option_map (λ child. record { app = app; child = child })
@@ -79,7 +79,7 @@ abbrev pub has_id : Term → Child → Bool
 has_id id c = same_id id c.spec
 
 abbrev pub spot_of : List ℕ → Term → List Application → Option Spot
-spot_of name id apps = option_and_then (λ app. spot_in (has_id id) app apps) (place_of name apps)
+spot_of name id apps = option_and_then (λ app. spot_in (has_id id) app apps) (index_of name apps)
 
 abbrev pub child_of : List ℕ → Term → List Application → Option Child
 child_of name id apps = option_and_then (λ spot. child_at spot apps) (spot_of name id apps)

@@ -4,7 +4,7 @@ use Rattle.std.specs.Prelude.{◌≡◌, ℕ, ◌-◌, true, false, if◌then◌
 use Rattle.std.specs.List.{filter_map}
 use Rattle.values.specs.Edits.{changed_at}
 use Rattle.otp_files.specs.declared.app.AppSpec.{AppSpec}
-use Rattle.app_table.specs.Applications.{Application, child_at, loaded, place_of, set_child, with_children}
+use Rattle.app_table.specs.Applications.{Application, child_at, loaded, index_of, set_child, with_children}
 use Rattle.app_table.specs.Children.{in_state}
 use Rattle.app_table.specs.Modules.{has_none}
 use Rattle.app_table.specs.Ordered.{pid_in}
@@ -55,7 +55,7 @@ abbrev pub stopped : Application → Application
 stopped a = with_children false (map (in_state Stopped) a.children) a
 
 abbrev pub app_stopped : ℕ → List Application → List Application
-app_stopped place apps = changed_at stopped apps place
+app_stopped index apps = changed_at stopped apps index
 
 abbrev pub pids_back : List Child → List ℕ
 pids_back children = reverse (filter_map (λ c. pid_in c.state) children)
@@ -66,11 +66,11 @@ children_of (Some a) = a.children
 
 -- the processes of its children in the order in which they end
 abbrev pub ending_order : ℕ → List Application → List ℕ
-ending_order place apps = pids_back (children_of (slice_get apps place))
+ending_order index apps = pids_back (children_of (slice_get apps index))
 
 -- An application is unloaded: it leaves, with its children.
 abbrev pub unloaded : ℕ → List Application → List Application
-unloaded place apps = remove apps place
+unloaded index apps = remove apps index
 
 -- Specifications of a release are put in place of those of the same name; new names go last. Children, and what is started, stay.
 
@@ -79,27 +79,27 @@ with_spec spec a = record a { spec = spec }
 
 abbrev pub spec_set_at : Option ℕ → AppSpec → List Application → List Application
 spec_set_at None spec apps = apps ++ loaded spec ∷ []
-spec_set_at (Some place) spec apps = changed_at (with_spec spec) apps place
+spec_set_at (Some index) spec apps = changed_at (with_spec spec) apps index
 
 abbrev pub specs_set : List AppSpec → List Application → List Application
 specs_set [] apps = apps
-specs_set (spec ∷ specs) apps = specs_set specs (spec_set_at (place_of spec.name apps) spec apps)
+specs_set (spec ∷ specs) apps = specs_set specs (spec_set_at (index_of spec.name apps) spec apps)
 
--- What they stand in place of: each former specification, with the place of its application, in the order in which they were
+-- What they stand in place of: each former specification, with the index of its application, in the order in which they were
 -- replaced; and how many applications were added.
 
 abbrev pub replaced_as : ℕ → Option Application → List Replaced
-replaced_as place None = []
-replaced_as place (Some a) = record { place = place; spec = a.spec } ∷ []
+replaced_as index None = []
+replaced_as index (Some a) = record { index = index; spec = a.spec } ∷ []
 
 abbrev pub replaced_at : Option ℕ → List Application → List Replaced
 replaced_at None apps = []
-replaced_at (Some place) apps = replaced_as place (slice_get apps place)
+replaced_at (Some index) apps = replaced_as index (slice_get apps index)
 
 abbrev pub replaced_by : List AppSpec → List Application → List Replaced
 replaced_by [] apps = []
 replaced_by (spec ∷ specs) apps =
-    replaced_at (place_of spec.name apps) apps ++ replaced_by specs (spec_set_at (place_of spec.name apps) spec apps)
+    replaced_at (index_of spec.name apps) apps ++ replaced_by specs (spec_set_at (index_of spec.name apps) spec apps)
 
 abbrev pub former_specs : List AppSpec → List Application → FormerSpecs
 former_specs specs apps = record { replaced = replaced_by specs apps; added = length (specs_set specs apps) - length apps }
@@ -109,7 +109,7 @@ former_specs specs apps = record { replaced = replaced_by specs apps; added = le
 
 abbrev pub all_replaced : List Replaced → List Application → List Application
 all_replaced [] apps = apps
-all_replaced (r ∷ rs) apps = changed_at (with_spec r.spec) (all_replaced rs apps) r.place
+all_replaced (r ∷ rs) apps = changed_at (with_spec r.spec) (all_replaced rs apps) r.index
 
 abbrev pub without_last : ℕ → List Application → List Application
 without_last count apps = take (length apps - count) apps

@@ -22,8 +22,8 @@ is_first_for before m c = has_module m c && not (list_any (λ b. has_module b c)
 -- What each child gives, by its application and its spot: applications in order, and the children of each in order.
 
 abbrev pub each_child : {A : Type 0} → (Application → Spot → Child → List A) → Application → ℕ → ℕ → List Child → List A
-each_child f a app place [] = []
-each_child f a app place (c ∷ cs) = f a (record { app = app; child = place }) c ++ each_child f a app (place + 1) cs
+each_child f a app index [] = []
+each_child f a app index (c ∷ cs) = f a (record { app = app; child = index }) c ++ each_child f a app (index + 1) cs
 
 abbrev pub each_of : {A : Type 0} → (Application → Spot → Child → List A) → ℕ → List Application → List A
 each_of f app [] = []

@@ -12,9 +12,9 @@ use Rattle.app_table.specs.declared.child.Child.{Child}
 use Rattle.app_table.specs.declared.child.ChildState.{ChildState}
 use Rattle.app_table.specs.declared.child.ChildState.TheVariants.{Running, Due, Stopped}
 
--- the Id of the child at a place, counted from 0
+-- the Id of the child at an index, counted from 0
 abbrev pub id_at : List Child → ℕ → Option Term
-id_at row place = option_map (λ c. c.spec.id) (slice_get row place)
+id_at row index = option_map (λ c. c.spec.id) (slice_get row index)
 
 -- the pid that it runs as, where it runs
 
@@ -24,9 +24,9 @@ pid_in Due = None
 pid_in Stopped = None
 
 abbrev pub pid_at : List Child → ℕ → Option ℕ
-pid_at row place = option_and_then (λ c. pid_in c.state) (slice_get row place)
+pid_at row index = option_and_then (λ c. pid_in c.state) (slice_get row index)
 
--- Places by the order of their keys: of equal keys the lower place stands first.
+-- Indices by the order of their keys: of equal keys the lower index stands first.
 
 abbrev pub by_key : {K : Type 0} → (K → K → Ordering) → (ℕ → K) → ℕ → ℕ → Ordering
 by_key order key a b = ordering_then (order (key a) (key b)) (nat_cmp a b)
@@ -39,20 +39,20 @@ by_pid row = by_key (option_cmp nat_cmp) (pid_at row)
 abbrev pub by_id : List Child → ℕ → ℕ → Ordering
 by_id row = by_key (option_cmp (on tree tree_cmp)) (id_at row)
 
--- each place stands before all that follow it
+-- each index stands before all that follow it
 abbrev pub Rises : (ℕ → ℕ → Ordering) → List ℕ → Type 0
 Rises order [] = Unit {0}
-Rises order (a ∷ places) = All (λ b. is_lt (order a b) ≡ true) places × Rises order places
+Rises order (a ∷ indices) = All (λ b. is_lt (order a b) ≡ true) indices × Rises order indices
 
--- the places from 0 up to a number, each once, in this order
-pub record IsOrderOf (order : ℕ → ℕ → Ordering) (count : ℕ) (places : List ℕ) : Type 0 where
-  pub once : IsPermutation (range_with_len 0 count) places
-  pub rises : Rises order places
+-- the indices from 0 up to a number, each once, in this order
+pub record IsOrderOf (order : ℕ → ℕ → Ordering) (count : ℕ) (indices : List ℕ) : Type 0 where
+  pub once : IsPermutation (range_with_len 0 count) indices
+  pub rises : Rises order indices
 
--- a place belongs behind so many of these: they stand before it, and the others don't
+-- an index belongs behind so many of these: they stand before it, and the others don't
 abbrev pub BelongsAt : (ℕ → ℕ → Ordering) → List ℕ → ℕ → ℕ → Type 0
-BelongsAt order places place count =
-    IsPartitionPoint (λ each. is_lt (order each place) ≡ true) (λ each. is_lt (order each place) ≡ false) places count
+BelongsAt order indices index count =
+    IsPartitionPoint (λ each. is_lt (order each index) ≡ true) (λ each. is_lt (order each index) ≡ false) indices count
 
 -- all children by the Id and by the pid
 pub record AreOrdersOf (row : List Child) (ids pids : List ℕ) : Type 0 where

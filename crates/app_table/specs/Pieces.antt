@@ -30,7 +30,7 @@ app_pieces a = of_app a.spec ∷ child_pieces a.spec.name a.children
 abbrev pub pieces : List Application → List Piece
 pieces apps = flat_map app_pieces apps
 
--- The pieces of children of the application at a place. Where no application stands they count too, as those of one without
+-- The pieces of children of the application at an index. Where no application stands they count too, as those of one without
 -- a name.
 abbrev pub child_pieces_at : Option Application → List Child → List Piece
 child_pieces_at None children = child_pieces [] children
@@ -70,19 +70,19 @@ held_former f = map (λ r. of_app r.spec) f.replaced
 abbrev pub held_back : PutBack → List Piece
 held_back p = map (λ r. of_app r.spec) p.replaced ++ pieces p.added
 
--- Children are specified anew. What is held is by the place of the application, counted from 0.
+-- Children are specified anew. What is held is by the index of the application, counted from 0.
 
 abbrev pub specs_in : List Child → List ChildSpec
 specs_in children = map (λ c. c.spec) children
 
--- the children of the application at a place; none where no application stands
+-- the children of the application at an index; none where no application stands
 
 abbrev pub children_in : Option Application → List Child
 children_in None = []
 children_in (Some a) = a.children
 
 abbrev pub children_at : ℕ → List Application → List Child
-children_at place apps = children_in (slice_get apps place)
+children_at index apps = children_in (slice_get apps index)
 
 -- the former specifications that edits hold, in order
 
@@ -93,18 +93,18 @@ former_in (Kept from former) = option_to_list former
 abbrev pub formers : List ChildEdit → List ChildSpec
 formers edits = flat_map former_in edits
 
--- what takes back that the children of the application at a place were specified anew
+-- what takes back that the children of the application at an index were specified anew
 abbrev pub IsRenewal : ℕ → AppsUndo → Type 0
-IsRenewal place u = (edits : List ChildEdit) × (u ≡ Renewed place edits)
+IsRenewal index u = (edits : List ChildEdit) × (u ≡ Renewed index edits)
 
--- the former specifications that it holds of the application at a place
+-- the former specifications that it holds of the application at an index
 abbrev pub formers_at : ℕ → AppsUndo → List ChildSpec
-formers_at place (Started app children) = []
-formers_at place (Revived spot) = []
-formers_at place (AllEnded cs) = []
-formers_at place (AllRun rs) = []
-formers_at place (AppStopped app states) = []
-formers_at place (Renewed app edits) = if app == place then formers edits else []
+formers_at index (Started app children) = []
+formers_at index (Revived spot) = []
+formers_at index (AllEnded cs) = []
+formers_at index (AllRun rs) = []
+formers_at index (AppStopped app states) = []
+formers_at index (Renewed app edits) = if app == index then formers edits else []
 
 -- None of some specifications is among others.
 

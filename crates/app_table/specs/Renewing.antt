@@ -17,7 +17,7 @@ child_by_id id children = option_and_then (slice_get children) (position (has_id
 
 abbrev pub without_at : Option ℕ → List Child → List Child
 without_at None children = children
-without_at (Some place) children = remove children place
+without_at (Some index) children = remove children index
 
 abbrev pub without : Term → List Child → List Child
 without id children = without_at (position (has_id id) children) children
@@ -42,7 +42,7 @@ abbrev pub with_renewed : List ChildSpec → Application → Application
 with_renewed specs a = record a { children = renewed specs a.children }
 
 abbrev pub children_renewed : ℕ → List ChildSpec → List Application → List Application
-children_renewed place specs apps = changed_at (with_renewed specs) apps place
+children_renewed index specs apps = changed_at (with_renewed specs) apps index
 
 -- What takes it back, from the last specification to the first: a child that is new goes; one that was there stands where
 -- it stood, with its former specification, where that is another one.
@@ -60,12 +60,12 @@ with_former None c = c
 with_former (Some s) c = with_spec s c
 
 abbrev pub unedited : ℕ → ChildEdit → List Child → List Child
-unedited place Added children = remove children place
-unedited place (Kept from former) children = moved place from (changed_at (with_former former) children place)
+unedited index Added children = remove children index
+unedited index (Kept from former) children = moved index from (changed_at (with_former former) children index)
 
 abbrev pub unrenewed : ℕ → List ChildEdit → List Child → List Child
-unrenewed place [] children = children
-unrenewed place (e ∷ edits) children = unedited place e (unrenewed (place + 1) edits children)
+unrenewed index [] children = children
+unrenewed index (e ∷ edits) children = unedited index e (unrenewed (index + 1) edits children)
 
 abbrev pub with_unrenewed : List ChildEdit → Application → Application
 with_unrenewed edits a = record a { children = unrenewed 0 edits a.children }

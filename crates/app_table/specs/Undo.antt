@@ -54,48 +54,48 @@ undone (AllRun rs) apps = all_unrun rs apps
 undone (AppStopped app states) apps = changed_at (unstopped states) apps app
 undone (Renewed app edits) apps = changed_at (with_unrenewed edits) apps app
 
--- an application that was unloaded stands at its place again
+-- an application that was unloaded stands at its index again
 abbrev pub reloaded : Unloaded → List Application → List Application
-reloaded u apps = insert apps u.place u.app
+reloaded u apps = insert apps u.index u.app
 
 -- Specifications that were put back are put in place again, with the applications that were added; and what they then stand in
--- place of.
+-- index of.
 
 abbrev pub all_put : List Replaced → List Application → List Application
 all_put [] apps = apps
-all_put (r ∷ rs) apps = all_put rs (changed_at (with_spec r.spec) apps r.place)
+all_put (r ∷ rs) apps = all_put rs (changed_at (with_spec r.spec) apps r.index)
 
 abbrev pub put_again : PutBack → List Application → List Application
 put_again p apps = all_put p.replaced (apps ++ p.added)
 
--- a specification that was replaced, and the one of the application at its place in its stead
+-- a specification that was replaced, and the one of the application at its index in its stead
 abbrev pub with_spec_of : Option Application → Replaced → Replaced
 with_spec_of None r = r
 with_spec_of (Some a) r = record r { spec = a.spec }
 
 abbrev pub all_left : List Replaced → List Application → List Replaced
 all_left [] apps = []
-all_left (r ∷ rs) apps = with_spec_of (slice_get apps r.place) r ∷ all_left rs (changed_at (with_spec r.spec) apps r.place)
+all_left (r ∷ rs) apps = with_spec_of (slice_get apps r.index) r ∷ all_left rs (changed_at (with_spec r.spec) apps r.index)
 
 abbrev pub former_of : PutBack → List Application → FormerSpecs
 former_of p apps = record { replaced = all_left p.replaced (apps ++ p.added); added = length p.added }
 
--- The specifications that those which are put back stand in place of, each at its place.
+-- The specifications that those which are put back stand in place of, each at its index.
 abbrev pub all_given_up : List Replaced → List Application → List Replaced
 all_given_up [] apps = []
-all_given_up (r ∷ rs) apps = with_spec_of (slice_get (all_replaced rs apps) r.place) r ∷ all_given_up rs apps
+all_given_up (r ∷ rs) apps = with_spec_of (slice_get (all_replaced rs apps) r.index) r ∷ all_given_up rs apps
 
--- Specifications can be put back: each has the name of the application at its place, and there are as many applications as were
+-- Specifications can be put back: each has the name of the application at its index, and there are as many applications as were
 -- added.
 
-abbrev pub IsOfPlace : Replaced → List Application → Type 0
-IsOfPlace r apps = (a : Application) × (slice_get apps r.place ≡ Some a) × (a.spec.name ≡ r.spec.name)
+abbrev pub IsOfIndex : Replaced → List Application → Type 0
+IsOfIndex r apps = (a : Application) × (slice_get apps r.index ≡ Some a) × (a.spec.name ≡ r.spec.name)
 
 abbrev pub Fits : FormerSpecs → List Application → Type 0
-Fits f apps = (f.added ≤ length apps) × All (λ r. IsOfPlace r apps) f.replaced
+Fits f apps = (f.added ≤ length apps) × All (λ r. IsOfIndex r apps) f.replaced
 
 -- What was replaced gives the applications that stood there first, behind which others were added.
 pub record GivesBack (before : List Application) (replaced : List Replaced) (apps : List Application) : Type 0 where
   pub added : length before ≤ length apps
-  pub places : All (λ r. IsOfPlace r apps) replaced
+  pub indices : All (λ r. IsOfIndex r apps) replaced
   pub gives : take (length before) (all_replaced replaced apps) ≡ before

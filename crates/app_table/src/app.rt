@@ -86,24 +86,24 @@ impl App {
     }
 
     /// Where the child of an Id stands.
-    pub(crate) fn place_of(&self, id: &Term) -> Option<usize>
+    pub(crate) fn index_of(&self, id: &Term) -> Option<usize>
         ensures { result ≡ position (has_id id.now) self.now.children }
     {
-        self.children.place_of(id)
+        self.children.index_of(id)
     }
 
     /// Where the child stands that runs as the process of a pid.
-    pub(crate) fn place_by_pid(&self, pid: u64) -> Option<usize>
+    pub(crate) fn index_by_pid(&self, pid: u64) -> Option<usize>
         ensures { result ≡ position (runs_as pid) self.now.children }
     {
-        self.children.place_by_pid(pid)
+        self.children.index_by_pid(pid)
     }
 
     /// Whether a child runs as the process of a pid.
     pub(crate) fn has_process(&self, pid: u64) -> bool
         ensures { result ≡ has_process pid self.now }
     {
-        self.place_by_pid(pid).is_some()
+        self.index_by_pid(pid).is_some()
     }
 
     /// It is started, or not, and has these children. Those that it had are handed out.
@@ -115,23 +115,23 @@ impl App {
         mem::replace(&mut self.children, children)
     }
 
-    /// The child at a place, if there is one, is in this state.
-    pub(crate) fn set_child(&mut self, place: usize, state: ChildState)
-        ensures { self.new ≡ with_child (λ is_started c. in_state state c) place self.old }
+    /// The child at an index, if there is one, is in this state.
+    pub(crate) fn set_child(&mut self, index: usize, state: ChildState)
+        ensures { self.new ≡ with_child (λ is_started c. in_state state c) index self.old }
     {
-        self.children.set(place, state);
+        self.children.set(index, state);
     }
 
-    /// The process of the child at a place, if there is one, has ended for a reason.
+    /// The process of the child at an index, if there is one, has ended for a reason.
     #[tactic(auto, using(crate::proofs::Writes::changed_there, crate::proofs::Writes::changed_past))]
-    pub(crate) fn end_child(&mut self, place: usize, reason: &Term)
-        ensures { self.new ≡ with_child (λ is_started c. after_end is_started reason.now c) place self.old }
+    pub(crate) fn end_child(&mut self, index: usize, reason: &Term)
+        ensures { self.new ≡ with_child (λ is_started c. after_end is_started reason.now c) index self.old }
     {
-        let Some(child) = self.children.as_slice().get(place) else {
+        let Some(child) = self.children.as_slice().get(index) else {
             return;
         };
         let state = state_after(self.is_started, reason, child);
-        self.children.set(place, state);
+        self.children.set(index, state);
     }
 
     /// It isn't started, and none of its children has a process or is due.
@@ -183,7 +183,7 @@ impl App {
         mem::swap(&mut self.spec, spec);
     }
 
-    /// Puts those of its children behind others that run and have a module, and none of those before it. It stands at a place.
+    /// Puts those of its children behind others that run and have a module, and none of those before it. It stands at an index.
     pub(crate) fn push_running(
         &self,
         before: &[Atom],
@@ -222,7 +222,7 @@ impl App {
     }
 
     /// Puts those of its children behind others that have no process, are among these names, and have a module, and none of
-    /// those before it. It stands at a place.
+    /// those before it. It stands at an index.
     pub(crate) fn push_idle(
         &self,
         names: &[ChildName],
@@ -244,17 +244,17 @@ impl App {
         Ok(())
     }
 
-    /// Puts the name of its child at a place behind others, if there is one.
+    /// Puts the name of its child at an index behind others, if there is one.
     pub(crate) fn push_name(
         &self,
         alloc: Global,
-        place: usize,
+        index: usize,
         names: &mut Vec<ChildName>,
     ) -> Result<(), AllocError>
         ensures { OnOk result
-            (names.new.items ≡ names.old.items ++ name_for self.now.spec.name (slice_get self.now.children place)) }
+            (names.new.items ≡ names.old.items ++ name_for self.now.spec.name (slice_get self.now.children index)) }
     {
-        match self.children().get(place) {
+        match self.children().get(index) {
             Some(child) => push_child_name(alloc, &self.spec.name, child, names),
             None => Ok(()),
         }

@@ -12,7 +12,7 @@ ghost use Rattle.values.specs.Edits.{changed_at};
 
 use crate::child::{Child, ChildState};
 use crate::orders::{
-    first_of_id, first_of_pid, order_by_id, order_by_pid, order_places, put_all_in_by_id,
+    first_of_id, first_of_pid, order_by_id, order_by_pid, order_indices, put_all_in_by_id,
     put_all_in_by_pid, set_state,
 };
 use crate::renewing::{ChildEdit, renew_all, unrenew_all};
@@ -50,7 +50,7 @@ impl Model for Children {
 }
 
 impl Children {
-    /// These children. Each place is put in where it belongs, so those that come in order take the least time, and others move
+    /// These children. Each index is put in where it belongs, so those that come in order take the least time, and others move
     /// those that stand behind them: at worst all that are there already, 8 bytes each.
     ///
     /// # Errors
@@ -84,37 +84,37 @@ impl Children {
     }
 
     /// Where the child of an Id stands: the first, if there are several. Takes no memory.
-    pub fn place_of(&self, id: &Term) -> Option<usize>
+    pub fn index_of(&self, id: &Term) -> Option<usize>
         ensures { result ≡ position (has_id id.now) self.now }
     {
         first_of_id(self.row.as_slice(), self.ids.as_slice(), id)
     }
 
     /// Where the child stands that runs as the process of a pid: the first, if there are several. Takes no memory.
-    pub fn place_by_pid(&self, pid: u64) -> Option<usize>
+    pub fn index_by_pid(&self, pid: u64) -> Option<usize>
         ensures { result ≡ position (runs_as pid) self.now }
     {
         first_of_pid(self.row.as_slice(), self.pids.as_slice(), pid)
     }
 
-    /// The child at a place, if there is one, is in this state. Takes no memory.
-    pub(crate) fn set(&mut self, place: usize, state: ChildState)
-        ensures { self.new ≡ changed_at (in_state state) self.old place }
+    /// The child at an index, if there is one, is in this state. Takes no memory.
+    pub(crate) fn set(&mut self, index: usize, state: ChildState)
+        ensures { self.new ≡ changed_at (in_state state) self.old index }
     {
-        if place < self.row.as_slice().len() {
-            set_state(&mut self.row, self.pids.as_mut_slice(), place, state);
+        if index < self.row.as_slice().len() {
+            set_state(&mut self.row, self.pids.as_mut_slice(), index, state);
         }
     }
 
-    /// None has a process or is due. Writes the order of pids in one pass, for it is that of the places. Takes no memory.
+    /// None has a process or is due. Writes the order of pids in one pass, for it is that of the indices. Takes no memory.
     pub(crate) fn stop_all(&mut self)
         ensures { self.new ≡ map (in_state Stopped) self.old }
     {
         stop_each(self.row.as_mut_slice());
-        order_places(self.pids.as_mut_slice());
+        order_indices(self.pids.as_mut_slice());
     }
 
-    /// They are in these states, in order; those for which there is none stay. Puts each place in where it belongs in the order
+    /// They are in these states, in order; those for which there is none stay. Puts each index in where it belongs in the order
     /// of pids. Takes no memory.
     pub(crate) fn set_states(&mut self, states: &[ChildState])
         ensures { self.new ≡ in_states states.now self.old }
@@ -159,7 +159,7 @@ impl Children {
     }
 }
 
-/// The places of children in the order of their Ids, and of the pids that they run as, in lists that have room for them.
+/// The indices of children in the order of their Ids, and of the pids that they run as, in lists that have room for them.
 fn put_all_in(row: &[Child], ids: &mut Vec<usize>, pids: &mut Vec<usize>)
     requires ids { length row.now ≤ vec_capacity ids.old }
     requires pids { length row.now ≤ vec_capacity pids.old }
@@ -183,8 +183,8 @@ fn stop_each(row: &mut [Child])
 fn set_each(row: &mut [Child], states: &[ChildState])
     ensures { row.new ≡ in_states states.now row.old }
 {
-    for place in 0..row.len().min(states.len()) {
-        row[place].set(states[place]);
+    for index in 0..row.len().min(states.len()) {
+        row[index].set(states[index]);
     }
 }
 
@@ -197,8 +197,8 @@ pub(crate) fn pids_back(alloc: Global, row: &[Child]) -> Result<Vec<u64>, AllocE
     ensures { IfOk result (λ it. it.items ≡ pids_back row.now) }
 {
     let mut pids = Vec::new(alloc);
-    for place in (0..row.len()).rev() {
-        if let Some(pid) = row[place].pid() {
+    for index in (0..row.len()).rev() {
+        if let Some(pid) = row[index].pid() {
             pids.push(pid)?;
         }
     }

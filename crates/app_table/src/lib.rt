@@ -10,7 +10,7 @@
 //!   (`all_ended`, `after_end`).
 //! - [`children_restart_by_reason`]: an end is no failure exactly where its reason is `normal`, `shutdown` or `{shutdown,Term}`;
 //!   a permanent child is always to be started again, a transient one after a failure, and a temporary one never.
-//! - A child that is found by its Id or its pid is the first that has it ([`Children::place_of`], [`Children::place_by_pid`]).
+//! - A child that is found by its Id or its pid is the first that has it ([`Children::index_of`], [`Children::index_by_pid`]).
 //! - Children are found by the modules that their specifications name, each once: those that run ([`AppTable::running_with`]),
 //!   and those that have no process, are among some names, and belong to an application that is started
 //!   ([`AppTable::startable`]).

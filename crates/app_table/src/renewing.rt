@@ -18,12 +18,12 @@ use values::{Row, Same};
 pub enum ChildEdit {
     /// A child is new.
     Added,
-    /// A child was there, at this place among those that were left, counted from 0 over all; and its former specification, where
+    /// A child was there, at this index among those that were left, counted from 0 over all; and its former specification, where
     /// that is another one.
     Kept(usize, Option<ChildSpec>),
 }
 
-/// The child at a place moves to another one, and those between by one.
+/// The child at an index moves to another one, and those between by one.
 fn move_child(row: &mut Vec<Child>, from: usize, to: usize)
     requires from { from < length row.old.items }
     requires to { to < length row.old.items }
@@ -49,25 +49,25 @@ fn respecify(child: &mut Child, spec: ChildSpec) -> Option<ChildSpec>
     Some(mem::replace(&mut child.spec, spec))
 }
 
-/// The place of the child of an Id.
-fn place_in(row: &[Child], id: &Term) -> Option<usize>
+/// The index of the child of an Id.
+fn index_in(row: &[Child], id: &Term) -> Option<usize>
     ensures { result ≡ position (has_id id.now) row.now }
 {
     row.iter().position(|child| child.spec.id == *id)
 }
 
-/// The place of the child of an Id, among those from a place on.
-fn place_from(row: &[Child], at: usize, id: &Term) -> Option<usize>
+/// The index of the child of an Id, among those from an index on.
+fn index_from(row: &[Child], at: usize, id: &Term) -> Option<usize>
     requires { at ≤ length row.now }
     ensures { result ≡ option_map (λ k. at + k) (position (has_id id.now) (drop at row.now)) }
 {
-    match place_in(&row[at..], id) {
+    match index_in(&row[at..], id) {
         Some(behind) => Some(at + behind),
         None => None,
     }
 }
 
-/// A child that is there moves to a place in front, and is specified anew.
+/// A child that is there moves to an index in front, and is specified anew.
 fn keep_child(row: &mut Vec<Child>, at: usize, from: usize, spec: ChildSpec) -> ChildEdit
     requires ordered { at ≤ from }
     requires there { from < length row.old.items }
@@ -82,7 +82,7 @@ fn keep_child(row: &mut Vec<Child>, at: usize, from: usize, spec: ChildSpec) -> 
     ChildEdit::Kept(from, former)
 }
 
-/// A child that is new stands at a place.
+/// A child that is new stands at an index.
 fn add_child(row: &mut Vec<Child>, at: usize, spec: ChildSpec) -> ChildEdit
     requires within { at ≤ length row.old.items }
     requires room { vec_len row.old < vec_capacity row.old }
@@ -99,7 +99,7 @@ fn add_child(row: &mut Vec<Child>, at: usize, spec: ChildSpec) -> ChildEdit
     ChildEdit::Added
 }
 
-/// The child of a specification stands at a place: that of its Id among those from there on, or a new one.
+/// The child of a specification stands at an index: that of its Id among those from there on, or a new one.
 fn renew_child(row: &mut Vec<Child>, at: usize, spec: ChildSpec) -> ChildEdit
     requires within { at ≤ length row.old.items }
     requires room { vec_len row.old < vec_capacity row.old }
@@ -109,7 +109,7 @@ fn renew_child(row: &mut Vec<Child>, at: usize, spec: ChildSpec) -> ChildEdit
     ensures edit { IsEdit spec (child_by_id spec.id (drop at row.old.items)) result }
     ensures room { (vec_len row.new ≤ vec_len row.old + 1) × (vec_capacity row.new ≡ vec_capacity row.old) }
 {
-    match place_from(row.as_slice(), at, &spec.id) {
+    match index_from(row.as_slice(), at, &spec.id) {
         Some(from) => keep_child(row, at, from, spec),
         None => add_child(row, at, spec),
     }

@@ -5,8 +5,8 @@ use values::Row;
 /// The specification of an application that another one stands in place of.
 #[derive(Drop)]
 pub struct Replaced {
-    /// The place of the application, counted from 0.
-    pub place: usize,
+    /// The index of the application, counted from 0.
+    pub index: usize,
     /// Its specification.
     pub spec: AppSpec,
 }

@@ -1,10 +1,10 @@
 // Where a child stands.
 
-/// Where a child stands. Places are counted from 0.
+/// Where a child stands. Indices are counted from 0.
 #[derive(Clone, Copy, Debug, PartialEq, Eq, Drop)]
 pub struct Spot {
-    /// The place of its application.
+    /// The index of its application.
     pub app: usize,
-    /// Its place among the children of that.
+    /// Its index among the children of that.
     pub child: usize,
 }

@@ -1,7 +1,7 @@
 // The applications of a node.
 ghost use Rattle.std.specs.Prelude.{◌≡◌, ◌↔◌, ◌+◌, ◌≤◌, ◌<◌, ◌++◌, ◌∷◌, [], IfOk, IfSome, IsSome, IsTrue, OnErr, OnOk, Some, false, length, map, position, slice_get, true, vec_capacity, vec_len};
 ghost use Rattle.std.specs.Option.{option_copied};
-ghost use Rattle.app_table.specs.Applications.{Application, all_ended, changed_child, child_at, ended, has_process, loaded, place_of, set_child, spot_by_pid, spot_of, with_children};
+ghost use Rattle.app_table.specs.Applications.{Application, all_ended, changed_child, child_at, ended, has_process, loaded, index_of, set_child, spot_by_pid, spot_of, with_children};
 ghost use Rattle.app_table.specs.Children.{after_end, is_due};
 ghost use Rattle.app_table.specs.Pieces.{child_pieces, held};
 ghost use Rattle.app_table.specs.Undo.{all_unended, undone, unended};
@@ -62,9 +62,9 @@ fn push_loaded(list: &mut Vec<App>, alloc: Global, spec: AppSpec) -> Result<(), 
     Ok(())
 }
 
-/// The place of the application of a name.
-fn place_in(list: &[App], name: &Atom) -> Option<usize>
-    ensures { result ≡ place_of name.now list.now }
+/// The index of the application of a name.
+fn index_in(list: &[App], name: &Atom) -> Option<usize>
+    ensures { result ≡ index_of name.now list.now }
 {
     list.iter().position(|app| app.spec().name == *name)
 }
@@ -99,26 +99,26 @@ impl AppTable {
         self.list.is_empty()
     }
 
-    /// The application at a place, counted from 0. Takes no memory.
-    pub fn app(&self, place: usize) -> Option<&App>
-        ensures { option_copied result ≡ slice_get self.now place }
+    /// The application at an index, counted from 0. Takes no memory.
+    pub fn app(&self, index: usize) -> Option<&App>
+        ensures { option_copied result ≡ slice_get self.now index }
     {
-        self.list.get(place)
+        self.list.get(index)
     }
 
-    /// The place of the application of a name. Takes no memory.
-    pub fn place_of(&self, name: &Atom) -> Option<usize>
-        ensures { result ≡ place_of name.now self.now }
+    /// The index of the application of a name. Takes no memory.
+    pub fn index_of(&self, name: &Atom) -> Option<usize>
+        ensures { result ≡ index_of name.now self.now }
     {
-        place_in(self.list.as_slice(), name)
+        index_in(self.list.as_slice(), name)
     }
 
-    /// The application at a place, counted from 0, where there is one. Takes no memory.
-    pub fn app_at(&self, place: usize) -> &App
-        requires { IsSome (slice_get self.now place) }
-        ensures { slice_get self.now place ≡ Some result.now }
+    /// The application at an index, counted from 0, where there is one. Takes no memory.
+    pub fn app_at(&self, index: usize) -> &App
+        requires { IsSome (slice_get self.now index) }
+        ensures { slice_get self.now index ≡ Some result.now }
     {
-        &self.list[place]
+        &self.list[index]
     }
 
     /// The child at a spot, where there is one. Takes no memory.
@@ -133,13 +133,13 @@ impl AppTable {
     pub fn spot_of(&self, name: &Atom, id: &Term) -> Option<Spot>
         ensures { result ≡ spot_of name.now id.now self.now }
     {
-        let app = self.place_of(name)?;
-        let child = self.list[app].place_of(id)?;
+        let app = self.index_of(name)?;
+        let child = self.list[app].index_of(id)?;
         Some(Spot { app, child })
     }
 
-    /// The place of the application that has a child that runs as the process of a pid.
-    fn place_by_pid(&self, pid: u64) -> Option<usize>
+    /// The index of the application that has a child that runs as the process of a pid.
+    fn index_by_pid(&self, pid: u64) -> Option<usize>
         ensures { result ≡ position (has_process pid) self.now }
     {
         self.list.iter().position(|app| app.has_process(pid))
@@ -149,13 +149,13 @@ impl AppTable {
     pub fn spot_by_pid(&self, pid: u64) -> Option<Spot>
         ensures { result ≡ spot_by_pid pid self.now }
     {
-        let app = self.place_by_pid(pid)?;
-        let child = self.list[app].place_by_pid(pid)?;
+        let app = self.index_by_pid(pid)?;
+        let child = self.list[app].index_by_pid(pid)?;
         Some(Spot { app, child })
     }
 
-    /// The application at a place is started, or not, and has these children. Those that it had are handed out; where there is
-    /// none at the place, these.
+    /// The application at an index is started, or not, and has these children. Those that it had are handed out; where there is
+    /// none at the index, these.
     #[tactic(auto, using(crate::proofs::Writes::changed_from_write, crate::proofs::Writes::changed_past))]
     fn set_children(&mut self, app: usize, is_started: bool, children: Children) -> Children
         ensures set { self.new ≡ changed_at (with_children is_started children) self.old app }
@@ -187,7 +187,7 @@ impl AppTable {
         }
     }
 
-    /// The application at a place, counted from 0, is started, and has these children. Takes no memory.
+    /// The application at an index, counted from 0, is started, and has these children. Takes no memory.
     pub fn start(&mut self, app: usize, children: Children) -> AppsUndo
         requires { (a : Application) × (slice_get self.old app ≡ Some a) × (a.is_started ≡ false) }
         ensures started { self.new ≡ changed_at (with_children true children) self.old app }
@@ -246,8 +246,8 @@ impl AppTable {
     fn unend(&mut self, ended: &[ChildProcess])
         ensures { self.new ≡ all_unended ended.now self.old }
     {
-        for place in (0..ended.len()).rev() {
-            let each = ended[place];
+        for index in (0..ended.len()).rev() {
+            let each = ended[index];
             self.set_child(each.spot, ChildState::Running(each.pid));
         }
     }

@@ -28,7 +28,7 @@ pub struct Rerun {
 /// What takes a step of applications back.
 #[derive(Drop)]
 pub enum AppsUndo {
-    /// The application at a place, counted from 0, was started, and had these children before.
+    /// The application at an index, counted from 0, was started, and had these children before.
     Started(usize, Children),
     /// The child at a spot was due, and runs.
     Revived(Spot),
@@ -36,17 +36,17 @@ pub enum AppsUndo {
     AllEnded(Row<ChildProcess>),
     /// Children run that had no process, in this order.
     AllRun(Row<Rerun>),
-    /// The application at a place was stopped, whose children were in these states, in order.
+    /// The application at an index was stopped, whose children were in these states, in order.
     AppStopped(usize, Row<ChildState>),
-    /// The children of the application at a place were specified anew, by each specification in order.
+    /// The children of the application at an index were specified anew, by each specification in order.
     Renewed(usize, Row<ChildEdit>),
 }
 
 /// An application that was unloaded, whole.
 #[derive(Drop)]
 pub struct Unloaded {
-    /// The place where it stood, counted from 0.
-    pub place: usize,
+    /// The index where it stood, counted from 0.
+    pub index: usize,
     /// The application.
     pub app: App,
 }
@@ -54,7 +54,7 @@ pub struct Unloaded {
 /// Specifications that were put in place of others, and put back: what they were, and the applications that were added with them.
 #[derive(Drop)]
 pub struct PutBack {
-    /// The specifications that are replaced no more, at their places, in order.
+    /// The specifications that are replaced no more, at their indices, in order.
     pub replaced: Row<Replaced>,
     /// The applications that were added, in order.
     pub added: Row<App>,

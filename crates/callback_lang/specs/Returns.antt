@@ -2,7 +2,7 @@
 -- (appup(4), apply).
 use Rattle.std.specs.Prelude.{◌≡◌, ℕ, List, codes, if◌then◌else◌, Option, None, Some}
 use Rattle.std.specs.Str.{bytes_eq}
-use Rattle.erl_term.specs.Tree.{Tree, Trees, int, atom, pid, tuple, list, none, more}
+use Rattle.erl_term.specs.Tree.{Tree, Trees, atom, pid, tuple, none, more}
 use Rattle.erl_semantics.specs.Jobs.{Evaluates, Outcome}
 use Rattle.erl_semantics.specs.State.{Act, Instance, Result, exit, pair, plain, rest, value}
 

@@ -21,7 +21,7 @@ lent_cmp x y = on tree tree_cmp x.now y.now
 abbrev pub HasIds : BTreeSet (Bor Term) → List ChildSpec → Type 0
 HasIds set cs = (t : Bor Term) → contains lent_cmp set t ≡ list_any (same_id t.now) cs
 
--- the children from one place before on
+-- the children from one index before on
 pub one_before : (cs : List ChildSpec) (i : ℕ) (c : ChildSpec) → 0 < i → i - 1 < length cs → c ≡ get_or cs (i - 1) c → drop (i - 1) cs ≡ c ∷ drop i cs
 one_before cs i c above within is =
     let back : (i - 1) + 1 ≡ i = omega arith in
@@ -41,7 +41,7 @@ pub told_before : (old : BTreeSet (Bor Term)) (key : Bor Term) (c : ChildSpec) (
 told_before old key c cs all is same so_far =
     ap are_distinct is ∙ ap (λ t. not (list_any (same_id t) cs) && are_distinct cs) (sym same) ∙ ap (λ b. not b && are_distinct cs) (sym (so_far key))
 
--- children of whom some, from a place on, are not distinct
+-- children of whom some, from an index on, are not distinct
 pub not_distinct : (i : ℕ) (cs : List ChildSpec) → are_distinct (drop i cs) ≡ false → are_distinct cs ≡ false
 not_distinct zero cs fails = fails
 not_distinct (suc i) [] fails = fails

@@ -31,7 +31,7 @@ child_tree c modules =
 abbrev pub IsChild : Tree → ChildSpec → Type 0
 IsChild t c = (modules : Tree) × IsModules modules c.modules × (t ≡ child_tree c modules)
 
--- each term is the child at its place, and there are as many
+-- each term is the child at its index, and there are as many
 abbrev pub AreChildren : Trees → List ChildSpec → Type 0
 AreChildren none [] = ⊤
 AreChildren none (c ∷ cs) = ⊥

@@ -48,8 +48,8 @@ fn are_distinct(alloc: Global, children: &[ChildSpec]) -> Result<bool, AllocErro
     ensures { IfOk result (λ distinct. distinct ≡ are_distinct children.now) }
 {
     let mut ids = BTreeSet::new(alloc);
-    for place in (0..children.len()).rev() {
-        if !ids.insert(&children[place].id)? {
+    for index in (0..children.len()).rev() {
+        if !ids.insert(&children[index].id)? {
             return Ok(false);
         }
     }

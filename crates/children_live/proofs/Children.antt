@@ -12,7 +12,7 @@ use Rattle.erl_term.specs.declared.term.Term.{Term}
 use Rattle.values.specs.Edits.{changed_at}
 use Rattle.app_table.proofs.Spots.{by_pid, found}
 use Rattle.app_table.specs.Applications.{Application, all_ended, changed_child, changed_if, child_at, ended, has_process}
-use Rattle.app_table.specs.Applications.{place_of, revived, set_child, spot_by_pid, spot_in, spot_of, started, started_at}
+use Rattle.app_table.specs.Applications.{index_of, revived, set_child, spot_by_pid, spot_in, spot_of, started, started_at}
 use Rattle.app_table.specs.Applications.{with_children}
 use Rattle.app_table.specs.Changes.{all_run, at_spots}
 use Rattle.app_table.specs.Children.{after_end, in_state, runs_as, runs_in}
@@ -27,7 +27,7 @@ use Rattle.children_live.specs.Children.{runs_at}
 abbrev pub runs_of : Option Child → Option ℕ
 runs_of o = option_and_then (λ c. pid_in c.state) o
 
--- the pid of the child at a place of an application, where there is one, and where it runs
+-- the pid of the child at an index of an application, where there is one, and where it runs
 abbrev pub runs_in_app : ℕ → Option Application → Option ℕ
 runs_in_app child o = runs_of (option_and_then (λ a. slice_get a.children child) o)
 
@@ -249,26 +249,26 @@ revived_from name id pid apps spot p runs = revived_at pid apps (spot_of name id
 
 -- An application starts: its children run as they are given, and those of each other as before.
 
-started_here : (children : List Child) (apps : List Application) (place k p : ℕ) →
-    runs_at (at place k) (changed_at (with_children true children) apps place) ≡ Some p → runs_of (slice_get children k) ≡ Some p
-started_here children [] place k p runs = absurd (none-some p runs)
+started_here : (children : List Child) (apps : List Application) (index k p : ℕ) →
+    runs_at (at index k) (changed_at (with_children true children) apps index) ≡ Some p → runs_of (slice_get children k) ≡ Some p
+started_here children [] index k p runs = absurd (none-some p runs)
 started_here children (a ∷ others) zero k p runs = runs
-started_here children (a ∷ others) (suc place) k p runs = started_here children others place k p runs
+started_here children (a ∷ others) (suc index) k p runs = started_here children others index k p runs
 
 started_in : (children : List Child) (apps : List Application) (o : Option ℕ) (spot : Spot) (p : ℕ) →
     runs_at spot (started_at o children apps) ≡ Some p →
     (runs_at spot apps ≡ Some p) ⊎ ((o ≡ Some spot.app) × (runs_of (slice_get children spot.child) ≡ Some p))
 started_in children apps None spot p runs = inl runs
-started_in children apps (Some place) spot p runs =
+started_in children apps (Some index) spot p runs =
     let start = with_children true children in
-    elim (cases_eq spot.app place) [
+    elim (cases_eq spot.app index) [
       | inl here ↦
-          let there = subst (λ n. runs_at (at n spot.child) (changed_at start apps place) ≡ Some p) here runs in
-          inr (ap (λ n. Some n) (sym here), started_here children apps place spot.child p there)
-      | inr differs ↦ inl (ap (runs_in_app spot.child) (sym (elsewhere start apps place spot.app differs)) ∙ runs)
+          let there = subst (λ n. runs_at (at n spot.child) (changed_at start apps index) ≡ Some p) here runs in
+          inr (ap (λ n. Some n) (sym here), started_here children apps index spot.child p there)
+      | inr differs ↦ inl (ap (runs_in_app spot.child) (sym (elsewhere start apps index spot.app differs)) ∙ runs)
     ]
 
 pub started_from : (name : List ℕ) (children : List Child) (apps : List Application) (spot : Spot) (p : ℕ) →
     runs_at spot (started name children apps) ≡ Some p →
-    (runs_at spot apps ≡ Some p) ⊎ ((place_of name apps ≡ Some spot.app) × (runs_of (slice_get children spot.child) ≡ Some p))
-started_from name children apps spot p runs = started_in children apps (place_of name apps) spot p runs
+    (runs_at spot apps ≡ Some p) ⊎ ((index_of name apps ≡ Some spot.app) × (runs_of (slice_get children spot.child) ≡ Some p))
+started_from name children apps spot p runs = started_in children apps (index_of name apps) spot p runs

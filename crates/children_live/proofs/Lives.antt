@@ -43,7 +43,7 @@ use Rattle.process_table.specs.declared.states.Resumed.{Resumed}
 use Rattle.sys_protocol.specs.StartResults.{end_fault, first_of, starts}
 use Rattle.upgrade_calls.specs.Applying.{Applies}
 use Rattle.upgrade_calls.specs.Changing.{AllChange, after_change, with_state}
-use Rattle.upgrade_calls.specs.declared.changing.Change.{Change}
+use Rattle.upgrade_calls.specs.declared.changing.CodeChangeCall.{CodeChangeCall}
 
 -- who lives by the one table lives by the other
 abbrev pub LiveOn : Table → Table → Type 0
@@ -184,7 +184,7 @@ unresumed_on (r ∷ rs) t q lives =
 
 -- Processes change their states, and a function is applied.
 
-pub all_change_on : (code : List Instance) (cs : List Change) (t after : Table) (told : List Reply) →
+pub all_change_on : (code : List Instance) (cs : List CodeChangeCall) (t after : Table) (told : List Reply) →
     AllChange code cs t after told → LiveOn t after
 all_change_on code [] t after told all q lives = subst (λ (u : Table). IsSome (living q u)) (sym all.0) lives
 all_change_on code (c ∷ cs) t after told (o, state, others, does, rest, tells) q lives =

@@ -22,44 +22,44 @@ record Kept (before after : List Child) : Type 0 where
 same_kept : (row : List Child) → Kept row row
 same_kept row = record { from = λ k. k; was = λ k p runs. runs; apart = λ k l p q one other same. same }
 
-removed_from : (row : List Child) (place k : ℕ) → slice_get (remove row place) k ≡ slice_get row (behind place k)
+removed_from : (row : List Child) (index k : ℕ) → slice_get (remove row index) k ≡ slice_get row (behind index k)
 removed_from [] zero k = refl
-removed_from [] (suc place) zero = refl
-removed_from [] (suc place) (suc k) = refl
+removed_from [] (suc index) zero = refl
+removed_from [] (suc index) (suc k) = refl
 removed_from (c ∷ row) zero k = refl
-removed_from (c ∷ row) (suc place) zero = refl
-removed_from (c ∷ row) (suc place) (suc k) = removed_from row place k
+removed_from (c ∷ row) (suc index) zero = refl
+removed_from (c ∷ row) (suc index) (suc k) = removed_from row index k
 
-behind_never : (place k : ℕ) → place ≡ behind place k → ⊥
+behind_never : (index k : ℕ) → index ≡ behind index k → ⊥
 behind_never zero k same = absurd (omega (arith, same))
-behind_never (suc place) zero same = absurd (omega (arith, same))
-behind_never (suc place) (suc k) same = behind_never place k (omega (arith, same))
+behind_never (suc index) zero same = absurd (omega (arith, same))
+behind_never (suc index) (suc k) same = behind_never index k (omega (arith, same))
 
 -- a child in front of others
 
 abbrev from_front : ℕ → (ℕ → ℕ) → ℕ → ℕ
-from_front place from zero = place
-from_front place from (suc k) = from k
+from_front index from zero = index
+from_front index from (suc k) = from k
 
 for_runs : (s : ChildSpec) (o : Option Child) (p : ℕ) → runs_of (Some (child_for s o)) ≡ Some p → runs_of o ≡ Some p
 for_runs s None p runs = absurd (none-some p runs)
 for_runs s (Some c) p runs = runs
 
-front_was : (s : ChildSpec) (row others : List Child) (place : ℕ) (it : Kept (remove row place) others) (k p : ℕ) →
-    runs_of (slice_get (child_for s (slice_get row place) ∷ others) k) ≡ Some p →
-    runs_of (slice_get row (from_front place (λ n. behind place (it.from n)) k)) ≡ Some p
-front_was s row others place it zero p runs = for_runs s (slice_get row place) p runs
-front_was s row others place it (suc k) p runs = sym (ap runs_of (removed_from row place (it.from k))) ∙ it.was k p runs
+front_was : (s : ChildSpec) (row others : List Child) (index : ℕ) (it : Kept (remove row index) others) (k p : ℕ) →
+    runs_of (slice_get (child_for s (slice_get row index) ∷ others) k) ≡ Some p →
+    runs_of (slice_get row (from_front index (λ n. behind index (it.from n)) k)) ≡ Some p
+front_was s row others index it zero p runs = for_runs s (slice_get row index) p runs
+front_was s row others index it (suc k) p runs = sym (ap runs_of (removed_from row index (it.from k))) ∙ it.was k p runs
 
-front_apart : (s : ChildSpec) (row others : List Child) (place : ℕ) (it : Kept (remove row place) others) (k l p q : ℕ) →
-    runs_of (slice_get (child_for s (slice_get row place) ∷ others) k) ≡ Some p →
-    runs_of (slice_get (child_for s (slice_get row place) ∷ others) l) ≡ Some q →
-    from_front place (λ n. behind place (it.from n)) k ≡ from_front place (λ n. behind place (it.from n)) l → k ≡ l
-front_apart s row others place it zero zero p q one other same = refl
-front_apart s row others place it zero (suc l) p q one other same = absurd (behind_never place (it.from l) same)
-front_apart s row others place it (suc k) zero p q one other same = absurd (behind_never place (it.from k) (sym same))
-front_apart s row others place it (suc k) (suc l) p q one other same =
-    ap suc (it.apart k l p q one other (behind_differ place (it.from k) (it.from l) same))
+front_apart : (s : ChildSpec) (row others : List Child) (index : ℕ) (it : Kept (remove row index) others) (k l p q : ℕ) →
+    runs_of (slice_get (child_for s (slice_get row index) ∷ others) k) ≡ Some p →
+    runs_of (slice_get (child_for s (slice_get row index) ∷ others) l) ≡ Some q →
+    from_front index (λ n. behind index (it.from n)) k ≡ from_front index (λ n. behind index (it.from n)) l → k ≡ l
+front_apart s row others index it zero zero p q one other same = refl
+front_apart s row others index it zero (suc l) p q one other same = absurd (behind_never index (it.from l) same)
+front_apart s row others index it (suc k) zero p q one other same = absurd (behind_never index (it.from k) (sym same))
+front_apart s row others index it (suc k) (suc l) p q one other same =
+    ap suc (it.apart k l p q one other (behind_differ index (it.from k) (it.from l) same))
 
 new_was : (s : ChildSpec) (row others : List Child) (it : Kept row others) (k p : ℕ) →
     runs_of (slice_get (child_for s None ∷ others) k) ≡ Some p → runs_of (slice_get row (from_front 0 it.from k)) ≡ Some p
@@ -81,10 +81,10 @@ front_kept s row others None it = record {
   was = new_was s row others it;
   apart = new_apart s row others it;
 }
-front_kept s row others (Some place) it = record {
-  from = from_front place (λ n. behind place (it.from n));
-  was = front_was s row others place it;
-  apart = front_apart s row others place it;
+front_kept s row others (Some index) it = record {
+  from = from_front index (λ n. behind index (it.from n));
+  was = front_was s row others index it;
+  apart = front_apart s row others index it;
 }
 
 renewed_kept : (specs : List ChildSpec) (row : List Child) → Kept row (renewed specs row)
@@ -135,9 +135,9 @@ renewed_live apps after t are kept =
       apart = λ one other p runs also.
           let same = kept.apart (at one.app (it.from one.app one.child)) (at other.app (it.from other.app other.child)) p (it.was one.app one.child p runs) (it.was other.app other.child p also) in
           let app : one.app ≡ other.app = ap (λ (s : Spot). s.app) same in
-          let places : it.from one.app one.child ≡ it.from one.app other.child =
+          let indices : it.from one.app one.child ≡ it.from one.app other.child =
           ap (λ (s : Spot). s.child) same ∙ ap (λ n. it.from n other.child) (sym app) in
           let there : runs_at (at one.app other.child) after ≡ Some p = ap (λ n. runs_at (at n other.child) after) app ∙ also in
-          let child = it.apart one.app one.child other.child p p runs there places in
+          let child = it.apart one.app one.child other.child p p runs there indices in
           (λ i. record { app = app i; child = child i });
     }

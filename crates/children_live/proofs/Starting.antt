@@ -27,7 +27,7 @@ use Rattle.children_live.proofs.Children.{at, revived_from, run_from, runs_of, s
 use Rattle.children_live.proofs.Lives.{LiveOn, begun_lives, begun_on, faultless_starts, given}
 use Rattle.children_live.specs.Children.{ChildrenLive, runs_at}
 
--- Processes start: everybody lives on, and those that were started, by their places, live, are above all that lived, and differ.
+-- Processes start: everybody lives on, and those that were started, by their indices, live, are above all that lived, and differ.
 pub record HaveStarted (t : Table) (pids : ℕ → Option ℕ) (after : Table) : Type 0 where
   pub on : LiveOn t after
   pub live : (k pid : ℕ) → pids k ≡ Some pid → IsSome (living pid after)

@@ -7,7 +7,7 @@ use Rattle.std.proofs.lemmas.List.Sorted.{All-permutation, IsPermutation-reverse
 use Rattle.std.proofs.lemmas.Option.{none-some}
 use Rattle.std.specs.List.{cons_option}
 use Rattle.app_table.proofs.Walks.{all_found_run}
-use Rattle.app_table.specs.Applications.{Application, place_of, set_child}
+use Rattle.app_table.specs.Applications.{Application, index_of, set_child}
 use Rattle.app_table.specs.Changes.{RunsAs, all_stopped, app_stopped, children_of, ending_order, pids_back, stopped}
 use Rattle.app_table.specs.Children.{in_state}
 use Rattle.app_table.specs.Modules.{running_with}
@@ -70,19 +70,19 @@ none_stopped [] k p runs = none-some p runs
 none_stopped (c ∷ cs) zero p runs = none-some p runs
 none_stopped (c ∷ cs) (suc k) p runs = none_stopped cs k p runs
 
-none_in : (apps : List Application) (place k p : ℕ) → runs_at (at place k) (app_stopped place apps) ≡ Some p → ⊥
-none_in [] place k p runs = none-some p runs
+none_in : (apps : List Application) (index k p : ℕ) → runs_at (at index k) (app_stopped index apps) ≡ Some p → ⊥
+none_in [] index k p runs = none-some p runs
 none_in (a ∷ others) zero k p runs = none_stopped a.children k p runs
-none_in (a ∷ others) (suc place) k p runs = none_in others place k p runs
+none_in (a ∷ others) (suc index) k p runs = none_in others index k p runs
 
-app_stopped_from : (place : ℕ) (apps : List Application) (spot : Spot) (p : ℕ) →
-    runs_at spot (app_stopped place apps) ≡ Some p → (runs_at spot apps ≡ Some p) × (spot.app ≡ place → ⊥)
-app_stopped_from place apps spot p runs =
-    elim (cases_eq spot.app place) [
+app_stopped_from : (index : ℕ) (apps : List Application) (spot : Spot) (p : ℕ) →
+    runs_at spot (app_stopped index apps) ≡ Some p → (runs_at spot apps ≡ Some p) × (spot.app ≡ index → ⊥)
+app_stopped_from index apps spot p runs =
+    elim (cases_eq spot.app index) [
       | inl here ↦
-          let there = subst (λ n. runs_at (at n spot.child) (app_stopped place apps) ≡ Some p) here runs in
-          absurd (none_in apps place spot.child p there)
-      | inr differs ↦ (ap (runs_in_app spot.child) (sym (elsewhere stopped apps place spot.app differs)) ∙ runs, differs)
+          let there = subst (λ n. runs_at (at n spot.child) (app_stopped index apps) ≡ Some p) here runs in
+          absurd (none_in apps index spot.child p there)
+      | inr differs ↦ (ap (runs_in_app spot.child) (sym (elsewhere stopped apps index spot.app differs)) ∙ runs, differs)
     ]
 
 -- its processes are those as which its children run
@@ -106,25 +106,25 @@ ending P (Some a) holds =
     let pids = filter_map (λ (c : Child). pid_in c.state) a.children in
     All-permutation P pids (reverse pids) (IsPermutation-reverse pids) (row_pids P a.children holds)
 
-not_ending : (place : ℕ) (apps : List Application) → Apart apps → (spot : Spot) (p : ℕ) → runs_at spot apps ≡ Some p →
-    (spot.app ≡ place → ⊥) → All (λ q. p ≡ q → ⊥) (ending_order place apps)
-not_ending place apps apart spot p runs differs =
-    ending (λ q. p ≡ q → ⊥) (slice_get apps place) (λ k q its same.
-    let one = apart spot (at place k) p runs (its ∙ ap (λ n. Some n) (sym same)) in
+not_ending : (index : ℕ) (apps : List Application) → Apart apps → (spot : Spot) (p : ℕ) → runs_at spot apps ≡ Some p →
+    (spot.app ≡ index → ⊥) → All (λ q. p ≡ q → ⊥) (ending_order index apps)
+not_ending index apps apart spot p runs differs =
+    ending (λ q. p ≡ q → ⊥) (slice_get apps index) (λ k q its same.
+    let one = apart spot (at index k) p runs (its ∙ ap (λ n. Some n) (sym same)) in
     differs (ap (λ (s : Spot). s.app) one))
 
 at_stopped_live : (o : Option ℕ) (apps : List Application) (t : Table) → ChildrenLive apps t →
     ChildrenLive (app_stopped_at o apps) (all_vacated (app_pids_at o apps) t)
 at_stopped_live None apps t kept = kept
-at_stopped_live (Some place) apps t kept = record {
+at_stopped_live (Some index) apps t kept = record {
   live = λ spot p runs.
-      let (was, differs) = app_stopped_from place apps spot p runs in
-      let leave = not_ending place apps kept.apart spot p was differs in
-      vacated_on (ending_order place apps) t p leave (kept.live spot p was);
+      let (was, differs) = app_stopped_from index apps spot p runs in
+      let leave = not_ending index apps kept.apart spot p was differs in
+      vacated_on (ending_order index apps) t p leave (kept.live spot p was);
   apart = λ one other p runs also.
-      kept.apart one other p (app_stopped_from place apps one p runs).0 (app_stopped_from place apps other p also).0;
+      kept.apart one other p (app_stopped_from index apps one p runs).0 (app_stopped_from index apps other p also).0;
 }
 
 pub stopped_app_live : (name : List ℕ) (apps : List Application) (t : Table) → ChildrenLive apps t →
     ChildrenLive (stopped_app name apps) (all_vacated (app_pids name apps) t)
-stopped_app_live name apps t kept = at_stopped_live (place_of name apps) apps t kept
+stopped_app_live name apps t kept = at_stopped_live (index_of name apps) apps t kept

@@ -34,7 +34,7 @@ use Rattle.sys_protocol.specs.Refusals.{RunsStartModule, module_of}
 use Rattle.sys_protocol.specs.Stopping.{StartAgain, app_pids, stopped_app, to_stop, unloaded_app}
 use Rattle.upgrade_calls.specs.Applying.{Applies}
 use Rattle.upgrade_calls.specs.Changing.{AllChange}
-use Rattle.upgrade_calls.specs.declared.changing.Change.{Change}
+use Rattle.upgrade_calls.specs.declared.changing.CodeChangeCall.{CodeChangeCall}
 
 -- Where a message arrives, a process takes one, or comes to rest, where processes are suspended, are resumed, are suspended again
 -- as they were, or change their states, where a function is applied, and where what evaluating has asked for is done, nobody
@@ -52,7 +52,7 @@ pub record ProcessStepsKeepChildren : Type 0 where
       ChildrenLive apps t → ChildrenLive apps (all_resumed pids t)
   pub unresumes : (rs : List Resumed) (apps : List Application) (t : Table) →
       ChildrenLive apps t → ChildrenLive apps (all_unresumed rs t)
-  pub changes : (code : List Instance) (cs : List Change) (apps : List Application) (t after : Table) (told : List Reply) →
+  pub changes : (code : List Instance) (cs : List CodeChangeCall) (apps : List Application) (t after : Table) (told : List Reply) →
       AllChange code cs t after told → ChildrenLive apps t → ChildrenLive apps after
   pub applies : (code : List Instance) (m f : List ℕ) (args : Trees) (apps : List Application) (t after : Table) →
       (told : List Reply) →

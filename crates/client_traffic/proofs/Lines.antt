@@ -35,7 +35,7 @@ pub amiss_at : (lines : List (List ℕ)) (n : ℕ) (line : List ℕ) (sent : Lis
     line ≡ get_or lines n line → AllSend (take n lines) sent → IsAmissIn line error →
     IsFirstAmiss lines (record { line = n + 1; error = error })
 amiss_at lines n line sent error within item so_far amiss = record {
-  place = n;
+  index = n;
   counted = refl;
   line = line;
   there = slice_get_read lines (length lines) n line refl within item;

@@ -26,7 +26,7 @@ SentBy (change kind name) sent = ⊥
 SentBy (load name path) sent = ⊥
 SentBy (undo mark) sent = ⊥
 SentBy (forget mark) sent = ⊥
-SentBy (commit place) sent = ⊥
+SentBy (commit job) sent = ⊥
 SentBy (arrive kind name text) sent =
     (term : Term) × IsRead text (one (tree term)) × (sent ≡ record { kind = kind; name = name; term = term } ∷ [])
 SentBy (serve service process) sent = ⊥
@@ -48,7 +48,7 @@ IsAmissBy (change kind name) e = e ≡ NoArrival
 IsAmissBy (load name path) e = e ≡ NoArrival
 IsAmissBy (undo mark) e = e ≡ NoArrival
 IsAmissBy (forget mark) e = e ≡ NoArrival
-IsAmissBy (commit place) e = e ≡ NoArrival
+IsAmissBy (commit job) e = e ≡ NoArrival
 IsAmissBy (arrive kind name text) e = (why : Misread) × Misreads text why × (e ≡ error_of why)
 IsAmissBy (serve service process) e = e ≡ NoArrival
 IsAmissBy (revive app id) e = e ≡ NoArrival
@@ -88,10 +88,10 @@ AllSend (line ∷ lines) sent = (first : List Arrival) × (behind : List Arrival
 
 -- The first line that is no traffic, counted from 1: those before it are read, and this one is amiss.
 pub record IsFirstAmiss (lines : List (List ℕ)) (fault : TrafficFault) : Type 0 where
-  pub place : ℕ
-  pub counted : fault.line ≡ place + 1
+  pub index : ℕ
+  pub counted : fault.line ≡ index + 1
   pub line : List ℕ
-  pub there : slice_get lines place ≡ Some line
+  pub there : slice_get lines index ≡ Some line
   pub before : List Arrival
-  pub sent : AllSend (take place lines) before
+  pub sent : AllSend (take index lines) before
   pub amiss : IsAmissIn line fault.error

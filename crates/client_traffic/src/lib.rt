@@ -2,8 +2,8 @@
 //!
 //! # What is proved
 //!
-//! [`read_traffic`] has what each line sends, in order (`AllSend`); or the first line that sends nothing and is neither blank nor a
-//! comment, and why (`IsFirstAmiss`).
+//! [`read_traffic`] has what each line sends, in order (`AllSend`); or the first line that sends nothing and is neither blank
+//! nor a comment, and why (`IsFirstAmiss`).
 #![tactic(auto)]
 
 ghost use Rattle.std.specs.Prelude.{◌≡◌, ◌⊎◌, ◌∷◌, [], MatchResult};
@@ -13,7 +13,7 @@ ghost use Rattle.shell_requests.specs.Request.{arrive};
 
 use erl_scan::ReadError;
 use shell_exec::{Misread, term_of};
-use shell_requests::{Arrival as Kind, Line, Name, Request, read_line};
+use shell_requests::{ArrivalKind, Line, Name, Request, read_line};
 use std::alloc::Global;
 use thiserror::Error;
 use upgrade_rehearsal::Arrival;
@@ -49,7 +49,8 @@ pub struct TrafficFault {
 ///
 /// # Errors
 ///
-/// The first line that is no traffic, and why; or the one that was read when memory was refused. Nothing of the lines before it is kept.
+/// The first line that is no traffic, and why; or the one that was read when memory was refused. Nothing of the lines before
+/// it is kept.
 pub fn read_traffic(alloc: Global, text: &str) -> Result<Vec<Arrival>, TrafficFault>
     ensures { MatchResult result (λ found. AllSend (lines_of text.now) found.items) (IsFirstAmiss (lines_of text.now)) }
 {
@@ -90,7 +91,7 @@ fn push_line(alloc: Global, line: &str, found: &mut Vec<Arrival>) -> Result<(), 
 /// What a client sends.
 fn arrival_of(
     alloc: Global,
-    kind: Kind,
+    kind: ArrivalKind,
     name: Name<'_>,
     text: &str,
 ) -> Result<Arrival, TrafficError>

@@ -36,21 +36,21 @@ pub undone_more : (us : List AppsUndo) (u : AppsUndo) (apps : List Application) 
 undone_more [] u apps = refl
 undone_more (first ∷ us) u apps = ap (undone first) (undone_more us u apps)
 
-formers_more : (place : ℕ) (us : List AppsUndo) (u : AppsUndo) → all_formers_at place (us ++ u ∷ []) ≡ all_formers_at place us ++ formers_at place u
-formers_more place us u =
-    flat_map-append (formers_at place) us (u ∷ []) ∙ ap (λ (ss : List ChildSpec). all_formers_at place us ++ ss) (append-nil (formers_at place u))
+formers_more : (index : ℕ) (us : List AppsUndo) (u : AppsUndo) → all_formers_at index (us ++ u ∷ []) ≡ all_formers_at index us ++ formers_at index u
+formers_more index us u =
+    flat_map-append (formers_at index) us (u ∷ []) ∙ ap (λ (ss : List ChildSpec). all_formers_at index us ++ ss) (append-nil (formers_at index u))
 
-formers_same : (place : ℕ) (us : List AppsUndo) (u : AppsUndo) → formers_at place u ≡ [] → all_formers_at place (us ++ u ∷ []) ≡ all_formers_at place us
-formers_same place us u none =
-    formers_more place us u ∙ ap (λ (ss : List ChildSpec). all_formers_at place us ++ ss) none ∙ append-nil (all_formers_at place us)
+formers_same : (index : ℕ) (us : List AppsUndo) (u : AppsUndo) → formers_at index u ≡ [] → all_formers_at index (us ++ u ∷ []) ≡ all_formers_at index us
+formers_same index us u none =
+    formers_more index us u ∙ ap (λ (ss : List ChildSpec). all_formers_at index us ++ ss) none ∙ append-nil (all_formers_at index us)
 
 -- of another application than the one whose children were specified anew
-none_elsewhere : (place other : ℕ) (u : AppsUndo) → IsRenewal place u → (other ≡ place → ⊥) → formers_at other u ≡ []
-none_elsewhere place other u (edits, is) differs =
-    ap (formers_at other) is ∙ by_test (place == other) refl
+none_elsewhere : (index other : ℕ) (u : AppsUndo) → IsRenewal index u → (other ≡ index → ⊥) → formers_at other u ≡ []
+none_elsewhere index other u (edits, is) differs =
+    ap (formers_at other) is ∙ by_test (index == other) refl
   where
-    by_test : (b : Bool) → (place == other) ≡ b → formers_at other (Renewed place edits) ≡ []
-    by_test true same = absurd (differs (sym (eqb-true place other same)))
+    by_test : (b : Bool) → (index == other) ≡ b → formers_at other (Renewed index edits) ≡ []
+    by_test true same = absurd (differs (sym (eqb-true index other same)))
     by_test false same = ap (λ (b : Bool). if b then formers edits else []) same
 
 -- A supervision names no two children by one Id.
@@ -94,27 +94,27 @@ pub no_renewals : (code : List Instance) (apps : List Application) → AreRenewa
 no_renewals code apps = record {
   back = refl;
   only = let P : AppsUndo → Type 0 = λ v. (at : ℕ) × IsRenewal at v in All-nil P;
-  places = λ place. as_before refl refl;
+  indices = λ index. as_before refl refl;
 }
 
 same_still : (code : List Instance) (held now : List ChildSpec) (o p q : Option Application) → now ≡ held → q ≡ p → IsRenewedOrNot code held o p → IsRenewedOrNot code now o q
 same_still code held now o p q holds stays x =
     subst (λ (r : Option Application). IsRenewedOrNot code now o r) (sym stays) (subst (λ (ss : List ChildSpec). IsRenewedOrNot code ss o p) (sym holds) x)
 
--- The application at a place has its children specified anew: the first time, or once more.
-module _ (code : List Instance) (us : List AppsUndo) (u : AppsUndo) (before apps after : List Application) (place : ℕ) (a : Application) (s : StartModule) (specs : List ChildSpec) (acts : List Act) (stands : slice_get apps place ≡ Some a) (its : a.spec.start ≡ Some s) (given : starts.GivesSupervision code s specs acts) (is : after ≡ children_renewed place specs apps) (lost : AreSpecsLost (formers_at place u) (children_at place apps) (children_at place after)) where
-  stands_then : slice_get after place ≡ Some (with_renewed specs a)
-  stands_then = ap (λ (xs : List Application). slice_get xs place) is ∙ slice_get-changed_at (with_renewed specs) apps place a stands
+-- The application at an index has its children specified anew: the first time, or once more.
+module _ (code : List Instance) (us : List AppsUndo) (u : AppsUndo) (before apps after : List Application) (index : ℕ) (a : Application) (s : StartModule) (specs : List ChildSpec) (acts : List Act) (stands : slice_get apps index ≡ Some a) (its : a.spec.start ≡ Some s) (given : starts.GivesSupervision code s specs acts) (is : after ≡ children_renewed index specs apps) (lost : AreSpecsLost (formers_at index u) (children_at index apps) (children_at index after)) where
+  stands_then : slice_get after index ≡ Some (with_renewed specs a)
+  stands_then = ap (λ (xs : List Application). slice_get xs index) is ∙ slice_get-changed_at (with_renewed specs) apps index a stands
 
-  lost_here : AreSpecsLost (formers_at place u) a.children (renewed specs a.children)
+  lost_here : AreSpecsLost (formers_at index u) a.children (renewed specs a.children)
   lost_here =
-      subst (λ (cs : List Child). AreSpecsLost (formers_at place u) cs (renewed specs a.children)) (ap children_in stands)
-      (subst (λ (cs : List Child). AreSpecsLost (formers_at place u) (children_at place apps) cs) (ap children_in stands_then) lost)
+      subst (λ (cs : List Child). AreSpecsLost (formers_at index u) cs (renewed specs a.children)) (ap children_in stands)
+      (subst (λ (cs : List Child). AreSpecsLost (formers_at index u) (children_at index apps) cs) (ap children_in stands_then) lost)
 
-  first_time : slice_get apps place ≡ slice_get before place → all_formers_at place us ≡ [] → IsRenewedOrNot code (all_formers_at place (us ++ u ∷ [])) (slice_get before place) (slice_get after place)
+  first_time : slice_get apps index ≡ slice_get before index → all_formers_at index us ≡ [] → IsRenewedOrNot code (all_formers_at index (us ++ u ∷ [])) (slice_get before index) (slice_get after index)
   first_time same none =
-      let held : formers_at place u ≡ all_formers_at place (us ++ u ∷ []) =
-      sym (formers_more place us u ∙ ap (λ (ss : List ChildSpec). ss ++ formers_at place u) none) in
+      let held : formers_at index u ≡ all_formers_at index (us ++ u ∷ []) =
+      sym (formers_more index us u ∙ ap (λ (ss : List ChildSpec). ss ++ formers_at index u) none) in
       anew a (with_renewed specs a) (sym same ∙ stands) stands_then (record {
         supervisor = s;
         specs = specs;
@@ -126,7 +126,7 @@ module _ (code : List Instance) (us : List AppsUndo) (u : AppsUndo) (before apps
       })
 
   -- its children were specified so already
-  once_more : (b c : Application) (held : List ChildSpec) → slice_get apps place ≡ Some c → IsRenewed code held b c → with_renewed specs a ≡ a
+  once_more : (b c : Application) (held : List ChildSpec) → slice_get apps index ≡ Some c → IsRenewed code held b c → with_renewed specs a ≡ a
   once_more b c held there r =
       let same : c ≡ a = same_Some c a (sym there ∙ stands) in
       let now : a ≡ with_renewed r.specs b = sym same ∙ r.renewed in
@@ -137,44 +137,44 @@ module _ (code : List Instance) (us : List AppsUndo) (u : AppsUndo) (before apps
       ∙ ap (λ (cs : List Child). record b { children = cs }) (renewed_again r.specs b.children)
       ∙ sym now
 
-  here : IsRenewedOrNot code (all_formers_at place us) (slice_get before place) (slice_get apps place) → IsRenewedOrNot code (all_formers_at place (us ++ u ∷ [])) (slice_get before place) (slice_get after place)
+  here : IsRenewedOrNot code (all_formers_at index us) (slice_get before index) (slice_get apps index) → IsRenewedOrNot code (all_formers_at index (us ++ u ∷ [])) (slice_get before index) (slice_get after index)
   here (as_before none same) = first_time same none
   here (anew b c first stood r) =
-      let stays : with_renewed specs a ≡ a = once_more b c (all_formers_at place us) stood r in
-      let still : AreSpecsLost (formers_at place u) a.children a.children =
-      subst (λ (cs : List Child). AreSpecsLost (formers_at place u) a.children cs) (ap (λ (x : Application). x.children) stays) lost_here in
-      same_still code (all_formers_at place us) (all_formers_at place (us ++ u ∷ [])) (slice_get before place) (slice_get apps place) (slice_get after place)
-      (formers_same place us u (none_lost (formers_at place u) a.children still))
+      let stays : with_renewed specs a ≡ a = once_more b c (all_formers_at index us) stood r in
+      let still : AreSpecsLost (formers_at index u) a.children a.children =
+      subst (λ (cs : List Child). AreSpecsLost (formers_at index u) a.children cs) (ap (λ (x : Application). x.children) stays) lost_here in
+      same_still code (all_formers_at index us) (all_formers_at index (us ++ u ∷ [])) (slice_get before index) (slice_get apps index) (slice_get after index)
+      (formers_same index us u (none_lost (formers_at index u) a.children still))
       (stands_then ∙ ap Some stays ∙ sym stands)
       (anew b c first stood r)
 
-  there : IsRenewal place u → (other : ℕ) → (other ≡ place → ⊥) → IsRenewedOrNot code (all_formers_at other us) (slice_get before other) (slice_get apps other) → IsRenewedOrNot code (all_formers_at other (us ++ u ∷ [])) (slice_get before other) (slice_get after other)
+  there : IsRenewal index u → (other : ℕ) → (other ≡ index → ⊥) → IsRenewedOrNot code (all_formers_at other us) (slice_get before other) (slice_get apps other) → IsRenewedOrNot code (all_formers_at other (us ++ u ∷ [])) (slice_get before other) (slice_get after other)
   there only other differs x =
       same_still code (all_formers_at other us) (all_formers_at other (us ++ u ∷ [])) (slice_get before other) (slice_get apps other) (slice_get after other)
-      (formers_same other us u (none_elsewhere place other u only differs))
-      (ap (λ (xs : List Application). slice_get xs other) is ∙ elsewhere (with_renewed specs) apps place other differs)
+      (formers_same other us u (none_elsewhere index other u only differs))
+      (ap (λ (xs : List Application). slice_get xs other) is ∙ elsewhere (with_renewed specs) apps index other differs)
       x
 
-  everywhere : IsRenewal place u → (other : ℕ) → (b : Bool) → (other == place) ≡ b → IsRenewedOrNot code (all_formers_at other us) (slice_get before other) (slice_get apps other) → IsRenewedOrNot code (all_formers_at other (us ++ u ∷ [])) (slice_get before other) (slice_get after other)
+  everywhere : IsRenewal index u → (other : ℕ) → (b : Bool) → (other == index) ≡ b → IsRenewedOrNot code (all_formers_at other us) (slice_get before other) (slice_get apps other) → IsRenewedOrNot code (all_formers_at other (us ++ u ∷ [])) (slice_get before other) (slice_get after other)
   everywhere only other true same x =
-      let is_it : place ≡ other = sym (eqb-true other place same) in
+      let is_it : index ≡ other = sym (eqb-true other index same) in
       subst (λ n. IsRenewedOrNot code (all_formers_at n us) (slice_get before n) (slice_get apps n) → IsRenewedOrNot code (all_formers_at n (us ++ u ∷ [])) (slice_get before n) (slice_get after n)) is_it here x
   everywhere only other false same x =
-      there only other (λ is_it. false_true (sym same ∙ eq-eqb other place is_it)) x
+      there only other (λ is_it. false_true (sym same ∙ eq-eqb other index is_it)) x
 
-pub renewals_more : (code : List Instance) (us : List AppsUndo) (u : AppsUndo) (before apps after : List Application) (place : ℕ) (a : Application) →
-    (s : StartModule) (specs : List ChildSpec) (acts : List Act) → slice_get apps place ≡ Some a → a.spec.start ≡ Some s →
-    starts.GivesSupervision code s specs acts → after ≡ children_renewed place specs apps → undone u after ≡ apps → IsRenewal place u →
-    (AreDistinct specs → AreSpecsLost (formers_at place u) (children_at place apps) (children_at place after)) →
+pub renewals_more : (code : List Instance) (us : List AppsUndo) (u : AppsUndo) (before apps after : List Application) (index : ℕ) (a : Application) →
+    (s : StartModule) (specs : List ChildSpec) (acts : List Act) → slice_get apps index ≡ Some a → a.spec.start ≡ Some s →
+    starts.GivesSupervision code s specs acts → after ≡ children_renewed index specs apps → undone u after ≡ apps → IsRenewal index u →
+    (AreDistinct specs → AreSpecsLost (formers_at index u) (children_at index apps) (children_at index after)) →
     AreRenewalsIn code us before apps → AreRenewalsIn code (us ++ u ∷ []) before after
-renewals_more code us u before apps after place a s specs acts stands its given is back only lost so_far =
+renewals_more code us u before apps after index a s specs acts stands its given is back only lost so_far =
     let P : AppsUndo → Type 0 = λ v. (at : ℕ) × IsRenewal at v in
     record {
       back = undone_more us u after ∙ ap (all_undone us) back ∙ so_far.back;
-      only = All-push P us u so_far.only (place, only);
-      places = λ other.
-          everywhere code us u before apps after place a s specs acts stands its given is (lost (given_distinct code s specs acts given))
-          only other (other == place) refl (so_far.places other);
+      only = All-push P us u so_far.only (index, only);
+      indices = λ other.
+          everywhere code us u before apps after index a s specs acts stands its given is (lost (given_distinct code s specs acts given))
+          only other (other == index) refl (so_far.indices other);
     }
 
 -- Over all the steps.
@@ -189,5 +189,5 @@ pub are_renewals : (code : List Instance) (us : List AppsUndo) (before after : L
 are_renewals code us before after all = record {
   back = all.back;
   only = all.only;
-  pieces = λ place. place_lost code (all_formers_at place us) (slice_get before place) (slice_get after place) (all.places place);
+  pieces = λ index. place_lost code (all_formers_at index us) (slice_get before index) (slice_get after index) (all.indices index);
 }

@@ -27,44 +27,44 @@ use Rattle.values.specs.Failure.{Fails}
 use Rattle.values.specs.declared.failure.Failure.{Failure}
 use Rattle.values.specs.declared.failure.Failure.TheVariants.{Refused, Memory}
 
-take_next : (apps : List Application) (place : ℕ) (b : Application) → place < length apps →
-    take (suc place) (changed_at (λ it. b) apps place) ≡ take place apps ++ b ∷ []
-take_next [] place b within = absurd (omega (arith, within))
+take_next : (apps : List Application) (index : ℕ) (b : Application) → index < length apps →
+    take (suc index) (changed_at (λ it. b) apps index) ≡ take index apps ++ b ∷ []
+take_next [] index b within = absurd (omega (arith, within))
 take_next (a ∷ apps) zero b within = refl
-take_next (a ∷ apps) (suc place) b within = ap (λ (xs : List Application). a ∷ xs) (take_next apps place b (omega (arith, within)))
+take_next (a ∷ apps) (suc index) b within = ap (λ (xs : List Application). a ∷ xs) (take_next apps index b (omega (arith, within)))
 
-take_changed : (apps : List Application) (place : ℕ) (b : Application) → place < length apps →
-    take (place + 1) (changed_at (λ it. b) apps place) ≡ take place apps ++ b ∷ []
-take_changed apps place b within =
-    let next : place + 1 ≡ suc place = omega arith in
-    ap (λ n. take n (changed_at (λ it. b) apps place)) next ∙ take_next apps place b within
+take_changed : (apps : List Application) (index : ℕ) (b : Application) → index < length apps →
+    take (index + 1) (changed_at (λ it. b) apps index) ≡ take index apps ++ b ∷ []
+take_changed apps index b within =
+    let next : index + 1 ≡ suc index = omega arith in
+    ap (λ n. take n (changed_at (λ it. b) apps index)) next ∙ take_next apps index b within
 
-drop_next : (apps : List Application) (place : ℕ) (f : Application → Application) →
-    drop (suc place) (changed_at f apps place) ≡ drop (suc place) apps
-drop_next [] place f = refl
+drop_next : (apps : List Application) (index : ℕ) (f : Application → Application) →
+    drop (suc index) (changed_at f apps index) ≡ drop (suc index) apps
+drop_next [] index f = refl
 drop_next (a ∷ apps) zero f = refl
-drop_next (a ∷ apps) (suc place) f = drop_next apps place f
+drop_next (a ∷ apps) (suc index) f = drop_next apps index f
 
-pub drop_changed : (apps : List Application) (place : ℕ) (f : Application → Application) →
-    drop (place + 1) (changed_at f apps place) ≡ drop (place + 1) apps
-drop_changed apps place f =
-    let next : place + 1 ≡ suc place = omega arith in
-    ap (λ n. drop n (changed_at f apps place)) next ∙ drop_next apps place f ∙ ap (λ n. drop n apps) (sym next)
+pub drop_changed : (apps : List Application) (index : ℕ) (f : Application → Application) →
+    drop (index + 1) (changed_at f apps index) ≡ drop (index + 1) apps
+drop_changed apps index f =
+    let next : index + 1 ≡ suc index = omega arith in
+    ap (λ n. drop n (changed_at f apps index)) next ∙ drop_next apps index f ∙ ap (λ n. drop n apps) (sym next)
 
 append_one : {A : Type 0} (xs ys : List A) (y : A) → (xs ++ y ∷ []) ++ ys ≡ xs ++ y ∷ ys
 append_one [] ys y = refl
 append_one (x ∷ xs) ys y = ap (λ zs. x ∷ zs) (append_one xs ys y)
 
--- How far it has come: what comes of the applications from a place on comes, behind those so far, of all.
-pub record Renewing (code : List Instance) (name : List ℕ) (t : Table) (apps : List Application) (from : Evaluated) (place : ℕ)
+-- How far it has come: what comes of the applications from an index on comes, behind those so far, of all.
+pub record Renewing (code : List Instance) (name : List ℕ) (t : Table) (apps : List Application) (from : Evaluated) (index : ℕ)
     (now : List Application) (e : Evaluated) : Type 0 where
   pub since : List Reply
   pub tells : told_after code e t ≡ told_after code from t ++ since
   pub evaluated : AreEvaluated t e
   pub changes : e.changes ≡ from.changes
   pub all : (last : List Application) (after : Table) (rest : List Reply) →
-      AllRenew code name (drop place apps) (processes_after code e t) last after rest →
-      AllRenew code name apps (processes_after code from t) (take place now ++ last) after (since ++ rest)
+      AllRenew code name (drop index apps) (processes_after code e t) last after rest →
+      AllRenew code name apps (processes_after code from t) (take index now ++ last) after (since ++ rest)
 
 pub none_renewed : (code : List Instance) (name : List ℕ) (t : Table) (apps : List Application) (from : Evaluated) → AreEvaluated t from →
     Renewing code name t apps from 0 apps from
@@ -76,27 +76,27 @@ none_renewed code name t apps from it = record {
   all = λ last after rest x. x;
 }
 
-pub one_renewed : (code : List Instance) (name : List ℕ) (t : Table) (apps : List Application) (from : Evaluated) (place : ℕ) →
-    (now after : List Application) (e f : Evaluated) (a : Application) → drop place apps ≡ a ∷ drop (place + 1) apps → place < length now →
-    Renewing code name t apps from place now e → RenewsOne code name place now after t e f a →
-    Renewing code name t apps from (place + 1) after f
-one_renewed code name t apps from place now after e f a next within reached one =
+pub one_renewed : (code : List Instance) (name : List ℕ) (t : Table) (apps : List Application) (from : Evaluated) (index : ℕ) →
+    (now after : List Application) (e f : Evaluated) (a : Application) → drop index apps ≡ a ∷ drop (index + 1) apps → index < length now →
+    Renewing code name t apps from index now e → RenewsOne code name index now after t e f a →
+    Renewing code name t apps from (index + 1) after f
+one_renewed code name t apps from index now after e f a next within reached one =
     let b = one.now in
-    let front : take (place + 1) after ≡ take place now ++ b ∷ [] = ap (take (place + 1)) one.apps ∙ take_changed now place b within in
+    let front : take (index + 1) after ≡ take index now ++ b ∷ [] = ap (take (index + 1)) one.apps ∙ take_changed now index b within in
     record {
       since = reached.since ++ one.said;
       tells = one.tells ∙ ap (λ (r : List Reply). r ++ one.said) reached.tells ∙ append_assoc (told_after code from t) reached.since one.said;
       evaluated = one.evaluated;
       changes = one.changes ∙ reached.changes;
       all = λ last end rest x.
-          let here : AllRenew code name (a ∷ drop (place + 1) apps) (processes_after code e t) (b ∷ last) end (one.said ++ rest) =
+          let here : AllRenew code name (a ∷ drop (index + 1) apps) (processes_after code e t) (b ∷ last) end (one.said ++ rest) =
           (processes_after code f t, one.said, rest, one.renews, x, refl) in
           let there = subst (λ (xs : List Application). AllRenew code name xs (processes_after code e t) (b ∷ last) end (one.said ++ rest)) (sym next) here in
           let more = reached.all (b ∷ last) end (one.said ++ rest) there in
-          let lists : take place now ++ b ∷ last ≡ take (place + 1) after ++ last =
-          sym (append_one (take place now) last b) ∙ ap (λ (xs : List Application). xs ++ last) (sym front) in
+          let lists : take index now ++ b ∷ last ≡ take (index + 1) after ++ last =
+          sym (append_one (take index now) last b) ∙ ap (λ (xs : List Application). xs ++ last) (sym front) in
           subst (λ (xs : List Application). AllRenew code name apps (processes_after code from t) xs end ((reached.since ++ one.said) ++ rest)) lists
-          (subst (λ (r : List Reply). AllRenew code name apps (processes_after code from t) (take place now ++ b ∷ last) end r)
+          (subst (λ (r : List Reply). AllRenew code name apps (processes_after code from t) (take index now ++ b ∷ last) end r)
           (sym (append_assoc reached.since one.said rest)) more);
     }
 
@@ -112,15 +112,15 @@ drop_whole [] (suc n) long = refl
 drop_whole (x ∷ xs) zero long = absurd (omega (arith, long))
 drop_whole (x ∷ xs) (suc n) long = drop_whole xs n (omega (arith, long))
 
-pub all_renewed : (code : List Instance) (name : List ℕ) (t : Table) (apps : List Application) (from : Evaluated) (place : ℕ) →
-    (now : List Application) (e : Evaluated) → length apps ≤ place → length now ≤ place →
-    Renewing code name t apps from place now e → RenewsAll code name apps now t from e
-all_renewed code name t apps from place now e long past reached =
+pub all_renewed : (code : List Instance) (name : List ℕ) (t : Table) (apps : List Application) (from : Evaluated) (index : ℕ) →
+    (now : List Application) (e : Evaluated) → length apps ≤ index → length now ≤ index →
+    Renewing code name t apps from index now e → RenewsAll code name apps now t from e
+all_renewed code name t apps from index now e long past reached =
     let here = processes_after code e t in
-    let last : AllRenew code name (drop place apps) here [] here [] =
-    subst (λ (xs : List Application). AllRenew code name xs here [] here []) (sym (drop_whole apps place long)) (refl, refl, refl) in
+    let last : AllRenew code name (drop index apps) here [] here [] =
+    subst (λ (xs : List Application). AllRenew code name xs here [] here []) (sym (drop_whole apps index long)) (refl, refl, refl) in
     let all = reached.all [] here [] last in
-    let whole = subst (λ (xs : List Application). AllRenew code name apps (processes_after code from t) xs here (reached.since ++ [])) (take_whole now place past) all in
+    let whole = subst (λ (xs : List Application). AllRenew code name apps (processes_after code from t) xs here (reached.since ++ [])) (take_whole now index past) all in
     record {
       said = reached.since;
       renew = subst (AllRenew code name apps (processes_after code from t) now here) (append-nil reached.since) whole;
@@ -130,22 +130,22 @@ all_renewed code name t apps from place now e long past reached =
     }
 
 -- one that gives a supervision isn't the first that gives none
-pub bad_later : (code : List Instance) (name : List ℕ) (apps : List Application) (place : ℕ) (a : Application) →
-    drop place apps ≡ a ∷ drop (place + 1) apps → Gives code (supervisor_in name a) →
-    ((x : Term) → FirstBadInit code name (drop place apps) x → FirstBadInit code name apps x) →
-    (x : Term) → FirstBadInit code name (drop (place + 1) apps) x → FirstBadInit code name apps x
-bad_later code name apps place a next gives before x bad =
+pub bad_later : (code : List Instance) (name : List ℕ) (apps : List Application) (index : ℕ) (a : Application) →
+    drop index apps ≡ a ∷ drop (index + 1) apps → Gives code (supervisor_in name a) →
+    ((x : Term) → FirstBadInit code name (drop index apps) x → FirstBadInit code name apps x) →
+    (x : Term) → FirstBadInit code name (drop (index + 1) apps) x → FirstBadInit code name apps x
+bad_later code name apps index a next gives before x bad =
     before x (subst (λ (xs : List Application). FirstBadInit code name xs x) (sym next) (inr (gives, bad)))
 
--- The application at a place, and those behind it.
-pub next_place : (now apps : List Application) (place : ℕ) → length now ≡ length apps → place < length apps → drop place now ≡ drop place apps →
-    (a : Application) × (slice_get now place ≡ Some a) × (drop place apps ≡ a ∷ drop (place + 1) apps) × (drop (place + 1) now ≡ drop (place + 1) apps)
-next_place now apps place long within same =
-    let (a, at, next) = split now place (omega (arith, long, within)) in
-    let (b, there, also) = split apps place within in
-    let both : a ∷ drop (place + 1) now ≡ b ∷ drop (place + 1) apps = sym next ∙ same ∙ also in
-    let first : b ≡ a = sym (head_same a b (drop (place + 1) now) (drop (place + 1) apps) both) in
-    (a, at, also ∙ ap (λ (x : Application). x ∷ drop (place + 1) apps) first, tail_same a b (drop (place + 1) now) (drop (place + 1) apps) both)
+-- The application at an index, and those behind it.
+pub next_index : (now apps : List Application) (index : ℕ) → length now ≡ length apps → index < length apps → drop index now ≡ drop index apps →
+    (a : Application) × (slice_get now index ≡ Some a) × (drop index apps ≡ a ∷ drop (index + 1) apps) × (drop (index + 1) now ≡ drop (index + 1) apps)
+next_index now apps index long within same =
+    let (a, at, next) = split now index (omega (arith, long, within)) in
+    let (b, there, also) = split apps index within in
+    let both : a ∷ drop (index + 1) now ≡ b ∷ drop (index + 1) apps = sym next ∙ same ∙ also in
+    let first : b ≡ a = sym (head_same a b (drop (index + 1) now) (drop (index + 1) apps) both) in
+    (a, at, also ∙ ap (λ (x : Application). x ∷ drop (index + 1) apps) first, tail_same a b (drop (index + 1) now) (drop (index + 1) apps) both)
   where
     split : (xs : List Application) (n : ℕ) → n < length xs → (x : Application) × (slice_get xs n ≡ Some x) × (drop n xs ≡ x ∷ drop (n + 1) xs)
     split [] n below = absurd (omega (arith, below))
@@ -168,38 +168,38 @@ next_place now apps place long within same =
 
 -- One application, whose children are specified anew, or stay.
 
-constant : {A : Type 0} (f : A → A) (xs : List A) (place : ℕ) (x : A) → slice_get xs place ≡ Some x → changed_at f xs place ≡ changed_at (λ it. f x) xs place
-constant f [] place x at = refl
+constant : {A : Type 0} (f : A → A) (xs : List A) (index : ℕ) (x : A) → slice_get xs index ≡ Some x → changed_at f xs index ≡ changed_at (λ it. f x) xs index
+constant f [] index x at = refl
 constant f (y ∷ xs) zero x at = ap (λ z. f z ∷ xs) (same_Some y x at)
-constant f (y ∷ xs) (suc place) x at = ap (λ zs. y ∷ zs) (constant f xs place x at)
+constant f (y ∷ xs) (suc index) x at = ap (λ zs. y ∷ zs) (constant f xs index x at)
 
-stays : {A : Type 0} (xs : List A) (place : ℕ) (x : A) → slice_get xs place ≡ Some x → xs ≡ changed_at (λ it. x) xs place
-stays [] place x at = refl
+stays : {A : Type 0} (xs : List A) (index : ℕ) (x : A) → slice_get xs index ≡ Some x → xs ≡ changed_at (λ it. x) xs index
+stays [] index x at = refl
 stays (y ∷ xs) zero x at = ap (λ z. z ∷ xs) (same_Some y x at)
-stays (y ∷ xs) (suc place) x at = ap (λ zs. y ∷ zs) (stays xs place x at)
+stays (y ∷ xs) (suc index) x at = ap (λ zs. y ∷ zs) (stays xs index x at)
 
-pub not_renewed : (code : List Instance) (name : List ℕ) (place : ℕ) (apps : List Application) (t : Table) (e : Evaluated) (a : Application) →
-    slice_get apps place ≡ Some a → supervisor_in name a ≡ None → AreEvaluated t e → RenewsOne code name place apps apps t e e a
-not_renewed code name place apps t e a at none it = record {
+pub not_renewed : (code : List Instance) (name : List ℕ) (index : ℕ) (apps : List Application) (t : Table) (e : Evaluated) (a : Application) →
+    slice_get apps index ≡ Some a → supervisor_in name a ≡ None → AreEvaluated t e → RenewsOne code name index apps apps t e e a
+not_renewed code name index apps t e a at none it = record {
   now = a;
   said = [];
-  apps = stays apps place a at;
+  apps = stays apps index a at;
   renews = subst (λ o. RenewsIf code o a a (processes_after code e t) (processes_after code e t) []) (sym none) (refl, refl, refl);
   tells = sym (append-nil (told_after code e t));
   evaluated = it;
   changes = refl;
 }
 
-pub is_renewed : (code : List Instance) (name : List ℕ) (place : ℕ) (apps after : List Application) (t : Table) (e f : Evaluated) →
-    (a : Application) (s : StartModule) (specs : List ChildSpec) (acts : List Act) → slice_get apps place ≡ Some a →
-    supervisor_in name a ≡ Some s → GivesSupervision code s specs acts → after ≡ children_renewed place specs apps → f ≡ asked acts e →
-    AreEvaluated t e → AreEvaluated t f → RenewsOne code name place apps after t e f a
-is_renewed code name place apps after t e f a s specs acts at is given renewed asks it then =
+pub is_renewed : (code : List Instance) (name : List ℕ) (index : ℕ) (apps after : List Application) (t : Table) (e f : Evaluated) →
+    (a : Application) (s : StartModule) (specs : List ChildSpec) (acts : List Act) → slice_get apps index ≡ Some a →
+    supervisor_in name a ≡ Some s → GivesSupervision code s specs acts → after ≡ children_renewed index specs apps → f ≡ asked acts e →
+    AreEvaluated t e → AreEvaluated t f → RenewsOne code name index apps after t e f a
+is_renewed code name index apps after t e f a s specs acts at is given renewed asks it then =
     let both = asked_after code t acts e it in
     record {
       now = with_renewed specs a;
       said = begun_told None code acts (processes_after code e t);
-      apps = renewed ∙ constant (with_renewed specs) apps place a at;
+      apps = renewed ∙ constant (with_renewed specs) apps index a at;
       renews = subst (λ o. RenewsIf code o a (with_renewed specs a) (processes_after code e t) (processes_after code f t) (begun_told None code acts (processes_after code e t))) (sym is)
           (record {
             specs = specs;
@@ -228,19 +228,19 @@ messages_given code s specs acts given =
     (All-from_recursion (λ (a : Act). IsMessage (act_of a)) o.acts
     (messages_in o.acts (recursion_from_All IsMessage (map act_of o.acts) ((evaluates_keeps _ _ _ _ _ given.gives).messages refl))))
 
--- what stands at a place
-pub stands : (apps : List Application) (place : ℕ) → place < length apps → (a : Application) × (slice_get apps place ≡ Some a)
-stands [] place within = absurd (omega (arith, within))
+-- what stands at an index
+pub stands : (apps : List Application) (index : ℕ) → index < length apps → (a : Application) × (slice_get apps index ≡ Some a)
+stands [] index within = absurd (omega (arith, within))
 stands (a ∷ apps) zero within = (a, refl)
-stands (a ∷ apps) (suc place) within = stands apps place (omega (arith, within))
+stands (a ∷ apps) (suc index) within = stands apps index (omega (arith, within))
 
 -- the first that gives no supervision
-pub bad_here : (x : Failure Term) (code : List Instance) (name : List ℕ) (now apps : List Application) (place : ℕ) (a : Application) →
-    slice_get now place ≡ Some a → drop place apps ≡ a ∷ drop (place + 1) apps →
-    ((y : Term) → FirstBadInit code name (drop place apps) y → FirstBadInit code name apps y) →
-    Fails (λ (y : Term). IfSome (slice_get now place) (λ (b : Application). GivesNone code (supervisor_in name b) y)) (Unit {0}) x →
+pub bad_here : (x : Failure Term) (code : List Instance) (name : List ℕ) (now apps : List Application) (index : ℕ) (a : Application) →
+    slice_get now index ≡ Some a → drop index apps ≡ a ∷ drop (index + 1) apps →
+    ((y : Term) → FirstBadInit code name (drop index apps) y → FirstBadInit code name apps y) →
+    Fails (λ (y : Term). IfSome (slice_get now index) (λ (b : Application). GivesNone code (supervisor_in name b) y)) (Unit {0}) x →
     Fails (FirstBadInit code name apps) (Unit {0}) x
-bad_here (Refused y) code name now apps place a at next before fails =
+bad_here (Refused y) code name now apps index a at next before fails =
     let none : GivesNone code (supervisor_in name a) y = subst (λ o. IfSome o (λ (b : Application). GivesNone code (supervisor_in name b) y)) at fails in
     before y (subst (λ (xs : List Application). FirstBadInit code name xs y) (sym next) (inl none))
-bad_here Memory code name now apps place a at next before fails = tt
+bad_here Memory code name now apps index a at next before fails = tt

@@ -25,7 +25,7 @@ use Rattle.upgrade_calls.proofs.NewStates.{restated, restated_by}
 use Rattle.upgrade_calls.proofs.Seen.{seen, seen_begun}
 use Rattle.upgrade_calls.specs.Evaluated.{AreEvaluated, Evaluated, processes_after}
 use Rattle.upgrade_calls.specs.NewStates.{change_of}
-use Rattle.upgrade_calls.specs.declared.changing.Change.{Change}
+use Rattle.upgrade_calls.specs.declared.changing.CodeChangeCall.{CodeChangeCall}
 
 same_by_seen : (l m : Option ProcessEntry) → seen l ≡ seen m → is_server l ≡ is_server m
 same_by_seen None None same = refl
@@ -58,5 +58,5 @@ servers_stay code t e it p =
 pub changes_stay : (code : List Instance) (t : Table) (e : Evaluated) (s : Script) (m : ModuleChange) (apps : List Application) → AreEvaluated t e →
     changes_in s m apps t ≡ changes_in s m apps (processes_after code e t)
 changes_stay code t e s m apps it = λ i.
-    map (λ (p : ℕ). let c : Change = record { pid = p; vsn = old_vsn s.direction m.name s.versions; extra = m.extra } in c)
+    map (λ (p : ℕ). let c : CodeChangeCall = record { pid = p; vsn = old_vsn s.direction m.name s.versions; extra = m.extra } in c)
     (filter (λ (p : ℕ). sym (servers_stay code t e it p) i && runs_with m.name p apps) s.suspended)

@@ -10,13 +10,13 @@ use Rattle.low_instructions.specs.declared.modules.ModuleChange.{ModuleChange}
 use Rattle.process_effects.specs.declared.told.Reply.{Reply}
 use Rattle.process_store.specs.Table.{Table}
 use Rattle.upgrade_calls.specs.Evaluated.{Evaluated, nothing_evaluated, processes_after, told_after}
-use Rattle.upgrade_calls.specs.declared.changing.Change.{Change}
+use Rattle.upgrade_calls.specs.declared.changing.CodeChangeCall.{CodeChangeCall}
 use Rattle.values.specs.Failure.{Fails}
 use Rattle.values.specs.declared.failure.Failure.{Failure}
 use Rattle.values.specs.declared.failure.Failure.TheVariants.{Refused, Memory}
 
 -- what was told and changed so far, and what comes then
-abbrev with_front : List Reply → List Change → Upgraded → Upgraded
+abbrev with_front : List Reply → List CodeChangeCall → Upgraded → Upgraded
 with_front told changes u = record u { told = told ++ u.told; changes = changes ++ u.changes }
 
 -- How far it has come: what comes of the modules that are left comes, behind what was evaluated so far, of all.
@@ -44,7 +44,7 @@ one_reached code s t ms apps m rest left now after e f one next reached up lists
       let told : told_after code e t ++ (one.told ++ u.told) ≡ told_after code f t ++ u.told =
       sym (append_assoc (told_after code e t) one.told u.told) ∙ ap (λ (r : List Reply). r ++ u.told) (sym comes.tells) in
       let changes : e.changes ++ (one.changes ++ u.changes) ≡ f.changes ++ u.changes =
-      sym (append_assoc e.changes one.changes u.changes) ∙ ap (λ (cs : List Change). cs ++ u.changes) (sym comes.changes) in
+      sym (append_assoc e.changes one.changes u.changes) ∙ ap (λ (cs : List CodeChangeCall). cs ++ u.changes) (sym comes.changes) in
       subst (AllUpgrade code s ms apps t) (λ i. record u { told = told i; changes = changes i }) more;
   stops = λ x y.
       let there : FirstStops x code s rest one.apps one.processes =

@@ -15,7 +15,7 @@ use Rattle.script_state.specs.declared.noted.NotedVersion.{NotedVersion}
 use Rattle.suspensions.specs.Suspending.{changes_for}
 use Rattle.upgrade_calls.specs.Changing.{AllChange, AreCounted, FirstUnchanged}
 use Rattle.upgrade_calls.specs.Evaluated.{Evaluated, processes_after, told_after}
-use Rattle.upgrade_calls.specs.declared.changing.Change.{Change}
+use Rattle.upgrade_calls.specs.declared.changing.CodeChangeCall.{CodeChangeCall}
 
 -- What is known of the script: its direction; what is noted of the modules whose object code it has read; and the processes
 -- that it has suspended, in order.
@@ -32,11 +32,11 @@ pub record Upgraded : Type 0 where
   pub apps : List Application
   pub processes : Table
   pub told : List Reply
-  pub changes : List Change
+  pub changes : List CodeChangeCall
 
 -- One module: the processes of its children change, by their present specifications; then its supervisors.
 
-abbrev pub changes_in : Script → ModuleChange → List Application → Table → List Change
+abbrev pub changes_in : Script → ModuleChange → List Application → Table → List CodeChangeCall
 changes_in s m apps t = changes_for s.direction s.versions s.suspended apps t m
 
 pub record Upgrades (code : List Instance) (s : Script) (m : ModuleChange) (apps : List Application) (t : Table) (u : Upgraded)

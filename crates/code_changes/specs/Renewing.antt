@@ -65,12 +65,12 @@ FirstBadInit code name (a ∷ apps) reason = GivesNone code (supervisor_in name 
 
 -- What comes of one application, behind what was evaluated before.
 
-pub record RenewsOne (code : List Instance) (name : List ℕ) (place : ℕ) (before after : List Application) (t : Table)
+pub record RenewsOne (code : List Instance) (name : List ℕ) (index : ℕ) (before after : List Application) (t : Table)
     (e f : Evaluated)
     (a : Application) : Type 0 where
   pub now : Application
   pub said : List Reply
-  pub apps : after ≡ changed_at (λ it. now) before place
+  pub apps : after ≡ changed_at (λ it. now) before index
   pub renews : RenewsIf code (supervisor_in name a) a now (processes_after code e t) (processes_after code f t) said
   pub tells : told_after code f t ≡ told_after code e t ++ said
   pub evaluated : AreEvaluated t f

@@ -20,15 +20,15 @@ abbrev pub all_undone : List apps_undo.AppsUndo → List Application → List Ap
 all_undone [] apps = apps
 all_undone (u ∷ us) apps = undone u (all_undone us apps)
 
--- the former specifications of children that they hold of the application at a place, counted from 0
+-- the former specifications of children that they hold of the application at an index, counted from 0
 abbrev pub all_formers_at : ℕ → List apps_undo.AppsUndo → List ChildSpec
-all_formers_at place us = flat_map (formers_at place) us
+all_formers_at index us = flat_map (formers_at index) us
 
 -- Supervisors have specified their children anew. What is held of the children of an application is lost over all these steps.
 pub record AreRenewals (us : List apps_undo.AppsUndo) (before after : List Application) : Type 0 where
   pub back : all_undone us after ≡ before
-  pub only : All (λ u. (place : ℕ) × IsRenewal place u) us
-  pub pieces : (place : ℕ) → AreSpecsLost (all_formers_at place us) (children_at place before) (children_at place after)
+  pub only : All (λ u. (index : ℕ) × IsRenewal index u) us
+  pub pieces : (index : ℕ) → AreSpecsLost (all_formers_at index us) (children_at index before) (children_at index after)
 
 -- So far an application is as before, and nothing is held of its children; or it has the children that its supervisor's `init`
 -- gives in this code, however often it has given them, and what is held is lost.
@@ -48,8 +48,8 @@ pub data IsRenewedOrNot (code : List Instance) (held : List ChildSpec) (before a
 
 pub record AreRenewalsIn (code : List Instance) (us : List apps_undo.AppsUndo) (before after : List Application) : Type 0 where
   pub back : all_undone us after ≡ before
-  pub only : All (λ u. (place : ℕ) × IsRenewal place u) us
-  pub places : (place : ℕ) → IsRenewedOrNot code (all_formers_at place us) (slice_get before place) (slice_get after place)
+  pub only : All (λ u. (index : ℕ) × IsRenewal index u) us
+  pub indices : (index : ℕ) → IsRenewedOrNot code (all_formers_at index us) (slice_get before index) (slice_get after index)
 
 pub record TakesBack (u : CodeChangeUndo) (before : List Application) (t : Table) (now : List Application) (after : Table)
     : Type 0 where

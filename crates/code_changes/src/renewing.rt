@@ -32,33 +32,33 @@ fn supervisor_in<'a>(app: &'a App, name: &Atom) -> Option<&'a StartModule>
     }
 }
 
-/// The children of the application at a place are specified anew, where its supervisor is of this module.
+/// The children of the application at an index are specified anew, where its supervisor is of this module.
 fn renew_app(
     apps: &mut AppTable,
     evaluation: Evaluation,
     alloc: Global,
     code: &[Instance],
     name: &Atom,
-    place: usize,
+    index: usize,
     renewals: &mut Vec<AppsUndo>,
 ) -> Result<Evaluation, Failure<Term>>
-    requires { place < length apps.old }
-    ensures renews { IfOk result (λ it. (t : Table) → AreEvaluated t evaluation → IfSome (slice_get apps.old place)
-        (RenewsOne code.now name.now place apps.old apps.new t evaluation it)) }
-    ensures others { OnOk result ((length apps.new ≡ length apps.old) × (drop (place + 1) apps.new ≡ drop (place + 1) apps.old)) }
-    ensures gives { OnOk result (IfSome (slice_get apps.old place) (λ a. Gives code.now (supervisor_in name.now a))) }
-    ensures failed { IfErr result (Fails (λ reason. IfSome (slice_get apps.old place)
+    requires { index < length apps.old }
+    ensures renews { IfOk result (λ it. (t : Table) → AreEvaluated t evaluation → IfSome (slice_get apps.old index)
+        (RenewsOne code.now name.now index apps.old apps.new t evaluation it)) }
+    ensures others { OnOk result ((length apps.new ≡ length apps.old) × (drop (index + 1) apps.new ≡ drop (index + 1) apps.old)) }
+    ensures gives { OnOk result (IfSome (slice_get apps.old index) (λ a. Gives code.now (supervisor_in name.now a))) }
+    ensures failed { IfErr result (Fails (λ reason. IfSome (slice_get apps.old index)
         (λ a. GivesNone code.now (supervisor_in name.now a) reason)) (Unit {0})) }
     ensures renewals { (before : List Application) → AreRenewalsIn code.now renewals.old.items before apps.old →
         AreRenewalsIn code.now renewals.new.items before apps.new }
 {
-    let Some(module) = supervisor_in(apps.app_at(place), name) else {
+    let Some(module) = supervisor_in(apps.app_at(index), name) else {
         return Ok(evaluation);
     };
     let Supervision { specs, acts } = supervision_of(alloc, code, module)?;
     let evaluation = evaluation.ask(acts)?;
     renewals.reserve(1)?;
-    renewals.push_reserved(apps.renew(place, specs)?);
+    renewals.push_reserved(apps.renew(index, specs)?);
     Ok(evaluation)
 }
 
@@ -78,8 +78,8 @@ pub(crate) fn renew_apps(
         AreRenewalsIn code.now renewals.new.items before apps.new }
 {
     let mut evaluation = evaluation;
-    for place in 0..apps.len() {
-        evaluation = match renew_app(apps, evaluation, alloc, code, name, place, renewals) {
+    for index in 0..apps.len() {
+        evaluation = match renew_app(apps, evaluation, alloc, code, name, index, renewals) {
             Ok(renewed) => renewed,
             Err(failure) => return Err(failure),
         };

@@ -5,14 +5,14 @@ use Rattle.std.proofs.lemmas.List.Sums.{sum_by-append, sum_by-cons}
 use Rattle.std.specs.Str.{bytes_eq}
 use Rattle.code_server.specs.declared.modules.Instance.{Instance}
 use Rattle.code_server.specs.declared.modules.Slots.{Slots}
-use Rattle.code_server.specs.Modules.{Entry, IsModuleTable, Table as Loaded, current_of, in_entries, in_entry, in_slot, loaded, loaded_at, old_of, place_of, purged, purged_slots, removed, retired, stacked, with_slots}
+use Rattle.code_server.specs.Modules.{Entry, IsModuleTable, Table as Loaded, current_of, in_entries, in_entry, in_slot, loaded, loaded_at, old_of, index_of, purged, purged_slots, removed, retired, stacked, with_slots}
 use Rattle.code_server.specs.Undo.{Fits, HasPurged, held, undone}
 use Rattle.code_server.specs.declared.undo.ModulesUndo.{ModulesUndo}
 use Rattle.code_server.proofs.Changes.{current_at-slots, current_of-slots, no_current, none_from_test, old_of-slots, purged-absent, purged-gone, purged-kept}
 use Rattle.code_server.proofs.Reloads.{loaded-gone, loaded-kept}
 use Rattle.code_server.proofs.Removing.{removed-absent, removed-gone, removed-kept}
 use Rattle.code_server.proofs.Serials.{in_entries-changed_at, in_entries-given, in_entries-remove, in_found}
-use Rattle.code_server.proofs.Standing.{Stands, Stands-place, absent_from_place}
+use Rattle.code_server.proofs.Standing.{Stands, Stands-index, absent_from_index}
 use Rattle.erl_ir.specs.Module.{Forms}
 use Rattle.process_store.specs.Pieces.{HoldsLost, no_pieces}
 use Rattle.process_store.specs.Table.{Table}
@@ -20,90 +20,90 @@ use Rattle.process_table.specs.declared.undo.ProcessesUndo as kills
 use Rattle.code_loading.specs.Pieces.{CodeLost, IsTaken, all_held, among, held_killed}
 use Rattle.code_loading.specs.Undo.{UndoesKills, LivesAgain, TakesBack}
 
--- a place of which the instances are known
-at_place : (n : ℕ) (name : List ℕ) (es : List (Entry Forms)) (place : ℕ) (at : Stands name es place) → in_found n (slice_get es place) ≡ in_slot n at.slots.current + in_slot n at.slots.former
-at_place n name es place at = ap (in_found n) at.entry
+-- an index of which the instances are known
+at_index : (n : ℕ) (name : List ℕ) (es : List (Entry Forms)) (index : ℕ) (at : Stands name es index) → in_found n (slice_get es index) ≡ in_slot n at.slots.current + in_slot n at.slots.former
+at_index n name es index at = ap (in_found n) at.entry
 
-with_place : (n : ℕ) (f : Slots Forms → Slots Forms) (name : List ℕ) (es : List (Entry Forms)) (place : ℕ) (at : Stands name es place) →
-    in_entries n (with_slots f es place) + (in_slot n at.slots.current + in_slot n at.slots.former) ≡ in_entries n es + (in_slot n (f at.slots).current + in_slot n (f at.slots).former)
-with_place n f name es place at =
+with_index : (n : ℕ) (f : Slots Forms → Slots Forms) (name : List ℕ) (es : List (Entry Forms)) (index : ℕ) (at : Stands name es index) →
+    in_entries n (with_slots f es index) + (in_slot n at.slots.current + in_slot n at.slots.former) ≡ in_entries n es + (in_slot n (f at.slots).current + in_slot n (f at.slots).former)
+with_index n f name es index at =
     let g : Entry Forms → Entry Forms = λ e. (e.0, f e.1) in
-    omega (arith, in_entries-changed_at n g es place, at_place n name es place at, ap (λ o. in_found n (option_map g o)) at.entry)
+    omega (arith, in_entries-changed_at n g es index, at_index n name es index at, ap (λ o. in_found n (option_map g o)) at.entry)
 
-without_place : (n : ℕ) (name : List ℕ) (es : List (Entry Forms)) (place : ℕ) (at : Stands name es place) →
-    in_entries n (remove es place) + (in_slot n at.slots.current + in_slot n at.slots.former) ≡ in_entries n es
-without_place n name es place at = omega (arith, in_entries-remove n es place, at_place n name es place at)
+without_index : (n : ℕ) (name : List ℕ) (es : List (Entry Forms)) (index : ℕ) (at : Stands name es index) →
+    in_entries n (remove es index) + (in_slot n at.slots.current + in_slot n at.slots.former) ≡ in_entries n es
+without_index n name es index at = omega (arith, in_entries-remove n es index, at_index n name es index at)
 
-old_at : (n : ℕ) (name : List ℕ) (t : Loaded Forms) (place : ℕ) (at : Stands name t.entries place) → in_slot n at.slots.former ≡ in_slot n (old_of name t)
-old_at n name t place at = ap (in_slot n) (sym (old_of-slots name t place at))
+old_at : (n : ℕ) (name : List ℕ) (t : Loaded Forms) (index : ℕ) (at : Stands name t.entries index) → in_slot n at.slots.former ≡ in_slot n (old_of name t)
+old_at n name t index at = ap (in_slot n) (sym (old_of-slots name t index at))
 
-no_old : (n : ℕ) (name : List ℕ) (t : Loaded Forms) → place_of name t.entries ≡ None → in_slot n (old_of name t) ≡ 0
-no_old n name t absent = ap (λ o. in_slot n (option_and_then (λ slots. slots.former) o)) (absent_from_place name t.entries absent)
+no_old : (n : ℕ) (name : List ℕ) (t : Loaded Forms) → index_of name t.entries ≡ None → in_slot n (old_of name t) ≡ 0
+no_old n name t absent = ap (λ o. in_slot n (option_and_then (λ slots. slots.former) o)) (absent_from_index name t.entries absent)
 
 -- A purge takes the old code, a removal too, and a load adds an instance of the next serial.
 
 abbrev TakesOld : ℕ → List ℕ → Loaded Forms → Loaded Forms → Type 0
 TakesOld n name t after = in_entries n after.entries + in_slot n (old_of name t) ≡ in_entries n t.entries
 
-purged_at_place : (n : ℕ) (name : List ℕ) (t : Loaded Forms) (place : ℕ) (found : place_of name t.entries ≡ Some place) (b : Bool) → is_some (current_of name t) ≡ b → TakesOld n name t (purged name t)
-purged_at_place n name t place found true there =
-    let at = Stands-place name t.entries place found in
-    omega (arith, ap (λ (u : Loaded Forms). in_entries n u.entries) (purged-kept name t place found there), with_place n purged_slots name t.entries place at, old_at n name t place at)
-purged_at_place n name t place found false there =
-    let at = Stands-place name t.entries place found in
-    let none = ap (in_slot n) (none_from_test at.slots.current (ap is_some (sym (current_of-slots name t place at)) ∙ there)) in
-    omega (arith, ap (λ (u : Loaded Forms). in_entries n u.entries) (purged-gone name t place found there), without_place n name t.entries place at, old_at n name t place at, none)
+purged_at_index : (n : ℕ) (name : List ℕ) (t : Loaded Forms) (index : ℕ) (found : index_of name t.entries ≡ Some index) (b : Bool) → is_some (current_of name t) ≡ b → TakesOld n name t (purged name t)
+purged_at_index n name t index found true there =
+    let at = Stands-index name t.entries index found in
+    omega (arith, ap (λ (u : Loaded Forms). in_entries n u.entries) (purged-kept name t index found there), with_index n purged_slots name t.entries index at, old_at n name t index at)
+purged_at_index n name t index found false there =
+    let at = Stands-index name t.entries index found in
+    let none = ap (in_slot n) (none_from_test at.slots.current (ap is_some (sym (current_of-slots name t index at)) ∙ there)) in
+    omega (arith, ap (λ (u : Loaded Forms). in_entries n u.entries) (purged-gone name t index found there), without_index n name t.entries index at, old_at n name t index at, none)
 
-purged_by : (n : ℕ) (name : List ℕ) (t : Loaded Forms) (o : Option ℕ) → place_of name t.entries ≡ o → TakesOld n name t (purged name t)
+purged_by : (n : ℕ) (name : List ℕ) (t : Loaded Forms) (o : Option ℕ) → index_of name t.entries ≡ o → TakesOld n name t (purged name t)
 purged_by n name t None absent = omega (arith, ap (λ (u : Loaded Forms). in_entries n u.entries) (purged-absent name t absent), no_old n name t absent)
-purged_by n name t (Some place) found = purged_at_place n name t place found (is_some (current_of name t)) refl
+purged_by n name t (Some index) found = purged_at_index n name t index found (is_some (current_of name t)) refl
 
 pub purged-takes : (n : ℕ) (name : List ℕ) (t : Loaded Forms) → TakesOld n name t (purged name t)
-purged-takes n name t = purged_by n name t (place_of name t.entries) refl
+purged-takes n name t = purged_by n name t (index_of name t.entries) refl
 
-removed_at_place : (n : ℕ) (name : List ℕ) (t : Loaded Forms) (place : ℕ) → IsModuleTable t → (found : place_of name t.entries ≡ Some place) (b : Bool) → is_some (current_of name t) ≡ b → TakesOld n name t (removed name t)
-removed_at_place n name t place sound found true there =
-    let at = Stands-place name t.entries place found in
-    omega (arith, ap (λ (u : Loaded Forms). in_entries n u.entries) (removed-kept name t place found there), with_place n retired name t.entries place at, old_at n name t place at)
-removed_at_place n name t place sound found false there =
-    let at = Stands-place name t.entries place found in
-    let none = ap (in_slot n) (none_from_test at.slots.current (ap is_some (sym (current_of-slots name t place at)) ∙ there)) in
-    omega (arith, ap (λ (u : Loaded Forms). in_entries n u.entries) (removed-gone name t place sound found there), without_place n name t.entries place at, old_at n name t place at, none)
+removed_at_index : (n : ℕ) (name : List ℕ) (t : Loaded Forms) (index : ℕ) → IsModuleTable t → (found : index_of name t.entries ≡ Some index) (b : Bool) → is_some (current_of name t) ≡ b → TakesOld n name t (removed name t)
+removed_at_index n name t index sound found true there =
+    let at = Stands-index name t.entries index found in
+    omega (arith, ap (λ (u : Loaded Forms). in_entries n u.entries) (removed-kept name t index found there), with_index n retired name t.entries index at, old_at n name t index at)
+removed_at_index n name t index sound found false there =
+    let at = Stands-index name t.entries index found in
+    let none = ap (in_slot n) (none_from_test at.slots.current (ap is_some (sym (current_of-slots name t index at)) ∙ there)) in
+    omega (arith, ap (λ (u : Loaded Forms). in_entries n u.entries) (removed-gone name t index sound found there), without_index n name t.entries index at, old_at n name t index at, none)
 
-removed_by : (n : ℕ) (name : List ℕ) (t : Loaded Forms) → IsModuleTable t → (o : Option ℕ) → place_of name t.entries ≡ o → TakesOld n name t (removed name t)
+removed_by : (n : ℕ) (name : List ℕ) (t : Loaded Forms) → IsModuleTable t → (o : Option ℕ) → index_of name t.entries ≡ o → TakesOld n name t (removed name t)
 removed_by n name t sound None absent = omega (arith, ap (λ (u : Loaded Forms). in_entries n u.entries) (removed-absent name t absent), no_old n name t absent)
-removed_by n name t sound (Some place) found = removed_at_place n name t place sound found (is_some (current_of name t)) refl
+removed_by n name t sound (Some index) found = removed_at_index n name t index sound found (is_some (current_of name t)) refl
 
 pub removed-takes : (n : ℕ) (name : List ℕ) (t : Loaded Forms) → IsModuleTable t → TakesOld n name t (removed name t)
-removed-takes n name t sound = removed_by n name t sound (place_of name t.entries) refl
+removed-takes n name t sound = removed_by n name t sound (index_of name t.entries) refl
 
 -- with an instance of the next serial
 abbrev Reloads : ℕ → List ℕ → Forms → Loaded Forms → Type 0
 Reloads n name code t = in_entries n (loaded name code (purged name t)).entries + in_slot n (old_of name t) ≡ in_entries n t.entries + in_slot n (Some (record { serial = t.next; code = code }))
 
-loaded_at_place : (n : ℕ) (name : List ℕ) (code : Forms) (t : Loaded Forms) (place : ℕ) → IsModuleTable t → (found : place_of name t.entries ≡ Some place) (b : Bool) → is_some (current_of name t) ≡ b → Reloads n name code t
-loaded_at_place n name code t place sound found true there =
-    let at = Stands-place name t.entries place found in
-    omega (arith, ap (λ (u : Loaded Forms). in_entries n u.entries) (loaded-kept name code t place found there), with_place n (stacked (record { serial = t.next; code = code })) name t.entries place at, old_at n name t place at)
-loaded_at_place n name code t place sound found false there =
-    let at = Stands-place name t.entries place found in
-    let none = ap (in_slot n) (none_from_test at.slots.current (ap is_some (sym (current_of-slots name t place at)) ∙ there)) in
+loaded_at_index : (n : ℕ) (name : List ℕ) (code : Forms) (t : Loaded Forms) (index : ℕ) → IsModuleTable t → (found : index_of name t.entries ≡ Some index) (b : Bool) → is_some (current_of name t) ≡ b → Reloads n name code t
+loaded_at_index n name code t index sound found true there =
+    let at = Stands-index name t.entries index found in
+    omega (arith, ap (λ (u : Loaded Forms). in_entries n u.entries) (loaded-kept name code t index found there), with_index n (stacked (record { serial = t.next; code = code })) name t.entries index at, old_at n name t index at)
+loaded_at_index n name code t index sound found false there =
+    let at = Stands-index name t.entries index found in
+    let none = ap (in_slot n) (none_from_test at.slots.current (ap is_some (sym (current_of-slots name t index at)) ∙ there)) in
     let last : Entry Forms = (name, record { current = Some (record { serial = t.next; code = code }); former = None }) in
-    omega (arith, ap (λ (u : Loaded Forms). in_entries n u.entries) (loaded-gone name code t place sound found there), sum_by-append (in_entry n) (remove t.entries place) (last ∷ []), sum_by-cons (in_entry n) last [], without_place n name t.entries place at, old_at n name t place at, none)
+    omega (arith, ap (λ (u : Loaded Forms). in_entries n u.entries) (loaded-gone name code t index sound found there), sum_by-append (in_entry n) (remove t.entries index) (last ∷ []), sum_by-cons (in_entry n) last [], without_index n name t.entries index at, old_at n name t index at, none)
 
-loaded-absent : (name : List ℕ) (code : Forms) (t : Loaded Forms) → place_of name t.entries ≡ None → loaded name code t ≡ record { entries = t.entries ++ (name, record { current = Some (record { serial = t.next; code = code }); former = None }) ∷ []; next = t.next + 1 }
+loaded-absent : (name : List ℕ) (code : Forms) (t : Loaded Forms) → index_of name t.entries ≡ None → loaded name code t ≡ record { entries = t.entries ++ (name, record { current = Some (record { serial = t.next; code = code }); former = None }) ∷ []; next = t.next + 1 }
 loaded-absent name code t absent = (λ j. record { entries = loaded_at (absent j) name (record { serial = t.next; code = code }) t.entries; next = t.next + 1 })
 
-loaded_by : (n : ℕ) (name : List ℕ) (code : Forms) (t : Loaded Forms) → IsModuleTable t → (o : Option ℕ) → place_of name t.entries ≡ o → Reloads n name code t
+loaded_by : (n : ℕ) (name : List ℕ) (code : Forms) (t : Loaded Forms) → IsModuleTable t → (o : Option ℕ) → index_of name t.entries ≡ o → Reloads n name code t
 loaded_by n name code t sound None absent =
     let last : Entry Forms = (name, record { current = Some (record { serial = t.next; code = code }); former = None }) in
     let same = purged-absent name t absent in
     let added : loaded name code t ≡ record { entries = t.entries ++ last ∷ []; next = t.next + 1 } = loaded-absent name code t absent in
     omega (arith, ap (λ (u : Loaded Forms). in_entries n (loaded name code u).entries) same, ap (λ (u : Loaded Forms). in_entries n u.entries) added, sum_by-append (in_entry n) t.entries (last ∷ []), sum_by-cons (in_entry n) last [], no_old n name t absent)
-loaded_by n name code t sound (Some place) found = loaded_at_place n name code t place sound found (is_some (current_of name t)) refl
+loaded_by n name code t sound (Some index) found = loaded_at_index n name code t index sound found (is_some (current_of name t)) refl
 
 pub loaded-takes : (n : ℕ) (name : List ℕ) (code : Forms) (t : Loaded Forms) → IsModuleTable t → Reloads n name code t
-loaded-takes n name code t sound = loaded_by n name code t sound (place_of name t.entries) refl
+loaded-takes n name code t sound = loaded_by n name code t sound (index_of name t.entries) refl
 
 -- So what is held is lost, where it is the old code.
 

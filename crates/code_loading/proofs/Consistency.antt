@@ -9,9 +9,9 @@ use Rattle.erl_semantics.specs.Views.{instance}
 use Rattle.erl_semantics.specs.declared.instance.Instance as held
 use Rattle.code_server.proofs.Changes.{IsDeletable-unrefused, IsLoadable-unrefused, current_of-slots, current_at-slots, purged-absent, purged-gone, purged-kept}
 use Rattle.code_server.proofs.Sound.{IsModuleTable-added, IsModuleTable-purged_slots, IsModuleTable-removed, IsModuleTable-retired, IsModuleTable-stacked}
-use Rattle.code_server.proofs.Standing.{Stands-place, absent_from_place}
-use Rattle.code_server.specs.Modules.{IsModuleTable, Table as Loaded, current_of, delete_refusal, deleted, deleted_at, load_refusal, loaded, loaded_at, old_of, place_of, purged}
-use Rattle.code_server.specs.Places.{current_at}
+use Rattle.code_server.proofs.Standing.{Stands-index, absent_from_index}
+use Rattle.code_server.specs.Modules.{IsModuleTable, Table as Loaded, current_of, delete_refusal, deleted, deleted_at, load_refusal, loaded, loaded_at, old_of, index_of, purged}
+use Rattle.code_server.specs.Indices.{current_at}
 use Rattle.code_server.specs.declared.modules.Instance as code
 use Rattle.process.specs.Named.{StandsIn}
 use Rattle.process.specs.Ended.{CodeStands, PlaceStands}
@@ -105,17 +105,17 @@ left s P Q then (o ∷ slots) (suc q) holds = left s P Q then slots q holds
 
 -- What every state of modules and processes keeps, after a purge
 
-sound_purged_at : (name : List ℕ) (m : Loaded Forms) (place : ℕ) (b : Bool) → IsModuleTable m → place_of name m.entries ≡ Some place → is_some (current_of name m) ≡ b → IsModuleTable (purged name m)
-sound_purged_at name m place true sound at is =
-    let there = Stands-place name m.entries place at in
-    let here : is_some (current_at m.entries place) ≡ true = ap is_some (current_at-slots name m.entries place there ∙ sym (current_of-slots name m place there)) ∙ is in
-    subst IsModuleTable (sym (purged-kept name m place at is)) (IsModuleTable-purged_slots m place sound here)
-sound_purged_at name m place false sound at is =
-    subst IsModuleTable (sym (purged-gone name m place at is)) (IsModuleTable-removed m place sound)
+sound_purged_at : (name : List ℕ) (m : Loaded Forms) (index : ℕ) (b : Bool) → IsModuleTable m → index_of name m.entries ≡ Some index → is_some (current_of name m) ≡ b → IsModuleTable (purged name m)
+sound_purged_at name m index true sound at is =
+    let there = Stands-index name m.entries index at in
+    let here : is_some (current_at m.entries index) ≡ true = ap is_some (current_at-slots name m.entries index there ∙ sym (current_of-slots name m index there)) ∙ is in
+    subst IsModuleTable (sym (purged-kept name m index at is)) (IsModuleTable-purged_slots m index sound here)
+sound_purged_at name m index false sound at is =
+    subst IsModuleTable (sym (purged-gone name m index at is)) (IsModuleTable-removed m index sound)
 
-pub sound_purged : (name : List ℕ) (m : Loaded Forms) (o : Option ℕ) → IsModuleTable m → place_of name m.entries ≡ o → IsModuleTable (purged name m)
+pub sound_purged : (name : List ℕ) (m : Loaded Forms) (o : Option ℕ) → IsModuleTable m → index_of name m.entries ≡ o → IsModuleTable (purged name m)
 sound_purged name m None sound at = subst IsModuleTable (sym (purged-absent name m at)) sound
-sound_purged name m (Some place) sound at = sound_purged_at name m place (is_some (current_of name m)) sound at refl
+sound_purged name m (Some index) sound at = sound_purged_at name m index (is_some (current_of name m)) sound at refl
 
 Holds : Loaded Forms → ProcessEntry → Type 0
 Holds m l = Stands m l.process × Enters l.process
@@ -135,7 +135,7 @@ second P Q (Some l) both = both.1
 purged_from : (name : List ℕ) (m : Loaded Forms) (t : Table) (o : Option (code.Instance Forms)) → old_of name m ≡ o → IsConsistent m t → IsConsistent (purged name m) (spared_by o t)
 purged_from name m t None none kept =
     record {
-      sound = sound_purged name m (place_of name m.entries) kept.sound refl;
+      sound = sound_purged name m (index_of name m.entries) kept.sound refl;
       stand = all_stay m (purged name m) t (λ x stands. purged_keeps name m x stands (λ i is same. absurd (none-some i (sym none ∙ is)))) kept.stand;
       enter = kept.enter;
     }
@@ -144,7 +144,7 @@ purged_from name m t (Some old) there kept =
     let Q = λ (l : ProcessEntry). Stands (purged name m) l.process × Enters l.process in
     let both = λ (pid : ℕ). left old.serial P Q (λ l none holds. (process_spared name m old there l.process.rests_in l.process.activity holds.1.1 none holds.0.0 holds.0.1, holds.1)) t.slots pid (pair (λ l. Stands m l.process) (λ l. Enters l.process) (living pid t) (kept.stand pid) (kept.enter pid)) in
     record {
-      sound = sound_purged name m (place_of name m.entries) kept.sound refl;
+      sound = sound_purged name m (index_of name m.entries) kept.sound refl;
       stand = λ pid. first (λ l. Stands (purged name m) l.process) (λ l. Enters l.process) (living pid (without_users old.serial t)) (both pid);
       enter = λ pid. second (λ l. Stands (purged name m) l.process) (λ l. Enters l.process) (living pid (without_users old.serial t)) (both pid);
     }
@@ -154,33 +154,33 @@ purge_keeps name m t kept = purged_from name m t (old_of name m) refl kept
 
 -- a load, and a delete
 
-sound_loaded : (name : List ℕ) (code : Forms) (m : Loaded Forms) (o : Option ℕ) → IsModuleTable m → m.next < 2 ^ 64 → place_of name m.entries ≡ o → IsModuleTable (loaded name code m)
+sound_loaded : (name : List ℕ) (code : Forms) (m : Loaded Forms) (o : Option ℕ) → IsModuleTable m → m.next < 2 ^ 64 → index_of name m.entries ≡ o → IsModuleTable (loaded name code m)
 sound_loaded name code m None sound below at =
-    subst (λ o. IsModuleTable (record { entries = loaded_at o name (record { serial = m.next; code = code }) m.entries; next = m.next + 1 })) (sym at) (IsModuleTable-added m name (record { serial = m.next; code = code }) sound (absent_from_place name m.entries at) refl below)
-sound_loaded name code m (Some place) sound below at =
-    subst (λ o. IsModuleTable (record { entries = loaded_at o name (record { serial = m.next; code = code }) m.entries; next = m.next + 1 })) (sym at) (IsModuleTable-stacked m place (record { serial = m.next; code = code }) sound refl below)
+    subst (λ o. IsModuleTable (record { entries = loaded_at o name (record { serial = m.next; code = code }) m.entries; next = m.next + 1 })) (sym at) (IsModuleTable-added m name (record { serial = m.next; code = code }) sound (absent_from_index name m.entries at) refl below)
+sound_loaded name code m (Some index) sound below at =
+    subst (λ o. IsModuleTable (record { entries = loaded_at o name (record { serial = m.next; code = code }) m.entries; next = m.next + 1 })) (sym at) (IsModuleTable-stacked m index (record { serial = m.next; code = code }) sound refl below)
 
 pub load_keeps : (name : List ℕ) (code : Forms) (m : Loaded Forms) (t : Table) → IsConsistent m t → load_refusal name m ≡ None → IsConsistent (loaded name code m) t
 load_keeps name code m t kept unrefused =
     let ready = IsLoadable-unrefused name m kept.sound unrefused in
     record {
-      sound = sound_loaded name code m (place_of name m.entries) kept.sound ready.serial refl;
+      sound = sound_loaded name code m (index_of name m.entries) kept.sound ready.serial refl;
       stand = all_stay m (loaded name code m) t (loaded_keeps name code m ready.no_old) kept.stand;
       enter = kept.enter;
     }
 
-sound_deleted : (name : List ℕ) (m : Loaded Forms) (o : Option ℕ) → IsModuleTable m → is_some (current_of name m) ≡ true → place_of name m.entries ≡ o → IsModuleTable (deleted name m)
+sound_deleted : (name : List ℕ) (m : Loaded Forms) (o : Option ℕ) → IsModuleTable m → is_some (current_of name m) ≡ true → index_of name m.entries ≡ o → IsModuleTable (deleted name m)
 sound_deleted name m None sound there at = subst (λ o. IsModuleTable (record { entries = deleted_at o m.entries; next = m.next })) (sym at) sound
-sound_deleted name m (Some place) sound there at =
-    let stands = Stands-place name m.entries place at in
-    let here : is_some (current_at m.entries place) ≡ true = ap is_some (current_at-slots name m.entries place stands ∙ sym (current_of-slots name m place stands)) ∙ there in
-    subst (λ o. IsModuleTable (record { entries = deleted_at o m.entries; next = m.next })) (sym at) (IsModuleTable-retired m place sound here)
+sound_deleted name m (Some index) sound there at =
+    let stands = Stands-index name m.entries index at in
+    let here : is_some (current_at m.entries index) ≡ true = ap is_some (current_at-slots name m.entries index stands ∙ sym (current_of-slots name m index stands)) ∙ there in
+    subst (λ o. IsModuleTable (record { entries = deleted_at o m.entries; next = m.next })) (sym at) (IsModuleTable-retired m index sound here)
 
 pub delete_keeps : (name : List ℕ) (m : Loaded Forms) (t : Table) → IsConsistent m t → delete_refusal name m ≡ None → IsConsistent (deleted name m) t
 delete_keeps name m t kept unrefused =
     let ready = IsDeletable-unrefused name m unrefused in
     record {
-      sound = sound_deleted name m (place_of name m.entries) kept.sound ready.has_current refl;
+      sound = sound_deleted name m (index_of name m.entries) kept.sound ready.has_current refl;
       stand = all_stay m (deleted name m) t (deleted_keeps name m unrefused) kept.stand;
       enter = kept.enter;
     }

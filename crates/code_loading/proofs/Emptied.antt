@@ -9,88 +9,88 @@ use Rattle.values.specs.Edits.{changed_at}
 use Rattle.values.proofs.Edits.{changed_at-same, slice_get-changed_at}
 use Rattle.erl_ir.specs.Module.{Forms}
 use Rattle.code_server.proofs.Changes.{codeless, current_of-slots, none_from_test, old_of-slots, purged-absent, purged-gone, purged-kept, same_slots}
-use Rattle.code_server.proofs.Reloads.{place_of-with_slots}
-use Rattle.code_server.proofs.Standing.{Stands-place, absent_from_place}
-use Rattle.code_server.specs.Modules.{Entry, IsModuleTable, Table as Loaded, current_of, old_of, place_of, purged, purged_slots, slots_of, with_slots}
+use Rattle.code_server.proofs.Reloads.{index_of-with_slots}
+use Rattle.code_server.proofs.Standing.{Stands-index, absent_from_index}
+use Rattle.code_server.specs.Modules.{Entry, IsModuleTable, Table as Loaded, current_of, old_of, index_of, purged, purged_slots, slots_of, with_slots}
 
--- what is found by a key where the entry at a place, which has another, is changed or taken out
+-- what is found by a key where the entry at an index, which has another, is changed or taken out
 
 module _ {K V : Type 0} (test : K → Bool) where
   first_differs : (x : K × V) (es fs : List (K × V)) (b : Bool) → test x.0 ≡ b → lookup test es ≡ lookup test fs → lookup test (x ∷ es) ≡ lookup test (x ∷ fs)
   first_differs x es fs true is same = lookup_head test x es is ∙ sym (lookup_head test x fs is)
   first_differs x es fs false is same = lookup_tail test x es is ∙ same ∙ sym (lookup_tail test x fs is)
 
-  other_changed : (f : V → V) (es : List (K × V)) (place : ℕ) (e : K × V) → slice_get es place ≡ Some e → test e.0 ≡ false → lookup test (changed_at (λ e. (e.0, f e.1)) es place) ≡ lookup test es
-  other_changed f [] place e at other = refl
+  other_changed : (f : V → V) (es : List (K × V)) (index : ℕ) (e : K × V) → slice_get es index ≡ Some e → test e.0 ≡ false → lookup test (changed_at (λ e. (e.0, f e.1)) es index) ≡ lookup test es
+  other_changed f [] index e at other = refl
   other_changed f (x ∷ es) zero e at other =
       let is : test x.0 ≡ false = ap (λ y. test y.0) (same_Some x e at) ∙ other in
       lookup_tail test (x.0, f x.1) es is ∙ sym (lookup_tail test x es is)
-  other_changed f (x ∷ es) (suc place) e at other =
-      first_differs x (changed_at (λ e. (e.0, f e.1)) es place) es (test x.0) refl (other_changed f es place e at other)
+  other_changed f (x ∷ es) (suc index) e at other =
+      first_differs x (changed_at (λ e. (e.0, f e.1)) es index) es (test x.0) refl (other_changed f es index e at other)
 
-  other_left : (es : List (K × V)) (place : ℕ) (e : K × V) → slice_get es place ≡ Some e → test e.0 ≡ false → lookup test (remove es place) ≡ lookup test es
-  other_left [] place e at other = absurd (none-some e at)
+  other_left : (es : List (K × V)) (index : ℕ) (e : K × V) → slice_get es index ≡ Some e → test e.0 ≡ false → lookup test (remove es index) ≡ lookup test es
+  other_left [] index e at other = absurd (none-some e at)
   other_left (x ∷ es) zero e at other =
       sym (lookup_tail test x es (ap (λ y. test y.0) (same_Some x e at) ∙ other))
-  other_left (x ∷ es) (suc place) e at other =
-      first_differs x (remove es place) es (test x.0) refl (other_left es place e at other)
+  other_left (x ∷ es) (suc index) e at other =
+      first_differs x (remove es index) es (test x.0) refl (other_left es index e at other)
 
 -- another module has what it had
 
 module _ (n k : List ℕ) (m : Loaded Forms) (other : bytes_eq k n ≡ false) where
-  other_at : (place : ℕ) (b : Bool) → place_of n m.entries ≡ Some place → is_some (current_of n m) ≡ b → slots_of k (purged n m) ≡ slots_of k m
-  other_at place true at is =
-      let here = Stands-place n m.entries place at in
-      ap (slots_of k) (purged-kept n m place at is) ∙ other_changed (bytes_eq k) purged_slots m.entries place (n, here.slots) here.entry other
-  other_at place false at is =
-      let here = Stands-place n m.entries place at in
-      ap (slots_of k) (purged-gone n m place at is) ∙ other_left (bytes_eq k) m.entries place (n, here.slots) here.entry other
+  other_at : (index : ℕ) (b : Bool) → index_of n m.entries ≡ Some index → is_some (current_of n m) ≡ b → slots_of k (purged n m) ≡ slots_of k m
+  other_at index true at is =
+      let here = Stands-index n m.entries index at in
+      ap (slots_of k) (purged-kept n m index at is) ∙ other_changed (bytes_eq k) purged_slots m.entries index (n, here.slots) here.entry other
+  other_at index false at is =
+      let here = Stands-index n m.entries index at in
+      ap (slots_of k) (purged-gone n m index at is) ∙ other_left (bytes_eq k) m.entries index (n, here.slots) here.entry other
 
-  other_by : (o : Option ℕ) → place_of n m.entries ≡ o → slots_of k (purged n m) ≡ slots_of k m
+  other_by : (o : Option ℕ) → index_of n m.entries ≡ o → slots_of k (purged n m) ≡ slots_of k m
   other_by None at = ap (slots_of k) (purged-absent n m at)
-  other_by (Some place) at = other_at place (is_some (current_of n m)) at refl
+  other_by (Some index) at = other_at index (is_some (current_of n m)) at refl
 
   other_purged : old_of k (purged n m) ≡ old_of k m
-  other_purged = ap (option_and_then (λ slots. slots.former)) (other_by (place_of n m.entries) refl)
+  other_purged = ap (option_and_then (λ slots. slots.former)) (other_by (index_of n m.entries) refl)
 
 -- it has no old code, and where it had none all is as it was
 
 module _ (n : List ℕ) (m : Loaded Forms) (sound : IsModuleTable m) where
-  own_at : (place : ℕ) (b : Bool) → place_of n m.entries ≡ Some place → is_some (current_of n m) ≡ b → old_of n (purged n m) ≡ None
-  own_at place true at is =
-      let kept : Loaded Forms = record { entries = with_slots purged_slots m.entries place; next = m.next } in
-      let here = Stands-place n m.entries place at in
-      let there = Stands-place n kept.entries place (place_of-with_slots purged_slots n m.entries place at) in
-      let now : slice_get kept.entries place ≡ Some (n, purged_slots here.slots) = slice_get-changed_at (λ (e : Entry Forms). (e.0, purged_slots e.1)) m.entries place (n, here.slots) here.entry in
+  own_at : (index : ℕ) (b : Bool) → index_of n m.entries ≡ Some index → is_some (current_of n m) ≡ b → old_of n (purged n m) ≡ None
+  own_at index true at is =
+      let kept : Loaded Forms = record { entries = with_slots purged_slots m.entries index; next = m.next } in
+      let here = Stands-index n m.entries index at in
+      let there = Stands-index n kept.entries index (index_of-with_slots purged_slots n m.entries index at) in
+      let now : slice_get kept.entries index ≡ Some (n, purged_slots here.slots) = slice_get-changed_at (λ (e : Entry Forms). (e.0, purged_slots e.1)) m.entries index (n, here.slots) here.entry in
       let same : (n, there.slots) ≡ (n, purged_slots here.slots) = same_Some (n, there.slots) (n, purged_slots here.slots) (sym there.entry ∙ now) in
-      ap (old_of n) (purged-kept n m place at is) ∙ old_of-slots n kept place there ∙ ap (λ (e : Entry Forms). e.1.former) same
-  own_at place false at is =
-      ap (old_of n) (purged-gone n m place at is) ∙ ap (option_and_then (λ slots. slots.former)) ((Stands-place n m.entries place at).gone sound.distinct)
+      ap (old_of n) (purged-kept n m index at is) ∙ old_of-slots n kept index there ∙ ap (λ (e : Entry Forms). e.1.former) same
+  own_at index false at is =
+      ap (old_of n) (purged-gone n m index at is) ∙ ap (option_and_then (λ slots. slots.former)) ((Stands-index n m.entries index at).gone sound.distinct)
 
-  own_by : (o : Option ℕ) → place_of n m.entries ≡ o → old_of n (purged n m) ≡ None
+  own_by : (o : Option ℕ) → index_of n m.entries ≡ o → old_of n (purged n m) ≡ None
   own_by None at =
-      ap (old_of n) (purged-absent n m at) ∙ ap (option_and_then (λ slots. slots.former)) (absent_from_place n m.entries at)
-  own_by (Some place) at = own_at place (is_some (current_of n m)) at refl
+      ap (old_of n) (purged-absent n m at) ∙ ap (option_and_then (λ slots. slots.former)) (absent_from_index n m.entries at)
+  own_by (Some index) at = own_at index (is_some (current_of n m)) at refl
 
   pub own_purged : old_of n (purged n m) ≡ None
-  own_purged = own_by (place_of n m.entries) refl
+  own_purged = own_by (index_of n m.entries) refl
 
-  nothing_at : (place : ℕ) (b : Bool) → place_of n m.entries ≡ Some place → is_some (current_of n m) ≡ b → old_of n m ≡ None → purged n m ≡ m
-  nothing_at place true at is none =
-      let here = Stands-place n m.entries place at in
-      let slots = same_slots here.slots.current None here.slots refl (sym (old_of-slots n m place here) ∙ none) in
-      let entries = changed_at-same (λ (e : Entry Forms). (e.0, purged_slots e.1)) m.entries place (n, here.slots) here.entry (ap (λ s. (n, s)) slots) in
-      purged-kept n m place at is ∙ (λ j. record { entries = entries j; next = m.next })
-  nothing_at place false at is none =
-      let here = Stands-place n m.entries place at in
-      absurd (codeless n m place here sound (sym (current_of-slots n m place here) ∙ none_from_test (current_of n m) is) (sym (old_of-slots n m place here) ∙ none))
+  nothing_at : (index : ℕ) (b : Bool) → index_of n m.entries ≡ Some index → is_some (current_of n m) ≡ b → old_of n m ≡ None → purged n m ≡ m
+  nothing_at index true at is none =
+      let here = Stands-index n m.entries index at in
+      let slots = same_slots here.slots.current None here.slots refl (sym (old_of-slots n m index here) ∙ none) in
+      let entries = changed_at-same (λ (e : Entry Forms). (e.0, purged_slots e.1)) m.entries index (n, here.slots) here.entry (ap (λ s. (n, s)) slots) in
+      purged-kept n m index at is ∙ (λ j. record { entries = entries j; next = m.next })
+  nothing_at index false at is none =
+      let here = Stands-index n m.entries index at in
+      absurd (codeless n m index here sound (sym (current_of-slots n m index here) ∙ none_from_test (current_of n m) is) (sym (old_of-slots n m index here) ∙ none))
 
-  nothing_by : (o : Option ℕ) → place_of n m.entries ≡ o → old_of n m ≡ None → purged n m ≡ m
+  nothing_by : (o : Option ℕ) → index_of n m.entries ≡ o → old_of n m ≡ None → purged n m ≡ m
   nothing_by None at none = purged-absent n m at
-  nothing_by (Some place) at none = nothing_at place (is_some (current_of n m)) at refl none
+  nothing_by (Some index) at none = nothing_at index (is_some (current_of n m)) at refl none
 
   pub nothing_purged : old_of n m ≡ None → purged n m ≡ m
-  nothing_purged none = nothing_by (place_of n m.entries) refl none
+  nothing_purged none = nothing_by (index_of n m.entries) refl none
 
 -- Each module has the old code that it had, or it is the one that was purged, and has none.
 

@@ -5,7 +5,7 @@ use Rattle.std.proofs.lemmas.List.{append_assoc}
 use Rattle.std.specs.List.{filter}
 use Rattle.erl_ir.specs.Module.{Forms}
 use Rattle.erl_term.specs.declared.term.Term.{Term}
-use Rattle.code_server.specs.Modules.{IsModuleTable, Table as Loaded, old_of, place_of, purged}
+use Rattle.code_server.specs.Modules.{IsModuleTable, Table as Loaded, old_of, index_of, purged}
 use Rattle.code_server.specs.declared.modules.Instance as loaded
 use Rattle.process_effects.proofs.Kills.{users_leave}
 use Rattle.process_effects.specs.Ends.{all_vacated}
@@ -211,7 +211,7 @@ left_same : (ns : List (List ℕ)) (m now : Loaded Forms) (t : Table) → IsModu
 left_same [] m now t sound all = refl
 left_same (n ∷ ns) m now t sound all =
     (λ j. lingers_same n m now t (all n) j ++ all_lingering ns (purged n now) (spares_same n m now t (all n) j))
-    ∙ ap (λ rest. lingering n m t ++ rest) (left_same ns m (purged n now) (spared n m t) (sound_purged n now (place_of n now.entries) sound refl) (λ k. one_more n k m now t (emptied n k now sound) (all k)))
+    ∙ ap (λ rest. lingering n m t ++ rest) (left_same ns m (purged n now) (spared n m t) (sound_purged n now (index_of n now.entries) sound refl) (λ k. one_more n k m now t (emptied n k now sound) (all k)))
 
 pub all_left_lingering : (ns : List (List ℕ)) (m : Loaded Forms) (t : Table) → IsModuleTable m → left_lingering ns m t ≡ all_lingering ns m t
 all_left_lingering ns m t sound = sym (left_same ns m m t sound (λ k. same refl))

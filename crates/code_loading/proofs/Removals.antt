@@ -5,9 +5,9 @@ use Rattle.values.proofs.Edits.{slice_get-changed_at}
 use Rattle.erl_ir.specs.Module.{Forms}
 use Rattle.code_server.proofs.Changes.{current_of-slots, purged-absent, purged-gone, purged-kept}
 use Rattle.code_server.proofs.Removing.{removed-absent, removed-gone}
-use Rattle.code_server.proofs.Reloads.{place_of-with_slots}
-use Rattle.code_server.proofs.Standing.{Stands-place}
-use Rattle.code_server.specs.Modules.{Entry, IsModuleTable, Table as Loaded, current_of, delete_refusal, place_of, purged, purged_slots, removed, with_slots}
+use Rattle.code_server.proofs.Reloads.{index_of-with_slots}
+use Rattle.code_server.proofs.Standing.{Stands-index}
+use Rattle.code_server.specs.Modules.{Entry, IsModuleTable, Table as Loaded, current_of, delete_refusal, index_of, purged, purged_slots, removed, with_slots}
 use Rattle.code_server.specs.declared.error.CodeError.TheVariants.{NotLoaded, NotPurged}
 use Rattle.process_store.specs.Table.{Table}
 use Rattle.code_loading.proofs.Consistency.{delete_keeps, purge_keeps}
@@ -19,32 +19,32 @@ use Rattle.code_loading.specs.Purging.{all_purged, all_spared}
 
 -- A module that has current code is deleted once it was purged.
 
-current_stays : (n : List ℕ) (m : Loaded Forms) (place : ℕ) → place_of n m.entries ≡ Some place → is_some (current_of n m) ≡ true → current_of n (purged n m) ≡ current_of n m
-current_stays n m place at has =
-    let kept : Loaded Forms = record { entries = with_slots purged_slots m.entries place; next = m.next } in
-    let here = Stands-place n m.entries place at in
-    let there = Stands-place n kept.entries place (place_of-with_slots purged_slots n m.entries place at) in
-    let now : slice_get kept.entries place ≡ Some (n, purged_slots here.slots) = slice_get-changed_at (λ (e : Entry Forms). (e.0, purged_slots e.1)) m.entries place (n, here.slots) here.entry in
+current_stays : (n : List ℕ) (m : Loaded Forms) (index : ℕ) → index_of n m.entries ≡ Some index → is_some (current_of n m) ≡ true → current_of n (purged n m) ≡ current_of n m
+current_stays n m index at has =
+    let kept : Loaded Forms = record { entries = with_slots purged_slots m.entries index; next = m.next } in
+    let here = Stands-index n m.entries index at in
+    let there = Stands-index n kept.entries index (index_of-with_slots purged_slots n m.entries index at) in
+    let now : slice_get kept.entries index ≡ Some (n, purged_slots here.slots) = slice_get-changed_at (λ (e : Entry Forms). (e.0, purged_slots e.1)) m.entries index (n, here.slots) here.entry in
     let same : (n, there.slots) ≡ (n, purged_slots here.slots) = same_Some (n, there.slots) (n, purged_slots here.slots) (sym there.entry ∙ now) in
-    ap (current_of n) (purged-kept n m place at has) ∙ current_of-slots n kept place there ∙ ap (λ (e : Entry Forms). e.1.current) same ∙ sym (current_of-slots n m place here)
+    ap (current_of n) (purged-kept n m index at has) ∙ current_of-slots n kept index there ∙ ap (λ (e : Entry Forms). e.1.current) same ∙ sym (current_of-slots n m index here)
 
-can_delete : (n : List ℕ) (m : Loaded Forms) (place : ℕ) → IsModuleTable m → place_of n m.entries ≡ Some place → is_some (current_of n m) ≡ true → delete_refusal n (purged n m) ≡ None
-can_delete n m place sound at has =
-    let current : is_some (current_of n (purged n m)) ≡ true = ap is_some (current_stays n m place at has) ∙ has in
+can_delete : (n : List ℕ) (m : Loaded Forms) (index : ℕ) → IsModuleTable m → index_of n m.entries ≡ Some index → is_some (current_of n m) ≡ true → delete_refusal n (purged n m) ≡ None
+can_delete n m index sound at has =
+    let current : is_some (current_of n (purged n m)) ≡ true = ap is_some (current_stays n m index at has) ∙ has in
     (λ j. cond (current j) (cond (is_some (own_purged n m sound j)) (Some NotPurged) None) (Some NotLoaded))
 
 -- one that has none is purged
 
-removed_at : (n : List ℕ) (m : Loaded Forms) (t : Table) (place : ℕ) (b : Bool) → IsConsistent m t → place_of n m.entries ≡ Some place → is_some (current_of n m) ≡ b → IsConsistent (removed n m) (spared n m t)
-removed_at n m t place true kept at has =
-    delete_keeps n (purged n m) (spared n m t) (purge_keeps n m t kept) (can_delete n m place kept.sound at has)
-removed_at n m t place false kept at none =
-    subst (λ u. IsConsistent u (spared n m t)) (purged-gone n m place at none ∙ sym (removed-gone n m place kept.sound at none)) (purge_keeps n m t kept)
+removed_at : (n : List ℕ) (m : Loaded Forms) (t : Table) (index : ℕ) (b : Bool) → IsConsistent m t → index_of n m.entries ≡ Some index → is_some (current_of n m) ≡ b → IsConsistent (removed n m) (spared n m t)
+removed_at n m t index true kept at has =
+    delete_keeps n (purged n m) (spared n m t) (purge_keeps n m t kept) (can_delete n m index kept.sound at has)
+removed_at n m t index false kept at none =
+    subst (λ u. IsConsistent u (spared n m t)) (purged-gone n m index at none ∙ sym (removed-gone n m index kept.sound at none)) (purge_keeps n m t kept)
 
-removed_by : (n : List ℕ) (m : Loaded Forms) (t : Table) (o : Option ℕ) → IsConsistent m t → place_of n m.entries ≡ o → IsConsistent (removed n m) (spared n m t)
+removed_by : (n : List ℕ) (m : Loaded Forms) (t : Table) (o : Option ℕ) → IsConsistent m t → index_of n m.entries ≡ o → IsConsistent (removed n m) (spared n m t)
 removed_by n m t None kept at =
     subst (λ u. IsConsistent u (spared n m t)) (purged-absent n m at ∙ sym (removed-absent n m at)) (purge_keeps n m t kept)
-removed_by n m t (Some place) kept at = removed_at n m t place (is_some (current_of n m)) kept at refl
+removed_by n m t (Some index) kept at = removed_at n m t index (is_some (current_of n m)) kept at refl
 
 all_keep : (ns : List (List ℕ)) (m : Loaded Forms) (t : Table) → IsConsistent m t → IsConsistent (all_purged ns m) (all_spared ns m t)
 all_keep [] m t kept = kept
@@ -52,6 +52,6 @@ all_keep (n ∷ ns) m t kept = all_keep ns (purged n m) (spared n m t) (purge_ke
 
 pub purges_keep_code : PurgesKeepCode
 purges_keep_code = record {
-  removes = λ n m t kept. removed_by n m t (place_of n m.entries) kept refl;
+  removes = λ n m t kept. removed_by n m t (index_of n m.entries) kept refl;
   purges = all_keep;
 }

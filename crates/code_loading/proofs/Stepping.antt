@@ -26,7 +26,7 @@ use Rattle.erl_semantics.specs.declared.instance.Instance.{Instance}
 use Rattle.code_server.specs.Modules.{Entry, IsModuleTable, Table as Loaded, current_of}
 use Rattle.code_server.specs.declared.modules.Instance as code
 use Rattle.process.proofs.FoundAgain.{job_code_stands}
-use Rattle.process.proofs.Standing.{current-at_place, place-of_entry}
+use Rattle.process.proofs.Standing.{current-at_index, index-of_entry}
 use Rattle.process.specs.JobCode.{IsJobCode, job_code}
 use Rattle.process.specs.Named.{StandsIn, as_current}
 use Rattle.process.proofs.Living.{held-all}
@@ -268,7 +268,7 @@ currents_stand m sound = all_stand m m.entries current
   where
     current : (j : ℕ) (entry : Entry Forms) → slice_get m.entries j ≡ Some entry → current_of entry.0 m ≡ entry.1.current
     current j entry at =
-        current-at_place entry.0 m j (place-of_entry m.entries j entry sound.distinct at) ∙ ap (option_and_then (λ e. e.1.current)) at
+        current-at_index entry.0 m j (index-of_entry m.entries j entry sound.distinct at) ∙ ap (option_and_then (λ e. e.1.current)) at
 
 -- Processes are suspended and resumed, get another state, and end.
 

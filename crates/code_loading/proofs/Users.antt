@@ -44,15 +44,15 @@ filled None xs = refl
 filled (Some x) xs = refl
 
 module _ {A B : Type 0} where
-  next_of : (f : A → Option B) (es : List A) (place : ℕ) → filter_map f (drop place es) ≡ option_to_list (option_and_then f (slice_get es place)) ++ filter_map f (drop (suc place) es)
+  next_of : (f : A → Option B) (es : List A) (index : ℕ) → filter_map f (drop index es) ≡ option_to_list (option_and_then f (slice_get es index)) ++ filter_map f (drop (suc index) es)
   next_of f [] zero = refl
-  next_of f [] (suc place) = refl
+  next_of f [] (suc index) = refl
   next_of f (e ∷ es) zero = filled (f e) (filter_map f es)
-  next_of f (e ∷ es) (suc place) = next_of f es place
+  next_of f (e ∷ es) (suc index) = next_of f es index
 
-pub one_module_more : {A B : Type 0} (f : A → Option B) (es : List A) (place : ℕ) (code more all : List B) → more ≡ code ++ option_to_list (option_and_then f (slice_get es place)) → code ++ filter_map f (drop place es) ≡ all → more ++ filter_map f (drop (place + 1) es) ≡ all
-one_module_more f es place code more all pushed before =
-    let one : place + 1 ≡ suc place = omega arith in
-    let here = option_to_list (option_and_then f (slice_get es place)) in
-    let left = filter_map f (drop (suc place) es) in
-    ap (λ k. more ++ filter_map f (drop k es)) one ∙ ap (λ xs. xs ++ left) pushed ∙ append_assoc code here left ∙ ap (λ xs. code ++ xs) (sym (next_of f es place)) ∙ before
+pub one_module_more : {A B : Type 0} (f : A → Option B) (es : List A) (index : ℕ) (code more all : List B) → more ≡ code ++ option_to_list (option_and_then f (slice_get es index)) → code ++ filter_map f (drop index es) ≡ all → more ++ filter_map f (drop (index + 1) es) ≡ all
+one_module_more f es index code more all pushed before =
+    let one : index + 1 ≡ suc index = omega arith in
+    let here = option_to_list (option_and_then f (slice_get es index)) in
+    let left = filter_map f (drop (suc index) es) in
+    ap (λ k. more ++ filter_map f (drop k es)) one ∙ ap (λ xs. xs ++ left) pushed ∙ append_assoc code here left ∙ ap (λ xs. code ++ xs) (sym (next_of f es index)) ∙ before

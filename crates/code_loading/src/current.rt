@@ -28,17 +28,17 @@ fn push_current(
     Ok(())
 }
 
-/// Puts the current code of the module at a place last, if there is a module, and it has any.
+/// Puts the current code of the module at an index last, if there is a module, and it has any.
 fn push_entry(
     code: &mut Vec<Instance>,
     alloc: Global,
     modules: &Modules<Module>,
-    place: usize,
+    index: usize,
 ) -> Result<(), AllocError>
     ensures { OnOk result (code.new.items ≡ code.old.items ++
-        option_to_list (option_and_then current_in (slice_get modules.now.entries place))) }
+        option_to_list (option_and_then current_in (slice_get modules.now.entries index))) }
 {
-    match modules.entry(place) {
+    match modules.entry(index) {
         Some((name, slots)) => push_current(code, alloc, name, slots),
         None => Ok(()),
     }
@@ -53,8 +53,8 @@ pub fn current_code(alloc: Global, modules: &Modules<Module>) -> Result<Vec<Inst
     ensures { IfOk result (λ it. it.items ≡ current_code modules.now) }
 {
     let mut code = Vec::with_capacity(alloc, modules.len())?;
-    for place in 0..modules.len() {
-        push_entry(&mut code, alloc, modules, place)?;
+    for index in 0..modules.len() {
+        push_entry(&mut code, alloc, modules, index)?;
     }
     Ok(code)
 }

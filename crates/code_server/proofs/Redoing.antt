@@ -10,7 +10,7 @@ use Rattle.code_server.specs.declared.undo.Redo.TheVariants.{Replace, Demote, Mo
 use Rattle.code_server.specs.declared.undo.ModulesUndo.{ModulesUndo}
 use Rattle.code_server.specs.declared.undo.ModulesUndo.TheVariants.{Replaced, Demoted, Moved, Purged, Removed}
 use Rattle.code_server.specs.Modules.{Entry, Table, IsModuleTable, with_slots}
-use Rattle.code_server.specs.Places.{current_at, former_at, old_alone}
+use Rattle.code_server.specs.Indices.{current_at, former_at, old_alone}
 use Rattle.code_server.specs.Undo.{Fits, Redoes, moved_back, moved_last, replaced, swapped_back, unpurged, with_old}
 use Rattle.code_server.proofs.Changes.{same_slots}
 use Rattle.code_server.proofs.Standing.{entry_at, slice_get-insert}
@@ -22,66 +22,66 @@ module _ {C : Type 0} where
       let here : Fits u t = subst (λ n. Fits u n) (sym same) (subst (λ v. Fits v now) is fits) in
       subst (λ v. Redoes redo v now before) (sym is) (subst (λ n. Redoes redo u n before) same (by here))
 
-  -- a change of one module's instances that put old code in, and the change that puts this code's place right again
-  changed-again : (f g : Slots C → Slots C) (es before : List (Entry C)) (place : ℕ) (entry : Entry C) → slice_get es place ≡ Some entry → g (f entry.1) ≡ entry.1 → before ≡ with_slots f es place → with_slots g before place ≡ es
-  changed-again f g es before place entry at back is =
-      ap (λ l. with_slots g l place) is ∙ changed_at-back (λ e. (e.0, f e.1)) (λ e. (e.0, g e.1)) es place entry at (ap (λ s. (entry.0, s)) back)
+  -- a change of one module's instances that put old code in, and the change that puts this code's index right again
+  changed-again : (f g : Slots C → Slots C) (es before : List (Entry C)) (index : ℕ) (entry : Entry C) → slice_get es index ≡ Some entry → g (f entry.1) ≡ entry.1 → before ≡ with_slots f es index → with_slots g before index ≡ es
+  changed-again f g es before index entry at back is =
+      ap (λ l. with_slots g l index) is ∙ changed_at-back (λ e. (e.0, f e.1)) (λ e. (e.0, g e.1)) es index entry at (ap (λ s. (entry.0, s)) back)
 
-  former-changed : (f : Slots C → Slots C) (es before : List (Entry C)) (place : ℕ) (entry : Entry C) → slice_get es place ≡ Some entry → before ≡ with_slots f es place → former_at before place ≡ (f entry.1).former
-  former-changed f es before place entry at is =
-      ap (λ l. former_at l place) is ∙ ap (option_and_then (λ e. e.1.former)) (slice_get-changed_at (λ e. (e.0, f e.1)) es place entry at)
+  former-changed : (f : Slots C → Slots C) (es before : List (Entry C)) (index : ℕ) (entry : Entry C) → slice_get es index ≡ Some entry → before ≡ with_slots f es index → former_at before index ≡ (f entry.1).former
+  former-changed f es before index entry at is =
+      ap (λ l. former_at l index) is ∙ ap (option_and_then (λ e. e.1.former)) (slice_get-changed_at (λ e. (e.0, f e.1)) es index entry at)
 
-  pub Replaced-again : (place : ℕ) (instance : Instance C) (gone : Option (Instance C)) (t : Table C) (es : List (Entry C)) (next : ℕ) → IsModuleTable t → es ≡ with_slots (swapped_back instance) t.entries place → gone ≡ current_at t.entries place → next + 1 ≡ t.next → Fits (Replaced place instance) t → Redoes (Replace place gone) (Replaced place instance) t (record { entries = es; next = next })
-  Replaced-again place instance gone t es next sound is went count fits =
-      let there = entry_at t.entries place fits.placed in
+  pub Replaced-again : (index : ℕ) (instance : Instance C) (gone : Option (Instance C)) (t : Table C) (es : List (Entry C)) (next : ℕ) → IsModuleTable t → es ≡ with_slots (swapped_back instance) t.entries index → gone ≡ current_at t.entries index → next + 1 ≡ t.next → Fits (Replaced index instance) t → Redoes (Replace index gone) (Replaced index instance) t (record { entries = es; next = next })
+  Replaced-again index instance gone t es next sound is went count fits =
+      let there = entry_at t.entries index fits.placed in
       let lost = went ∙ ap (option_and_then (λ e. e.1.current)) there.1 in
       let slots = same_slots gone there.0.1.former there.0.1 (sym lost) refl in
-      let entries = changed-again (swapped_back instance) (replaced gone) t.entries es place there.0 there.1 slots is in
+      let entries = changed-again (swapped_back instance) (replaced gone) t.entries es index there.0 there.1 slots is in
       let less : t.next - 1 ≡ next = omega (arith, count) in
       record {
         again = λ j. record { entries = entries j; next = count j };
-        hands = ap (option_map (Replaced place)) (former-changed (swapped_back instance) t.entries es place there.0 there.1 is);
+        hands = ap (option_map (Replaced index)) (former-changed (swapped_back instance) t.entries es index there.0 there.1 is);
         fits = fits;
         back = λ j. record { entries = sym is j; next = less j };
         sound = sound;
       }
 
-  pub Demoted-again : (place : ℕ) (instance : Instance C) (gone : Option (Instance C)) (t : Table C) (es : List (Entry C)) → IsModuleTable t → es ≡ with_slots (swapped_back instance) t.entries place → gone ≡ current_at t.entries place → Fits (Demoted place instance) t → Redoes (Demote place gone) (Demoted place instance) t (record { entries = es; next = t.next })
-  Demoted-again place instance gone t es sound is went fits =
-      let there = entry_at t.entries place fits.placed in
+  pub Demoted-again : (index : ℕ) (instance : Instance C) (gone : Option (Instance C)) (t : Table C) (es : List (Entry C)) → IsModuleTable t → es ≡ with_slots (swapped_back instance) t.entries index → gone ≡ current_at t.entries index → Fits (Demoted index instance) t → Redoes (Demote index gone) (Demoted index instance) t (record { entries = es; next = t.next })
+  Demoted-again index instance gone t es sound is went fits =
+      let there = entry_at t.entries index fits.placed in
       let lost = went ∙ ap (option_and_then (λ e. e.1.current)) there.1 in
       let slots = same_slots gone there.0.1.former there.0.1 (sym lost) refl in
-      let entries = changed-again (swapped_back instance) (replaced gone) t.entries es place there.0 there.1 slots is in
+      let entries = changed-again (swapped_back instance) (replaced gone) t.entries es index there.0 there.1 slots is in
       record {
         again = λ j. record { entries = entries j; next = t.next };
-        hands = ap (option_map (Demoted place)) (former-changed (swapped_back instance) t.entries es place there.0 there.1 is);
+        hands = ap (option_map (Demoted index)) (former-changed (swapped_back instance) t.entries es index there.0 there.1 is);
         fits = fits;
         back = λ j. record { entries = sym is j; next = t.next };
         sound = sound;
       }
 
-  pub Purged-again : (place : ℕ) (instance : Instance C) (gone : Option (Instance C)) (t : Table C) (es : List (Entry C)) → IsModuleTable t → es ≡ with_slots (unpurged instance) t.entries place → gone ≡ former_at t.entries place → Fits (Purged place instance) t → Redoes (Purge place gone) (Purged place instance) t (record { entries = es; next = t.next })
-  Purged-again place instance gone t es sound is went fits =
-      let there = entry_at t.entries place fits.placed in
+  pub Purged-again : (index : ℕ) (instance : Instance C) (gone : Option (Instance C)) (t : Table C) (es : List (Entry C)) → IsModuleTable t → es ≡ with_slots (unpurged instance) t.entries index → gone ≡ former_at t.entries index → Fits (Purged index instance) t → Redoes (Purge index gone) (Purged index instance) t (record { entries = es; next = t.next })
+  Purged-again index instance gone t es sound is went fits =
+      let there = entry_at t.entries index fits.placed in
       let lost = went ∙ ap (option_and_then (λ e. e.1.former)) there.1 in
       let slots = same_slots there.0.1.current gone there.0.1 refl (sym lost) in
-      let entries = changed-again (unpurged instance) (with_old gone) t.entries es place there.0 there.1 slots is in
+      let entries = changed-again (unpurged instance) (with_old gone) t.entries es index there.0 there.1 slots is in
       record {
         again = λ j. record { entries = entries j; next = t.next };
-        hands = ap (option_map (Purged place)) (former-changed (unpurged instance) t.entries es place there.0 there.1 is);
+        hands = ap (option_map (Purged index)) (former-changed (unpurged instance) t.entries es index there.0 there.1 is);
         fits = fits;
         back = λ j. record { entries = sym is j; next = t.next };
         sound = sound;
       }
 
-  pub Removed-again : (place : ℕ) (name : List ℕ) (instance : Instance C) (t : Table C) (es : List (Entry C)) → IsModuleTable t → es ≡ insert t.entries place (name, record { current = None; former = Some instance }) → Fits (Removed place name instance) t → Redoes (Remove place) (Removed place name instance) t (record { entries = es; next = t.next })
-  Removed-again place name instance t es sound is fits =
+  pub Removed-again : (index : ℕ) (name : List ℕ) (instance : Instance C) (t : Table C) (es : List (Entry C)) → IsModuleTable t → es ≡ insert t.entries index (name, record { current = None; former = Some instance }) → Fits (Removed index name instance) t → Redoes (Remove index) (Removed index name instance) t (record { entries = es; next = t.next })
+  Removed-again index name instance t es sound is fits =
       let entry : Entry C = (name, record { current = None; former = Some instance }) in
-      let found : slice_get es place ≡ Some entry = ap (λ l. slice_get l place) is ∙ slice_get-insert t.entries place entry fits.placed.0 in
-      let entries : remove es place ≡ t.entries = ap (λ l. remove l place) is ∙ remove-insert t.entries place entry fits.placed.0 in
+      let found : slice_get es index ≡ Some entry = ap (λ l. slice_get l index) is ∙ slice_get-insert t.entries index entry fits.placed.0 in
+      let entries : remove es index ≡ t.entries = ap (λ l. remove l index) is ∙ remove-insert t.entries index entry fits.placed.0 in
       record {
         again = λ j. record { entries = entries j; next = t.next };
-        hands = ap (option_and_then (λ e. option_map (Removed place e.0) e.1.former)) found;
+        hands = ap (option_and_then (λ e. option_map (Removed index e.0) e.1.former)) found;
         fits = fits;
         back = λ j. record { entries = sym is j; next = t.next };
         sound = sound;
@@ -93,23 +93,23 @@ module _ {C : Type 0} where
       let last = length es - 1 in
       sym (take_all (last + 1) es (omega arith)) ∙ take_more es last entry (omega arith) ∙ ap (λ e. take last es ++ e ∷ []) (get_or_from_slice_get es last entry entry at)
 
-  pub Moved-again : (place : ℕ) (instance : Instance C) (gone : Slots C) (t : Table C) (es : List (Entry C)) (next : ℕ) → IsModuleTable t → es ≡ moved_back place instance (slice_get t.entries (length t.entries - 1)) (take (length t.entries - 1) t.entries) → Some gone ≡ option_map (λ e. e.1) (slice_get t.entries (length t.entries - 1)) → next + 1 ≡ t.next → Fits (Moved place instance) t → Redoes (Move place gone) (Moved place instance) t (record { entries = es; next = next })
-  Moved-again place instance gone t es next sound is went count fits =
-      let within : place < length t.entries = fits.placed in
+  pub Moved-again : (index : ℕ) (instance : Instance C) (gone : Slots C) (t : Table C) (es : List (Entry C)) (next : ℕ) → IsModuleTable t → es ≡ moved_back index instance (slice_get t.entries (length t.entries - 1)) (take (length t.entries - 1) t.entries) → Some gone ≡ option_map (λ e. e.1) (slice_get t.entries (length t.entries - 1)) → next + 1 ≡ t.next → Fits (Moved index instance) t → Redoes (Move index gone) (Moved index instance) t (record { entries = es; next = next })
+  Moved-again index instance gone t es next sound is went count fits =
+      let within : index < length t.entries = fits.placed in
       let last = length t.entries - 1 in
       let others = take last t.entries in
       let there = entry_at t.entries last (omega arith) in
       let entry : Entry C = (there.0.0, old_alone instance there.0.1) in
       let long : length others ≡ last = length-take-le last t.entries (omega arith) in
       let lost : gone ≡ there.0.1 = same_Some gone there.0.1 (went ∙ ap (option_map (λ e. e.1)) there.1) in
-      let put : es ≡ insert others place entry = is ∙ ap (λ o. moved_back place instance o others) there.1 in
-      let found : slice_get es place ≡ Some entry = ap (λ l. slice_get l place) put ∙ slice_get-insert others place entry (omega arith) in
-      let rest : remove es place ≡ others = ap (λ l. remove l place) put ∙ remove-insert others place entry (omega arith) in
-      let entries : moved_last gone (slice_get es place) (remove es place) ≡ t.entries = (λ j. moved_last gone (found j) (rest j)) ∙ ap (λ s. others ++ (there.0.0, s) ∷ []) lost ∙ sym (ends t.entries there.0 (omega arith) there.1) in
+      let put : es ≡ insert others index entry = is ∙ ap (λ o. moved_back index instance o others) there.1 in
+      let found : slice_get es index ≡ Some entry = ap (λ l. slice_get l index) put ∙ slice_get-insert others index entry (omega arith) in
+      let rest : remove es index ≡ others = ap (λ l. remove l index) put ∙ remove-insert others index entry (omega arith) in
+      let entries : moved_last gone (slice_get es index) (remove es index) ≡ t.entries = (λ j. moved_last gone (found j) (rest j)) ∙ ap (λ s. others ++ (there.0.0, s) ∷ []) lost ∙ sym (ends t.entries there.0 (omega arith) there.1) in
       let less : t.next - 1 ≡ next = omega (arith, count) in
       record {
         again = λ j. record { entries = entries j; next = count j };
-        hands = ap (λ o. option_map (Moved place) (option_and_then (λ e. e.1.former) o)) found;
+        hands = ap (λ o. option_map (Moved index) (option_and_then (λ e. e.1.former) o)) found;
         fits = fits;
         back = λ j. record { entries = sym is j; next = less j };
         sound = sound;

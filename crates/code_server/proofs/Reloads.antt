@@ -7,50 +7,50 @@ use Rattle.std.specs.Map.{lookup}
 use Rattle.std.specs.Str.{bytes_eq}
 use Rattle.indexmap.specs.IndexMap.{move_index}
 use Rattle.indexmap.proofs.MapLemmas.{some_index}
-use Rattle.values.proofs.Edits.{changed_at-end, changed_at-twice, insert-remove, last_place, slice_get-changed_at, slice_get-end, take-end}
+use Rattle.values.proofs.Edits.{changed_at-end, changed_at-twice, insert-remove, last_index, slice_get-changed_at, slice_get-end, take-end}
 use Rattle.code_server.specs.declared.error.CodeError.TheVariants.{NotPurged, CounterEnd}
 use Rattle.code_server.specs.declared.modules.Instance.{Instance}
 use Rattle.code_server.specs.declared.modules.Slots.{Slots}
 use Rattle.code_server.specs.declared.undo.ModulesUndo.TheVariants.{Moved}
-use Rattle.code_server.specs.Modules.{Entry, Table, IsModuleTable, current_of, old_of, place_of, with_slots, load_refusal, stacked, loaded_at, loaded, purged_slots, purged}
-use Rattle.code_server.specs.Places.{former_at}
+use Rattle.code_server.specs.Modules.{Entry, Table, IsModuleTable, current_of, old_of, index_of, with_slots, load_refusal, stacked, loaded_at, loaded, purged_slots, purged}
+use Rattle.code_server.specs.Indices.{former_at}
 use Rattle.code_server.specs.Undo.{Fits, moved_back, undone}
 use Rattle.code_server.proofs.Changes.{none_from_test, old_of-slots, purged-absent, purged-gone, purged-kept, same_slots, taken_back}
 use Rattle.code_server.proofs.Sound.{IsModuleTable-added, IsModuleTable-removed}
-use Rattle.code_server.proofs.Standing.{Stands, Stands-place, absent_from_place, keys-with_slots, last_is, move_index-end}
+use Rattle.code_server.proofs.Standing.{Stands, Stands-index, absent_from_index, keys-with_slots, last_is, move_index-end}
 
 module _ {C : Type 0} where
   -- No old code stays
 
-  -- the module's place, where its instances changed
-  pub place_of-with_slots : (f : Slots C → Slots C) (name : List ℕ) (es : List (Entry C)) (place : ℕ) → place_of name es ≡ Some place → place_of name (with_slots f es place) ≡ Some place
-  place_of-with_slots f name es place found =
-      ap (position (bytes_eq name)) (keys-with_slots f es place) ∙ found
+  -- the module's index, where its instances changed
+  pub index_of-with_slots : (f : Slots C → Slots C) (name : List ℕ) (es : List (Entry C)) (index : ℕ) → index_of name es ≡ Some index → index_of name (with_slots f es index) ≡ Some index
+  index_of-with_slots f name es index found =
+      ap (position (bytes_eq name)) (keys-with_slots f es index) ∙ found
 
-  old_of-kept : (name : List ℕ) (t : Table C) (place : ℕ) → place_of name t.entries ≡ Some place → old_of name (record { entries = with_slots purged_slots t.entries place; next = t.next }) ≡ None
-  old_of-kept name t place found =
-      let kept : Table C = record { entries = with_slots purged_slots t.entries place; next = t.next } in
-      let before = Stands-place name t.entries place found in
-      let after = Stands-place name kept.entries place (place_of-with_slots purged_slots name t.entries place found) in
-      let changed = slice_get-changed_at (λ e. (e.0, purged_slots e.1)) t.entries place (name, before.slots) before.entry in
+  old_of-kept : (name : List ℕ) (t : Table C) (index : ℕ) → index_of name t.entries ≡ Some index → old_of name (record { entries = with_slots purged_slots t.entries index; next = t.next }) ≡ None
+  old_of-kept name t index found =
+      let kept : Table C = record { entries = with_slots purged_slots t.entries index; next = t.next } in
+      let before = Stands-index name t.entries index found in
+      let after = Stands-index name kept.entries index (index_of-with_slots purged_slots name t.entries index found) in
+      let changed = slice_get-changed_at (λ e. (e.0, purged_slots e.1)) t.entries index (name, before.slots) before.entry in
       let same = same_Some (name, after.slots) (name, purged_slots before.slots) (sym after.entry ∙ changed) in
-      old_of-slots name kept place after ∙ ap (λ e. e.1.former) same
+      old_of-slots name kept index after ∙ ap (λ e. e.1.former) same
 
   old_of-absent : (name : List ℕ) (t : Table C) → lookup (bytes_eq name) t.entries ≡ None → old_of name t ≡ None
   old_of-absent name t absent = ap (option_and_then (λ slots. slots.former)) absent
 
   pub old_of-purged : (name : List ℕ) (t : Table C) → IsModuleTable t → old_of name (purged name t) ≡ None
   old_of-purged name t sound =
-      by (place_of name t.entries) refl (is_some (current_of name t)) refl
+      by (index_of name t.entries) refl (is_some (current_of name t)) refl
     where
-      by : (r : Option ℕ) → place_of name t.entries ≡ r → (b : Bool) → is_some (current_of name t) ≡ b → old_of name (purged name t) ≡ None
+      by : (r : Option ℕ) → index_of name t.entries ≡ r → (b : Bool) → is_some (current_of name t) ≡ b → old_of name (purged name t) ≡ None
       by None found b there =
-          ap (old_of name) (purged-absent name t found) ∙ old_of-absent name t (absent_from_place name t.entries found)
-      by (Some place) found true there =
-          ap (old_of name) (purged-kept name t place found there) ∙ old_of-kept name t place found
-      by (Some place) found false there =
-          let at = Stands-place name t.entries place found in
-          ap (old_of name) (purged-gone name t place found there) ∙ old_of-absent name (record { entries = remove t.entries place; next = t.next }) (at.gone sound.distinct)
+          ap (old_of name) (purged-absent name t found) ∙ old_of-absent name t (absent_from_index name t.entries found)
+      by (Some index) found true there =
+          ap (old_of name) (purged-kept name t index found there) ∙ old_of-kept name t index found
+      by (Some index) found false there =
+          let at = Stands-index name t.entries index found in
+          ap (old_of name) (purged-gone name t index found there) ∙ old_of-absent name (record { entries = remove t.entries index; next = t.next }) (at.gone sound.distinct)
 
   -- so nothing but the counter refuses
   pub refusal-purged : (name : List ℕ) (t : Table C) (b : Bool) → IsModuleTable t → (t.next == 2 ^ 64) ≡ b → load_refusal name (purged name t) ≡ (if b then Some CounterEnd else None)
@@ -67,52 +67,52 @@ module _ {C : Type 0} where
 
   -- A module with current code stays
 
-  pub loaded-kept : (name : List ℕ) (code : C) (t : Table C) (place : ℕ) → place_of name t.entries ≡ Some place → is_some (current_of name t) ≡ true → loaded name code (purged name t) ≡ record { entries = with_slots (stacked (record { serial = t.next; code = code })) t.entries place; next = t.next + 1 }
-  loaded-kept name code t place found there =
+  pub loaded-kept : (name : List ℕ) (code : C) (t : Table C) (index : ℕ) → index_of name t.entries ≡ Some index → is_some (current_of name t) ≡ true → loaded name code (purged name t) ≡ record { entries = with_slots (stacked (record { serial = t.next; code = code })) t.entries index; next = t.next + 1 }
+  loaded-kept name code t index found there =
       let instance : Instance C = record { serial = t.next; code = code } in
-      let kept = with_slots purged_slots t.entries place in
-      let at = Stands-place name t.entries place found in
-      let stays = place_of-with_slots purged_slots name t.entries place found in
-      let once = changed_at-twice (λ e. (e.0, purged_slots e.1)) (λ e. (e.0, stacked instance e.1)) (λ e. (e.0, stacked instance e.1)) t.entries place (name, at.slots) at.entry refl in
-      ap (loaded name code) (purged-kept name t place found there)
+      let kept = with_slots purged_slots t.entries index in
+      let at = Stands-index name t.entries index found in
+      let stays = index_of-with_slots purged_slots name t.entries index found in
+      let once = changed_at-twice (λ e. (e.0, purged_slots e.1)) (λ e. (e.0, stacked instance e.1)) (λ e. (e.0, stacked instance e.1)) t.entries index (name, at.slots) at.entry refl in
+      ap (loaded name code) (purged-kept name t index found there)
       ∙ (λ j. record { entries = loaded_at (stays j) name instance kept; next = t.next + 1 })
       ∙ (λ j. record { entries = once j; next = t.next + 1 })
 
   -- A module with old code alone goes last
 
-  pub stacked-last : (name : List ℕ) (es : List (Entry C)) (place : ℕ) (instance : Instance C) (at : Stands name es place) → at.slots.current ≡ None → with_slots (stacked instance) (move_index es place (length es - 1)) (length es - 1) ≡ remove es place ++ (name, record { current = Some instance; former = None }) ∷ []
-  stacked-last name es place instance at none =
-      let others = remove es place in
-      (λ j. with_slots (stacked instance) (move_index-end es place (name, at.slots) at.within at.entry j) (last_is es place at.within j))
+  pub stacked-last : (name : List ℕ) (es : List (Entry C)) (index : ℕ) (instance : Instance C) (at : Stands name es index) → at.slots.current ≡ None → with_slots (stacked instance) (move_index es index (length es - 1)) (length es - 1) ≡ remove es index ++ (name, record { current = Some instance; former = None }) ∷ []
+  stacked-last name es index instance at none =
+      let others = remove es index in
+      (λ j. with_slots (stacked instance) (move_index-end es index (name, at.slots) at.within at.entry j) (last_is es index at.within j))
       ∙ changed_at-end (λ e. (e.0, stacked instance e.1)) others (name, at.slots)
       ∙ (λ j. others ++ (name, record { current = Some instance; former = none j }) ∷ [])
 
-  pub former-last : (name : List ℕ) (es : List (Entry C)) (place : ℕ) (at : Stands name es place) → former_at (move_index es place (length es - 1)) (length es - 1) ≡ at.slots.former
-  former-last name es place at =
-      (λ j. former_at (move_index-end es place (name, at.slots) at.within at.entry j) (last_is es place at.within j)) ∙ ap (option_and_then (λ entry. entry.1.former)) (slice_get-end (remove es place) (name, at.slots))
+  pub former-last : (name : List ℕ) (es : List (Entry C)) (index : ℕ) (at : Stands name es index) → former_at (move_index es index (length es - 1)) (length es - 1) ≡ at.slots.former
+  former-last name es index at =
+      (λ j. former_at (move_index-end es index (name, at.slots) at.within at.entry j) (last_is es index at.within j)) ∙ ap (option_and_then (λ entry. entry.1.former)) (slice_get-end (remove es index) (name, at.slots))
 
-  pub loaded-gone : (name : List ℕ) (code : C) (t : Table C) (place : ℕ) → IsModuleTable t → place_of name t.entries ≡ Some place → is_some (current_of name t) ≡ false → loaded name code (purged name t) ≡ record { entries = remove t.entries place ++ (name, record { current = Some (record { serial = t.next; code = code }); former = None }) ∷ []; next = t.next + 1 }
-  loaded-gone name code t place sound found there =
+  pub loaded-gone : (name : List ℕ) (code : C) (t : Table C) (index : ℕ) → IsModuleTable t → index_of name t.entries ≡ Some index → is_some (current_of name t) ≡ false → loaded name code (purged name t) ≡ record { entries = remove t.entries index ++ (name, record { current = Some (record { serial = t.next; code = code }); former = None }) ∷ []; next = t.next + 1 }
+  loaded-gone name code t index sound found there =
       let instance : Instance C = record { serial = t.next; code = code } in
-      let others = remove t.entries place in
-      let at = Stands-place name t.entries place found in
-      let nowhere = none_from_test (place_of name others) (some_index (bytes_eq name) others ∙ ap is_some (at.gone sound.distinct)) in
-      ap (loaded name code) (purged-gone name t place found there) ∙ (λ j. record { entries = loaded_at (nowhere j) name instance others; next = t.next + 1 })
+      let others = remove t.entries index in
+      let at = Stands-index name t.entries index found in
+      let nowhere = none_from_test (index_of name others) (some_index (bytes_eq name) others ∙ ap is_some (at.gone sound.distinct)) in
+      ap (loaded name code) (purged-gone name t index found there) ∙ (λ j. record { entries = loaded_at (nowhere j) name instance others; next = t.next + 1 })
 
-  pub IsModuleTable-reloaded : (name : List ℕ) (t : Table C) (place : ℕ) (instance : Instance C) → IsModuleTable t → Stands name t.entries place → instance.serial ≡ t.next → t.next < 2 ^ 64 → IsModuleTable (record { entries = remove t.entries place ++ (name, record { current = Some instance; former = None }) ∷ []; next = t.next + 1 })
-  IsModuleTable-reloaded name t place instance sound at is below =
-      IsModuleTable-added (record { entries = remove t.entries place; next = t.next }) name instance (IsModuleTable-removed t place sound) (at.gone sound.distinct) is below
+  pub IsModuleTable-reloaded : (name : List ℕ) (t : Table C) (index : ℕ) (instance : Instance C) → IsModuleTable t → Stands name t.entries index → instance.serial ≡ t.next → t.next < 2 ^ 64 → IsModuleTable (record { entries = remove t.entries index ++ (name, record { current = Some instance; former = None }) ∷ []; next = t.next + 1 })
+  IsModuleTable-reloaded name t index instance sound at is below =
+      IsModuleTable-added (record { entries = remove t.entries index; next = t.next }) name instance (IsModuleTable-removed t index sound) (at.gone sound.distinct) is below
 
-  pub Moved-back : (name : List ℕ) (t now : Table C) (place : ℕ) (es : List (Entry C)) (instance former : Instance C) (at : Stands name t.entries place) → at.slots.current ≡ None → at.slots.former ≡ Some former → es ≡ remove t.entries place ++ (name, record { current = Some instance; former = None }) ∷ [] → IsModuleTable t → t ≡ now → Fits (Moved place former) (record { entries = es; next = t.next + 1 }) × (undone (Moved place former) (record { entries = es; next = t.next + 1 }) ≡ now)
-  Moved-back name t now place es instance former at none some is sound same =
-      let others = remove t.entries place in
+  pub Moved-back : (name : List ℕ) (t now : Table C) (index : ℕ) (es : List (Entry C)) (instance former : Instance C) (at : Stands name t.entries index) → at.slots.current ≡ None → at.slots.former ≡ Some former → es ≡ remove t.entries index ++ (name, record { current = Some instance; former = None }) ∷ [] → IsModuleTable t → t ≡ now → Fits (Moved index former) (record { entries = es; next = t.next + 1 }) × (undone (Moved index former) (record { entries = es; next = t.next + 1 }) ≡ now)
+  Moved-back name t now index es instance former at none some is sound same =
+      let others = remove t.entries index in
       let entry : Entry C = (name, record { current = Some instance; former = None }) in
       let slots = same_slots None (Some former) at.slots none some in
       let long = length-append others (entry ∷ []) in
-      let shorter = length-remove t.entries place at.within in
-      let last : length es - 1 ≡ length others = (λ j. length (is j) - 1) ∙ last_place others entry in
+      let shorter = length-remove t.entries index at.within in
+      let last : length es - 1 ≡ length others = (λ j. length (is j) - 1) ∙ last_index others entry in
       let found : slice_get es (length es - 1) ≡ Some entry = (λ j. slice_get (is j) (last j)) ∙ slice_get-end others entry in
       let taken : take (length es - 1) es ≡ others = (λ j. take (last j) (is j)) ∙ take-end others entry in
-      let back : moved_back place former (slice_get es (length es - 1)) (take (length es - 1) es) ≡ t.entries = (λ j. moved_back place former (found j) (taken j)) ∙ (λ j. insert others place (name, slots j)) ∙ insert-remove t.entries place (name, at.slots) at.entry in
+      let back : moved_back index former (slice_get es (length es - 1)) (take (length es - 1) es) ≡ t.entries = (λ j. moved_back index former (found j) (taken j)) ∙ (λ j. insert others index (name, slots j)) ∙ insert-remove t.entries index (name, at.slots) at.entry in
       let count : t.next + 1 - 1 ≡ t.next = omega arith in
-      taken_back (Moved place former) (record { entries = es; next = t.next + 1 }) t now (omega (arith, ap length is, at.within, long, shorter)) (λ j. record { entries = back j; next = count j }) sound same
+      taken_back (Moved index former) (record { entries = es; next = t.next + 1 }) t now (omega (arith, ap length is, at.within, long, shorter)) (λ j. record { entries = back j; next = count j }) sound same

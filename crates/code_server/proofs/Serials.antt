@@ -8,31 +8,31 @@ use Rattle.code_server.specs.declared.modules.Instance.{Instance}
 use Rattle.code_server.specs.Modules.{Entry, Table, IsGiven, IsModuleTable, in_slot, in_entry, in_entries}
 
 module _ {C : Type 0} where
-  -- Edits at a place
+  -- Edits at an index
 
-  -- how often a serial stands in what a place has, which is nothing past the end
+  -- how often a serial stands in what an index has, which is nothing past the end
   abbrev pub in_found : ℕ → Option (Entry C) → ℕ
   in_found n None = 0
   in_found n (Some entry) = in_entry n entry
 
-  pub in_entries-changed_at : (n : ℕ) (f : Entry C → Entry C) (es : List (Entry C)) (place : ℕ) → in_entries n (changed_at f es place) + in_found n (slice_get es place) ≡ in_entries n es + in_found n (option_map f (slice_get es place))
-  in_entries-changed_at n f [] place = refl
+  pub in_entries-changed_at : (n : ℕ) (f : Entry C → Entry C) (es : List (Entry C)) (index : ℕ) → in_entries n (changed_at f es index) + in_found n (slice_get es index) ≡ in_entries n es + in_found n (option_map f (slice_get es index))
+  in_entries-changed_at n f [] index = refl
   in_entries-changed_at n f (e ∷ es) zero =
       omega (arith, sum_by-cons (in_entry n) (f e) es, sum_by-cons (in_entry n) e es)
-  in_entries-changed_at n f (e ∷ es) (suc place) =
-      omega (arith, sum_by-cons (in_entry n) e (changed_at f es place), sum_by-cons (in_entry n) e es, in_entries-changed_at n f es place)
+  in_entries-changed_at n f (e ∷ es) (suc index) =
+      omega (arith, sum_by-cons (in_entry n) e (changed_at f es index), sum_by-cons (in_entry n) e es, in_entries-changed_at n f es index)
 
-  pub in_entries-remove : (n : ℕ) (es : List (Entry C)) (place : ℕ) → in_entries n (remove es place) + in_found n (slice_get es place) ≡ in_entries n es
+  pub in_entries-remove : (n : ℕ) (es : List (Entry C)) (index : ℕ) → in_entries n (remove es index) + in_found n (slice_get es index) ≡ in_entries n es
   in_entries-remove n [] zero = refl
-  in_entries-remove n [] (suc place) = refl
+  in_entries-remove n [] (suc index) = refl
   in_entries-remove n (e ∷ es) zero = omega (arith, sum_by-cons (in_entry n) e es)
-  in_entries-remove n (e ∷ es) (suc place) =
-      omega (arith, sum_by-cons (in_entry n) e (remove es place), sum_by-cons (in_entry n) e es, in_entries-remove n es place)
+  in_entries-remove n (e ∷ es) (suc index) =
+      omega (arith, sum_by-cons (in_entry n) e (remove es index), sum_by-cons (in_entry n) e es, in_entries-remove n es index)
 
   -- a change that brings a serial in no more than k times
-  pub in_entries-at_most : (n k : ℕ) (f : Entry C → Entry C) (es : List (Entry C)) (place : ℕ) → ((e : Entry C) → slice_get es place ≡ Some e → in_entry n (f e) ≤ in_entry n e + k) → in_entries n (changed_at f es place) ≤ in_entries n es + k
-  in_entries-at_most n k f es place at =
-      omega (arith, in_entries-changed_at n f es place, by (slice_get es place) at)
+  pub in_entries-at_most : (n k : ℕ) (f : Entry C → Entry C) (es : List (Entry C)) (index : ℕ) → ((e : Entry C) → slice_get es index ≡ Some e → in_entry n (f e) ≤ in_entry n e + k) → in_entries n (changed_at f es index) ≤ in_entries n es + k
+  in_entries-at_most n k f es index at =
+      omega (arith, in_entries-changed_at n f es index, by (slice_get es index) at)
     where
       by : (o : Option (Entry C)) → ((e : Entry C) → o ≡ Some e → in_entry n (f e) ≤ in_entry n e + k) → in_found n (option_map f o) ≤ in_found n o + k
       by None at = omega arith

@@ -14,7 +14,7 @@ use Rattle.values.proofs.Edits.{All-changed_at, All-remove, All-slice_get, IsDis
 use Rattle.code_server.specs.declared.modules.Instance.{Instance}
 use Rattle.code_server.specs.declared.modules.Slots.{Slots}
 use Rattle.code_server.specs.Modules.{Entry, Table, HasCode, IsGiven, IsModuleTable, in_slot, in_entry, in_entries, with_slots, stacked, retired, purged_slots}
-use Rattle.code_server.specs.Places.{current_at}
+use Rattle.code_server.specs.Indices.{current_at}
 use Rattle.code_server.proofs.Serials.{AreGiven, in_entries-at_most, in_entries-remove, once_with}
 use Rattle.code_server.proofs.Standing.{keys-with_slots}
 
@@ -28,50 +28,50 @@ module _ {C : Type 0} where
       All-weaker (AreGiven n) (AreGiven m) (λ e g. (IsGiven-later n m e.1.current later g.0, IsGiven-later n m e.1.former later g.1)) es given
 
   -- the instances of one module change, and `new` is the one that comes in, if any
-  pub IsModuleTable-with_slots : (f : Slots C → Slots C) (t : Table C) (place next : ℕ) (new : Option (Instance C)) → IsModuleTable t → t.next ≤ next → next ≤ 2 ^ 64 → ((n : ℕ) → in_entries n t.entries + in_slot n new ≤ 1) → ((e : Entry C) → slice_get t.entries place ≡ Some e → HasCode (e.0, f e.1) × AreGiven next (e.0, f e.1) × ((n : ℕ) → in_entry n (e.0, f e.1) ≤ in_entry n e + in_slot n new)) → IsModuleTable (record { entries = with_slots f t.entries place; next = next })
-  IsModuleTable-with_slots f t place next new sound later end room at = record {
-    distinct = subst (IsDistinct bytes_eq) (sym (keys-with_slots f t.entries place)) sound.distinct;
-    with_code = All-changed_at (λ e. HasCode e) (λ e. (e.0, f e.1)) t.entries place sound.with_code (λ e is. (at e is).0);
-    given = All-changed_at (AreGiven next) (λ e. (e.0, f e.1)) t.entries place (AreGiven-later t.next next t.entries later sound.given) (λ e is. (at e is).1);
-    once = λ n. omega (arith, room n, in_entries-at_most n (in_slot n new) (λ e. (e.0, f e.1)) t.entries place (λ e is. (at e is).2 n));
+  pub IsModuleTable-with_slots : (f : Slots C → Slots C) (t : Table C) (index next : ℕ) (new : Option (Instance C)) → IsModuleTable t → t.next ≤ next → next ≤ 2 ^ 64 → ((n : ℕ) → in_entries n t.entries + in_slot n new ≤ 1) → ((e : Entry C) → slice_get t.entries index ≡ Some e → HasCode (e.0, f e.1) × AreGiven next (e.0, f e.1) × ((n : ℕ) → in_entry n (e.0, f e.1) ≤ in_entry n e + in_slot n new)) → IsModuleTable (record { entries = with_slots f t.entries index; next = next })
+  IsModuleTable-with_slots f t index next new sound later end room at = record {
+    distinct = subst (IsDistinct bytes_eq) (sym (keys-with_slots f t.entries index)) sound.distinct;
+    with_code = All-changed_at (λ e. HasCode e) (λ e. (e.0, f e.1)) t.entries index sound.with_code (λ e is. (at e is).0);
+    given = All-changed_at (AreGiven next) (λ e. (e.0, f e.1)) t.entries index (AreGiven-later t.next next t.entries later sound.given) (λ e is. (at e is).1);
+    once = λ n. omega (arith, room n, in_entries-at_most n (in_slot n new) (λ e. (e.0, f e.1)) t.entries index (λ e is. (at e is).2 n));
     counted = (omega (arith, sound.counted.0), end);
   }
 
   -- a load of a module that is there
-  pub IsModuleTable-stacked : (t : Table C) (place : ℕ) (instance : Instance C) → IsModuleTable t → instance.serial ≡ t.next → t.next < 2 ^ 64 → IsModuleTable (record { entries = with_slots (stacked instance) t.entries place; next = t.next + 1 })
-  IsModuleTable-stacked t place instance sound is below =
-      IsModuleTable-with_slots (stacked instance) t place (t.next + 1) (Some instance) sound (omega arith) (omega arith) (once_with t instance sound is) (λ e at.
-      let given = All-slice_get (AreGiven t.next) t.entries place e sound.given at in (
+  pub IsModuleTable-stacked : (t : Table C) (index : ℕ) (instance : Instance C) → IsModuleTable t → instance.serial ≡ t.next → t.next < 2 ^ 64 → IsModuleTable (record { entries = with_slots (stacked instance) t.entries index; next = t.next + 1 })
+  IsModuleTable-stacked t index instance sound is below =
+      IsModuleTable-with_slots (stacked instance) t index (t.next + 1) (Some instance) sound (omega arith) (omega arith) (once_with t instance sound is) (λ e at.
+      let given = All-slice_get (AreGiven t.next) t.entries index e sound.given at in (
         refl,
         ((omega (arith, sound.counted.0, is), omega (arith, is)), IsGiven-later t.next (t.next + 1) e.1.current (omega arith) given.0),
         λ n. omega arith,
       ))
 
-  current_at_some : (es : List (Entry C)) (place : ℕ) (e : Entry C) → slice_get es place ≡ Some e → is_some (current_at es place) ≡ true → is_some e.1.current ≡ true
-  current_at_some es place e at there =
+  current_at_some : (es : List (Entry C)) (index : ℕ) (e : Entry C) → slice_get es index ≡ Some e → is_some (current_at es index) ≡ true → is_some e.1.current ≡ true
+  current_at_some es index e at there =
       sym (ap (λ o. is_some (option_and_then (λ entry. entry.1.current) o)) at) ∙ there
 
   -- a delete
-  pub IsModuleTable-retired : (t : Table C) (place : ℕ) → IsModuleTable t → is_some (current_at t.entries place) ≡ true → IsModuleTable (record { entries = with_slots retired t.entries place; next = t.next })
-  IsModuleTable-retired t place sound there =
-      IsModuleTable-with_slots retired t place t.next None sound (omega arith) sound.counted.1 (λ n. omega (arith, sound.once n)) (λ e at.
-      let given = All-slice_get (AreGiven t.next) t.entries place e sound.given at in
-      (current_at_some t.entries place e at there, (tt, given.0), λ n. omega arith))
+  pub IsModuleTable-retired : (t : Table C) (index : ℕ) → IsModuleTable t → is_some (current_at t.entries index) ≡ true → IsModuleTable (record { entries = with_slots retired t.entries index; next = t.next })
+  IsModuleTable-retired t index sound there =
+      IsModuleTable-with_slots retired t index t.next None sound (omega arith) sound.counted.1 (λ n. omega (arith, sound.once n)) (λ e at.
+      let given = All-slice_get (AreGiven t.next) t.entries index e sound.given at in
+      (current_at_some t.entries index e at there, (tt, given.0), λ n. omega arith))
 
   -- a purge of a module with current code
-  pub IsModuleTable-purged_slots : (t : Table C) (place : ℕ) → IsModuleTable t → is_some (current_at t.entries place) ≡ true → IsModuleTable (record { entries = with_slots purged_slots t.entries place; next = t.next })
-  IsModuleTable-purged_slots t place sound there =
-      IsModuleTable-with_slots purged_slots t place t.next None sound (omega arith) sound.counted.1 (λ n. omega (arith, sound.once n)) (λ e at.
-      let given = All-slice_get (AreGiven t.next) t.entries place e sound.given at in
-      (ap (λ b. b || false) (current_at_some t.entries place e at there), (given.0, tt), λ n. omega arith))
+  pub IsModuleTable-purged_slots : (t : Table C) (index : ℕ) → IsModuleTable t → is_some (current_at t.entries index) ≡ true → IsModuleTable (record { entries = with_slots purged_slots t.entries index; next = t.next })
+  IsModuleTable-purged_slots t index sound there =
+      IsModuleTable-with_slots purged_slots t index t.next None sound (omega arith) sound.counted.1 (λ n. omega (arith, sound.once n)) (λ e at.
+      let given = All-slice_get (AreGiven t.next) t.entries index e sound.given at in
+      (ap (λ b. b || false) (current_at_some t.entries index e at there), (given.0, tt), λ n. omega arith))
 
   -- a purge of a module with old code alone
-  pub IsModuleTable-removed : (t : Table C) (place : ℕ) → IsModuleTable t → IsModuleTable (record { entries = remove t.entries place; next = t.next })
-  IsModuleTable-removed t place sound = record {
-    distinct = subst (IsDistinct bytes_eq) (sym (map-remove (λ e. e.0) t.entries place)) (IsDistinct-remove bytes_eq (keys_of t.entries) place sound.distinct);
-    with_code = All-remove (λ e. HasCode e) t.entries place sound.with_code;
-    given = All-remove (AreGiven t.next) t.entries place sound.given;
-    once = λ n. omega (arith, sound.once n, in_entries-remove n t.entries place);
+  pub IsModuleTable-removed : (t : Table C) (index : ℕ) → IsModuleTable t → IsModuleTable (record { entries = remove t.entries index; next = t.next })
+  IsModuleTable-removed t index sound = record {
+    distinct = subst (IsDistinct bytes_eq) (sym (map-remove (λ e. e.0) t.entries index)) (IsDistinct-remove bytes_eq (keys_of t.entries) index sound.distinct);
+    with_code = All-remove (λ e. HasCode e) t.entries index sound.with_code;
+    given = All-remove (AreGiven t.next) t.entries index sound.given;
+    once = λ n. omega (arith, sound.once n, in_entries-remove n t.entries index);
     counted = sound.counted;
   }
 

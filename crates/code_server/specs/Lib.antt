@@ -1,3 +1,3 @@
 pub mod Modules
-pub mod Places
+pub mod Indices
 pub mod Undo

@@ -1,6 +1,6 @@
 -- The code server's table: a module has one or two instances of code, the current one and the old one
 -- (Erlang Reference Manual, Compilation and Code Loading, Code Replacement; code(3)).
-use Rattle.std.specs.Prelude.{◌≡◌, ℕ, ◌+◌, ◌^◌, ◌<◌, ◌≤◌, ◌==◌, Bool, ◌&&◌, ◌||◌, if◌then◌else◌, IsTrue, List, [], ◌∷◌, ◌++◌}
+use Rattle.std.specs.Prelude.{ℕ, ◌+◌, ◌^◌, ◌<◌, ◌≤◌, ◌==◌, Bool, ◌&&◌, ◌||◌, if◌then◌else◌, IsTrue, List, [], ◌∷◌, ◌++◌}
 use Rattle.std.specs.Prelude.{All, remove, position, Option, None, Some, is_some, option_and_then}
 use Rattle.std.specs.List.{IsDistinct, sum_by}
 use Rattle.std.specs.Map.{keys_of, lookup}
@@ -41,12 +41,12 @@ abbrev pub old_of : {C : Type 0} → List ℕ → Table C → Option (Instance C
 old_of name t = option_and_then (λ slots. slots.former) (slots_of name t)
 
 -- where it stands
-abbrev pub place_of : {C : Type 0} → List ℕ → List (Entry C) → Option ℕ
-place_of name entries = position (bytes_eq name) (keys_of entries)
+abbrev pub index_of : {C : Type 0} → List ℕ → List (Entry C) → Option ℕ
+index_of name entries = position (bytes_eq name) (keys_of entries)
 
 -- the entries with a module's instances changed
 abbrev pub with_slots : {C : Type 0} → (Slots C → Slots C) → List (Entry C) → ℕ → List (Entry C)
-with_slots f entries place = changed_at (λ entry. (entry.0, f entry.1)) entries place
+with_slots f entries index = changed_at (λ entry. (entry.0, f entry.1)) entries index
 
 -- Load: the new code becomes current under the next serial, and what was current becomes old. A module
 -- that is not in the table goes last. Where there is old code it has to be purged first.
@@ -61,11 +61,11 @@ stacked instance slots = record { current = Some instance; former = slots.curren
 
 abbrev pub loaded_at : {C : Type 0} → Option ℕ → List ℕ → Instance C → List (Entry C) → List (Entry C)
 loaded_at None name instance entries = entries ++ (name, record { current = Some instance; former = None }) ∷ []
-loaded_at (Some place) name instance entries = with_slots (stacked instance) entries place
+loaded_at (Some index) name instance entries = with_slots (stacked instance) entries index
 
 abbrev pub loaded : {C : Type 0} → List ℕ → C → Table C → Table C
 loaded name code t = record {
-  entries = loaded_at (place_of name t.entries) name (record { serial = t.next; code = code }) t.entries;
+  entries = loaded_at (index_of name t.entries) name (record { serial = t.next; code = code }) t.entries;
   next = t.next + 1;
 }
 
@@ -81,10 +81,10 @@ retired slots = record { current = None; former = slots.current }
 
 abbrev pub deleted_at : {C : Type 0} → Option ℕ → List (Entry C) → List (Entry C)
 deleted_at None entries = entries
-deleted_at (Some place) entries = with_slots retired entries place
+deleted_at (Some index) entries = with_slots retired entries index
 
 abbrev pub deleted : {C : Type 0} → List ℕ → Table C → Table C
-deleted name t = record { entries = deleted_at (place_of name t.entries) t.entries; next = t.next }
+deleted name t = record { entries = deleted_at (index_of name t.entries) t.entries; next = t.next }
 
 -- Purge: the old code is gone, if there is any. A module that is left without code leaves the table.
 
@@ -93,12 +93,12 @@ purged_slots slots = record { current = slots.current; former = None }
 
 abbrev pub purged_at : {C : Type 0} → Option ℕ → Bool → List (Entry C) → List (Entry C)
 purged_at None has_current entries = entries
-purged_at (Some place) has_current entries =
-    if has_current then with_slots purged_slots entries place else remove entries place
+purged_at (Some index) has_current entries =
+    if has_current then with_slots purged_slots entries index else remove entries index
 
 abbrev pub purged : {C : Type 0} → List ℕ → Table C → Table C
 purged name t = record {
-  entries = purged_at (place_of name t.entries) (is_some (current_of name t)) t.entries;
+  entries = purged_at (index_of name t.entries) (is_some (current_of name t)) t.entries;
   next = t.next;
 }
 

@@ -5,7 +5,7 @@
 //! Compilation and Code Loading). Each load has a serial, from 1 on.
 //!
 //! [`Modules`] is the table, first loaded first. Each change hands out a [`ModulesUndo`], by which
-//! [`Modules::revert`] takes the newest change back, whole: instances, the module's place in the table,
+//! [`Modules::revert`] takes the newest change back, whole: instances, the module's index in the table,
 //! the serial of the next load. One that has purged old code can be taken back so that it can be made again without memory:
 //! [`Modules::unpurge`] hands out a [`Redo`] for [`Modules::redo`].
 //!
@@ -30,8 +30,8 @@
 #![tactic(auto)]
 
 mod error;
+mod indices;
 mod modules;
-mod places;
 mod undo;
 
 pub use error::CodeError;

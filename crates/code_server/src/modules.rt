@@ -8,7 +8,7 @@ ghost use Rattle.std.specs.Map.Iter.{deref_pair};
 ghost use Rattle.std.specs.Option.{option_map, option_copied};
 
 use crate::error::CodeError;
-use crate::places::{
+use crate::indices::{
     SlotChange, add, change_at, has_current, move_back, put_back, stack_last, take_out,
 };
 use crate::undo::ModulesUndo;
@@ -70,7 +70,7 @@ impl<C> Model for Modules<C> {
 }
 
 impl<C: Drop> Modules<C> {
-    ghost use Rattle.code_server.specs.Modules.{Table, IsModuleTable, emptied, empty_table, slots_of, current_of, old_of, place_of, load_refusal, loaded, delete_refusal, deleted, purged, soft_purge_refusal};
+    ghost use Rattle.code_server.specs.Modules.{Table, IsModuleTable, emptied, empty_table, slots_of, current_of, old_of, index_of, load_refusal, loaded, delete_refusal, deleted, purged, soft_purge_refusal};
     ghost use Rattle.values.specs.Failure.{TellsFailure};
     ghost use Rattle.values.specs.declared.failure.Failure.TheVariants.{Memory};
     ghost use Rattle.code_server.specs.Undo.{Fits, HasPurged, IsRemoval, held, undone};
@@ -119,16 +119,16 @@ impl<C: Drop> Modules<C> {
         self.table.is_empty()
     }
 
-    /// The module at a place, counted from 0: its name and its instances. Takes no memory.
-    pub fn entry(&self, place: usize) -> Option<(&Atom, &Slots<C>)>
-        ensures { option_map deref_pair result ≡ slice_get self.now.entries place }
+    /// The module at an index, counted from 0: its name and its instances. Takes no memory.
+    pub fn entry(&self, index: usize) -> Option<(&Atom, &Slots<C>)>
+        ensures { option_map deref_pair result ≡ slice_get self.now.entries index }
     {
-        self.table.get_index(place)
+        self.table.get_index(index)
     }
 
     /// Where a module stands in the table, counted from 0, found by key. Takes no memory.
-    pub fn place(&self, name: &Atom) -> Option<usize>
-        ensures { result ≡ place_of name.now self.now.entries }
+    pub fn index_of(&self, name: &Atom) -> Option<usize>
+        ensures { result ≡ index_of name.now self.now.entries }
     {
         self.table.get_index_of(name)
     }
@@ -225,10 +225,10 @@ impl<C: Drop> Modules<C> {
         let serial = self.last + 1;
         let instance = Instance { serial, code };
         match self.table.get_index_of(name) {
-            Some(place) => {
-                let _ = change_at(&mut self.table, place, SlotChange::Stack(Some(instance)));
+            Some(index) => {
+                let _ = change_at(&mut self.table, index, SlotChange::Stack(Some(instance)));
                 self.last = serial;
-                Ok(ModulesUndo::Stacked(place))
+                Ok(ModulesUndo::Stacked(index))
             }
             None => {
                 add(&mut self.table, self.alloc, name, instance)?;
@@ -239,7 +239,7 @@ impl<C: Drop> Modules<C> {
     }
 
     /// Purges what is old, and loads: as [`Modules::purge`] and then [`Modules::load`], in one change. So a
-    /// module that has old code alone leaves its place and goes last. Memory is asked for only where the
+    /// module that has old code alone leaves its index and goes last. Memory is asked for only where the
     /// module is not in the table. Who uses the old code is the caller's to see to.
     ///
     /// # Errors
@@ -265,21 +265,21 @@ impl<C: Drop> Modules<C> {
         }
         let serial = self.last + 1;
         let instance = Instance { serial, code };
-        let Some(place) = self.table.get_index_of(name) else {
+        let Some(index) = self.table.get_index_of(name) else {
             add(&mut self.table, self.alloc, name, instance)?;
             self.last = serial;
             return Ok(ModulesUndo::Added);
         };
         self.last = serial;
-        if has_current(&self.table, place) {
+        if has_current(&self.table, index) {
             let change = SlotChange::Stack(Some(instance));
-            let Some(former) = change_at(&mut self.table, place, change) else {
-                return Ok(ModulesUndo::Stacked(place));
+            let Some(former) = change_at(&mut self.table, index, change) else {
+                return Ok(ModulesUndo::Stacked(index));
             };
-            return Ok(ModulesUndo::Replaced(place, former));
+            return Ok(ModulesUndo::Replaced(index, former));
         }
-        match stack_last(&mut self.table, place, instance) {
-            Some(former) => Ok(ModulesUndo::Moved(place, former)),
+        match stack_last(&mut self.table, index, instance) {
+            Some(former) => Ok(ModulesUndo::Moved(index, former)),
             None => unreachable!(),
         }
     }
@@ -302,9 +302,9 @@ impl<C: Drop> Modules<C> {
             return Err(refusal);
         }
         match self.table.get_index_of(name) {
-            Some(place) => {
-                let _ = change_at(&mut self.table, place, SlotChange::Stack(None));
-                Ok(ModulesUndo::Retired(place))
+            Some(index) => {
+                let _ = change_at(&mut self.table, index, SlotChange::Stack(None));
+                Ok(ModulesUndo::Retired(index))
             }
             None => Err(CodeError::NotLoaded),
         }
@@ -318,18 +318,18 @@ impl<C: Drop> Modules<C> {
         ensures pieces { held result ≡ old_of name.now self.old }
         ensures old_code { IsSome (old_of name.now self.old) → HasPurged result }
     {
-        let Some(place) = self.table.get_index_of(name) else {
+        let Some(index) = self.table.get_index_of(name) else {
             return ModulesUndo::Nothing;
         };
-        if has_current(&self.table, place) {
+        if has_current(&self.table, index) {
             let change = SlotChange::ReplaceOld(None);
-            let Some(former) = change_at(&mut self.table, place, change) else {
+            let Some(former) = change_at(&mut self.table, index, change) else {
                 return ModulesUndo::Nothing;
             };
-            return ModulesUndo::Purged(place, former);
+            return ModulesUndo::Purged(index, former);
         }
-        match take_out(&mut self.table, place) {
-            Some((name, former)) => ModulesUndo::Removed(place, name, former),
+        match take_out(&mut self.table, index) {
+            Some((name, former)) => ModulesUndo::Removed(index, name, former),
             None => unreachable!(),
         }
     }
@@ -372,13 +372,13 @@ impl<C: Drop> Modules<C> {
                 self.last -= 1;
                 Ok(())
             }
-            ModulesUndo::Stacked(place) => {
-                let _ = change_at(&mut self.table, place, SlotChange::Unstack(None));
+            ModulesUndo::Stacked(index) => {
+                let _ = change_at(&mut self.table, index, SlotChange::Unstack(None));
                 self.last -= 1;
                 Ok(())
             }
-            ModulesUndo::Retired(place) => {
-                let _ = change_at(&mut self.table, place, SlotChange::Unstack(None));
+            ModulesUndo::Retired(index) => {
+                let _ = change_at(&mut self.table, index, SlotChange::Unstack(None));
                 Ok(())
             }
             ModulesUndo::Replaced(..) | ModulesUndo::Moved(..) | ModulesUndo::Demoted(..) => {

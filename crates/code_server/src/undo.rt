@@ -2,7 +2,7 @@
 use crate::modules::{Instance, Slots};
 use erl_term::Atom;
 
-/// What takes one change of the table back: what the change took away, and where. Places are counted
+/// What takes one change of the table back: what the change took away, and where. Indices are counted
 /// from 0, in the table's order.
 #[derive(Drop)]
 pub enum ModulesUndo<C> {
@@ -10,38 +10,38 @@ pub enum ModulesUndo<C> {
     Nothing,
     /// A load put a new module last.
     Added,
-    /// A load of the module at this place made its current code old.
+    /// A load of the module at this index made its current code old.
     Stacked(usize),
-    /// A load of the module at this place made its current code old, and purged this old code.
+    /// A load of the module at this index made its current code old, and purged this old code.
     Replaced(usize, Instance<C>),
-    /// A load of the module that stood at this place with this old code alone purged that, and put the
+    /// A load of the module that stood at this index with this old code alone purged that, and put the
     /// module last.
     Moved(usize, Instance<C>),
-    /// A delete of the module at this place made its current code old.
+    /// A delete of the module at this index made its current code old.
     Retired(usize),
-    /// A removal of the module at this place made its current code old, and purged this old code.
+    /// A removal of the module at this index made its current code old, and purged this old code.
     Demoted(usize, Instance<C>),
-    /// The module at this place lost this old code.
+    /// The module at this index lost this old code.
     Purged(usize, Instance<C>),
-    /// The module with this name stood at this place, and left the table with this old code, its last.
+    /// The module with this name stood at this index, and left the table with this old code, its last.
     Removed(usize, Atom, Instance<C>),
 }
 
 /// What makes a change of the table that has purged old code again, once it was taken back: what the take-back took away,
-/// and where. Places are counted from 0, in the table's order. [`Modules::unpurge`](crate::Modules::unpurge) alone makes it.
+/// and where. Indices are counted from 0, in the table's order. [`Modules::unpurge`](crate::Modules::unpurge) alone makes it.
 #[derive(Drop)]
 pub enum Redo<C> {
-    /// A load makes the current code of the module at this place old, and purges its old code. The instance is the load's,
+    /// A load makes the current code of the module at this index old, and purges its old code. The instance is the load's,
     /// which is current again.
     Replace(usize, Option<Instance<C>>),
-    /// A removal makes the current code of the module at this place old, and purges its old code. The instance is what the
+    /// A removal makes the current code of the module at this index old, and purges its old code. The instance is what the
     /// removal left for current code: none.
     Demote(usize, Option<Instance<C>>),
-    /// A load of the module at this place, which has old code alone, purges that, and puts the module last. The instances
+    /// A load of the module at this index, which has old code alone, purges that, and puts the module last. The instances
     /// are those that the load left it with.
     Move(usize, Slots<C>),
-    /// The module at this place loses its old code. The instance is what the purge left for old code: none.
+    /// The module at this index loses its old code. The instance is what the purge left for old code: none.
     Purge(usize, Option<Instance<C>>),
-    /// The module at this place leaves the table with its old code, its last.
+    /// The module at this index leaves the table with its old code, its last.
     Remove(usize),
 }

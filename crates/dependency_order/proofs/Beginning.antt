@@ -9,7 +9,7 @@ use Rattle.dependency_order.specs.Lists.{upto}
 use Rattle.dependency_order.specs.Orders.{IsInOrder, IsNext, IsOrderOf, is_free, stands, times}
 use Rattle.dependency_order.proofs.Counting.{times-past, times-push, times-upto}
 use Rattle.dependency_order.proofs.Takings.{stands-times, times-stands}
-use Rattle.dependency_order.proofs.Waiting.{place_of}
+use Rattle.dependency_order.proofs.Waiting.{vertex_of}
 
 abbrev bit : Bool → ℕ
 bit b = if b then 1 else 0
@@ -48,7 +48,7 @@ clear-free waits left ps p all clear =
     ap not
     (false_from_ne_true (list_any (waits p) ps)
     (λ some.
-    let at' = place_of (waits p) ps some in
+    let at' = vertex_of (waits p) ps some in
     let q = get_or ps at'.at' 0 in
     let there = list_any_at (λ r. eqb r q) ps at'.at' 0 at'.below (eq-eqb q q refl) in
     false≢true (sym (clear q (there-left left ps q all there)) ∙ at'.passes)))

@@ -15,7 +15,7 @@ joined_back names p q (IsJoined.naming {q = s} chain link) =
 joined_back names p q (IsJoined.named {q = s} chain link) =
     joined_on names q s p (IsJoined.naming IsJoined.itself link) (joined_back names p s chain)
 
--- places that are joined have one first member
+-- vertices that are joined have one first member
 pub first-joined : (names : ℕ → ℕ → Bool) (p q f g : ℕ) → IsJoined names p q → IsFirst names p f → IsFirst names q g → f ≡ g
 first-joined names p q f g chain one other =
     let below = one.least g (joined_on names p q g chain other.joined) in

@@ -142,7 +142,7 @@ times-append p (x ∷ xs) ys =
 pub times-push : (p : ℕ) (xs : List ℕ) (x : ℕ) → times p (xs ++ x ∷ []) ≡ times p xs + (if eqb x p then 1 else 0)
 times-push p xs x = times-append p xs (x ∷ []) ∙ omega arith
 
--- one place less
+-- one vertex less
 bit-set : (b : Bool) (rest : ℕ) → b ≡ true → (if false then 1 else 0) + rest < (if b then 1 else 0) + rest
 bit-set true rest is = omega arith
 bit-set false rest is = absurd (false≢true is)

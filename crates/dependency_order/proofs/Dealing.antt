@@ -39,7 +39,7 @@ leaders-more xs y =
     map-append first (filter test (enumerate_from 0 xs)) (filter test ((length xs, y) ∷ [])) ∙
     ap (λ ls. leaders xs ++ ls) (one-leader (eqb y (length xs)) (length xs) y)
 
--- places that are chosen by their first members, as a filter of all places
+-- vertices that are chosen by their first members, as a filter of all vertices
 placed-among : (test : ℕ → ℕ → Bool) (ys xs : List ℕ) → map (λ (e : Pair). e.0) (filter (λ (e : Pair). test e.0 e.1) (enumerate_from (length ys) xs)) ≡ filter (λ p. test p (get_or (ys ++ xs) p 0)) (range_with_len (length ys) (length xs))
 placed-among test ys [] = refl
 placed-among test ys (x ∷ xs) =
@@ -97,7 +97,7 @@ module _ (waits : ℕ → ℕ → Bool) (part : ℕ → Bool) (closed : (p q : �
   order-part [] in' = in'
   order-part (p ∷ ps) in' = order-step (part p) p ps refl in'.0 (order-part ps in'.1)
 
--- an order of all places gives one of each group
+-- an order of all vertices gives one of each group
 pub order_of_part : (waits : ℕ → ℕ → Bool) (firsts order : List ℕ) (f : ℕ) → ((p q : ℕ) → waits p q ≡ true → is_of firsts f p ≡ is_of firsts f q) → IsOrderOf waits (upto (length firsts)) order →
     IsOrderOf waits (members firsts f) (filter (is_of firsts f) order)
 order_of_part waits firsts order f closed is = record {
@@ -112,7 +112,7 @@ all_ordered names group of [] each = tt
 all_ordered names group of (f ∷ fs) each =
     (each f (or_left (eqb f f) (stands f fs) (eq-eqb f f refl)), all_ordered names group of fs (λ g there. each g (or_right (eqb f g) (stands g fs) there)))
 
--- a first member is a place
+-- a first member is a vertex
 leader-step : (b : Bool) (n x f m : ℕ) (es : List Pair) → (stands f (map (λ (e : Pair). e.0) es) ≡ true → f < m) → n < m → stands f (map (λ (e : Pair). e.0) (cond b ((n, x) ∷ es) es)) ≡ true → f < m
 leader-step true n x f m es rest low there =
     elim (or_cases (eqb n f) (stands f (map (λ (e : Pair). e.0) es)) there) [

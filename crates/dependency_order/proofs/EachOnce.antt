@@ -1,4 +1,4 @@
--- Groups have each place once, and so have their orders.
+-- Groups have each vertex once, and so have their orders.
 use Rattle.std.proofs.Common.{◌≡◌, ◌<◌, ◌≤◌, ℕ, Bool, true, false, inl, inr, List, [], ◌∷◌, length, eqb, if◌then◌else◌, get_or, sym, ap, ◌∙◌, refl, subst, arith}
 use Rattle.std.specs.List.{flat_map, range_with_len}
 use Rattle.std.specs.List.Sorted.{IsPermutation}
@@ -17,7 +17,7 @@ use Rattle.dependency_order.proofs.Permuting.{flat_map-permuted}
 member : (firsts : List ℕ) (f p : ℕ) → times p (members firsts f) ≡ (if is_of firsts f p then times p (upto (length firsts)) else 0)
 member firsts f p = ap (times p) (members-upto firsts f) ∙ times-filter (is_of firsts f) p (upto (length firsts))
 
--- a place behind the last is in no group
+-- a vertex behind the last is in no group
 none : (b : Bool) (n : ℕ) → n ≡ 0 → (if b then n else 0) ≡ 0
 none true n is = is
 none false n is = refl
@@ -30,7 +30,7 @@ past-all firsts (f ∷ fs) p past =
     let both = times-append p (members firsts f) (flat_map (members firsts) fs) in
     omega (arith, here, rest, both)
 
--- a place is in as many groups as its first member leads
+-- a vertex is in as many groups as its first member leads
 one : (b : Bool) (n : ℕ) → n ≡ 1 → (if b then n else 0) ≡ (if b then 1 else 0)
 one true n is = is
 one false n is = refl

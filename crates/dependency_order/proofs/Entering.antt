@@ -5,7 +5,7 @@ use Rattle.std.proofs.lemmas.Bool.{cases_eq, cases_lt, eq-eqb, false≢true, ne_
 use Rattle.std.proofs.lemmas.List.{get_or_past}
 use Rattle.std.proofs.lemmas.List.Elements.{All-nil}
 use Rattle.dependency_order.specs.Lists.{AreBelow, AreEntered, IsEntered, IsRelation, ends_with, is_named, is_on, row, upto}
-use Rattle.dependency_order.specs.declared.place.Place.{Place}
+use Rattle.dependency_order.specs.declared.vertex.Vertex.{Vertex}
 use Rattle.dependency_order.specs.Orders.{stands}
 use Rattle.dependency_order.proofs.Upto.{below-filtered, below-upto, filter-more, stands-filtered}
 
@@ -148,27 +148,27 @@ filter-agree f g (x ∷ xs) agree =
     let one = agree x (or_left (eqb x x) (stands x xs) (eq-eqb x x refl)) in
     ap (λ ys. cond (f x) (x ∷ ys) ys) rest ∙ ap (λ b. cond b (x ∷ filter g xs) (filter g xs)) one
 
-pub relation_of : (has : ℕ → ℕ → Bool) (count : ℕ) (places modules : List (List ℕ)) → AreEntered has count count places →
-    AreEntered (λ p k. stands k (row places p)) (length places) (length places) modules → IsRelation has count modules places
-relation_of has count places modules are back =
+pub relation_of : (has : ℕ → ℕ → Bool) (count : ℕ) (vertices modules : List (List ℕ)) → AreEntered has count count vertices →
+    AreEntered (λ p k. stands k (row vertices p)) (length vertices) (length vertices) modules → IsRelation has count modules vertices
+relation_of has count vertices modules are back =
     let many = are.many in
     record {
       of_modules = are;
-      of_places = record {
+      of_vertices = record {
         many = back.many ∙ many;
         rows = λ p in'.
-            back.rows p (omega (arith, in', many)) ∙ ap (λ n. filter (λ k. stands p (row places k)) (upto n)) many ∙
-            filter-agree (λ k. stands p (row places k)) (λ k. has p k) (upto count)
+            back.rows p (omega (arith, in', many)) ∙ ap (λ n. filter (λ k. stands p (row vertices k)) (upto n)) many ∙
+            filter-agree (λ k. stands p (row vertices k)) (λ k. has p k) (upto count)
             (λ k there. ap (stands p) (are.rows k (below-upto count k there)) ∙ stands-filtered (λ q. has q k) count p in');
       };
     }
 
-pub named_here : (places : List Place) (i : ℕ) (place : Place) (items : List ℕ) (k : ℕ) → i < length places → place ≡ get_or places i place → items ≡ place.dependencies → stands k items ≡ is_named places i k
-named_here places i place items k below is same =
-    let at' = ap (λ o. option_map_or (λ (p : Place). stands k p.dependencies) o false) (got_read places i place below is) in
+pub named_here : (vertices : List Vertex) (i : ℕ) (vertex : Vertex) (items : List ℕ) (k : ℕ) → i < length vertices → vertex ≡ get_or vertices i vertex → items ≡ vertex.dependencies → stands k items ≡ is_named vertices i k
+named_here vertices i vertex items k below is same =
+    let at' = ap (λ o. option_map_or (λ (p : Vertex). stands k p.dependencies) o false) (got_read vertices i vertex below is) in
     ap (stands k) same ∙ sym at'
 
-pub on_here : (places : List Place) (i : ℕ) (place : Place) (k : ℕ) → i < length places → place ≡ get_or places i place → stands k (place.module ∷ []) ≡ is_on places i k
-on_here places i place k below is =
-    let at' = ap (λ o. option_map_or (λ (p : Place). eqb p.module k) o false) (got_read places i place below is) in
-    stands-one k place.module ∙ sym at'
+pub on_here : (vertices : List Vertex) (i : ℕ) (vertex : Vertex) (k : ℕ) → i < length vertices → vertex ≡ get_or vertices i vertex → stands k (vertex.module ∷ []) ≡ is_on vertices i k
+on_here vertices i vertex k below is =
+    let at' = ap (λ o. option_map_or (λ (p : Vertex). eqb p.module k) o false) (got_read vertices i vertex below is) in
+    stands-one k vertex.module ∙ sym at'

@@ -1,4 +1,4 @@
--- Trees of places: what a place moved up to its parent's parent leaves, and a root put under another.
+-- Trees of vertices: what a vertex moved up to its parent's parent leaves, and a root put under another.
 use Rattle.std.proofs.Common.{◌≡◌, ◌<◌, ◌≤◌, ◌⊎◌, inl, inr, ℕ, Bool, true, false, ◌+◌, List, [], ◌∷◌, ◌++◌, eqb, length, set, sym, ap, ◌∙◌, refl, subst, arith, length-set, get_or-set_same, get_or-set_other}
 use Rattle.std.proofs.lemmas.Bool.{cases_eq, eq-eqb, eqb-true, false≢true, or_cases, or_left, or_right}
 use Rattle.dependency_order.specs.Groups.{IsJoined}
@@ -7,7 +7,7 @@ use Rattle.dependency_order.specs.Lists.{row}
 use Rattle.dependency_order.specs.Orders.{stands}
 use Rattle.dependency_order.proofs.Chains.{joined_back, joined_on}
 
--- what a write leaves at each place
+-- what a write leaves at each vertex
 data Written (ps : List ℕ) (x a y : ℕ) : Type 0 where
   here : y ≡ x → parent (set ps x a) y ≡ a → Written ps x a y
   elsewhere : (y ≡ x → ⊥) → parent (set ps x a) y ≡ parent ps y → Written ps x a y
@@ -25,7 +25,7 @@ joined-eq names p q r e chain = let P : ℕ → Type 0 = λ s. IsJoined names p 
 joined-eq_from : (names : ℕ → ℕ → Bool) (p q r : ℕ) → p ≡ q → IsJoined names p r → IsJoined names q r
 joined-eq_from names p q r e chain = let P : ℕ → Type 0 = λ s. IsJoined names s r in subst P e chain
 
--- a place under one that is not behind it
+-- a vertex under one that is not behind it
 forest_written : (ps : List ℕ) (x a y : ℕ) → x < length ps → a ≤ x → IsForest ps → y < length ps → parent (set ps x a) y ≤ y
 forest_written ps x a y below less forest in' =
     elim (written ps x a y below) [
@@ -50,7 +50,7 @@ sound_set names ps x a below chain sound y in' =
 
 -- Up to the parent's parent
 
--- what a labelling of the trees with a place moved up gives a place and its parent
+-- what a labelling of the trees with a vertex moved up gives a vertex and its parent
 moved_label : (label : ℕ → ℕ) (ps : List ℕ) (x : ℕ) → x < length ps → parent ps x < length ps → Respects label (set ps x (parent ps (parent ps x))) → label (parent ps x) ≡ label x
 moved_label label ps x below up respects =
     let a = parent ps (parent ps x) in
@@ -211,7 +211,7 @@ join_under ps qs one other a b flatter to_a to_b like_a like_b root below less =
           like_a label old ∙ last.tied label respects ∙ sym (like_b label old);
     }
 
--- More and more places joined with one
+-- More and more vertices joined with one
 
 stands-nil : (p : ℕ) → stands p [] ≡ true → ⊥
 stands-nil p is = let never : false ≡ true = is in false≢true never

@@ -1,4 +1,4 @@
--- Sets of places, as they change.
+-- Sets of vertices, as they change.
 use Rattle.std.proofs.Common.{◌≡◌, ◌<◌, ◌≤◌, ◌+◌, ◌-◌, ℕ, Bool, true, false, cond, ◌||◌, inl, inr, List, [], ◌∷◌, ◌++◌, length, eqb, get_or, set, take, sym, ap, ◌∙◌, refl, subst, arith, is_eq, is_gt, nat_cmp, Less, Equal, Greater, get_or-set_same, get_or-set_other, if◌then◌else◌, zero, suc}
 use Rattle.std.specs.BTreeSet.{BTreeSet, Updates, contains}
 use Rattle.std.proofs.lemmas.Bool.{cases_eq, cases_lt, cases_order, eq-eqb, eqb-true, false≢true, le-ltb, lt-ltb, ne_eqb, or_cases, or_left, or_right}
@@ -36,7 +36,7 @@ or-assoc false b c = refl
 pub inserted : (old new : BTreeSet ℕ) (x q : ℕ) → Updates nat_cmp old new x true → contains nat_cmp new q ≡ (contains nat_cmp old q || eqb x q)
 inserted old new x q is = is.0 q ∙ ap (λ t. cond t true (contains nat_cmp old q)) (at-number x q) ∙ or-true (eqb x q) (contains nat_cmp old q)
 
--- one more place offered
+-- one more vertex offered
 pub one_offered : (old now new : BTreeSet ℕ) (xs : List ℕ) (x : ℕ) (q : ℕ) → contains nat_cmp now q ≡ (contains nat_cmp old q || stands q xs) → Updates nat_cmp now new x true →
     contains nat_cmp new q ≡ (contains nat_cmp old q || stands q (xs ++ x ∷ []))
 one_offered old now new xs x q before is =
@@ -68,7 +68,7 @@ not_gt a b is =
           ]
     ]
 
--- Places that ask for modules
+-- Vertices that ask for modules
 
 same-number : (k x p : ℕ) (askers : List (List ℕ)) → eqb x k ≡ true → stands p (row askers k) ≡ true → stands p (row askers x) ≡ true
 same-number k x p askers e there = let In : ℕ → Type 0 = λ j. stands p (row askers j) ≡ true in subst In (sym (eqb-true x k e)) there

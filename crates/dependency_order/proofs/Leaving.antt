@@ -1,4 +1,4 @@
--- What is known once a place is taken, and at the start.
+-- What is known once a vertex is taken, and at the start.
 use Rattle.std.proofs.Common.{◌≡◌, ◌<◌, ◌≤◌, ◌+◌, ℕ, Bool, true, false, not, ◌||◌, ◌&&◌, inl, inr, List, [], ◌∷◌, length, eqb, if◌then◌else◌, get_or, set, sym, ap, ◌∙◌, refl, subst, arith, All, Vec, Global, nat_cmp, length-set, get_or-set_same, get_or-set_other, replicate, map, ltb}
 use Rattle.std.specs.Vec.{with_item}
 use Rattle.std.specs.BTreeSet.{BTreeSet, contains}
@@ -11,20 +11,20 @@ use Rattle.dependency_order.specs.Lists.{row, upto}
 use Rattle.dependency_order.specs.Orders.{stands, times}
 use Rattle.dependency_order.proofs.Counting.{how_many-agree, how_many-zero, length-filtered, times-absent, times-filter, times-upto-one}
 use Rattle.dependency_order.proofs.Upto.{all-from_stands, below-filtered, below-upto, stands-below, stands-filtered}
-use Rattle.dependency_order.proofs.Waiting.{all_of, left-below, others, place_of, with_itself}
+use Rattle.dependency_order.proofs.Waiting.{all_of, left-below, others, vertex_of, with_itself}
 
 abbrev bit : Bool → ℕ
 bit b = if b then 1 else 0
 
 -- Relations
 
-pub module-below : (count : ℕ) (modules places : List (List ℕ)) (k p : ℕ) → AreBothWays count modules places → stands k (row modules p) ≡ true → (k < count) × (p < count)
-module-below count modules places k p both there =
+pub module-below : (count : ℕ) (modules vertices : List (List ℕ)) (k p : ℕ) → AreBothWays count modules vertices → stands k (row modules p) ≡ true → (k < count) × (p < count)
+module-below count modules vertices k p both there =
     elim (cases_lt p count) [
       | inl below ↦
           let In : List ℕ → Type 0 = λ xs. stands k xs ≡ true in
           let Small : List ℕ → Type 0 = λ xs. All (λ q. q < count) xs in
-          let small = subst Small (sym (both.forth p below)) (below-filtered (λ j. stands p (row places j)) count) in
+          let small = subst Small (sym (both.forth p below)) (below-filtered (λ j. stands p (row vertices j)) count) in
           (stands-below count (row modules p) k small there, below)
       | inr past ↦
           let many = both.many_modules in
@@ -36,10 +36,10 @@ times-some : (t : Bool) (n : ℕ) → n ≤ 1 → (if t then n else 0) ≤ 1
 times-some true n few = few
 times-some false n few = omega arith
 
-module-once : (count : ℕ) (modules places : List (List ℕ)) (k p : ℕ) → AreBothWays count modules places → p < count → times k (row modules p) ≤ 1
-module-once count modules places k p both below =
-    let e = ap (times k) (both.forth p below) ∙ times-filter (λ j. stands p (row places j)) k (upto count) in
-    let few = times-some (stands p (row places k)) (times k (upto count)) (times-upto-one count k) in
+module-once : (count : ℕ) (modules vertices : List (List ℕ)) (k p : ℕ) → AreBothWays count modules vertices → p < count → times k (row modules p) ≤ 1
+module-once count modules vertices k p both below =
+    let e = ap (times k) (both.forth p below) ∙ times-filter (λ j. stands p (row vertices j)) k (upto count) in
+    let few = times-some (stands p (row vertices k)) (times k (upto count)) (times-upto-one count k) in
     omega (arith, e, few)
 
 once-or-none : (k : ℕ) (xs : List ℕ) (b : Bool) → stands k xs ≡ b → times k xs ≤ 1 → times k xs ≡ bit b
@@ -54,25 +54,25 @@ once-or-none k xs true is few = let some = positive k xs is in omega (arith, som
           | inr on ↦ let rest = positive k xs on in omega (arith, rest)
         ]
 
-pub module-bit : (count : ℕ) (modules places : List (List ℕ)) (k p : ℕ) → AreBothWays count modules places → p < count → times k (row modules p) ≡ bit (stands k (row modules p))
-module-bit count modules places k p both below = once-or-none k (row modules p) (stands k (row modules p)) refl (module-once count modules places k p both below)
+pub module-bit : (count : ℕ) (modules vertices : List (List ℕ)) (k p : ℕ) → AreBothWays count modules vertices → p < count → times k (row modules p) ≡ bit (stands k (row modules p))
+module-bit count modules vertices k p both below = once-or-none k (row modules p) (stands k (row modules p)) refl (module-once count modules vertices k p both below)
 
-pub asker-of : (count : ℕ) (modules places : List (List ℕ)) (k p : ℕ) → AreBothWays count modules places → k < count → p < count → stands k (row modules p) ≡ true → stands p (row places k) ≡ true
-asker-of count modules places k p both below in' there =
+pub asker-of : (count : ℕ) (modules vertices : List (List ℕ)) (k p : ℕ) → AreBothWays count modules vertices → k < count → p < count → stands k (row modules p) ≡ true → stands p (row vertices k) ≡ true
+asker-of count modules vertices k p both below in' there =
     ap (stands p) (both.back k below) ∙ stands-filtered (λ q. stands k (row modules q)) count p in' ∙ there
 
-pub place-below : (count : ℕ) (modules places : List (List ℕ)) (k p : ℕ) → AreBothWays count modules places → stands p (row places k) ≡ true → p < count
-place-below count modules places k p both there =
+pub vertex-below : (count : ℕ) (modules vertices : List (List ℕ)) (k p : ℕ) → AreBothWays count modules vertices → stands p (row vertices k) ≡ true → p < count
+vertex-below count modules vertices k p both there =
     elim (cases_lt k count) [
       | inl below ↦
           let Small : List ℕ → Type 0 = λ xs. All (λ q. q < count) xs in
-          stands-below count (row places k) p (subst Small (sym (both.back k below)) (below-filtered (λ q. stands k (row modules q)) count)) there
+          stands-below count (row vertices k) p (subst Small (sym (both.back k below)) (below-filtered (λ q. stands k (row modules q)) count)) there
       | inr past ↦
-          let many = both.many_places in
-          absurd (false≢true (sym (ap (stands p) (get_or_past places k [] (omega (arith, past, many)))) ∙ there))
+          let many = both.many_vertices in
+          absurd (false≢true (sym (ap (stands p) (get_or_past vertices k [] (omega (arith, past, many)))) ∙ there))
     ]
 
--- One place less
+-- One vertex less
 
 left-other : (left : List Bool) (x q : ℕ) → x < length left → is_left (set left x false) q ≡ true → (q ≡ x → ⊥) × (is_left left q ≡ true)
 left-other left x q below is =
@@ -161,7 +161,7 @@ module _ (asks askers gives givers : List (List ℕ)) (count : ℕ) (s : Left) (
 
       met_by : (p k q : ℕ) → stands k (row asks p) ≡ true → stands k (row gives q) ≡ true → meets asks gives p q ≡ true
       met_by p k q asked given =
-          let at' = place_of (λ j. eqb j k) (row asks p) asked in
+          let at' = vertex_of (λ j. eqb j k) (row asks p) asked in
           let e = eqb-true (get_or (row asks p) at'.at' 0) k at'.passes in
           list_any_at (λ j. stands j (row gives q)) (row asks p) at'.at' 0 at'.below (ap (λ j. stands j (row gives q)) e ∙ given)
 
@@ -171,7 +171,7 @@ module _ (asks askers gives givers : List (List ℕ)) (count : ℕ) (s : Left) (
       elim (cases_Bool (waits_by asks gives s.itself p x)) [
         | inl waits ↦
             let both = and_parts (meets asks gives p x) (s.itself || not (eqb x p)) waits in
-            let met = place_of (λ k. stands k (row gives x)) (row asks p) both.0 in
+            let met = vertex_of (λ k. stands k (row gives x)) (row asks p) both.0 in
             let k = get_or (row asks p) met.at' 0 in
             let asked = list_any_at (λ j. eqb j k) (row asks p) met.at' 0 met.below (eq-eqb k k refl) in
             let below = module-below count asks askers k p asking asked in
@@ -203,7 +203,7 @@ module _ (asks askers gives givers : List (List ℕ)) (count : ℕ) (s : Left) (
     passed = λ p i left' below.
         passed-less s.itself (row gives p) (get_or s.held.items (get_or (row asks p) i 0) 0) (get_or h.items (get_or (row asks p) i 0) 0) (get_or (row asks p) i 0)
         (fewer_held (get_or (row asks p) i 0)) (known.passed p i (left-other s.left.items x p in_left left').1 below);
-    small = offered.small count known.small (λ k p asks'. place-below count asks askers k p asking asks');
+    small = offered.small count known.small (λ k p asks'. vertex-below count asks askers k p asking asks');
     free = λ p ne left' clear. freed p left' clear;
     before = before_on;
   }
@@ -233,7 +233,7 @@ all-left count p is = left-below count (replicate count true) p (length-replicat
 
 start_held : (gives givers : List (List ℕ)) (count k : ℕ) → AreBothWays count gives givers → k < count → get_or (map length givers) k 0 ≡ all_of gives count (replicate count true) k
 start_held gives givers count k giving below =
-    let many = giving.many_places in
+    let many = giving.many_vertices in
     let one : get_or (map length givers) k 0 ≡ length (row givers k) = get_or-map length givers k [] 0 (omega (arith, many, below)) in
     one ∙ ap length (giving.back k below) ∙ length-filtered (λ p. stands k (row gives p)) (upto count) ∙
     how_many-agree (λ p. stands k (row gives p)) (gives_it gives (replicate count true) k) (upto count)
@@ -242,7 +242,7 @@ start_held gives givers count k giving below =
 pub at_start : (asks gives givers : List (List ℕ)) (count : ℕ) (s : Left) → AreBothWays count gives givers → s.left.items ≡ replicate count true → s.held.items ≡ map length givers → s.passed.items ≡ replicate count 0 →
     ((p : ℕ) → contains nat_cmp s.free p ≡ ltb p count) → s.first ≡ 0 → Knows asks gives count count s
 at_start asks gives givers count s giving left' held passed free first =
-    let many = giving.many_places in
+    let many = giving.many_vertices in
     let is_in : (p : ℕ) → is_left s.left.items p ≡ true → p < count = λ p is. all-left count p (sym (ap (λ l. is_left l p) left') ∙ is) in
     let none : (p : ℕ) → p < count → get_or s.passed.items p 0 ≡ 0 = λ p below. ap (λ l. get_or l p 0) passed ∙ get_or-replicate count p 0 0 below in
     record {

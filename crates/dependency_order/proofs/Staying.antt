@@ -1,4 +1,4 @@
--- What is known of those left, as places are looked at and taken.
+-- What is known of those left, as vertices are looked at and taken.
 use Rattle.std.proofs.Common.{◌≡◌, ◌<◌, ◌≤◌, ℕ, zero, suc, Bool, true, false, inl, inr, List, [], ◌∷◌, length, eqb, if◌then◌else◌, get_or, set, sym, ap, ◌∙◌, refl, subst, arith, nat_cmp, length-set, get_or-set_same, get_or-set_other}
 use Rattle.std.specs.Vec.{with_item}
 use Rattle.std.specs.BTreeSet.{BTreeSet, IsLowerBound, Updates}
@@ -121,7 +121,7 @@ next_moved asks gives i j l m x e f is =
     let L : List Bool → Type 0 = λ k. IsNextOf (waits_by asks gives j) k x in
     subst L f (subst I e is)
 
--- a place that isn't free needs not be among those that may be
+-- a vertex that isn't free needs not be among those that may be
 pub not_excepted : (asks gives : List (List ℕ)) (count x : ℕ) (s : Left) → Knows asks gives count x s → (is_left s.left.items x ≡ true → IsClear (waits_by asks gives s.itself) s.left.items x → ⊥) →
     Knows asks gives count count s
 not_excepted asks gives count x s known never = record {

@@ -1,4 +1,4 @@
--- Orders: what comes next hangs on which places are left alone, and a group has one order.
+-- Orders: what comes next hangs on which vertices are left alone, and a group has one order.
 use Rattle.std.proofs.Common.{◌≡◌, ℕ, ◌+◌, ◌<◌, Bool, true, false, List, [], ◌∷◌, sym, ap, ◌∙◌, refl, arith, eqb}
 use Rattle.std.proofs.lemmas.Bool.{eq-eqb, eqb-true}
 use Rattle.std.specs.Prelude.{not, ◌||◌, if◌then◌else◌}
@@ -12,7 +12,7 @@ agree true false one other = sym (one refl)
 agree false true one other = other refl
 agree false false one other = refl
 
--- a place stands in a list where it stands there once or more
+-- a vertex stands in a list where it stands there once or more
 once : (b others : Bool) (rest : ℕ) → (others ≡ true → 0 < rest) → (b || others) ≡ true → 0 < (if b then 1 else 0) + rest
 once true others rest more is = omega arith
 once false others rest more is = let above = more is in omega (arith, above)

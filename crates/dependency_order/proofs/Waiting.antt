@@ -1,4 +1,4 @@
--- What the counts of givers say: which places are clear.
+-- What the counts of givers say: which vertices are clear.
 use Rattle.std.proofs.Common.{◌≡◌, ◌<◌, ◌+◌, ℕ, suc, Bool, true, false, not, ◌||◌, ◌&&◌, inl, inr, List, [], ◌∷◌, length, eqb, if◌then◌else◌, get_or, sym, ap, ◌∙◌, refl, arith}
 use Rattle.std.specs.List.{list_any}
 use Rattle.std.proofs.lemmas.Bool.{and_from, and_parts, cases_eq, cases_lt, eq-eqb, eqb-true, false≢true, false_from_ne_true, or_cases, or_parts}
@@ -10,19 +10,19 @@ use Rattle.dependency_order.specs.Orders.{how_many, stands, times}
 use Rattle.dependency_order.proofs.Counting.{how_many-none, how_many-some, how_many-split, times-upto}
 use Rattle.dependency_order.proofs.Upto.{stands-upto}
 
--- Items of lists and their places
+-- Items of lists and where they stand
 
 pub record Found (test : ℕ → Bool) (xs : List ℕ) : Type 0 where
   pub at' : ℕ
   pub below : at' < length xs
   pub passes : test (get_or xs at' 0) ≡ true
 
-pub place_of : (test : ℕ → Bool) (xs : List ℕ) → list_any test xs ≡ true → Found test xs
-place_of test [] is = absurd (false≢true is)
-place_of test (x ∷ xs) is =
+pub vertex_of : (test : ℕ → Bool) (xs : List ℕ) → list_any test xs ≡ true → Found test xs
+vertex_of test [] is = absurd (false≢true is)
+vertex_of test (x ∷ xs) is =
     elim (or_cases (test x) (list_any test xs) is) [
       | inl here ↦ record { at' = 0; below = omega arith; passes = here }
-      | inr on ↦ let rest = place_of test xs on in record { at' = suc rest.at'; below = let b = rest.below in omega (arith, b); passes = rest.passes }
+      | inr on ↦ let rest = vertex_of test xs on in record { at' = suc rest.at'; below = let b = rest.below in omega (arith, b); passes = rest.passes }
     ]
 
 -- Counts
@@ -126,7 +126,7 @@ blocker_of gives count left false h k p many is counted so =
     let both = and_parts (is_left left found.item) (stands k (row gives found.item)) two.0 in
     record { by = found.item; is = both.0; giving = both.1; apart = two.1 }
 
--- Whole places
+-- Whole vertices
 
 pub all_passed_clear : (asks gives : List (List ℕ)) (count : ℕ) (left : List Bool) (held : List ℕ) (itself : Bool) (p : ℕ) → length left ≡ count → is_left left p ≡ true →
     ((k : ℕ) → stands k (row asks p) ≡ true → get_or held k 0 ≡ all_of gives count left k) →
@@ -136,7 +136,7 @@ all_passed_clear asks gives count left held itself p many is counted passed q le
     false_from_ne_true (waits_by asks gives itself p q)
     (λ waits.
     let both = and_parts (meets asks gives p q) (itself || not (eqb q p)) waits in
-    let met = place_of (λ k. stands k (row gives q)) (row asks p) both.0 in
+    let met = vertex_of (λ k. stands k (row gives q)) (row asks p) both.0 in
     let k = get_or (row asks p) met.at' 0 in
     let there = list_any_at (λ j. eqb j k) (row asks p) met.at' 0 met.below (eq-eqb k k refl) in
     let clear = passed_clear gives count left itself (get_or held k 0) k p q many is (counted k there) (passed met.at' met.below) left_q met.passes in

@@ -3,7 +3,7 @@ use Rattle.std.specs.Prelude.{◌≡◌, ◌<◌, ◌==◌, ℕ, Bool, List, len
 use Rattle.dependency_order.specs.declared.group.Group.{Group}
 use Rattle.dependency_order.specs.Lists.{row}
 
--- the group of a place has this first member
+-- the group of a vertex has this first member
 abbrev pub is_of : List ℕ → ℕ → ℕ → Bool
 is_of firsts f p = get_or firsts p 0 == f
 

@@ -5,7 +5,7 @@ use Rattle.dependency_order.specs.declared.group.Group.{Group}
 use Rattle.dependency_order.specs.Groups.{AreFirsts, IsJoined}
 use Rattle.dependency_order.specs.Orders.{AreOrderedGroups}
 
--- Places are in one group exactly where they are joined.
+-- Vertices are in one group exactly where they are joined.
 abbrev pub GroupsAreTheJoined : Type 0
 GroupsAreTheJoined =
     (names : ℕ → ℕ → Bool) (count : ℕ) (firsts : List ℕ) → AreFirsts names count firsts →
@@ -13,14 +13,14 @@ GroupsAreTheJoined =
     (IsJoined names p q → slice_index firsts p ≡ slice_index firsts q) ×
     (slice_index firsts p ≡ slice_index firsts q → IsJoined names p q)
 
--- In either order the groups, one behind the other, have each place once.
-abbrev pub EachPlaceStandsOnce : Type 0
-EachPlaceStandsOnce =
+-- In either order the groups, one behind the other, have each vertex once.
+abbrev pub EachVertexStandsOnce : Type 0
+EachVertexStandsOnce =
     (names : ℕ → ℕ → Bool) (count : ℕ) (ordered : List Group) → AreOrderedGroups names count ordered →
     IsPermutation (range_with_len 0 count) (flat_map (λ g. g.dependencies_first) ordered) ×
     IsPermutation (range_with_len 0 count) (flat_map (λ g. g.dependants_first) ordered)
 
--- There are no two ways to put places in groups and the groups in order.
+-- There are no two ways to put vertices in groups and the groups in order.
 abbrev pub OrderedGroupsAreOne : Type 0
 OrderedGroupsAreOne =
     (names : ℕ → ℕ → Bool) (count : ℕ) (one another : List Group) → AreOrderedGroups names count one →

@@ -1,4 +1,4 @@
--- Which places are left, and what is known of them: seen by this crate's own functions alone.
+-- Which vertices are left, and what is known of them: seen by this crate's own functions alone.
 use Rattle.std.specs.Prelude.{◌≡◌, ◌<◌, ◌≤◌, ◌+◌, ◌==◌, ◌&&◌, ◌||◌, ◌⊎◌, ℕ, Bool, true, false, not, if◌then◌else◌}
 use Rattle.std.specs.Prelude.{List, ◌++◌, length, get_or, filter}
 use Rattle.std.specs.List.{list_any}
@@ -8,7 +8,7 @@ use Rattle.dependency_order.specs.declared.order.Left.{Left}
 use Rattle.dependency_order.specs.Lists.{row, upto}
 use Rattle.dependency_order.specs.Orders.{IsInOrder, how_many, stands, times}
 
--- a place asks for a module that the other gives
+-- a vertex asks for a module that the other gives
 abbrev pub meets : List (List ℕ) → List (List ℕ) → ℕ → ℕ → Bool
 meets asks gives p q = list_any (λ k. stands k (row gives q)) (row asks p)
 
@@ -23,16 +23,16 @@ is_left left p = get_or left p false
 abbrev pub IsClear : (ℕ → ℕ → Bool) → List Bool → ℕ → Type 0
 IsClear waits left p = (q : ℕ) → is_left left q ≡ true → waits p q ≡ false
 
--- a module that so many of those left give, a place with these modules among them, is given by none that it waits for
+-- a module that so many of those left give, a vertex with these modules among them, is given by none that it waits for
 abbrev pub is_passed : Bool → List ℕ → ℕ → ℕ → Bool
 is_passed itself given held k = (held == 0) || ((held == 1) && (not itself && stands k given))
 
--- the modules of each place and the places of each module are one relation
-pub record AreBothWays (count : ℕ) (modules places : List (List ℕ)) : Type 0 where
+-- the modules of each vertex and the vertices of each module are one relation
+pub record AreBothWays (count : ℕ) (modules vertices : List (List ℕ)) : Type 0 where
   pub many_modules : length modules ≡ count
-  pub many_places : length places ≡ count
-  pub back : (k : ℕ) → k < count → row places k ≡ filter (λ p. stands k (row modules p)) (upto count)
-  pub forth : (p : ℕ) → p < count → row modules p ≡ filter (λ k. stands p (row places k)) (upto count)
+  pub many_vertices : length vertices ≡ count
+  pub back : (k : ℕ) → k < count → row vertices k ≡ filter (λ p. stands k (row modules p)) (upto count)
+  pub forth : (p : ℕ) → p < count → row modules p ≡ filter (λ k. stands p (row vertices k)) (upto count)
 
 -- one of those left that gives a module
 abbrev pub gives_it : List (List ℕ) → List Bool → ℕ → ℕ → Bool
@@ -58,7 +58,7 @@ pub record IsNextOf (waits : ℕ → ℕ → Bool) (left : List Bool) (p : ℕ) 
   pub is : (IsClear waits left p × ((q : ℕ) → is_left left q ≡ true → IsClear waits left q → p ≤ q)) ⊎
       (((q : ℕ) → is_left left q ≡ true → IsClear waits left q → ⊥) × ((q : ℕ) → is_left left q ≡ true → p ≤ q))
 
--- how far a place's modules are passed
+-- how far a vertex's modules are passed
 pub record IsPassing (held asked given : List ℕ) (itself : Bool) (from to : ℕ) : Type 0 where
   pub on : from ≤ to
   pub within : to ≤ length asked
@@ -71,7 +71,7 @@ pub record IsBegun (waits : ℕ → ℕ → Bool) (count : ℕ) (left : List Boo
   pub goes_on : (rest : List ℕ) → ((p : ℕ) → times p rest ≡ (if is_left left p then 1 else 0)) →
       IsInOrder waits rest → IsInOrder waits (order ++ rest)
 
--- those that may be free, after the places that ask for some modules were put to them
+-- those that may be free, after the vertices that ask for some modules were put to them
 pub record AreOffered (old new : BTreeSet ℕ) (held given : List ℕ) (askers : List (List ℕ)) : Type 0 where
   pub kept : (p : ℕ) → contains nat_cmp old p ≡ true → contains nat_cmp new p ≡ true
   pub offered : (k p : ℕ) → stands k given ≡ true → get_or held k 0 ≤ 1 → stands p (row askers k) ≡ true →

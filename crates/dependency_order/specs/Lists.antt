@@ -3,7 +3,7 @@ use Rattle.std.specs.Prelude.{◌≡◌, ◌<◌, ◌-◌, ◌==◌, ◌++◌, �
 use Rattle.std.specs.Prelude.{get_or, slice_get, filter}
 use Rattle.std.specs.List.{All, range_with_len}
 use Rattle.std.specs.Option.{option_map_or}
-use Rattle.dependency_order.specs.declared.place.Place.{Place}
+use Rattle.dependency_order.specs.declared.vertex.Vertex.{Vertex}
 use Rattle.dependency_order.specs.Orders.{stands}
 
 -- the list of a number; an empty one where there is none
@@ -31,14 +31,14 @@ pub record AreEntered (has : ℕ → ℕ → Bool) (count bound : ℕ) (lists : 
   pub many : length lists ≡ count
   pub rows : (k : ℕ) → k < count → row lists k ≡ filter (λ p. has p k) (upto bound)
 
--- The modules of each place, and the places of each module
-pub record IsRelation (has : ℕ → ℕ → Bool) (count : ℕ) (modules places : List (List ℕ)) : Type 0 where
-  pub of_places : AreEntered (λ k p. has p k) count count modules
-  pub of_modules : AreEntered has count count places
+-- The modules of each vertex, and the vertices of each module
+pub record IsRelation (has : ℕ → ℕ → Bool) (count : ℕ) (modules vertices : List (List ℕ)) : Type 0 where
+  pub of_vertices : AreEntered (λ k p. has p k) count count modules
+  pub of_modules : AreEntered has count count vertices
 
--- what stands at a place is on a module, or names it
-abbrev pub is_on : List Place → ℕ → ℕ → Bool
-is_on places p k = option_map_or (λ place. place.module == k) (slice_get places p) false
+-- a vertex is on a module, or names it
+abbrev pub is_on : List Vertex → ℕ → ℕ → Bool
+is_on vertices p k = option_map_or (λ vertex. vertex.module == k) (slice_get vertices p) false
 
-abbrev pub is_named : List Place → ℕ → ℕ → Bool
-is_named places p k = option_map_or (λ place. stands k place.dependencies) (slice_get places p) false
+abbrev pub is_named : List Vertex → ℕ → ℕ → Bool
+is_named vertices p k = option_map_or (λ vertex. stands k vertex.dependencies) (slice_get vertices p) false

@@ -1,4 +1,4 @@
-// Places in groups.
+// Vertices in groups.
 ghost use Rattle.std.specs.Prelude.{◌≡◌, ◌<◌, IfOk, All, length, map};
 ghost use Rattle.dependency_order.specs.Dealt.{AreDealt, group_of, part_of};
 ghost use Rattle.dependency_order.specs.Groups.{leaders};
@@ -9,31 +9,31 @@ use crate::firsts::firsts;
 use crate::group::Group;
 use crate::lists::Lists;
 use crate::order::in_order;
-use crate::place::Place;
 use crate::relation::{naming, standing};
+use crate::vertex::Vertex;
 use std::alloc::{AllocError, Global};
 use values::{Row, copied_slice};
 
-/// The groups of places that a chain of dependencies joins, in the order of their first members, each in its two orders.
+/// The groups of vertices that a chain of dependencies joins, in the order of their first members, each in its two orders.
 ///
-/// Modules have numbers below the count of places.
+/// Modules have numbers below the count of vertices.
 ///
 /// # Errors
 ///
 /// `AllocError` where memory is refused.
-pub fn groups(alloc: Global, places: &[Place]) -> Result<Row<Group>, AllocError>
-    requires { AreNumbered (length places.now) places.now }
-    ensures { IfOk result (λ groups. AreOrderedGroups (linked places.now) (length places.now) groups) }
+pub fn groups(alloc: Global, vertices: &[Vertex]) -> Result<Row<Group>, AllocError>
+    requires { AreNumbered (length vertices.now) vertices.now }
+    ensures { IfOk result (λ groups. AreOrderedGroups (linked vertices.now) (length vertices.now) groups) }
 {
-    let naming = naming(alloc, places)?;
-    let standing = standing(alloc, places)?;
-    let firsts = firsts(alloc, &standing.places, &naming.places)?;
+    let naming = naming(alloc, vertices)?;
+    let standing = standing(alloc, vertices)?;
+    let firsts = firsts(alloc, &standing.vertices, &naming.vertices)?;
     let dependencies_first = in_order(alloc, &naming, &standing, true)?;
     let dependants_first = in_order(alloc, &standing, &naming, false)?;
     Ok(divided(alloc, &firsts, &dependencies_first, &dependants_first)?)
 }
 
-// The groups, of orders of all places.
+// The groups, of orders of all vertices.
 fn divided(
     alloc: Global,
     firsts: &[usize],
@@ -58,8 +58,8 @@ fn dealt(alloc: Global, firsts: &[usize], order: &[usize]) -> Result<Lists, Allo
     ensures { IfOk result (AreDealt firsts.now order.now) }
 {
     let mut lists = Lists::new(alloc, firsts.len())?;
-    for place in order {
-        lists.push(firsts[*place], *place)?;
+    for vertex in order {
+        lists.push(firsts[*vertex], *vertex)?;
     }
     Ok(lists)
 }
@@ -77,12 +77,12 @@ fn together(
         map (group_of dependencies_first.now dependants_first.now) (leaders firsts.now)) }
 {
     let mut groups = Vec::new(alloc);
-    for (place, first) in firsts.iter().enumerate() {
-        if *first == place {
+    for (vertex, first) in firsts.iter().enumerate() {
+        if *first == vertex {
             groups.push(group(
                 alloc,
-                dependencies_first.at(place),
-                dependants_first.at(place),
+                dependencies_first.at(vertex),
+                dependants_first.at(vertex),
             )?)?;
         }
     }

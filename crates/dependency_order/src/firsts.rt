@@ -7,8 +7,8 @@ use crate::forest::{flatten, tie};
 use crate::lists::Lists;
 use std::alloc::{AllocError, Global};
 
-/// For each place the first member of its group, where each module's places in the one lists belong together with its
-/// places in the others.
+/// For each vertex the first member of its group, where each module's vertices in the one lists belong together with its
+/// vertices in the others.
 pub fn firsts(alloc: Global, on: &Lists, namers: &Lists) -> Result<Vec<usize>, AllocError>
     requires same { length namers.now ≡ length on.now }
     requires on_known { AreBelow (length on.now) on.now }
@@ -23,13 +23,13 @@ pub fn firsts(alloc: Global, on: &Lists, namers: &Lists) -> Result<Vec<usize>, A
     Ok(parents)
 }
 
-// Each place by itself.
+// Each vertex by itself.
 fn alone(alloc: Global, count: usize) -> Result<Vec<usize>, AllocError>
     ensures { IfOk result (λ parents. parents.items ≡ upto count) }
 {
     let mut parents = Vec::with_capacity(alloc, count)?;
-    for place in 0..count {
-        parents.push(place)?;
+    for vertex in 0..count {
+        parents.push(vertex)?;
     }
     Ok(parents)
 }

@@ -1,19 +1,19 @@
-// Places that are joined, as trees.
+// Vertices that are joined, as trees.
 ghost use Rattle.std.specs.Prelude.{◌≡◌, ◌<◌, ◌≤◌, ℕ, Bool, length, All};
 ghost use Rattle.dependency_order.specs.Groups.{IsJoined};
 ghost use Rattle.dependency_order.specs.Forests.{AreJoining, IsFlatter, IsForest, IsJoining, JoinsOnlyJoined, IsTie, Respects, parent};
 
-/// The root of a place's tree. On the way each second place is moved up to its parent's parent.
-pub fn root(parents: &mut [usize], place: usize) -> usize
+/// The root of a vertex's tree. On the way each second vertex is moved up to its parent's parent.
+pub fn root(parents: &mut [usize], vertex: usize) -> usize
     requires forest { IsForest parents.old }
-    requires known { place < length parents.old }
+    requires known { vertex < length parents.old }
     ensures flatter { IsFlatter parents.old parents.new }
     ensures root { parent parents.new result ≡ result }
-    ensures before { result ≤ place }
-    ensures joined { (names : ℕ → ℕ → Bool) → JoinsOnlyJoined names parents.old → IsJoined names place result }
-    ensures one { (label : ℕ → ℕ) → Respects label parents.new → label place ≡ label result }
+    ensures before { result ≤ vertex }
+    ensures joined { (names : ℕ → ℕ → Bool) → JoinsOnlyJoined names parents.old → IsJoined names vertex result }
+    ensures one { (label : ℕ → ℕ) → Respects label parents.new → label vertex ≡ label result }
 {
-    let mut at = place;
+    let mut at = vertex;
     while parents[at] != at {
         let above = parents[parents[at]];
         parents[at] = above;
@@ -22,7 +22,7 @@ pub fn root(parents: &mut [usize], place: usize) -> usize
     at
 }
 
-/// Makes one tree of those of two places, under the lesser root.
+/// Makes one tree of those of two vertices, under the lesser root.
 pub fn join(parents: &mut [usize], one: usize, other: usize)
     requires forest { IsForest parents.old }
     requires one_known { one < length parents.old }
@@ -38,19 +38,19 @@ pub fn join(parents: &mut [usize], one: usize, other: usize)
     }
 }
 
-/// Joins places with another.
-pub fn join_all(parents: &mut [usize], places: &[usize], with: usize)
+/// Joins vertices with another.
+pub fn join_all(parents: &mut [usize], vertices: &[usize], with: usize)
     requires forest { IsForest parents.old }
-    requires known { All (λ p. p < length parents.old) places.now }
+    requires known { All (λ p. p < length parents.old) vertices.now }
     requires with_known { with < length parents.old }
-    ensures { AreJoining parents.old parents.new places.now with }
+    ensures { AreJoining parents.old parents.new vertices.now with }
 {
-    for place in places {
-        join(parents, *place, with);
+    for vertex in vertices {
+        join(parents, *vertex, with);
     }
 }
 
-/// Joins each place of the one list with each of the other.
+/// Joins each vertex of the one list with each of the other.
 pub fn tie(parents: &mut [usize], some: &[usize], others: &[usize])
     requires forest { IsForest parents.old }
     requires some_known { All (λ p. p < length parents.old) some.now }
@@ -63,13 +63,13 @@ pub fn tie(parents: &mut [usize], some: &[usize], others: &[usize])
     }
 }
 
-/// Puts each place right under its root.
+/// Puts each vertex right under its root.
 pub fn flatten(parents: &mut [usize])
     requires { IsForest parents.old }
     ensures flatter { IsFlatter parents.old parents.new }
     ensures flat { (p : ℕ) → p < length parents.new → parent parents.new (parent parents.new p) ≡ parent parents.new p }
 {
-    for place in 0..parents.len() {
-        parents[place] = parents[parents[place]];
+    for vertex in 0..parents.len() {
+        parents[vertex] = parents[parents[vertex]];
     }
 }

@@ -1,7 +1,7 @@
 // A group in its two orders.
 use values::Row;
 
-/// The places of a group, in two orders. Each place is a number, counted from 0.
+/// The vertices of a group, in two orders. Each vertex is a number, counted from 0.
 #[derive(Drop)]
 pub struct Group {
     /// Again and again the first of those left that depends on none of those left, itself among them; where there is

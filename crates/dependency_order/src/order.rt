@@ -1,4 +1,4 @@
-// An order of places.
+// An order of vertices.
 ghost use Rattle.std.specs.Prelude.{◌≡◌, ◌<◌, ◌≤◌, ◌+◌, ◌||◌, ℕ, false, true, ltb, IfOk, OnOk, MatchOption, List, All};
 ghost use Rattle.std.specs.Prelude.{length, get_or, set, map, replicate};
 ghost use Rattle.std.specs.Ordering.{nat_cmp};
@@ -13,16 +13,16 @@ use crate::relation::Relation;
 use std::alloc::{AllocError, Global};
 use std::collections::BTreeSet;
 
-/// Which places are left, and what is known of them.
+/// Which vertices are left, and what is known of them.
 #[derive(Drop)]
 pub struct Left {
-    /// Whether a place that gives a module that it asks for waits for itself.
+    /// Whether a vertex that gives a module that it asks for waits for itself.
     itself: bool,
     /// Which are left.
     left: Vec<bool>,
     /// How many of those left give each module.
     held: Vec<usize>,
-    /// How many of the modules that each place asks for, from the first on, are given by none that it waits for.
+    /// How many of the modules that each vertex asks for, from the first on, are given by none that it waits for.
     passed: Vec<usize>,
     /// Those that may be free: all that are, and perhaps others.
     free: BTreeSet<usize>,
@@ -30,7 +30,7 @@ pub struct Left {
     first: usize,
 }
 
-/// The places, in order: a place waits for those that give a module that it asks for, and for itself only if `itself`.
+/// The vertices, in order: a vertex waits for those that give a module that it asks for, and for itself only if `itself`.
 pub fn in_order(
     alloc: Global,
     asks: &Relation,
@@ -38,21 +38,21 @@ pub fn in_order(
     itself: bool,
 ) -> Result<Vec<usize>, AllocError>
     requires same { length asks.now.modules ≡ length gives.now.modules }
-    requires asks { AreBothWays (length asks.now.modules) asks.now.modules asks.now.places }
-    requires gives { AreBothWays (length asks.now.modules) gives.now.modules gives.now.places }
+    requires asks { AreBothWays (length asks.now.modules) asks.now.modules asks.now.vertices }
+    requires gives { AreBothWays (length asks.now.modules) gives.now.modules gives.now.vertices }
     ensures { IfOk result (λ order. IsOrderOf (waits_by asks.now.modules gives.now.modules itself)
         (upto (length asks.now.modules)) order.items) }
 {
-    let mut left = all_left(alloc, &gives.places, itself)?;
+    let mut left = all_left(alloc, &gives.vertices, itself)?;
     let mut order = Vec::with_capacity(alloc, asks.modules.len())?;
-    while let Some(place) = next(&mut left, &asks.modules, &gives.modules) {
-        order.push(place)?;
-        take(&mut left, place, asks, gives)?;
+    while let Some(vertex) = next(&mut left, &asks.modules, &gives.modules) {
+        order.push(vertex)?;
+        take(&mut left, vertex, asks, gives)?;
     }
     Ok(order)
 }
 
-// The state where all places are left.
+// The state where all vertices are left.
 fn all_left(alloc: Global, givers: &Lists, itself: bool) -> Result<Left, AllocError>
     ensures known { IfOk result (λ s. (asks gives : List (List ℕ)) → AreBothWays (length givers.now) gives givers.now →
         Knows asks gives (length givers.now) (length givers.now) s) }
@@ -101,8 +101,8 @@ fn next(left: &mut Left, asks: &Lists, gives: &Lists) -> Option<usize>
         (λ p. IsNextOf (waits_by asks.now gives.now left.old.itself) left.old.left.items p ×
         Knows asks.now gives.now (length asks.now) p left.new) }
 {
-    if let Some(place) = next_free(left, asks, gives) {
-        return Some(place);
+    if let Some(vertex) = next_free(left, asks, gives) {
+        return Some(vertex);
     }
     left.first = first_left(&left.left, left.first);
     if left.first < left.left.len() {
@@ -126,21 +126,21 @@ fn next_free(left: &mut Left, asks: &Lists, gives: &Lists) -> Option<usize>
         (λ p. IsNextOf (waits_by asks.now gives.now left.old.itself) left.old.left.items p ×
         Knows asks.now gives.now (length asks.now) p left.new) }
 {
-    while let Some(place) = left.free.pop_first() {
-        if left.left[place] {
-            let asked = asks.at(place);
-            let from = left.passed[place];
-            let to = passing(&left.held, asked, gives.at(place), left.itself, from);
-            left.passed[place] = to;
+    while let Some(vertex) = left.free.pop_first() {
+        if left.left[vertex] {
+            let asked = asks.at(vertex);
+            let from = left.passed[vertex];
+            let to = passing(&left.held, asked, gives.at(vertex), left.itself, from);
+            left.passed[vertex] = to;
             if to == asked.len() {
-                return Some(place);
+                return Some(vertex);
             }
         }
     }
     None
 }
 
-// The first number from a place on, up to the end, whose module is given by one that a place waits for.
+// The first index from one on, up to the end, whose module is given by one that a vertex waits for.
 fn passing(held: &[usize], asked: &[usize], given: &[usize], itself: bool, from: usize) -> usize
     requires known { All (λ k. k < length held.now) asked.now }
     requires within { from ≤ length asked.now }
@@ -160,7 +160,7 @@ fn is_passed(held: usize, number: usize, given: &[usize], itself: bool) -> bool
     held == 0 || (held == 1 && !itself && given.contains(&number))
 }
 
-// The first that is left, from a place on, or how many there are.
+// The first that is left, from a vertex on, or how many there are.
 fn first_left(left: &[bool], from: usize) -> usize
     ensures before { (p : ℕ) → from ≤ p → p < result → is_left left.now p ≡ false }
     ensures on { from ≤ result }
@@ -173,26 +173,26 @@ fn first_left(left: &[bool], from: usize) -> usize
     first
 }
 
-// Takes a place from those left.
-fn take(left: &mut Left, place: usize, asks: &Relation, gives: &Relation) -> Result<(), AllocError>
-    requires left { is_left left.old.left.items place ≡ true }
+// Takes a vertex from those left.
+fn take(left: &mut Left, vertex: usize, asks: &Relation, gives: &Relation) -> Result<(), AllocError>
+    requires left { is_left left.old.left.items vertex ≡ true }
     requires same { length asks.now.modules ≡ length gives.now.modules }
-    requires asks { AreBothWays (length asks.now.modules) asks.now.modules asks.now.places }
-    requires gives { AreBothWays (length asks.now.modules) gives.now.modules gives.now.places }
-    requires known { Knows asks.now.modules gives.now.modules (length asks.now.modules) place left.old }
-    ensures left { OnOk result (left.new.left.items ≡ set left.old.left.items place false) }
+    requires asks { AreBothWays (length asks.now.modules) asks.now.modules asks.now.vertices }
+    requires gives { AreBothWays (length asks.now.modules) gives.now.modules gives.now.vertices }
+    requires known { Knows asks.now.modules gives.now.modules (length asks.now.modules) vertex left.old }
+    ensures left { OnOk result (left.new.left.items ≡ set left.old.left.items vertex false) }
     ensures itself { OnOk result (left.new.itself ≡ left.old.itself) }
     ensures known { OnOk result
         (Knows asks.now.modules gives.now.modules (length asks.now.modules) (length asks.now.modules) left.new) }
 {
-    let given = gives.modules.at(place);
-    left.left[place] = false;
+    let given = gives.modules.at(vertex);
+    left.left[vertex] = false;
     give_up(&mut left.held, given);
-    offer_askers(&mut left.free, &left.held, given, &asks.places)?;
+    offer_askers(&mut left.free, &left.held, given, &asks.vertices)?;
     Ok(())
 }
 
-// Counts off what a place gives.
+// Counts off what a vertex gives.
 fn give_up(held: &mut [usize], given: &[usize])
     requires known { All (λ k. k < length held.old) given.now }
     requires enough { (k : ℕ) → times k given.now ≤ get_or held.old k 0 }
@@ -222,12 +222,12 @@ fn offer_askers(
     Ok(())
 }
 
-fn offer(free: &mut BTreeSet<usize>, places: &[usize]) -> Result<(), AllocError>
+fn offer(free: &mut BTreeSet<usize>, vertices: &[usize]) -> Result<(), AllocError>
     ensures { OnOk result
-        ((p : ℕ) → contains nat_cmp free.new p ≡ (contains nat_cmp free.old p || stands p places.now)) }
+        ((p : ℕ) → contains nat_cmp free.new p ≡ (contains nat_cmp free.old p || stands p vertices.now)) }
 {
-    for place in places {
-        free.insert(*place)?;
+    for vertex in vertices {
+        free.insert(*vertex)?;
     }
     Ok(())
 }

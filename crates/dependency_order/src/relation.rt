@@ -1,66 +1,66 @@
-// Which places go with which modules.
+// Which vertices go with which modules.
 ghost use Rattle.std.specs.Prelude.{◌≡◌, ◌<◌, ℕ, IfOk, OnOk, length, All};
 ghost use Rattle.dependency_order.specs.Links.{AreNumbered};
 ghost use Rattle.dependency_order.specs.Lists.{AreBelow, AreEntered, IsEntered, IsRelation, ends_with, is_named, is_on, row};
 ghost use Rattle.dependency_order.specs.Orders.{stands};
 
 use crate::lists::Lists;
-use crate::place::Place;
+use crate::vertex::Vertex;
 use std::alloc::{AllocError, Global};
 
-/// Which places go with which modules, both ways.
+/// Which vertices go with which modules, both ways.
 #[derive(Drop)]
 pub struct Relation {
-    /// The modules of each place, in ascending order.
+    /// The modules of each vertex, in ascending order.
     pub modules: Lists,
-    /// The places of each module, in ascending order.
-    pub places: Lists,
+    /// The vertices of each module, in ascending order.
+    pub vertices: Lists,
 }
 
-/// Which places name which modules as those that they depend on.
-pub fn naming(alloc: Global, places: &[Place]) -> Result<Relation, AllocError>
-    requires { AreNumbered (length places.now) places.now }
-    ensures { IfOk result (λ r. IsRelation (is_named places.now) (length places.now) r.modules r.places) }
+/// Which vertices name which modules as those that they depend on.
+pub fn naming(alloc: Global, vertices: &[Vertex]) -> Result<Relation, AllocError>
+    requires { AreNumbered (length vertices.now) vertices.now }
+    ensures { IfOk result (λ r. IsRelation (is_named vertices.now) (length vertices.now) r.modules r.vertices) }
 {
-    let namers = namers(alloc, places)?;
+    let namers = namers(alloc, vertices)?;
     Ok(Relation {
         modules: transposed(alloc, &namers)?,
-        places: namers,
+        vertices: namers,
     })
 }
 
-/// Which places are on which modules.
-pub fn standing(alloc: Global, places: &[Place]) -> Result<Relation, AllocError>
-    requires { AreNumbered (length places.now) places.now }
-    ensures { IfOk result (λ r. IsRelation (is_on places.now) (length places.now) r.modules r.places) }
+/// Which vertices are on which modules.
+pub fn standing(alloc: Global, vertices: &[Vertex]) -> Result<Relation, AllocError>
+    requires { AreNumbered (length vertices.now) vertices.now }
+    ensures { IfOk result (λ r. IsRelation (is_on vertices.now) (length vertices.now) r.modules r.vertices) }
 {
-    let on = on(alloc, places)?;
+    let on = on(alloc, vertices)?;
     Ok(Relation {
         modules: transposed(alloc, &on)?,
-        places: on,
+        vertices: on,
     })
 }
 
-// The places that name each module.
-fn namers(alloc: Global, places: &[Place]) -> Result<Lists, AllocError>
-    requires { AreNumbered (length places.now) places.now }
-    ensures { IfOk result (AreEntered (is_named places.now) (length places.now) (length places.now)) }
+// The vertices that name each module.
+fn namers(alloc: Global, vertices: &[Vertex]) -> Result<Lists, AllocError>
+    requires { AreNumbered (length vertices.now) vertices.now }
+    ensures { IfOk result (AreEntered (is_named vertices.now) (length vertices.now) (length vertices.now)) }
 {
-    let mut namers = Lists::new(alloc, places.len())?;
-    for (p, place) in places.iter().enumerate() {
-        enter(&mut namers, place.dependencies.as_slice(), p)?;
+    let mut namers = Lists::new(alloc, vertices.len())?;
+    for (p, vertex) in vertices.iter().enumerate() {
+        enter(&mut namers, vertex.dependencies.as_slice(), p)?;
     }
     Ok(namers)
 }
 
-// The places on each module.
-fn on(alloc: Global, places: &[Place]) -> Result<Lists, AllocError>
-    requires { AreNumbered (length places.now) places.now }
-    ensures { IfOk result (AreEntered (is_on places.now) (length places.now) (length places.now)) }
+// The vertices on each module.
+fn on(alloc: Global, vertices: &[Vertex]) -> Result<Lists, AllocError>
+    requires { AreNumbered (length vertices.now) vertices.now }
+    ensures { IfOk result (AreEntered (is_on vertices.now) (length vertices.now) (length vertices.now)) }
 {
-    let mut on = Lists::new(alloc, places.len())?;
-    for (p, place) in places.iter().enumerate() {
-        enter(&mut on, &[place.module], p)?;
+    let mut on = Lists::new(alloc, vertices.len())?;
+    for (p, vertex) in vertices.iter().enumerate() {
+        enter(&mut on, &[vertex.module], p)?;
     }
     Ok(on)
 }

@@ -1,5 +1,5 @@
 -- Which characters are shown as escapes.
-use Rattle.std.specs.Prelude.{ℕ, ◌≡◌, ◌==◌, nat_le, nat_lt, ◌||◌, ◌&&◌, Bool, false, List, All}
+use Rattle.std.specs.Prelude.{ℕ, ◌≡◌, ◌==◌, nat_le, ◌||◌, ◌&&◌, Bool, false, List, All}
 
 -- whether a code point is from the first to the last
 abbrev pub is_within : ℕ → ℕ → ℕ → Bool

@@ -7,16 +7,16 @@ use release_files::{FileFault, Files, ReleaseFault};
 use std::alloc::{AllocError, Global};
 use std::{fmt, str};
 
-/// What is told of a fault of a file: as a text `PATH:LINE:COLUMN: ` and what is wrong, or `PATH: ` where it is at no place.
+/// What is told of a fault of a file: as a text `PATH:LINE:COLUMN: ` and what is wrong, or `PATH: ` where it is at no offset.
 #[derive(Debug, Drop)]
 pub struct Diagnostic {
     /// The path of the file, below the root.
     path: String,
-    /// Where the fault stands, if at a place.
+    /// Where the fault stands, if at an offset.
     position: Option<Position>,
     /// What is wrong.
     message: String,
-    /// The line in which it stands, if at a place.
+    /// The line in which it stands, if at an offset.
     pub excerpt: Option<Excerpt>,
 }
 
@@ -40,20 +40,20 @@ pub fn diagnose(
     let Finding { at, message } = finding_of(looked, files, path, fault.fault)?;
     Ok(Diagnostic {
         path: String::from_str(alloc, path)?,
-        position: at.map(|place| position_of(bytes, place)),
+        position: at.map(|offset| position_of(bytes, offset)),
         message,
         excerpt: excerpt_of(alloc, bytes, at)?,
     })
 }
 
-/// The line in which a place stands, if there is one.
+/// The line in which an offset stands, if there is one.
 fn excerpt_of(
     alloc: Global,
     bytes: &[u8],
     at: Option<usize>,
 ) -> Result<Option<Excerpt>, AllocError> {
     match at {
-        Some(place) => Ok(Some(Excerpt::around(alloc, bytes, place)?)),
+        Some(offset) => Ok(Some(Excerpt::around(alloc, bytes, offset)?)),
         None => Ok(None),
     }
 }

@@ -3,15 +3,15 @@ use crate::shown::push_shown;
 use std::alloc::{AllocError, Global};
 use std::{fmt, str};
 
-/// How many bytes of a line are shown on each side of a place.
+/// How many bytes of a line are shown on each side of an offset.
 const MOST_BESIDE: usize = 72;
 
-/// A line of a text, or what stands there around a place, and the place.
+/// A line of a text, or what stands there around an offset, and the offset.
 #[derive(Debug, Drop)]
 pub struct Excerpt {
-    /// What stands before the place.
+    /// What stands before the offset.
     before: String,
-    /// What stands from the place on.
+    /// What stands from the offset on.
     from: String,
 }
 

@@ -1,7 +1,7 @@
 // What is sought in a text, and found.
 use erl_scan::{Mark, Token};
 
-/// What is sought among the values of a text of terms. The places of a value are the numbers, from 1, of the elements in which it
+/// What is sought among the values of a text of terms. The numbers of a value are those, from 1, of the elements in which it
 /// stands, outermost first.
 #[derive(Clone, Copy, Debug)]
 pub(crate) enum Sought {
@@ -28,17 +28,17 @@ pub(crate) enum Sought {
 }
 
 impl Sought {
-    /// Whether this is met by the value that begins with a token, at places, behind so many terms.
-    pub(crate) fn is_met(&mut self, places: &[usize], terms: usize, token: &Token) -> bool {
+    /// Whether this is met by the value that begins with a token, at these numbers, behind so many terms.
+    pub(crate) fn is_met(&mut self, numbers: &[usize], terms: usize, token: &Token) -> bool {
         match self {
-            Sought::Term => places.is_empty(),
-            Sought::SecondTerm => places.is_empty() && terms == 1,
-            Sought::Element(number) => matches!(places, [place] if place == number),
+            Sought::Term => numbers.is_empty(),
+            Sought::SecondTerm => numbers.is_empty() && terms == 1,
+            Sought::Element(number) => matches!(numbers, [element] if element == number),
             Sought::Instruction { list, before } => {
-                matches!(places, [_, _, place, _] if place == list) && is_last(before)
+                matches!(numbers, [_, _, element, _] if element == list) && is_last(before)
             }
             Sought::RepeatedKey { met } => {
-                matches!(places, [3, _, 1])
+                matches!(numbers, [3, _, 1])
                     && key_of(token).is_some_and(|key| is_repeated(met, key))
             }
             Sought::Binary => matches!(token, Token::Mark(Mark::OpenBinary)),

@@ -1,7 +1,7 @@
 //! What is told of a fault of a file, for the one who is to mend it: where it stands, and what is wrong in words.
 //!
 //! The readers of files tell a fault by a kind and a byte, an element or an instruction. [`diagnose`] looks at the bytes
-//! again and makes a [`Diagnostic`] of it: the place as a line and a column, which element must be what and what it is, and
+//! again and makes a [`Diagnostic`] of it: the offset as a line and a column, which element must be what and what it is, and
 //! which construct of Erlang is not supported. [`push_shown`] writes a text that comes from a file so that it is one line
 //! on a terminal.
 //!
@@ -13,7 +13,7 @@
 //!
 //! # What no contract says
 //!
-//! The words, and which token of a text a place is that is told by elements: these are tried by whole sessions of the program.
+//! The words, and which token of a text it is that is told by elements: these are tried by whole sessions of the program.
 #![tactic(auto)]
 
 mod constructs;
@@ -23,9 +23,9 @@ mod expected;
 mod file_kind;
 mod finding;
 mod hidden;
-mod places;
 mod position;
 mod shown;
+mod spans;
 mod words;
 
 pub use diagnostic::{Diagnostic, diagnose};

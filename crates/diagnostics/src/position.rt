@@ -11,7 +11,7 @@ pub struct Position {
     pub column: usize,
 }
 
-/// The position of the byte at a place of a text, counted from 0. Past the end it is that of the end.
+/// The position of the byte at an offset of a text, counted from 0. Past the end it is that of the end.
 pub fn position_of(text: &[u8], at: usize) -> Position
     ensures { StandsBehind (take at text.now) result }
 {

@@ -65,9 +65,9 @@ fn push_escape(c: char, out: &mut String) -> Result<(), AllocError>
 fn push_hexadecimal(number: u32, out: &mut String) -> Result<(), AllocError>
     ensures { IsOneLine (chars (string_bytes out.old)) → IsOneLine (chars (string_bytes out.new)) }
 {
-    for place in 0u32..6 {
-        let left = number >> (20 - 4 * place);
-        if left != 0 || place == 5 {
+    for index in 0u32..6 {
+        let left = number >> (20 - 4 * index);
+        if left != 0 || index == 5 {
             push_plain(digit(left & 15), out)?;
         }
     }

@@ -3,7 +3,7 @@ use crate::constructs::{begins_guard_call, construct_of, prefix, push_brief, pus
 use crate::expected::expected;
 use crate::file_kind::FileKind;
 use crate::finding::Sought;
-use crate::places::{Span, find};
+use crate::spans::{Span, find};
 use erl_parse::LangError;
 use erl_scan::{Fault, ReadError, Scanner};
 use otp_files::FileError;
@@ -51,7 +51,7 @@ impl<'a> Looked<'a> {
         })
     }
 
-    /// What the words say of a place.
+    /// What the words say of an offset.
     fn placed(self, at: usize, words: &str) -> Result<Finding, AllocError> {
         Ok(Finding {
             at: Some(at),
@@ -59,7 +59,7 @@ impl<'a> Looked<'a> {
         })
     }
 
-    /// What the words say of the token at a place, which is shown behind them.
+    /// What the words say of the token at an offset, which is shown behind them.
     fn of_token(self, at: usize, words: &str) -> Result<Finding, AllocError> {
         let mut message = String::from_str(self.alloc, words)?;
         message.push(' ')?;
@@ -84,7 +84,7 @@ impl<'a> Looked<'a> {
         })
     }
 
-    /// What the words say of the place of a value.
+    /// What the words say of the offset of a value.
     fn at_value(self, sought: Sought, words: &str) -> Result<Finding, AllocError> {
         match find(self.alloc, self.text, sought)? {
             Some(span) => self.placed(span.start, words),
@@ -112,7 +112,7 @@ impl<'a> Looked<'a> {
         }
     }
 
-    /// What Erlang has at a place, and is not supported.
+    /// What Erlang has at an offset, and is not supported.
     fn unsupported(self, at: usize) -> Result<Finding, AllocError> {
         let mut message = String::from_str(self.alloc, "not supported: ")?;
         let rest = self.rest(at);
@@ -185,7 +185,7 @@ impl<'a> Looked<'a> {
 
     /// What the words say of the module's name, which is shown behind them.
     pub(crate) fn of_module(self, words: &str) -> Result<Finding, AllocError> {
-        match module_name_place(self.alloc, self.text)? {
+        match module_name_offset(self.alloc, self.text)? {
             Some(at) => self.of_token(at, words),
             None => self.whole(words),
         }
@@ -214,7 +214,7 @@ impl<'a> Looked<'a> {
 }
 
 /// Where the name stands in a source that begins with `-module(NAME).`
-fn module_name_place(alloc: Global, text: &str) -> Result<Option<usize>, AllocError> {
+fn module_name_offset(alloc: Global, text: &str) -> Result<Option<usize>, AllocError> {
     let mut scanner = Scanner::new(alloc, text);
     for _ in 0..3 {
         let _ = scanner.next_token();

@@ -30,7 +30,7 @@ module _ {E : Type 0} where
   entries_of-count (r ∷ runs) zero run n is = ap (λ (r : Run E). r.entry ∷ entries_of runs) is
   entries_of-count (r ∷ runs) (suc i) run n is = ap (λ es. r.entry ∷ es) (entries_of-count runs i run n is)
 
-  -- The replies of all entries are those of the runs' entries, each once: an idle turn has none.
+  -- The replies of all entries are those of the runs' entries, each once: an idle entry has none.
 
   module _ {R : Type 0} (replies_of : E → List R) where
     of_none : (e : E) (n : ℕ) → replies_of e ≡ [] → flat_map replies_of (replicate n e) ≡ []

@@ -9,7 +9,7 @@ pub record EntryList (E : Type 0) : Type 0 where
   pub items : List E
   pub room : Bool
 
--- A run counts its entry once or more, and more than once only where the entry is an idle turn.
+-- A run counts its entry once or more, and more than once only where the entry is idle.
 pub record IsRun {E : Type 0} (IsIdle : E → Type 0) (run : Run E) : Type 0 where
   pub some : 0 < run.count
   pub idle : 1 < run.count → IsIdle run.entry
@@ -26,7 +26,7 @@ entries_of runs = map (λ run. run.entry) runs
 abbrev pub GrowsAtEnd : {A : Type 0} → List A → List A → Type 0
 GrowsAtEnd {A} old new = (more : List A) × (new ≡ old ++ more)
 
--- an entry is an idle turn, and says the same as the last one
+-- an entry is idle, and says the same as the last one
 abbrev pub RepeatsLast : {E : Type 0} → (E → Type 0) → List (Run E) → E → Type 0
 RepeatsLast {E} IsIdle runs entry =
     (front : List (Run E)) × (last : Run E) × (runs ≡ front ++ last ∷ []) × (last.entry ≡ entry) × IsIdle entry

@@ -8,10 +8,10 @@ use std::marker::Model;
 
 /// A type of entries, some of which stand often in a row and say the same.
 pub trait Repeats {
-    /// Whether an entry is an idle turn: what was asked found nothing to do.
+    /// Whether an entry is idle: what was asked found nothing to do.
     ghost IsIdle: { Self → Type 0 };
 
-    /// Whether it is an idle turn that says the same as another: then they are equal. Takes no memory.
+    /// Whether it is idle that says the same as another: then they are equal. Takes no memory.
     fn repeats(&self, other: &Self) -> bool
         ensures { IsTrue result ↔ (self.now ≡ other.now) × IsIdle self.now };
 }
@@ -28,7 +28,7 @@ pub struct Run<E> {
 /// Entries in order. Contracts see them as the list of all, each repeat written out, as the runs that they are kept in, and
 /// whether there is room for one more.
 ///
-/// Idle turns in a row that say the same are kept as one, with their number: one worker alone that finds nothing to do fills no
+/// Idle entries in a row that say the same are kept as one, with their number: one worker alone that finds nothing to do fills no
 /// memory, however long it looks.
 #[derive(Drop)]
 pub struct Entries<E: Repeats> {
@@ -72,7 +72,7 @@ impl<E: Repeats> Entries<E> {
     }
 
     /// The entries as runs, in order: each entry as often as its run counts it, once or more, and more than once only where it
-    /// is an idle turn. Takes no memory.
+    /// is idle. Takes no memory.
     pub fn runs(&self) -> &[Run<E>]
         ensures items { written_out result.now ≡ self.now.items }
         ensures runs { result.now ≡ self.now.runs }
@@ -102,7 +102,7 @@ impl<E: Repeats> Entries<E> {
 }
 
 impl<E: Repeats + Drop> Entries<E> {
-    /// Puts an entry behind the others, where there is room. Takes no memory. An idle turn that says the same as the last entry
+    /// Puts an entry behind the others, where there is room. Takes no memory. An idle entry that says the same as the last entry
     /// is counted with that, and leaves the memory for another.
     pub fn push(&mut self, entry: E)
         requires { IsTrue self.old.room }

@@ -50,7 +50,7 @@ impl<E: Replying> History<E> {
     }
 
     /// The entries as runs, in order: each entry as often as its run counts it, once or more, and more than once only where it
-    /// is an idle turn. Takes no memory.
+    /// is idle. Takes no memory.
     pub fn runs(&self) -> &[Run<E>]
         ensures items { written_out result.now ≡ self.now.items }
         ensures runs { result.now ≡ self.now.runs }
@@ -75,7 +75,7 @@ impl<E: Replying> History<E> {
         self.entries.make_room()
     }
 
-    /// The replies to a client in all entries, in order, from a place on, counted from 0. It finds those to any client that came
+    /// The replies to a client in all entries, in order, from an index on, counted from 0. It finds those to any client that came
     /// since the last call, and copies those that it hands out.
     ///
     /// # Errors
@@ -99,7 +99,7 @@ impl<E: Replying> History<E> {
 }
 
 impl<E: Replying + Drop> History<E> {
-    /// Puts an entry behind the others, where there is room. Takes no memory. An idle turn that says the same as the last entry
+    /// Puts an entry behind the others, where there is room. Takes no memory. An idle entry that says the same as the last entry
     /// is counted with that, and leaves the memory for another.
     pub fn push(&mut self, entry: E)
         requires { IsTrue self.old.room }

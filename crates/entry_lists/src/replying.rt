@@ -4,7 +4,7 @@ ghost use Rattle.std.specs.Prelude.{◌≡◌, [], ℕ, List};
 use crate::entries::Repeats;
 use values::Duplicate;
 
-/// A type of entries that bring replies to clients. An idle turn brings none.
+/// A type of entries that bring replies to clients. An idle entry brings none.
 pub trait Replying: Repeats {
     /// A reply.
     type Reply: Duplicate;
@@ -23,6 +23,6 @@ pub trait Replying: Repeats {
     fn client(reply: &Self::Reply) -> u64
         ensures { result ≡ client_of reply.now };
 
-    /// The law of idle turns: they bring no reply.
+    /// The law of idle entries: they bring no reply.
     ghost idle_without_replies: { (e : Self) → Self.IsIdle e → replies_of e ≡ [] };
 }

@@ -1,5 +1,5 @@
 -- How a module is written: its forms (Erlang Reference Manual, Modules; erl_parse.yrl of OTP 25).
-use Rattle.std.specs.Prelude.{◌≡◌, ℕ, ◌≤◌, nat_le, Bool, true, false, ◌&&◌, ◌||◌, not, if◌then◌else◌, IsTrue, ⊤, List, [], ◌∷◌, length, codes}
+use Rattle.std.specs.Prelude.{◌≡◌, ℕ, ◌≤◌, nat_le, Bool, true, false, ◌&&◌, ◌||◌, if◌then◌else◌, IsTrue, ⊤, List, [], ◌∷◌, length, codes}
 use Rattle.std.specs.Prelude.{Option, None, Some}
 use Rattle.std.specs.Str.{bytes_eq}
 use Rattle.erl_scan.specs.declared.mark.Mark.TheVariants as marks
@@ -17,7 +17,7 @@ use Rattle.erl_ast.specs.declared.form.ModuleTree.{ModuleTree}
 use Rattle.erl_ast.specs.Terminal.{Terminal, integer, atom, word, mark, dot}
 use Rattle.erl_ast.specs.Tree.{Tree, Trees, leaf, node, case, none, more, tree_count, tree_depth, trees_depth, guards_depth, clauses_depth}
 use Rattle.erl_ast.specs.Written.{written, row_written, guards_written, clauses_written}
-use Rattle.erl_ast.specs.Grammar.{matches, level, is_leaf, IsWell, AreWell, AreWellGuards, AreWellClauses, has_clause}
+use Rattle.erl_ast.specs.Grammar.{matches, level, IsWell, AreWell, AreWellGuards, AreWellClauses, has_clause}
 
 -- Attributes, by their names
 

@@ -1,5 +1,5 @@
--- Tokens as the grammar sees them: with the place of an atom and of a variable, which may be told as a fault later, and
--- without the places of all others.
+-- Tokens as the grammar sees them: with the offset of an atom and of a variable, which may be told as a fault later, and
+-- without the offsets of all others.
 use Rattle.std.specs.Prelude.{ℕ, List, [], ◌∷◌}
 use Rattle.erl_scan.specs.declared.mark.Mark.{Mark}
 use Rattle.erl_scan.specs.declared.word.Word.{Word}

@@ -30,7 +30,7 @@ abbrev pub strings_written : List (List ℕ) → List Terminal → List Terminal
 strings_written [] rest = rest
 strings_written (s ∷ ss) rest = string s ∷ strings_written ss rest
 
--- `?MODULE`, with the place of what follows the sign
+-- `?MODULE`, with the offset of what follows the sign
 abbrev pub module_name_written : ℕ → List Terminal → List Terminal
 module_name_written at rest = mark marks.Question ∷ variable (codes "MODULE") at ∷ rest
 

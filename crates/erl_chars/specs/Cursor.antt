@@ -16,9 +16,9 @@ total c = c.total
 unfoldable pub byte_count : List ℕ → ℕ
 byte_count cs = length (encodes cs)
 
--- the place in a text of so many bytes at which these of its characters are left: how many bytes stand before it
-abbrev pub place : ℕ → List ℕ → ℕ
-place whole cs = whole - byte_count cs
+-- the offset in a text of so many bytes at which these of its characters are left: how many bytes stand before it
+abbrev pub offset : ℕ → List ℕ → ℕ
+offset whole cs = whole - byte_count cs
 
 abbrev pub first_of : List ℕ → Option ℕ
 first_of [] = None

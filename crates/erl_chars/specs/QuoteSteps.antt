@@ -2,7 +2,7 @@
 use Rattle.std.specs.Prelude.{◌≡◌, ℕ, List, Option, Some, None, Result, Ok, Err}
 use Rattle.erl_chars.specs.declared.quotes.QuoteError.{QuoteError}
 use Rattle.erl_chars.specs.declared.quotes.QuoteError.TheVariants.{Unclosed, BadEscape, Memory}
-use Rattle.erl_chars.specs.Cursor.{place}
+use Rattle.erl_chars.specs.Cursor.{offset}
 use Rattle.erl_chars.specs.Quotes.{stands, closing, cut, wrong, character}
 
 -- what reading one character between quotes gives: a character, none at the closing quote, or an error
@@ -10,5 +10,5 @@ abbrev pub ReadsCharacter : ℕ → ℕ → List ℕ → Result (Option ℕ) Quo
 ReadsCharacter total quote cs (Ok (Some c)) rest = character quote cs ≡ stands c rest
 ReadsCharacter total quote cs (Ok None) rest = character quote cs ≡ closing rest
 ReadsCharacter total quote cs (Err Unclosed) rest = character quote cs ≡ cut
-ReadsCharacter total quote cs (Err (BadEscape at)) rest = (character quote cs ≡ wrong) × (at ≡ place total cs)
+ReadsCharacter total quote cs (Err (BadEscape at)) rest = (character quote cs ≡ wrong) × (at ≡ offset total cs)
 ReadsCharacter total quote cs (Err Memory) rest = ⊥

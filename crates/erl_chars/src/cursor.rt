@@ -1,4 +1,4 @@
-// A place in a text.
+// An offset in a text.
 ghost use Rattle.std.specs.Prelude.{◌≤◌, length};
 
 /// A text, and how far it is read.

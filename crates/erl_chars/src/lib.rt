@@ -8,7 +8,7 @@
 //! # What is proved
 //!
 //! - [`Cursor::peek`] gives the next character, [`Cursor::advance`] steps over it and [`Cursor::take`] does both;
-//!   [`Cursor::place`] is how many bytes stand before the cursor.
+//!   [`Cursor::offset`] is how many bytes stand before the cursor.
 //! - [`Cursor::skip_gap`] steps over exactly the blanks and comments in front.
 //! - [`Cursor::escape`] gives the character that an escape stands for, and else `Cut` exactly where the text ends
 //!   first and `Wrong` exactly where no escape is written so.

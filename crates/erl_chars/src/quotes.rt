@@ -57,7 +57,7 @@ impl<'a> Cursor<'a> {
             Some('\\') => match self.escape() {
                 Ok(c) => Ok(Some(c)),
                 Err(EscapeError::Cut) => Err(QuoteError::Unclosed),
-                Err(EscapeError::Wrong) => Err(QuoteError::BadEscape(start.place())),
+                Err(EscapeError::Wrong) => Err(QuoteError::BadEscape(start.offset())),
             },
             Some(c) => Ok(Some(c)),
         }

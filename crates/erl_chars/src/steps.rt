@@ -2,7 +2,7 @@
 ghost use Rattle.std.specs.Prelude.{◌≡◌, ℕ, List, length, MatchOption, [], ◌∷◌, ◌++◌};
 ghost use Rattle.std.specs.Str.{chars};
 ghost use Rattle.erl_chars.specs.Chars as kinds;
-ghost use Rattle.erl_chars.specs.Cursor.{left, total, place, first_of, after_first};
+ghost use Rattle.erl_chars.specs.Cursor.{left, total, offset, first_of, after_first};
 ghost use Rattle.erl_chars.specs.Gaps.{after_gap};
 
 use crate::bytes::{byte_len, in_front, past_first, split_first};
@@ -21,8 +21,8 @@ impl<'a> Cursor<'a> {
     }
 
     /// The byte at which the cursor stands, from 0.
-    pub fn place(&self) -> usize
-        ensures { result ≡ place (total self.now) (left self.now) }
+    pub fn offset(&self) -> usize
+        ensures { result ≡ offset (total self.now) (left self.now) }
     {
         self.total - byte_len(self.rest)
     }

@@ -11,7 +11,7 @@ use Rattle.erl_consult.specs.Faults.{spot_part, parts, last_of, is_sign, is_dot,
 use Rattle.erl_consult.specs.Steps.{Seen, nothing_seen, Outcome, goes, fails, take_part, Ending, done, cut_short, end_of}
 use Rattle.erl_consult.proofs.Spelling.{sign_part, spell-run, beginning}
 use Rattle.erl_consult.proofs.Nesting.{nested-counts, innermost-from_nested, innermost-at, no_innermost}
-use Rattle.erl_consult.proofs.Judging.{Bracketed, at_tuple, at_list, at_tail, Lasting, none_last, sign_last, form_last, strings_last, place_of, places, show, bare, sign_end, string_end, other_end, end_at, Follows, Judged, is_unread_part, is_out, is_misplaced, is_wrong, is_deep, is_next}
+use Rattle.erl_consult.proofs.Judging.{Bracketed, at_tuple, at_list, at_tail, Lasting, none_last, sign_last, form_last, strings_last, offset_of, offsets, show, bare, sign_end, string_end, other_end, end_at, Follows, Judged, is_unread_part, is_out, is_misplaced, is_wrong, is_deep, is_next}
 use Rattle.erl_consult.proofs.Judges.{judge}
 use Rattle.erl_consult.proofs.Reached.{take_all, take_all-append, outcome_then, goes-fails, Stands, stands-none, stands-next, FitsEnd, faulty-from_judged, judged-from_faulty, is-sign}
 use Rattle.erl_consult.proofs.Truth.{clash}
@@ -22,9 +22,9 @@ kind_of : Fault → Ending → Fault
 kind_of d (done ts) = d
 kind_of d (cut_short k at) = k
 
-place_at : ℕ → Ending → ℕ
-place_at d (done ts) = d
-place_at d (cut_short k at) = at
+offset_at : ℕ → Ending → ℕ
+offset_at d (done ts) = d
+offset_at d (cut_short k at) = at
 
 terms_or : Trees → Ending → Trees
 terms_or d (done ts) = ts
@@ -38,9 +38,9 @@ pub same_cut_kind : (k l : Fault) (at to : ℕ) → cut_short k at ≡ cut_short
 unfolding kind_of
 same_cut_kind k l at to e = ap (kind_of k) e
 
-pub same_cut_place : (k l : Fault) (at to : ℕ) → cut_short k at ≡ cut_short l to → at ≡ to
-unfolding place_at
-same_cut_place k l at to e = ap (place_at at) e
+pub same_cut_offset : (k l : Fault) (at to : ℕ) → cut_short k at ≡ cut_short l to → at ≡ to
+unfolding offset_at
+same_cut_offset k l at to e = ap (offset_at at) e
 
 pub same_done : (ts us : Trees) → done ts ≡ done us → ts ≡ us
 unfolding terms_or
@@ -61,39 +61,39 @@ dot-sign true = refl
 dot-sign false = refl
 
 -- by what stands behind the tokens
-sign_cut : (before : List Spot) (m : Bool) (place total : ℕ) (k : Fault) (told : ℕ) (o : Option Spot) → opened before ≡ closed before → last_of before ≡ o → FitsEnd o (sign_end m place) → cut_short Syntax place ≡ cut_short k told → IsCutShort before total k told
-sign_cut before m place total k told None even is t e = absurd t
-sign_cut before m place total k told (Some b) even is t e =
-    behind_sign even b is (ap is_sign t.0 ∙ is-sign m) (sym (same_cut_kind Syntax k place told e)) (sym (same_cut_place Syntax k place told e) ∙ sym t.1)
+sign_cut : (before : List Spot) (m : Bool) (offset total : ℕ) (k : Fault) (told : ℕ) (o : Option Spot) → opened before ≡ closed before → last_of before ≡ o → FitsEnd o (sign_end m offset) → cut_short Syntax offset ≡ cut_short k told → IsCutShort before total k told
+sign_cut before m offset total k told None even is t e = absurd t
+sign_cut before m offset total k told (Some b) even is t e =
+    behind_sign even b is (ap is_sign t.0 ∙ is-sign m) (sym (same_cut_kind Syntax k offset told e)) (sym (same_cut_offset Syntax k offset told e) ∙ sym t.1)
 
 form_cut : (before : List Spot) (total : ℕ) (k : Fault) (told : ℕ) (o : Option Spot) → opened before ≡ closed before → last_of before ≡ o → FitsEnd o other_end → cut_short MissingDot total ≡ cut_short k told → IsCutShort before total k told
 form_cut before total k told None even is t e = absurd t
 form_cut before total k told (Some b) even is t e =
-    behind_term even b is t.0 t.1.1.1 (sym (same_cut_kind MissingDot k total told e)) (sym (same_cut_place MissingDot k total told e))
+    behind_term even b is t.0 t.1.1.1 (sym (same_cut_kind MissingDot k total told e)) (sym (same_cut_offset MissingDot k total told e))
 
 string_cut : (before : List Spot) (total : ℕ) (k : Fault) (told : ℕ) (o : Option Spot) → opened before ≡ closed before → last_of before ≡ o → FitsEnd o string_end → cut_short MissingDot total ≡ cut_short k told → IsCutShort before total k told
 string_cut before total k told None even is t e = absurd t
 string_cut before total k told (Some b) even is t e =
-    behind_term even b is (ap is_sign t.1) (ap is_dot t.1) (sym (same_cut_kind MissingDot k total told e)) (sym (same_cut_place MissingDot k total told e))
+    behind_term even b is (ap is_sign t.1) (ap is_dot t.1) (sym (same_cut_kind MissingDot k total told e)) (sym (same_cut_offset MissingDot k total told e))
 
 pub cut-from_end : (before : List Spot) (w : Forms) (os : List Bracketed) (r : Lasting) (total : ℕ) (k : Fault) (told : ℕ) → Stands before w os r → end_of (show w os r) total ≡ cut_short k told → IsCutShort before total k told
 cut-from_end before w (o ∷ os) r total k told stands e =
-    let inner = innermost-from_nested before (place_of o) (places os) stands.nested in
-    in_bracket inner.0 inner.1.0 (sym (same_cut_kind Unclosed k (place_of o) told (on o e))) (sym (same_cut_place Unclosed k (place_of o) told (on o e)) ∙ sym inner.1.1)
+    let inner = innermost-from_nested before (offset_of o) (offsets os) stands.nested in
+    in_bracket inner.0 inner.1.0 (sym (same_cut_kind Unclosed k (offset_of o) told (on o e))) (sym (same_cut_offset Unclosed k (offset_of o) told (on o e)) ∙ sym inner.1.1)
   where
-    on : (b : Bracketed) → end_of (show w (b ∷ os) r) total ≡ cut_short k told → cut_short Unclosed (place_of b) ≡ cut_short k told
+    on : (b : Bracketed) → end_of (show w (b ∷ os) r) total ≡ cut_short k told → cut_short Unclosed (offset_of b) ≡ cut_short k told
     on (at_tuple at fs) h = h
     on (at_list at fs) h = h
     on (at_tail at bar_at fs f) h = h
 cut-from_end before w [] none_last total k told stands e = absurd (done-cut (form_trees w) k told e)
-cut-from_end before w [] (sign_last m place) total k told stands e =
-    sign_cut before m place total k told (last_of before) (level before w (sign_last m place) stands) refl stands.tells e
+cut-from_end before w [] (sign_last m offset) total k told stands e =
+    sign_cut before m offset total k told (last_of before) (level before w (sign_last m offset) stands) refl stands.tells e
 cut-from_end before w [] (form_last f) total k told stands e =
     form_cut before total k told (last_of before) (level before w (form_last f) stands) refl stands.tells e
 cut-from_end before w [] (strings_last cs others) total k told stands e =
     string_cut before total k told (last_of before) (level before w (strings_last cs others) stands) refl stands.tells e
 
-bracket_end : (b : Bracketed) (os : List Bracketed) (w : Forms) (r : Lasting) (total : ℕ) → end_of (show w (b ∷ os) r) total ≡ cut_short Unclosed (place_of b)
+bracket_end : (b : Bracketed) (os : List Bracketed) (w : Forms) (r : Lasting) (total : ℕ) → end_of (show w (b ∷ os) r) total ≡ cut_short Unclosed (offset_of b)
 bracket_end (at_tuple at fs) os w r total = refl
 bracket_end (at_list at fs) os w r total = refl
 bracket_end (at_tail at bar_at fs f) os w r total = refl
@@ -103,8 +103,8 @@ end_sign : (w : Forms) (r : Lasting) (total : ℕ) (s : Spot) (o : Option Spot) 
 end_sign w none_last total s None is sign t = absurd (none-some s is)
 end_sign w none_last total s (Some b) is sign t =
     clash (is_sign (spot_part s)) sign (ap (λ c. is_sign (spot_part c)) (sym (same_Some b s is)) ∙ ap is_sign t)
-end_sign w (sign_last m place) total s None is sign t = absurd t
-end_sign w (sign_last m place) total s (Some b) is sign t = ap (cut_short Syntax) (sym t.1 ∙ ap (λ c. c.at) (same_Some b s is))
+end_sign w (sign_last m offset) total s None is sign t = absurd t
+end_sign w (sign_last m offset) total s (Some b) is sign t = ap (cut_short Syntax) (sym t.1 ∙ ap (λ c. c.at) (same_Some b s is))
 end_sign w (form_last f) total s None is sign t = absurd t
 end_sign w (form_last f) total s (Some b) is sign t =
     clash (is_sign (spot_part s)) sign (ap (λ c. is_sign (spot_part c)) (sym (same_Some b s is)) ∙ t.0)
@@ -117,25 +117,25 @@ end_term : (w : Forms) (r : Lasting) (total : ℕ) (s : Spot) (o : Option Spot) 
 end_term w none_last total s None is no_sign no_dot t = absurd (none-some s is)
 end_term w none_last total s (Some b) is no_sign no_dot t =
     clash (is_dot (spot_part s)) (ap (λ c. is_dot (spot_part c)) (sym (same_Some b s is)) ∙ ap is_dot t) no_dot
-end_term w (sign_last m place) total s None is no_sign no_dot t = absurd t
-end_term w (sign_last m place) total s (Some b) is no_sign no_dot t =
+end_term w (sign_last m offset) total s None is no_sign no_dot t = absurd t
+end_term w (sign_last m offset) total s (Some b) is no_sign no_dot t =
     clash (is_sign (spot_part s)) (ap (λ c. is_sign (spot_part c)) (sym (same_Some b s is)) ∙ (ap is_sign t.0 ∙ is-sign m)) no_sign
 end_term w (form_last f) total s o is no_sign no_dot t = refl
 end_term w (strings_last cs others) total s o is no_sign no_dot t = refl
 
 pub end-from_cut : (before : List Spot) (w : Forms) (os : List Bracketed) (r : Lasting) (total : ℕ) (k : Fault) (told : ℕ) → Stands before w os r → IsCutShort before total k told → end_of (show w os r) total ≡ cut_short k told
-end-from_cut before w (o ∷ os) r total k told stands (in_bracket b inner kind place) =
-    bracket_end o os w r total ∙ cut_both Unclosed k (place_of o) told (sym kind) (sym (innermost-at before (place_of o) (places os) b stands.nested inner) ∙ sym place)
-end-from_cut before w [] r total k told stands (in_bracket b inner kind place) =
+end-from_cut before w (o ∷ os) r total k told stands (in_bracket b inner kind offset) =
+    bracket_end o os w r total ∙ cut_both Unclosed k (offset_of o) told (sym kind) (sym (innermost-at before (offset_of o) (offsets os) b stands.nested inner) ∙ sym offset)
+end-from_cut before w [] r total k told stands (in_bracket b inner kind offset) =
     absurd (no_innermost before b stands.nested inner)
-end-from_cut before w (o ∷ os) r total k told stands (behind_sign even s last sign kind place) =
-    absurd (omega (arith, even, nested-counts before (place_of o ∷ places os) stands.nested))
-end-from_cut before w [] r total k told stands (behind_sign even s last sign kind place) =
-    end_sign w r total s (last_of before) last sign stands.tells ∙ cut_both Syntax k s.at told (sym kind) (sym place)
-end-from_cut before w (o ∷ os) r total k told stands (behind_term even s last no_sign no_dot kind place) =
-    absurd (omega (arith, even, nested-counts before (place_of o ∷ places os) stands.nested))
-end-from_cut before w [] r total k told stands (behind_term even s last no_sign no_dot kind place) =
-    end_term w r total s (last_of before) last no_sign no_dot stands.tells ∙ cut_both MissingDot k total told (sym kind) (sym place)
+end-from_cut before w (o ∷ os) r total k told stands (behind_sign even s last sign kind offset) =
+    absurd (omega (arith, even, nested-counts before (offset_of o ∷ offsets os) stands.nested))
+end-from_cut before w [] r total k told stands (behind_sign even s last sign kind offset) =
+    end_sign w r total s (last_of before) last sign stands.tells ∙ cut_both Syntax k s.at told (sym kind) (sym offset)
+end-from_cut before w (o ∷ os) r total k told stands (behind_term even s last no_sign no_dot kind offset) =
+    absurd (omega (arith, even, nested-counts before (offset_of o ∷ offsets os) stands.nested))
+end-from_cut before w [] r total k told stands (behind_term even s last no_sign no_dot kind offset) =
+    end_term w r total s (last_of before) last no_sign no_dot stands.tells ∙ cut_both MissingDot k total told (sym kind) (sym offset)
 
 -- a text is whole
 text-done : (before : List Spot) (w : Forms) → Stands before w [] none_last → IsText (parts before) (form_trees w)
@@ -149,13 +149,13 @@ text-done before w stands = record {
 }
 
 not_done : (w : Forms) (o : Bracketed) (os : List Bracketed) (r : Lasting) (total : ℕ) (ts : Trees) → end_of (show w (o ∷ os) r) total ≡ done ts → ⊥
-not_done w o os r total ts e = done-cut ts Unclosed (place_of o) (sym e ∙ bracket_end o os w r total)
+not_done w o os r total ts e = done-cut ts Unclosed (offset_of o) (sym e ∙ bracket_end o os w r total)
 
 pub text-from_end : (before : List Spot) (w : Forms) (os : List Bracketed) (r : Lasting) (total : ℕ) (ts : Trees) → Stands before w os r → end_of (show w os r) total ≡ done ts → IsText (parts before) ts
 text-from_end before w (o ∷ os) r total ts stands e = absurd (not_done w o os r total ts e)
 text-from_end before w [] none_last total ts stands e =
     subst (IsText (parts before)) (same_done (form_trees w) ts e) (text-done before w stands)
-text-from_end before w [] (sign_last m place) total ts stands e = absurd (done-cut ts Syntax place (sym e))
+text-from_end before w [] (sign_last m offset) total ts stands e = absurd (done-cut ts Syntax offset (sym e))
 text-from_end before w [] (form_last f) total ts stands e = absurd (done-cut ts MissingDot total (sym e))
 text-from_end before w [] (strings_last cs others) total ts stands e = absurd (done-cut ts MissingDot total (sym e))
 
@@ -170,7 +170,7 @@ goes_by : (w : Forms) (os : List Bracketed) (r : Lasting) (b : Spot) → Judged 
 goes_by w os r b (is_unread_part is took) = it_fails Unsupported b.at took
 goes_by w os r b (is_out out took) = it_fails IntegerRange _ took
 goes_by w os r b (is_misplaced sound stuck took) = it_fails Syntax b.at took
-goes_by w os r b (is_wrong sound t stepped place end no_list took) = it_fails Unsupported place took
+goes_by w os r b (is_wrong sound t stepped offset end no_list took) = it_fails Unsupported offset took
 goes_by w os r b (is_deep sound t stepped no_tail nests deep took) = it_fails TooDeep b.at took
 goes_by w os r b (is_next sound no_tail room v qs q follows) = it_goes v qs q follows
 

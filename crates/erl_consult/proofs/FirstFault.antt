@@ -16,7 +16,7 @@ use Rattle.erl_consult.specs.FirstFault.{CanGoOn, IsDeadEnd, FirstFault}
 use Rattle.erl_consult.specs.Steps.{nothing, Seen, fails, take_part, end_of}
 use Rattle.erl_consult.proofs.Spelling.{read_parts, signed, signed-parts, closers, closed_up, spells-on, spell-run, beginning}
 use Rattle.erl_consult.proofs.Nesting.{nested-counts}
-use Rattle.erl_consult.proofs.Judging.{Bracketed, at_tuple, at_list, at_tail, Lasting, none_last, sign_last, form_last, strings_last, show, show_all, bare, bare_all, bare_last, length-show, length-places, places, End, start_end, sign_end, string_end, bar_end, other_end, end_at, end_string, end_bar, nesting_by, tail_by, FineForm, FineForms, FineAll, is_tail, Judged, is_unread_part, is_out, is_misplaced, is_wrong, is_deep, is_next, end_place}
+use Rattle.erl_consult.proofs.Judging.{Bracketed, at_tuple, at_list, at_tail, Lasting, none_last, sign_last, form_last, strings_last, show, show_all, bare, bare_all, bare_last, length-show, length-offsets, offsets, End, start_end, sign_end, string_end, bar_end, other_end, end_at, end_string, end_bar, nesting_by, tail_by, FineForm, FineForms, FineAll, is_tail, Judged, is_unread_part, is_out, is_misplaced, is_wrong, is_deep, is_next, end_offset}
 use Rattle.erl_consult.proofs.Judges.{judge, fine-then, fine-tuple, fine-list, fine-tailed, fine-strings, last-form, no_tuple, depth}
 use Rattle.erl_consult.proofs.Reached.{same_goes, Stands, tells-bar, parts-append}
 use Rattle.erl_consult.proofs.Ends.{Somewhere, stands-from_sound, stands-from_taken, sound-from_taken, front-taken, faulty-from_fails, end-from_cut, done-cut}
@@ -90,12 +90,12 @@ faulty-stops before p at kind told faulty on =
 -- the brackets are closed behind a form that is within the limits, as all the others are
 fine-closed_up : (os : List Bracketed) (w : Forms) (f : Form) → FineForms 0 w → FineAll os → FineForm (length os) f → (is_tail os ≡ true → is_list f ≡ true) → FineForms 0 (closed_up (bare_all os) w f)
 fine-closed_up [] w f whole brackets fine tail = fine-then 0 w f whole fine
-fine-closed_up (at_tuple place fs ∷ os) w f whole brackets fine tail =
-    fine-closed_up os w (some_tuple fs f) whole brackets.1.1 (fine-tuple (length os) fs f brackets.0 (last-form (at_tuple place fs) os f fine)) (λ t. no_tuple os brackets.1.0 t)
-fine-closed_up (at_list place fs ∷ os) w f whole brackets fine tail =
-    fine-closed_up os w (some_list fs f) whole brackets.1.1 (fine-list (length os) fs f brackets.0 (last-form (at_list place fs) os f fine)) (λ t. refl)
-fine-closed_up (at_tail place bar_at fs g ∷ os) w f whole brackets fine tail =
-    fine-closed_up os w (tailed_list fs g f) whole brackets.1.1 (fine-tailed (length os) fs g f brackets.0.0 brackets.0.1 (last-form (at_tail place bar_at fs g) os f fine) (tail refl)) (λ t. refl)
+fine-closed_up (at_tuple offset fs ∷ os) w f whole brackets fine tail =
+    fine-closed_up os w (some_tuple fs f) whole brackets.1.1 (fine-tuple (length os) fs f brackets.0 (last-form (at_tuple offset fs) os f fine)) (λ t. no_tuple os brackets.1.0 t)
+fine-closed_up (at_list offset fs ∷ os) w f whole brackets fine tail =
+    fine-closed_up os w (some_list fs f) whole brackets.1.1 (fine-list (length os) fs f brackets.0 (last-form (at_list offset fs) os f fine)) (λ t. refl)
+fine-closed_up (at_tail offset bar_at fs g ∷ os) w f whole brackets fine tail =
+    fine-closed_up os w (tailed_list fs g f) whole brackets.1.1 (fine-tailed (length os) fs g f brackets.0.0 brackets.0.1 (last-form (at_tail offset bar_at fs g) os f fine) (tail refl)) (λ t. refl)
 
 goes_on-by : (before : List Spot) (w : Forms) (os : List Bracketed) (r : Lasting) (more : List Part) (f : Form) → Stands before w os r → read_parts (bare_last r) ++ more ≡ form_parts f → FineForm (length os) f → (is_tail os ≡ true → is_list f ≡ true) → CanGoOn (parts before)
 goes_on-by before w os r more f stands is fine tail =
@@ -115,7 +115,7 @@ goes_on-by before w os r more f stands is fine tail =
 
 -- how many brackets are open
 deep : (before : List Spot) (w : Forms) (os : List Bracketed) (r : Lasting) → Stands before w os r → opened before ≡ closed before + length os
-deep before w os r stands = omega (arith, nested-counts before (places os) stands.nested, length-places os)
+deep before w os r stands = omega (arith, nested-counts before (offsets os) stands.nested, length-offsets os)
 
 -- an integer goes on where no tail begins
 with_number : (before : List Spot) (w : Forms) (os : List Bracketed) → Stands before w os none_last → is_tail os ≡ false → CanGoOn (parts before)
@@ -123,21 +123,21 @@ with_number before w os stands free =
     goes_on-by before w os none_last (number 0 ∷ []) (unsigned 0) stands refl (refl, (refl, omega (arith, depth os stands.fine.brackets))) (λ t. never (sym free ∙ t))
 
 -- and a string as a tail, where fewer than the most brackets are open
-tail_on : (before : List Spot) (w : Forms) (os : List Bracketed) (place bar_at : ℕ) (fs : Forms) (f : Form) → Stands before w (at_tail place bar_at fs f ∷ os) none_last → (length (at_tail place bar_at fs f ∷ os) < deepest) ⊎ (deepest ≤ length (at_tail place bar_at fs f ∷ os)) → CanGoOn (parts before) ⊎ IsDeadEnd before
-tail_on before w os place bar_at fs f stands (inl less) =
-    inl (goes_on-by before w (at_tail place bar_at fs f ∷ os) none_last (string [] ∷ []) (strings [] []) stands refl (fine-strings (length (at_tail place bar_at fs f ∷ os)) [] [] (omega (arith, less))) (λ t. refl))
-tail_on before w os place bar_at fs f stands (inr most) =
+tail_on : (before : List Spot) (w : Forms) (os : List Bracketed) (offset bar_at : ℕ) (fs : Forms) (f : Form) → Stands before w (at_tail offset bar_at fs f ∷ os) none_last → (length (at_tail offset bar_at fs f ∷ os) < deepest) ⊎ (deepest ≤ length (at_tail offset bar_at fs f ∷ os)) → CanGoOn (parts before) ⊎ IsDeadEnd before
+tail_on before w os offset bar_at fs f stands (inl less) =
+    inl (goes_on-by before w (at_tail offset bar_at fs f ∷ os) none_last (string [] ∷ []) (strings [] []) stands refl (fine-strings (length (at_tail offset bar_at fs f ∷ os)) [] [] (omega (arith, less))) (λ t. refl))
+tail_on before w os offset bar_at fs f stands (inr most) =
     inr (record {
       bar = tells-bar (last_of before) (bar_end bar_at) stands.tells;
-      full = omega (arith, most, depth (at_tail place bar_at fs f ∷ os) stands.fine.brackets, deep before w (at_tail place bar_at fs f ∷ os) none_last stands);
+      full = omega (arith, most, depth (at_tail offset bar_at fs f ∷ os) stands.fine.brackets, deep before w (at_tail offset bar_at fs f ∷ os) none_last stands);
     })
 
 on_none : (before : List Spot) (w : Forms) (os : List Bracketed) → Stands before w os none_last → CanGoOn (parts before) ⊎ IsDeadEnd before
 on_none before w [] stands = inl (with_number before w [] stands refl)
-on_none before w (at_tuple place fs ∷ os) stands = inl (with_number before w (at_tuple place fs ∷ os) stands refl)
-on_none before w (at_list place fs ∷ os) stands = inl (with_number before w (at_list place fs ∷ os) stands refl)
-on_none before w (at_tail place bar_at fs f ∷ os) stands =
-    tail_on before w os place bar_at fs f stands (cases_lt (length (at_tail place bar_at fs f ∷ os)) deepest)
+on_none before w (at_tuple offset fs ∷ os) stands = inl (with_number before w (at_tuple offset fs ∷ os) stands refl)
+on_none before w (at_list offset fs ∷ os) stands = inl (with_number before w (at_list offset fs ∷ os) stands refl)
+on_none before w (at_tail offset bar_at fs f ∷ os) stands =
+    tail_on before w os offset bar_at fs f stands (cases_lt (length (at_tail offset bar_at fs f ∷ os)) deepest)
 
 fine-signed : (m : Bool) (os : List Bracketed) → FineAll os → FineForm (length os) (signed m 0)
 fine-signed true os fine = (refl, (refl, omega (arith, depth os fine)))
@@ -178,9 +178,9 @@ lists-nest foreign e = never e
 
 no_room : (e : End) (p : Part) (P : Type 0) → end_bar e ≡ true → tail_by (end_bar e) p ≡ false → (nesting_by (end_string e) p ≡ true → P) → P
 no_room start_end p P is free room = never is
-no_room (sign_end m place) p P is free room = never is
+no_room (sign_end m offset) p P is free room = never is
 no_room string_end p P is free room = never is
-no_room (bar_end place) p P is free room = room (lists-nest p (not-false (begins_list p) free))
+no_room (bar_end offset) p P is free room = room (lists-nest p (not-false (begins_list p) free))
   where
     not-false : (b : Bool) → not b ≡ false → b ≡ true
     not-false true e = refl
@@ -195,9 +195,9 @@ record Fails (w : Forms) (os : List Bracketed) (r : Lasting) (b : Spot) : Type 0
 
 stuck_by : (w : Forms) (os : List Bracketed) (r : Lasting) (b : Spot) → end_bar (end_at r os) ≡ true → deepest ≤ length os → Judged w os r (spot_part b) b.at → Fails w os r b
 stuck_by w os r b is full (is_unread_part p took) = record { kind = Unsupported; told = b.at; fails_it = took }
-stuck_by w os r b is full (is_out out took) = record { kind = IntegerRange; told = end_place (end_at r os) b.at; fails_it = took }
+stuck_by w os r b is full (is_out out took) = record { kind = IntegerRange; told = end_offset (end_at r os) b.at; fails_it = took }
 stuck_by w os r b is full (is_misplaced sound stuck took) = record { kind = Syntax; told = b.at; fails_it = took }
-stuck_by w os r b is full (is_wrong sound t stepped place end no_list took) = record { kind = Unsupported; told = place; fails_it = took }
+stuck_by w os r b is full (is_wrong sound t stepped offset end no_list took) = record { kind = Unsupported; told = offset; fails_it = took }
 stuck_by w os r b is full (is_deep sound t stepped no_tail nests more took) = record { kind = TooDeep; told = b.at; fails_it = took }
 stuck_by w os r b is full (is_next sound no_tail room v qs q follows) =
     let less : length os < deepest = no_room (end_at r os) (spot_part b) (length os < deepest) is no_tail room in

@@ -5,7 +5,7 @@ use Rattle.std.specs.Str.{chars, IsUtf8}
 use Rattle.erl_scan.specs.declared.error.Fault.{Fault}
 use Rattle.erl_scan.specs.declared.error.Fault.TheVariants.{Unsupported, AtomTooLong, Memory}
 use Rattle.erl_scan.specs.declared.error.ReadError.{ReadError}
-use Rattle.erl_chars.specs.Cursor.{byte_count, place}
+use Rattle.erl_chars.specs.Cursor.{byte_count, offset}
 use Rattle.erl_chars.specs.Gaps.{after_gap}
 use Rattle.erl_chars.specs.Quotes.{Step, stands, closing, cut, wrong, Quoted, closed, unclosed, bad_escape}
 use Rattle.erl_scan.specs.declared.token.Spot.{Spot}
@@ -48,7 +48,7 @@ goes-next before here s new e (it_goes v qs q follows) =
     (record { whole = v; brackets = qs; last = q; stands = stands-next before here.whole v here.brackets qs here.last q s here.stands follows }, same_goes new (show v qs q) (sym e ∙ follows.took))
 goes-next before here s new e (it_fails k told fails_it) = absurd (goes-fails new k told (sym e ∙ fails_it))
 
-pub so_far-more : (cs left rest : List ℕ) (held new : Seen) (s : Spot) → SoFar cs left held → Comes (after_gap left) (token s.what rest) → s.at ≡ place (byte_count cs) (after_gap left) → take_part held (spot_part s) s.at ≡ goes new → SoFar cs rest new
+pub so_far-more : (cs left rest : List ℕ) (held new : Seen) (s : Spot) → SoFar cs left held → Comes (after_gap left) (token s.what rest) → s.at ≡ offset (byte_count cs) (after_gap left) → take_part held (spot_part s) s.at ≡ goes new → SoFar cs rest new
 so_far-more cs left rest held new s so comes at took =
     let next = goes-next so.before so.here s new (ap (λ h. take_part h (spot_part s) s.at) (sym so.holds) ∙ took) (goes_or_fails so.before so.here.whole so.here.brackets so.here.last s so.here.stands) in
     record {
@@ -62,7 +62,7 @@ pub sound : (before : List Spot) → Somewhere before → NoneFaults before
 sound before here = sound-from_taken before (show here.whole here.brackets here.last) here.stands.took
 
 -- a token that is faulty where it stands
-pub fault-from_taking : (cs left rest : List ℕ) (held : Seen) (s : Spot) (k : Fault) (told : ℕ) → SoFar cs left held → Comes (after_gap left) (token s.what rest) → s.at ≡ place (byte_count cs) (after_gap left) → take_part held (spot_part s) s.at ≡ fails k told → FaultsFirst cs k told
+pub fault-from_taking : (cs left rest : List ℕ) (held : Seen) (s : Spot) (k : Fault) (told : ℕ) → SoFar cs left held → Comes (after_gap left) (token s.what rest) → s.at ≡ offset (byte_count cs) (after_gap left) → take_part held (spot_part s) s.at ≡ fails k told → FaultsFirst cs k told
 fault-from_taking cs left rest held s k told so comes at took = record {
   before = so.before;
   here = after_gap left;
@@ -183,17 +183,17 @@ scan-fault text left total held e joined is =
     fault-from_scanning (chars text) left held e joined.so_far (subst (λ n. IsFault n (after_gap left) e) joined.total_is is)
 
 -- one token more
-pub take-more : (text left rest : List ℕ) (total after : ℕ) (held new : Seen) (s : Spot) → Joined text left total held → Comes (after_gap left) (token s.what rest) × (s.at ≡ place total (after_gap left)) → take_part held (spot_part s) s.at ≡ goes new → after ≡ total → Joined text rest after new
+pub take-more : (text left rest : List ℕ) (total after : ℕ) (held new : Seen) (s : Spot) → Joined text left total held → Comes (after_gap left) (token s.what rest) × (s.at ≡ offset total (after_gap left)) → take_part held (spot_part s) s.at ≡ goes new → after ≡ total → Joined text rest after new
 take-more text left rest total after held new s joined scanned took after_is = record {
-  so_far = so_far-more (chars text) left rest held new s joined.so_far scanned.0 (scanned.1 ∙ ap (λ n. place n (after_gap left)) joined.total_is) took;
+  so_far = so_far-more (chars text) left rest held new s joined.so_far scanned.0 (scanned.1 ∙ ap (λ n. offset n (after_gap left)) joined.total_is) took;
   total_is = after_is ∙ joined.total_is;
 }
 
 -- a token that is faulty where it stands
-pub take-fault : (text left rest : List ℕ) (total : ℕ) (held : Seen) (s : Spot) (e : ReadError) → Joined text left total held → Comes (after_gap left) (token s.what rest) × (s.at ≡ place total (after_gap left)) → (e.kind ≡ Memory) ⊎ (take_part held (spot_part s) s.at ≡ fails e.kind e.at) → (e.kind ≡ Memory) ⊎ FaultsFirst (chars text) e.kind e.at
+pub take-fault : (text left rest : List ℕ) (total : ℕ) (held : Seen) (s : Spot) (e : ReadError) → Joined text left total held → Comes (after_gap left) (token s.what rest) × (s.at ≡ offset total (after_gap left)) → (e.kind ≡ Memory) ⊎ (take_part held (spot_part s) s.at ≡ fails e.kind e.at) → (e.kind ≡ Memory) ⊎ FaultsFirst (chars text) e.kind e.at
 take-fault text left rest total held s e joined scanned (inl is) = inl is
 take-fault text left rest total held s e joined scanned (inr failed) =
-    inr (fault-from_taking (chars text) left rest held s e.kind e.at joined.so_far scanned.0 (scanned.1 ∙ ap (λ n. place n (after_gap left)) joined.total_is) failed)
+    inr (fault-from_taking (chars text) left rest held s e.kind e.at joined.so_far scanned.0 (scanned.1 ∙ ap (λ n. offset n (after_gap left)) joined.total_is) failed)
 
 -- the end
 pub end-joined : {V : Type 0} (terms : V → Trees) (text left : List ℕ) (total : ℕ) (held : Seen) (r : Result V ReadError) → IsUtf8 text → Joined text left total held → Comes (after_gap left) ends → MatchResult r (λ v. end_of held (length text) ≡ done (terms v)) (λ e. end_of held (length text) ≡ cut_short e.kind e.at) → MatchResult r (λ v. IsTextOf text (terms v)) (λ e. (e.kind ≡ Memory) ⊎ FaultsFirst (chars text) e.kind e.at)

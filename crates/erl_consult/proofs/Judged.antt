@@ -6,7 +6,7 @@ use Rattle.std.proofs.lemmas.Bool.{cases_lt}
 use Rattle.std.proofs.lemmas.Str.{IsUtf8-nil, IsUtf8-from_is_utf8, is_utf8-from_IsUtf8}
 use Rattle.erl_scan.specs.declared.error.Fault.{Fault}
 use Rattle.erl_scan.specs.declared.error.Fault.TheVariants.{NotUtf8}
-use Rattle.erl_chars.specs.Cursor.{byte_count, place}
+use Rattle.erl_chars.specs.Cursor.{byte_count, offset}
 use Rattle.erl_chars.specs.Gaps.{after_gap}
 use Rattle.erl_scan.specs.declared.token.Token.{Token}
 use Rattle.erl_scan.specs.declared.token.Spot.{Spot}
@@ -20,7 +20,7 @@ use Rattle.erl_scan.proofs.Shorter.{token-less}
 -- Characters
 
 -- a token that is faulty by itself
-fault-by_itself : (cs left : List ℕ) (held : Seen) (k : Fault) (at : List ℕ) → (so : SoFar cs left held) → Comes (after_gap left) (fault k at) → FaultsFirst cs k (place (byte_count cs) at)
+fault-by_itself : (cs left : List ℕ) (held : Seen) (k : Fault) (at : List ℕ) → (so : SoFar cs left held) → Comes (after_gap left) (fault k at) → FaultsFirst cs k (offset (byte_count cs) at)
 fault-by_itself cs left held k at so comes = record {
   before = so.before;
   here = after_gap left;
@@ -40,7 +40,7 @@ abbrev JudgedBehind : List ℕ → List ℕ → Type 0
 JudgedBehind bytes left =
     (rest : List ℕ) (new : Seen) → length rest < length left → SoFar (chars bytes) rest new → IsJudged bytes
 
-judged-by_token : (bytes left : List ℕ) (held : Seen) (s : Spot) (rest : List ℕ) (outcome : Outcome) → IsUtf8 bytes → SoFar (chars bytes) left held → JudgedBehind bytes left → Comes (after_gap left) (token s.what rest) → s.at ≡ place (byte_count (chars bytes)) (after_gap left) → take_part held (spot_part s) s.at ≡ outcome → IsJudged bytes
+judged-by_token : (bytes left : List ℕ) (held : Seen) (s : Spot) (rest : List ℕ) (outcome : Outcome) → IsUtf8 bytes → SoFar (chars bytes) left held → JudgedBehind bytes left → Comes (after_gap left) (token s.what rest) → s.at ≡ offset (byte_count (chars bytes)) (after_gap left) → take_part held (spot_part s) s.at ≡ outcome → IsJudged bytes
 judged-by_token bytes left held s rest (goes new) utf8 so behind comes at took =
     behind rest new (token-less left s.what rest comes) (so_far-more (chars bytes) left rest held new s so comes at took)
 judged-by_token bytes left held s rest (fails k told) utf8 so behind comes at took =
@@ -53,10 +53,10 @@ judged-by_next : (bytes left : List ℕ) (held : Seen) (next : Next) → IsUtf8 
 judged-by_next bytes left held ends utf8 so behind comes =
     judged-by_end bytes left held (end_of held (byte_count (chars bytes))) utf8 so comes refl
 judged-by_next bytes left held (token t rest) utf8 so behind comes =
-    let s = spot_at t (place (byte_count (chars bytes)) (after_gap left)) in
+    let s = spot_at t (offset (byte_count (chars bytes)) (after_gap left)) in
     judged-by_token bytes left held s rest (take_part held (spot_part s) s.at) utf8 so behind comes refl refl
 judged-by_next bytes left held (fault k at) utf8 so behind comes =
-    is_refused k (place (byte_count (chars bytes)) at) (faults utf8 (fault-by_itself (chars bytes) left held k at so comes))
+    is_refused k (offset (byte_count (chars bytes)) at) (faults utf8 (fault-by_itself (chars bytes) left held k at so comes))
 
 judged-within : (n : ℕ) (bytes left : List ℕ) (held : Seen) → length left < n → IsUtf8 bytes → SoFar (chars bytes) left held → IsJudged bytes
 judged-within zero bytes left held less utf8 so = absurd (omega (arith, less))

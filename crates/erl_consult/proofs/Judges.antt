@@ -11,7 +11,7 @@ use Rattle.erl_consult.specs.Grammar.{Part, number, minus, plus, name, string, o
 use Rattle.erl_consult.specs.Faults.{opens, closes, begins_list}
 use Rattle.erl_consult.specs.Steps.{Frame, nothing, sign, term, text, Seen, Outcome, goes, fails, take_part, with_element, elements_at, tail_elements, closed_with, begins, if_room}
 use Rattle.erl_consult.proofs.Spelling.{step, signed}
-use Rattle.erl_consult.proofs.Judging.{Bracketed, at_tuple, at_list, at_tail, Lasting, none_last, sign_last, form_last, strings_last, show_all, show, bare, end_at, end_minus, end_string, end_bar, end_place, TellsPart, faulty_by, tail_by, nesting_by, FineForm, FineForms, FineOne, FineAll, FineLast, is_tail, is_tuple, Fine, Moves, same, one_more, one_less, place_of, places, Judged, is_unread_part, is_out, is_misplaced, is_wrong, is_deep, is_next, length-show}
+use Rattle.erl_consult.proofs.Judging.{Bracketed, at_tuple, at_list, at_tail, Lasting, none_last, sign_last, form_last, strings_last, show_all, show, bare, end_at, end_minus, end_string, end_bar, end_offset, TellsPart, faulty_by, tail_by, nesting_by, FineForm, FineForms, FineOne, FineAll, FineLast, is_tail, is_tuple, Fine, Moves, same, one_more, one_less, offset_of, offsets, Judged, is_unread_part, is_out, is_misplaced, is_wrong, is_deep, is_next, length-show}
 use Rattle.erl_consult.proofs.Truth.{never, and-true}
 use Rattle.erl_consult.proofs.Stepping.{integers-append}
 
@@ -92,12 +92,12 @@ tail-list (tailed_list fs f tail) e = refl
 begin : (w : Forms) (os : List Bracketed) (p : Part) (at : ℕ) (q : Lasting) → Fine w os none_last → faulty_by false p ≡ false → begins_list p ≡ false → ((b : Bool) → nesting_by b p ≡ false) → opens p ≡ false → closes p ≡ false → step (bare w os none_last) p ≡ Some (bare w os q) → take_part (show w os none_last) p at ≡ begins (show_all os) (goes (show w os q)) → TellsPart (end_at q os) p at → (is_tail os ≡ false → FineLast os q) → Judged w os none_last p at
 begin w [] p at q fine sound no_list plain o c stepped took tells last =
     is_next sound refl (λ e. never (sym (plain false) ∙ e)) w [] q (record { stepped = stepped; took = took; tells = tells; moves = same o c refl; fine = record { whole = fine.whole; brackets = fine.brackets; last = last refl } })
-begin w (at_tuple place fs ∷ os) p at q fine sound no_list plain o c stepped took tells last =
-    is_next sound refl (λ e. never (sym (plain false) ∙ e)) w (at_tuple place fs ∷ os) q (record { stepped = stepped; took = took; tells = tells; moves = same o c refl; fine = record { whole = fine.whole; brackets = fine.brackets; last = last refl } })
-begin w (at_list place fs ∷ os) p at q fine sound no_list plain o c stepped took tells last =
-    is_next sound refl (λ e. never (sym (plain false) ∙ e)) w (at_list place fs ∷ os) q (record { stepped = stepped; took = took; tells = tells; moves = same o c refl; fine = record { whole = fine.whole; brackets = fine.brackets; last = last refl } })
-begin w (at_tail place bar_at fs f ∷ os) p at q fine sound no_list plain o c stepped took tells last =
-    is_wrong sound (bare w (at_tail place bar_at fs f ∷ os) q) stepped bar_at refl no_list took
+begin w (at_tuple offset fs ∷ os) p at q fine sound no_list plain o c stepped took tells last =
+    is_next sound refl (λ e. never (sym (plain false) ∙ e)) w (at_tuple offset fs ∷ os) q (record { stepped = stepped; took = took; tells = tells; moves = same o c refl; fine = record { whole = fine.whole; brackets = fine.brackets; last = last refl } })
+begin w (at_list offset fs ∷ os) p at q fine sound no_list plain o c stepped took tells last =
+    is_next sound refl (λ e. never (sym (plain false) ∙ e)) w (at_list offset fs ∷ os) q (record { stepped = stepped; took = took; tells = tells; moves = same o c refl; fine = record { whole = fine.whole; brackets = fine.brackets; last = last refl } })
+begin w (at_tail offset bar_at fs f ∷ os) p at q fine sound no_list plain o c stepped took tells last =
+    is_wrong sound (bare w (at_tail offset bar_at fs f ∷ os) q) stepped bar_at refl no_list took
 
 -- brackets and strings, where fewer than the most are open
 enter : (w : Forms) (os : List Bracketed) (r : Lasting) (p : Part) (at : ℕ) → faulty_by (end_minus (end_at r os)) p ≡ false → tail_by (end_bar (end_at r os)) p ≡ false → nesting_by (end_string (end_at r os)) p ≡ true → (qs : List Bracketed) (q : Lasting) → step (bare w os r) p ≡ Some (bare w qs q) → take_part (show w os r) p at ≡ if_room (show_all os) at (goes (show w qs q)) → TellsPart (end_at q qs) p at → Moves p at os qs → (length os < deepest → Fine w qs q) → (b : Bool) → nat_lt (length (show_all os)) deepest ≡ b → Judged w os r p at
@@ -130,17 +130,17 @@ none-string (at_tuple at fs ∷ os) = refl
 none-string (at_list at fs ∷ os) = refl
 none-string (at_tail at bar_at fs f ∷ os) = refl
 
-none-place : (os : List Bracketed) (at : ℕ) → end_place (end_at none_last os) at ≡ at
-none-place [] at = refl
-none-place (at_tuple place fs ∷ os) at = refl
-none-place (at_list place fs ∷ os) at = refl
-none-place (at_tail place bar_at fs f ∷ os) at = refl
+none-offset : (os : List Bracketed) (at : ℕ) → end_offset (end_at none_last os) at ≡ at
+none-offset [] at = refl
+none-offset (at_tuple offset fs ∷ os) at = refl
+none-offset (at_list offset fs ∷ os) at = refl
+none-offset (at_tail offset bar_at fs f ∷ os) at = refl
 
 none-bar : (os : List Bracketed) → end_bar (end_at none_last os) ≡ is_tail os
 none-bar [] = refl
-none-bar (at_tuple place fs ∷ os) = refl
-none-bar (at_list place fs ∷ os) = refl
-none-bar (at_tail place bar_at fs f ∷ os) = refl
+none-bar (at_tuple offset fs ∷ os) = refl
+none-bar (at_list offset fs ∷ os) = refl
+none-bar (at_tail offset bar_at fs f ∷ os) = refl
 
 -- Integers
 
@@ -152,26 +152,26 @@ number_none : (w : Forms) (os : List Bracketed) (n at : ℕ) → Fine w os none_
 number_none w os n at fine true e =
     begin w os (number n) at (form_last (unsigned n)) fine (ap not e) refl (λ b. refl) refl refl refl (ap (λ b. cond b (begins (show_all os) (goes (show w os (form_last (unsigned n))))) (fails IntegerRange at)) e) (refl, (refl, (refl, refl))) (λ no. (fine-unsigned os n fine.brackets e, λ t. never (sym no ∙ t)))
 number_none w os n at fine false e =
-    is_out (ap (λ m. cond m (not (nat_le n (2 ^ 63))) (not (nat_lt n (2 ^ 63)))) (none-minus os) ∙ ap not e) (ap (λ b. cond b (begins (show_all os) (goes (show w os (form_last (unsigned n))))) (fails IntegerRange at)) e ∙ ap (fails IntegerRange) (sym (none-place os at)))
+    is_out (ap (λ m. cond m (not (nat_le n (2 ^ 63))) (not (nat_lt n (2 ^ 63)))) (none-minus os) ∙ ap not e) (ap (λ b. cond b (begins (show_all os) (goes (show w os (form_last (unsigned n))))) (fails IntegerRange at)) e ∙ ap (fails IntegerRange) (sym (none-offset os at)))
 
 -- behind a sign: goes on, where it is in range
-signed-goes : (w : Forms) (os : List Bracketed) (m : Bool) (place n at : ℕ) → Fine w os (sign_last m place) → faulty_by m (number n) ≡ false → fits (signed m n) ≡ true → take_part (show w os (sign_last m place)) (number n) at ≡ goes (show w os (form_last (signed m n))) → Judged w os (sign_last m place) (number n) at
-signed-goes w os true place n at fine sound fit took =
+signed-goes : (w : Forms) (os : List Bracketed) (m : Bool) (offset n at : ℕ) → Fine w os (sign_last m offset) → faulty_by m (number n) ≡ false → fits (signed m n) ≡ true → take_part (show w os (sign_last m offset)) (number n) at ≡ goes (show w os (form_last (signed m n))) → Judged w os (sign_last m offset) (number n) at
+signed-goes w os true offset n at fine sound fit took =
     is_next sound refl (λ e. never e) w os (form_last (negative n)) (record { stepped = refl; took = took; tells = (refl, (refl, (refl, refl))); moves = same refl refl refl; fine = record { whole = fine.whole; brackets = fine.brackets; last = ((fit, (refl, omega (arith, depth os fine.brackets))), λ t. never (sym fine.last ∙ t)) } })
-signed-goes w os false place n at fine sound fit took =
+signed-goes w os false offset n at fine sound fit took =
     is_next sound refl (λ e. never e) w os (form_last (positive n)) (record { stepped = refl; took = took; tells = (refl, (refl, (refl, refl))); moves = same refl refl refl; fine = record { whole = fine.whole; brackets = fine.brackets; last = ((fit, (refl, omega (arith, depth os fine.brackets))), λ t. never (sym fine.last ∙ t)) } })
 
-number_minus : (w : Forms) (os : List Bracketed) (place n at : ℕ) → Fine w os (sign_last true place) → (b : Bool) → nat_le n (2 ^ 63) ≡ b → Judged w os (sign_last true place) (number n) at
-number_minus w os place n at fine true e =
-    signed-goes w os true place n at fine (ap not e) e (ap (λ b. cond b (goes (show w os (form_last (negative n)))) (fails IntegerRange place)) e)
-number_minus w os place n at fine false e =
-    is_out (ap not e) (ap (λ b. cond b (goes (show w os (form_last (negative n)))) (fails IntegerRange place)) e)
+number_minus : (w : Forms) (os : List Bracketed) (offset n at : ℕ) → Fine w os (sign_last true offset) → (b : Bool) → nat_le n (2 ^ 63) ≡ b → Judged w os (sign_last true offset) (number n) at
+number_minus w os offset n at fine true e =
+    signed-goes w os true offset n at fine (ap not e) e (ap (λ b. cond b (goes (show w os (form_last (negative n)))) (fails IntegerRange offset)) e)
+number_minus w os offset n at fine false e =
+    is_out (ap not e) (ap (λ b. cond b (goes (show w os (form_last (negative n)))) (fails IntegerRange offset)) e)
 
-number_plus : (w : Forms) (os : List Bracketed) (place n at : ℕ) → Fine w os (sign_last false place) → (b : Bool) → nat_lt n (2 ^ 63) ≡ b → Judged w os (sign_last false place) (number n) at
-number_plus w os place n at fine true e =
-    signed-goes w os false place n at fine (ap not e) e (ap (λ b. cond b (goes (show w os (form_last (positive n)))) (fails IntegerRange place)) e)
-number_plus w os place n at fine false e =
-    is_out (ap not e) (ap (λ b. cond b (goes (show w os (form_last (positive n)))) (fails IntegerRange place)) e)
+number_plus : (w : Forms) (os : List Bracketed) (offset n at : ℕ) → Fine w os (sign_last false offset) → (b : Bool) → nat_lt n (2 ^ 63) ≡ b → Judged w os (sign_last false offset) (number n) at
+number_plus w os offset n at fine true e =
+    signed-goes w os false offset n at fine (ap not e) e (ap (λ b. cond b (goes (show w os (form_last (positive n)))) (fails IntegerRange offset)) e)
+number_plus w os offset n at fine false e =
+    is_out (ap not e) (ap (λ b. cond b (goes (show w os (form_last (positive n)))) (fails IntegerRange offset)) e)
 
 -- behind a term
 number_form : (w : Forms) (os : List Bracketed) (f : Form) (n at : ℕ) → (b : Bool) → nat_lt n (2 ^ 63) ≡ b → Judged w os (form_last f) (number n) at
@@ -185,8 +185,8 @@ number_strings w os cs others n at false e = is_out (ap not e) (ap (λ b. cond b
 
 judge_number : (w : Forms) (os : List Bracketed) (r : Lasting) (n at : ℕ) → Fine w os r → Judged w os r (number n) at
 judge_number w os none_last n at fine = number_none w os n at fine (nat_lt n (2 ^ 63)) refl
-judge_number w os (sign_last true place) n at fine = number_minus w os place n at fine (nat_le n (2 ^ 63)) refl
-judge_number w os (sign_last false place) n at fine = number_plus w os place n at fine (nat_lt n (2 ^ 63)) refl
+judge_number w os (sign_last true offset) n at fine = number_minus w os offset n at fine (nat_le n (2 ^ 63)) refl
+judge_number w os (sign_last false offset) n at fine = number_plus w os offset n at fine (nat_lt n (2 ^ 63)) refl
 judge_number w os (form_last f) n at fine = number_form w os f n at (nat_lt n (2 ^ 63)) refl
 judge_number w os (strings_last cs others) n at fine = number_strings w os cs others n at (nat_lt n (2 ^ 63)) refl
 
@@ -195,21 +195,21 @@ judge_number w os (strings_last cs others) n at fine = number_strings w os cs ot
 judge_minus : (w : Forms) (os : List Bracketed) (r : Lasting) (at : ℕ) → Fine w os r → Judged w os r minus at
 judge_minus w os none_last at fine =
     begin w os minus at (sign_last true at) fine refl refl (λ b. refl) refl refl refl refl (refl, refl) (λ no. no)
-judge_minus w os (sign_last m place) at fine = is_misplaced refl refl refl
+judge_minus w os (sign_last m offset) at fine = is_misplaced refl refl refl
 judge_minus w os (form_last f) at fine = is_misplaced refl refl refl
 judge_minus w os (strings_last cs others) at fine = is_misplaced refl refl refl
 
 judge_plus : (w : Forms) (os : List Bracketed) (r : Lasting) (at : ℕ) → Fine w os r → Judged w os r plus at
 judge_plus w os none_last at fine =
     begin w os plus at (sign_last false at) fine refl refl (λ b. refl) refl refl refl refl (refl, refl) (λ no. no)
-judge_plus w os (sign_last m place) at fine = is_misplaced refl refl refl
+judge_plus w os (sign_last m offset) at fine = is_misplaced refl refl refl
 judge_plus w os (form_last f) at fine = is_misplaced refl refl refl
 judge_plus w os (strings_last cs others) at fine = is_misplaced refl refl refl
 
 judge_name : (w : Forms) (os : List Bracketed) (r : Lasting) (cs : List ℕ) (at : ℕ) → Fine w os r → Judged w os r (name cs) at
 judge_name w os none_last cs at fine =
     begin w os (name cs) at (form_last (atom_form cs)) fine refl refl (λ b. refl) refl refl refl refl (refl, (refl, (refl, refl))) (λ no. ((refl, (refl, omega (arith, depth os fine.brackets))), λ t. never (sym no ∙ t)))
-judge_name w os (sign_last m place) cs at fine = is_misplaced refl refl refl
+judge_name w os (sign_last m offset) cs at fine = is_misplaced refl refl refl
 judge_name w os (form_last f) cs at fine = is_misplaced refl refl refl
 judge_name w os (strings_last ds others) cs at fine = is_misplaced refl refl refl
 
@@ -220,7 +220,7 @@ judge_string w os none_last cs at fine =
     tail-none : (b : Bool) → tail_by b (string cs) ≡ false
     tail-none true = refl
     tail-none false = refl
-judge_string w os (sign_last m place) cs at fine = is_misplaced refl refl refl
+judge_string w os (sign_last m offset) cs at fine = is_misplaced refl refl refl
 judge_string w os (form_last f) cs at fine = is_misplaced refl refl refl
 judge_string w os (strings_last ds others) cs at fine =
     is_next refl refl (λ e. never e) w os (strings_last ds (others ++ cs ∷ [])) (record { stepped = refl; took = ap (λ ts. goes (record { whole = form_trees w; open_ones = show_all os; last = text ts })) (joined-integers ds others cs); tells = (cs, refl); moves = same refl refl refl; fine = record { whole = fine.whole; brackets = fine.brackets; last = fine.last } })
@@ -237,11 +237,11 @@ open_tuple_in w os at fine free took =
 
 judge_open_tuple : (w : Forms) (os : List Bracketed) (r : Lasting) (at : ℕ) → Fine w os r → Judged w os r open_tuple at
 judge_open_tuple w [] none_last at fine = open_tuple_in w [] at fine refl refl
-judge_open_tuple w (at_tuple place fs ∷ os) none_last at fine = open_tuple_in w (at_tuple place fs ∷ os) at fine refl refl
-judge_open_tuple w (at_list place fs ∷ os) none_last at fine = open_tuple_in w (at_list place fs ∷ os) at fine refl refl
-judge_open_tuple w (at_tail place bar_at fs f ∷ os) none_last at fine =
-    is_wrong refl (bare w (at_tuple at start ∷ (at_tail place bar_at fs f ∷ os)) none_last) refl bar_at refl refl refl
-judge_open_tuple w os (sign_last m place) at fine = is_misplaced refl refl refl
+judge_open_tuple w (at_tuple offset fs ∷ os) none_last at fine = open_tuple_in w (at_tuple offset fs ∷ os) at fine refl refl
+judge_open_tuple w (at_list offset fs ∷ os) none_last at fine = open_tuple_in w (at_list offset fs ∷ os) at fine refl refl
+judge_open_tuple w (at_tail offset bar_at fs f ∷ os) none_last at fine =
+    is_wrong refl (bare w (at_tuple at start ∷ (at_tail offset bar_at fs f ∷ os)) none_last) refl bar_at refl refl refl
+judge_open_tuple w os (sign_last m offset) at fine = is_misplaced refl refl refl
 judge_open_tuple w os (form_last f) at fine = is_misplaced refl refl refl
 judge_open_tuple w os (strings_last cs others) at fine = is_misplaced refl refl refl
 
@@ -256,18 +256,18 @@ judge_open_list w os none_last at fine =
     and-false : (b : Bool) → b && false ≡ false
     and-false true = refl
     and-false false = refl
-judge_open_list w os (sign_last m place) at fine = is_misplaced refl refl refl
+judge_open_list w os (sign_last m offset) at fine = is_misplaced refl refl refl
 judge_open_list w os (form_last f) at fine = is_misplaced refl refl refl
 judge_open_list w os (strings_last cs others) at fine = is_misplaced refl refl refl
 
 -- Closing brackets
 
--- a form in the bracket's place
-closed-next : (w : Forms) (o : Bracketed) (os : List Bracketed) (r : Lasting) (p : Part) (at place : ℕ) (g : Form) → Fine w (o ∷ os) r → faulty_by (end_minus (end_at r (o ∷ os))) p ≡ false → tail_by (end_bar (end_at r (o ∷ os))) p ≡ false → ((b : Bool) → nesting_by b p ≡ false) → opens p ≡ false → closes p ≡ true → TellsPart (end_at (form_last g) os) p at → step (bare w (o ∷ os) r) p ≡ Some (bare w os (form_last g)) → take_part (show w (o ∷ os) r) p at ≡ goes (show w os (form_last g)) → FineForm (length os) g → (is_tail os ≡ true → is_list g ≡ true) → Judged w (o ∷ os) r p at
-closed-next w o os r p at place g fine sound no_tail plain opens_not closes_it tells stepped took fine_g is =
-    is_next sound no_tail (λ e. never (sym (plain (end_string (end_at r (o ∷ os)))) ∙ e)) w os (form_last g) (record { stepped = stepped; took = took; tells = tells; moves = one_less opens_not closes_it (place_of o) refl; fine = record { whole = fine.whole; brackets = fine.brackets.1.1; last = (fine_g, is) } })
+-- a form in the bracket's offset
+closed-next : (w : Forms) (o : Bracketed) (os : List Bracketed) (r : Lasting) (p : Part) (at offset : ℕ) (g : Form) → Fine w (o ∷ os) r → faulty_by (end_minus (end_at r (o ∷ os))) p ≡ false → tail_by (end_bar (end_at r (o ∷ os))) p ≡ false → ((b : Bool) → nesting_by b p ≡ false) → opens p ≡ false → closes p ≡ true → TellsPart (end_at (form_last g) os) p at → step (bare w (o ∷ os) r) p ≡ Some (bare w os (form_last g)) → take_part (show w (o ∷ os) r) p at ≡ goes (show w os (form_last g)) → FineForm (length os) g → (is_tail os ≡ true → is_list g ≡ true) → Judged w (o ∷ os) r p at
+closed-next w o os r p at offset g fine sound no_tail plain opens_not closes_it tells stepped took fine_g is =
+    is_next sound no_tail (λ e. never (sym (plain (end_string (end_at r (o ∷ os)))) ∙ e)) w os (form_last g) (record { stepped = stepped; took = took; tells = tells; moves = one_less opens_not closes_it (offset_of o) refl; fine = record { whole = fine.whole; brackets = fine.brackets.1.1; last = (fine_g, is) } })
 
--- a bracket in a tail's place is no tuple's
+-- a bracket in a tail's offset is no tuple's
 pub no_tuple : (os : List Bracketed) → is_tail os && true ≡ false → is_tail os ≡ true → {A : Type 0} → A
 no_tuple os kept is = never (sym kept ∙ ap (λ b. b && true) is)
 
@@ -278,57 +278,57 @@ last-form o os f fine = at_depth (length (o ∷ os)) (suc (length os)) f (suc-le
 last-strings : (o : Bracketed) (os : List Bracketed) (cs : List ℕ) (others : List (List ℕ)) → suc (length (o ∷ os)) ≤ deepest → FineForm (suc (length os)) (strings cs others)
 last-strings o os cs others le = fine-strings (suc (length os)) cs others (omega (arith, le))
 
-close_tuple_here : (w : Forms) (place : ℕ) (fs : Forms) (os : List Bracketed) (r : Lasting) (at : ℕ) → Fine w (at_tuple place fs ∷ os) r → Judged w (at_tuple place fs ∷ os) r close_tuple at
-close_tuple_here w place start os none_last at fine =
-    closed-next w (at_tuple place start) os none_last close_tuple at place empty_tuple fine refl refl (λ b. refl) refl refl (refl, (refl, (refl, refl))) refl refl (refl, (refl, omega (arith, depth_one (suc (length os)) (at_tuple place start) fine.brackets.0))) (λ t. no_tuple os fine.brackets.1.0 t)
-close_tuple_here w place (then fs f) os none_last at fine =
-    is_misplaced refl refl (ap (λ o. closed_with (show w (at_tuple place (then fs f) ∷ os) none_last) (show_all os) tuple o at) (elements-open (form_trees fs) (form_tree f)))
-close_tuple_here w place fs os (sign_last m at1) at fine =
-    is_misplaced refl (closed-sign fs) (ap (λ o. closed_with (show w (at_tuple place fs ∷ os) (sign_last m at1)) (show_all os) tuple o at) (elements-sign (form_trees fs) m at1))
+close_tuple_here : (w : Forms) (offset : ℕ) (fs : Forms) (os : List Bracketed) (r : Lasting) (at : ℕ) → Fine w (at_tuple offset fs ∷ os) r → Judged w (at_tuple offset fs ∷ os) r close_tuple at
+close_tuple_here w offset start os none_last at fine =
+    closed-next w (at_tuple offset start) os none_last close_tuple at offset empty_tuple fine refl refl (λ b. refl) refl refl (refl, (refl, (refl, refl))) refl refl (refl, (refl, omega (arith, depth_one (suc (length os)) (at_tuple offset start) fine.brackets.0))) (λ t. no_tuple os fine.brackets.1.0 t)
+close_tuple_here w offset (then fs f) os none_last at fine =
+    is_misplaced refl refl (ap (λ o. closed_with (show w (at_tuple offset (then fs f) ∷ os) none_last) (show_all os) tuple o at) (elements-open (form_trees fs) (form_tree f)))
+close_tuple_here w offset fs os (sign_last m at1) at fine =
+    is_misplaced refl (closed-sign fs) (ap (λ o. closed_with (show w (at_tuple offset fs ∷ os) (sign_last m at1)) (show_all os) tuple o at) (elements-sign (form_trees fs) m at1))
   where
-    closed-sign : (gs : Forms) → step (bare w (at_tuple place gs ∷ os) (sign_last m at1)) close_tuple ≡ None
+    closed-sign : (gs : Forms) → step (bare w (at_tuple offset gs ∷ os) (sign_last m at1)) close_tuple ≡ None
     closed-sign start = refl
     closed-sign (then gs g) = refl
-close_tuple_here w place fs os (form_last f) at fine =
-    closed-next w (at_tuple place fs) os (form_last f) close_tuple at place (some_tuple fs f) fine refl refl (λ b. refl) refl refl (refl, (refl, (refl, refl))) (closed-form fs) (ap (λ o. closed_with (show w (at_tuple place fs ∷ os) (form_last f)) (show_all os) tuple o at) (elements-term (form_trees fs) (form_tree f))) (fine-tuple (length os) fs f fine.brackets.0 (last-form (at_tuple place fs) os f fine.last.0)) (λ t. no_tuple os fine.brackets.1.0 t)
+close_tuple_here w offset fs os (form_last f) at fine =
+    closed-next w (at_tuple offset fs) os (form_last f) close_tuple at offset (some_tuple fs f) fine refl refl (λ b. refl) refl refl (refl, (refl, (refl, refl))) (closed-form fs) (ap (λ o. closed_with (show w (at_tuple offset fs ∷ os) (form_last f)) (show_all os) tuple o at) (elements-term (form_trees fs) (form_tree f))) (fine-tuple (length os) fs f fine.brackets.0 (last-form (at_tuple offset fs) os f fine.last.0)) (λ t. no_tuple os fine.brackets.1.0 t)
   where
-    closed-form : (gs : Forms) → step (bare w (at_tuple place gs ∷ os) (form_last f)) close_tuple ≡ Some (bare w os (form_last (some_tuple gs f)))
+    closed-form : (gs : Forms) → step (bare w (at_tuple offset gs ∷ os) (form_last f)) close_tuple ≡ Some (bare w os (form_last (some_tuple gs f)))
     closed-form start = refl
     closed-form (then gs g) = refl
-close_tuple_here w place fs os (strings_last cs others) at fine =
-    closed-next w (at_tuple place fs) os (strings_last cs others) close_tuple at place (some_tuple fs (strings cs others)) fine refl refl (λ b. refl) refl refl (refl, (refl, (refl, refl))) (closed-form fs) (ap (λ o. closed_with (show w (at_tuple place fs ∷ os) (strings_last cs others)) (show_all os) tuple o at) (elements-text (form_trees fs) (integers (cs ++ flat_map (λ ds. ds) others)))) (fine-tuple (length os) fs (strings cs others) fine.brackets.0 (last-strings (at_tuple place fs) os cs others fine.last)) (λ t. no_tuple os fine.brackets.1.0 t)
+close_tuple_here w offset fs os (strings_last cs others) at fine =
+    closed-next w (at_tuple offset fs) os (strings_last cs others) close_tuple at offset (some_tuple fs (strings cs others)) fine refl refl (λ b. refl) refl refl (refl, (refl, (refl, refl))) (closed-form fs) (ap (λ o. closed_with (show w (at_tuple offset fs ∷ os) (strings_last cs others)) (show_all os) tuple o at) (elements-text (form_trees fs) (integers (cs ++ flat_map (λ ds. ds) others)))) (fine-tuple (length os) fs (strings cs others) fine.brackets.0 (last-strings (at_tuple offset fs) os cs others fine.last)) (λ t. no_tuple os fine.brackets.1.0 t)
   where
-    closed-form : (gs : Forms) → step (bare w (at_tuple place gs ∷ os) (strings_last cs others)) close_tuple ≡ Some (bare w os (form_last (some_tuple gs (strings cs others))))
+    closed-form : (gs : Forms) → step (bare w (at_tuple offset gs ∷ os) (strings_last cs others)) close_tuple ≡ Some (bare w os (form_last (some_tuple gs (strings cs others))))
     closed-form start = refl
     closed-form (then gs g) = refl
 
 judge_close_tuple : (w : Forms) (os : List Bracketed) (r : Lasting) (at : ℕ) → Fine w os r → Judged w os r close_tuple at
 judge_close_tuple w [] r at fine = is_misplaced refl refl refl
-judge_close_tuple w (at_tuple place fs ∷ os) r at fine = close_tuple_here w place fs os r at fine
-judge_close_tuple w (at_list place fs ∷ os) r at fine = is_misplaced refl refl refl
-judge_close_tuple w (at_tail place bar_at fs f ∷ os) r at fine = is_misplaced refl refl refl
+judge_close_tuple w (at_tuple offset fs ∷ os) r at fine = close_tuple_here w offset fs os r at fine
+judge_close_tuple w (at_list offset fs ∷ os) r at fine = is_misplaced refl refl refl
+judge_close_tuple w (at_tail offset bar_at fs f ∷ os) r at fine = is_misplaced refl refl refl
 
-close_list_here : (w : Forms) (place : ℕ) (fs : Forms) (os : List Bracketed) (r : Lasting) (at : ℕ) → Fine w (at_list place fs ∷ os) r → Judged w (at_list place fs ∷ os) r close_list at
-close_list_here w place start os none_last at fine =
-    closed-next w (at_list place start) os none_last close_list at place empty_list fine refl refl (λ b. refl) refl refl (refl, (refl, (refl, refl))) refl refl (refl, (refl, omega (arith, depth_one (suc (length os)) (at_list place start) fine.brackets.0))) (λ t. refl)
-close_list_here w place (then fs f) os none_last at fine =
-    is_misplaced refl refl (ap (λ o. closed_with (show w (at_list place (then fs f) ∷ os) none_last) (show_all os) list o at) (elements-open (form_trees fs) (form_tree f)))
-close_list_here w place fs os (sign_last m at1) at fine =
-    is_misplaced refl (closed-sign fs) (ap (λ o. closed_with (show w (at_list place fs ∷ os) (sign_last m at1)) (show_all os) list o at) (elements-sign (form_trees fs) m at1))
+close_list_here : (w : Forms) (offset : ℕ) (fs : Forms) (os : List Bracketed) (r : Lasting) (at : ℕ) → Fine w (at_list offset fs ∷ os) r → Judged w (at_list offset fs ∷ os) r close_list at
+close_list_here w offset start os none_last at fine =
+    closed-next w (at_list offset start) os none_last close_list at offset empty_list fine refl refl (λ b. refl) refl refl (refl, (refl, (refl, refl))) refl refl (refl, (refl, omega (arith, depth_one (suc (length os)) (at_list offset start) fine.brackets.0))) (λ t. refl)
+close_list_here w offset (then fs f) os none_last at fine =
+    is_misplaced refl refl (ap (λ o. closed_with (show w (at_list offset (then fs f) ∷ os) none_last) (show_all os) list o at) (elements-open (form_trees fs) (form_tree f)))
+close_list_here w offset fs os (sign_last m at1) at fine =
+    is_misplaced refl (closed-sign fs) (ap (λ o. closed_with (show w (at_list offset fs ∷ os) (sign_last m at1)) (show_all os) list o at) (elements-sign (form_trees fs) m at1))
   where
-    closed-sign : (gs : Forms) → step (bare w (at_list place gs ∷ os) (sign_last m at1)) close_list ≡ None
+    closed-sign : (gs : Forms) → step (bare w (at_list offset gs ∷ os) (sign_last m at1)) close_list ≡ None
     closed-sign start = refl
     closed-sign (then gs g) = refl
-close_list_here w place fs os (form_last f) at fine =
-    closed-next w (at_list place fs) os (form_last f) close_list at place (some_list fs f) fine refl refl (λ b. refl) refl refl (refl, (refl, (refl, refl))) (closed-form fs) (ap (λ o. closed_with (show w (at_list place fs ∷ os) (form_last f)) (show_all os) list o at) (elements-term (form_trees fs) (form_tree f))) (fine-list (length os) fs f fine.brackets.0 (last-form (at_list place fs) os f fine.last.0)) (λ t. refl)
+close_list_here w offset fs os (form_last f) at fine =
+    closed-next w (at_list offset fs) os (form_last f) close_list at offset (some_list fs f) fine refl refl (λ b. refl) refl refl (refl, (refl, (refl, refl))) (closed-form fs) (ap (λ o. closed_with (show w (at_list offset fs ∷ os) (form_last f)) (show_all os) list o at) (elements-term (form_trees fs) (form_tree f))) (fine-list (length os) fs f fine.brackets.0 (last-form (at_list offset fs) os f fine.last.0)) (λ t. refl)
   where
-    closed-form : (gs : Forms) → step (bare w (at_list place gs ∷ os) (form_last f)) close_list ≡ Some (bare w os (form_last (some_list gs f)))
+    closed-form : (gs : Forms) → step (bare w (at_list offset gs ∷ os) (form_last f)) close_list ≡ Some (bare w os (form_last (some_list gs f)))
     closed-form start = refl
     closed-form (then gs g) = refl
-close_list_here w place fs os (strings_last cs others) at fine =
-    closed-next w (at_list place fs) os (strings_last cs others) close_list at place (some_list fs (strings cs others)) fine refl refl (λ b. refl) refl refl (refl, (refl, (refl, refl))) (closed-form fs) (ap (λ o. closed_with (show w (at_list place fs ∷ os) (strings_last cs others)) (show_all os) list o at) (elements-text (form_trees fs) (integers (cs ++ flat_map (λ ds. ds) others)))) (fine-list (length os) fs (strings cs others) fine.brackets.0 (last-strings (at_list place fs) os cs others fine.last)) (λ t. refl)
+close_list_here w offset fs os (strings_last cs others) at fine =
+    closed-next w (at_list offset fs) os (strings_last cs others) close_list at offset (some_list fs (strings cs others)) fine refl refl (λ b. refl) refl refl (refl, (refl, (refl, refl))) (closed-form fs) (ap (λ o. closed_with (show w (at_list offset fs ∷ os) (strings_last cs others)) (show_all os) list o at) (elements-text (form_trees fs) (integers (cs ++ flat_map (λ ds. ds) others)))) (fine-list (length os) fs (strings cs others) fine.brackets.0 (last-strings (at_list offset fs) os cs others fine.last)) (λ t. refl)
   where
-    closed-form : (gs : Forms) → step (bare w (at_list place gs ∷ os) (strings_last cs others)) close_list ≡ Some (bare w os (form_last (some_list gs (strings cs others))))
+    closed-form : (gs : Forms) → step (bare w (at_list offset gs ∷ os) (strings_last cs others)) close_list ≡ Some (bare w os (form_last (some_list gs (strings cs others))))
     closed-form start = refl
     closed-form (then gs g) = refl
 
@@ -336,57 +336,57 @@ close_list_here w place fs os (strings_last cs others) at fine =
 with_tail : Seen → List Frame → Trees → ℕ → Option Trees → Outcome
 with_tail s fs items at o = closed_with s fs (λ ts. list (append_trees items ts)) o at
 
-tail_took : (w : Forms) (os : List Bracketed) (r : Lasting) (place bar_at : ℕ) (fs : Forms) (f g : Form) (at : ℕ) → take_part (show w (at_tail place bar_at fs f ∷ os) r) close_list at ≡ closed_with (show w (at_tail place bar_at fs f ∷ os) r) (show_all os) (λ ts. list (append_trees (form_trees (then fs f)) ts)) (tail_elements (Some (form_tree g))) at → is_list g ≡ true → take_part (show w (at_tail place bar_at fs f ∷ os) r) close_list at ≡ goes (show w os (form_last (tailed_list fs f g)))
-tail_took w os r place bar_at fs f g at took is =
-    took ∙ (ap (λ o. closed_with (show w (at_tail place bar_at fs f ∷ os) r) (show_all os) (λ ts. list (append_trees (form_trees (then fs f)) ts)) o at) (tail-list g is) ∙ ap (λ ts. goes (record { whole = form_trees w; open_ones = show_all os; last = term (list ts) })) (append_trees-assoc (form_trees fs) (more (form_tree f) none) (elements_of (form_tree g))))
+tail_took : (w : Forms) (os : List Bracketed) (r : Lasting) (offset bar_at : ℕ) (fs : Forms) (f g : Form) (at : ℕ) → take_part (show w (at_tail offset bar_at fs f ∷ os) r) close_list at ≡ closed_with (show w (at_tail offset bar_at fs f ∷ os) r) (show_all os) (λ ts. list (append_trees (form_trees (then fs f)) ts)) (tail_elements (Some (form_tree g))) at → is_list g ≡ true → take_part (show w (at_tail offset bar_at fs f ∷ os) r) close_list at ≡ goes (show w os (form_last (tailed_list fs f g)))
+tail_took w os r offset bar_at fs f g at took is =
+    took ∙ (ap (λ o. closed_with (show w (at_tail offset bar_at fs f ∷ os) r) (show_all os) (λ ts. list (append_trees (form_trees (then fs f)) ts)) o at) (tail-list g is) ∙ ap (λ ts. goes (record { whole = form_trees w; open_ones = show_all os; last = term (list ts) })) (append_trees-assoc (form_trees fs) (more (form_tree f) none) (elements_of (form_tree g))))
 
-close_tail_here : (w : Forms) (place bar_at : ℕ) (fs : Forms) (f : Form) (os : List Bracketed) (r : Lasting) (at : ℕ) → Fine w (at_tail place bar_at fs f ∷ os) r → Judged w (at_tail place bar_at fs f ∷ os) r close_list at
-close_tail_here w place bar_at fs f os none_last at fine = is_misplaced refl refl refl
-close_tail_here w place bar_at fs f os (sign_last m at1) at fine = is_misplaced refl refl refl
-close_tail_here w place bar_at fs f os (form_last g) at fine =
-    closed-next w (at_tail place bar_at fs f) os (form_last g) close_list at place (tailed_list fs f g) fine refl refl (λ b. refl) refl refl (refl, (refl, (refl, refl))) refl (tail_took w os (form_last g) place bar_at fs f g at refl (fine.last.1 refl)) (fine-tailed (length os) fs f g fine.brackets.0.0 fine.brackets.0.1 (last-form (at_tail place bar_at fs f) os g fine.last.0) (fine.last.1 refl)) (λ t. refl)
-close_tail_here w place bar_at fs f os (strings_last cs others) at fine =
-    closed-next w (at_tail place bar_at fs f) os (strings_last cs others) close_list at place (tailed_list fs f (strings cs others)) fine refl refl (λ b. refl) refl refl (refl, (refl, (refl, refl))) refl (tail_took w os (strings_last cs others) place bar_at fs f (strings cs others) at refl refl) (fine-tailed (length os) fs f (strings cs others) fine.brackets.0.0 fine.brackets.0.1 (last-strings (at_tail place bar_at fs f) os cs others fine.last) refl) (λ t. refl)
+close_tail_here : (w : Forms) (offset bar_at : ℕ) (fs : Forms) (f : Form) (os : List Bracketed) (r : Lasting) (at : ℕ) → Fine w (at_tail offset bar_at fs f ∷ os) r → Judged w (at_tail offset bar_at fs f ∷ os) r close_list at
+close_tail_here w offset bar_at fs f os none_last at fine = is_misplaced refl refl refl
+close_tail_here w offset bar_at fs f os (sign_last m at1) at fine = is_misplaced refl refl refl
+close_tail_here w offset bar_at fs f os (form_last g) at fine =
+    closed-next w (at_tail offset bar_at fs f) os (form_last g) close_list at offset (tailed_list fs f g) fine refl refl (λ b. refl) refl refl (refl, (refl, (refl, refl))) refl (tail_took w os (form_last g) offset bar_at fs f g at refl (fine.last.1 refl)) (fine-tailed (length os) fs f g fine.brackets.0.0 fine.brackets.0.1 (last-form (at_tail offset bar_at fs f) os g fine.last.0) (fine.last.1 refl)) (λ t. refl)
+close_tail_here w offset bar_at fs f os (strings_last cs others) at fine =
+    closed-next w (at_tail offset bar_at fs f) os (strings_last cs others) close_list at offset (tailed_list fs f (strings cs others)) fine refl refl (λ b. refl) refl refl (refl, (refl, (refl, refl))) refl (tail_took w os (strings_last cs others) offset bar_at fs f (strings cs others) at refl refl) (fine-tailed (length os) fs f (strings cs others) fine.brackets.0.0 fine.brackets.0.1 (last-strings (at_tail offset bar_at fs f) os cs others fine.last) refl) (λ t. refl)
 
 judge_close_list : (w : Forms) (os : List Bracketed) (r : Lasting) (at : ℕ) → Fine w os r → Judged w os r close_list at
 judge_close_list w [] r at fine = is_misplaced refl refl refl
-judge_close_list w (at_tuple place fs ∷ os) r at fine = is_misplaced refl refl refl
-judge_close_list w (at_list place fs ∷ os) r at fine = close_list_here w place fs os r at fine
-judge_close_list w (at_tail place bar_at fs f ∷ os) r at fine = close_tail_here w place bar_at fs f os r at fine
+judge_close_list w (at_tuple offset fs ∷ os) r at fine = is_misplaced refl refl refl
+judge_close_list w (at_list offset fs ∷ os) r at fine = close_list_here w offset fs os r at fine
+judge_close_list w (at_tail offset bar_at fs f ∷ os) r at fine = close_tail_here w offset bar_at fs f os r at fine
 
 -- Commas, bars and dots
 
 -- the same brackets, with one more element in the innermost
-element-next : (w : Forms) (o q : Bracketed) (os : List Bracketed) (r : Lasting) (p : Part) (at : ℕ) → Fine w (o ∷ os) r → faulty_by (end_minus (end_at r (o ∷ os))) p ≡ false → tail_by (end_bar (end_at r (o ∷ os))) p ≡ false → ((b : Bool) → nesting_by b p ≡ false) → opens p ≡ false → closes p ≡ false → place_of q ≡ place_of o → TellsPart (end_at none_last (q ∷ os)) p at → step (bare w (o ∷ os) r) p ≡ Some (bare w (q ∷ os) none_last) → take_part (show w (o ∷ os) r) p at ≡ goes (show w (q ∷ os) none_last) → FineOne (suc (length os)) q → is_tail os && is_tuple q ≡ false → Judged w (o ∷ os) r p at
+element-next : (w : Forms) (o q : Bracketed) (os : List Bracketed) (r : Lasting) (p : Part) (at : ℕ) → Fine w (o ∷ os) r → faulty_by (end_minus (end_at r (o ∷ os))) p ≡ false → tail_by (end_bar (end_at r (o ∷ os))) p ≡ false → ((b : Bool) → nesting_by b p ≡ false) → opens p ≡ false → closes p ≡ false → offset_of q ≡ offset_of o → TellsPart (end_at none_last (q ∷ os)) p at → step (bare w (o ∷ os) r) p ≡ Some (bare w (q ∷ os) none_last) → take_part (show w (o ∷ os) r) p at ≡ goes (show w (q ∷ os) none_last) → FineOne (suc (length os)) q → is_tail os && is_tuple q ≡ false → Judged w (o ∷ os) r p at
 element-next w o q os r p at fine sound no_tail plain opens_not closes_not stays tells stepped took fine_q fits =
-    is_next sound no_tail (λ e. never (sym (plain (end_string (end_at r (o ∷ os)))) ∙ e)) w (q ∷ os) none_last (record { stepped = stepped; took = took; tells = tells; moves = same opens_not closes_not (ap (λ x. x ∷ places os) stays); fine = record { whole = fine.whole; brackets = (fine_q, (fits, fine.brackets.1.1)); last = tt } })
+    is_next sound no_tail (λ e. never (sym (plain (end_string (end_at r (o ∷ os)))) ∙ e)) w (q ∷ os) none_last (record { stepped = stepped; took = took; tells = tells; moves = same opens_not closes_not (ap (λ x. x ∷ offsets os) stays); fine = record { whole = fine.whole; brackets = (fine_q, (fits, fine.brackets.1.1)); last = tt } })
 
 judge_comma : (w : Forms) (os : List Bracketed) (r : Lasting) (at : ℕ) → Fine w os r → Judged w os r comma at
 judge_comma w [] r at fine = is_misplaced refl refl refl
-judge_comma w (at_tuple place fs ∷ os) none_last at fine = is_misplaced refl refl refl
-judge_comma w (at_tuple place fs ∷ os) (sign_last m at1) at fine = is_misplaced refl refl refl
-judge_comma w (at_tuple place fs ∷ os) (form_last f) at fine =
-    element-next w (at_tuple place fs) (at_tuple place (then fs f)) os (form_last f) comma at fine refl refl (λ b. refl) refl refl refl (refl, (refl, (refl, refl))) refl refl (fine-then (suc (length os)) fs f fine.brackets.0 (last-form (at_tuple place fs) os f fine.last.0)) fine.brackets.1.0
-judge_comma w (at_tuple place fs ∷ os) (strings_last cs others) at fine =
-    element-next w (at_tuple place fs) (at_tuple place (then fs (strings cs others))) os (strings_last cs others) comma at fine refl refl (λ b. refl) refl refl refl (refl, (refl, (refl, refl))) refl refl (fine-then (suc (length os)) fs (strings cs others) fine.brackets.0 (last-strings (at_tuple place fs) os cs others fine.last)) fine.brackets.1.0
-judge_comma w (at_list place fs ∷ os) none_last at fine = is_misplaced refl refl refl
-judge_comma w (at_list place fs ∷ os) (sign_last m at1) at fine = is_misplaced refl refl refl
-judge_comma w (at_list place fs ∷ os) (form_last f) at fine =
-    element-next w (at_list place fs) (at_list place (then fs f)) os (form_last f) comma at fine refl refl (λ b. refl) refl refl refl (refl, (refl, (refl, refl))) refl refl (fine-then (suc (length os)) fs f fine.brackets.0 (last-form (at_list place fs) os f fine.last.0)) fine.brackets.1.0
-judge_comma w (at_list place fs ∷ os) (strings_last cs others) at fine =
-    element-next w (at_list place fs) (at_list place (then fs (strings cs others))) os (strings_last cs others) comma at fine refl refl (λ b. refl) refl refl refl (refl, (refl, (refl, refl))) refl refl (fine-then (suc (length os)) fs (strings cs others) fine.brackets.0 (last-strings (at_list place fs) os cs others fine.last)) fine.brackets.1.0
-judge_comma w (at_tail place bar_at fs f ∷ os) r at fine = is_misplaced refl refl refl
+judge_comma w (at_tuple offset fs ∷ os) none_last at fine = is_misplaced refl refl refl
+judge_comma w (at_tuple offset fs ∷ os) (sign_last m at1) at fine = is_misplaced refl refl refl
+judge_comma w (at_tuple offset fs ∷ os) (form_last f) at fine =
+    element-next w (at_tuple offset fs) (at_tuple offset (then fs f)) os (form_last f) comma at fine refl refl (λ b. refl) refl refl refl (refl, (refl, (refl, refl))) refl refl (fine-then (suc (length os)) fs f fine.brackets.0 (last-form (at_tuple offset fs) os f fine.last.0)) fine.brackets.1.0
+judge_comma w (at_tuple offset fs ∷ os) (strings_last cs others) at fine =
+    element-next w (at_tuple offset fs) (at_tuple offset (then fs (strings cs others))) os (strings_last cs others) comma at fine refl refl (λ b. refl) refl refl refl (refl, (refl, (refl, refl))) refl refl (fine-then (suc (length os)) fs (strings cs others) fine.brackets.0 (last-strings (at_tuple offset fs) os cs others fine.last)) fine.brackets.1.0
+judge_comma w (at_list offset fs ∷ os) none_last at fine = is_misplaced refl refl refl
+judge_comma w (at_list offset fs ∷ os) (sign_last m at1) at fine = is_misplaced refl refl refl
+judge_comma w (at_list offset fs ∷ os) (form_last f) at fine =
+    element-next w (at_list offset fs) (at_list offset (then fs f)) os (form_last f) comma at fine refl refl (λ b. refl) refl refl refl (refl, (refl, (refl, refl))) refl refl (fine-then (suc (length os)) fs f fine.brackets.0 (last-form (at_list offset fs) os f fine.last.0)) fine.brackets.1.0
+judge_comma w (at_list offset fs ∷ os) (strings_last cs others) at fine =
+    element-next w (at_list offset fs) (at_list offset (then fs (strings cs others))) os (strings_last cs others) comma at fine refl refl (λ b. refl) refl refl refl (refl, (refl, (refl, refl))) refl refl (fine-then (suc (length os)) fs (strings cs others) fine.brackets.0 (last-strings (at_list offset fs) os cs others fine.last)) fine.brackets.1.0
+judge_comma w (at_tail offset bar_at fs f ∷ os) r at fine = is_misplaced refl refl refl
 
 judge_bar : (w : Forms) (os : List Bracketed) (r : Lasting) (at : ℕ) → Fine w os r → Judged w os r bar at
 judge_bar w [] r at fine = is_misplaced refl refl refl
-judge_bar w (at_tuple place fs ∷ os) r at fine = is_misplaced refl refl refl
-judge_bar w (at_list place fs ∷ os) none_last at fine = is_misplaced refl refl refl
-judge_bar w (at_list place fs ∷ os) (sign_last m at1) at fine = is_misplaced refl refl refl
-judge_bar w (at_list place fs ∷ os) (form_last f) at fine =
-    element-next w (at_list place fs) (at_tail place at fs f) os (form_last f) bar at fine refl refl (λ b. refl) refl refl refl (refl, refl) refl refl (fine.brackets.0, last-form (at_list place fs) os f fine.last.0) fine.brackets.1.0
-judge_bar w (at_list place fs ∷ os) (strings_last cs others) at fine =
-    element-next w (at_list place fs) (at_tail place at fs (strings cs others)) os (strings_last cs others) bar at fine refl refl (λ b. refl) refl refl refl (refl, refl) refl refl (fine.brackets.0, last-strings (at_list place fs) os cs others fine.last) fine.brackets.1.0
-judge_bar w (at_tail place bar_at fs f ∷ os) r at fine = is_misplaced refl refl refl
+judge_bar w (at_tuple offset fs ∷ os) r at fine = is_misplaced refl refl refl
+judge_bar w (at_list offset fs ∷ os) none_last at fine = is_misplaced refl refl refl
+judge_bar w (at_list offset fs ∷ os) (sign_last m at1) at fine = is_misplaced refl refl refl
+judge_bar w (at_list offset fs ∷ os) (form_last f) at fine =
+    element-next w (at_list offset fs) (at_tail offset at fs f) os (form_last f) bar at fine refl refl (λ b. refl) refl refl refl (refl, refl) refl refl (fine.brackets.0, last-form (at_list offset fs) os f fine.last.0) fine.brackets.1.0
+judge_bar w (at_list offset fs ∷ os) (strings_last cs others) at fine =
+    element-next w (at_list offset fs) (at_tail offset at fs (strings cs others)) os (strings_last cs others) bar at fine refl refl (λ b. refl) refl refl refl (refl, refl) refl refl (fine.brackets.0, last-strings (at_list offset fs) os cs others fine.last) fine.brackets.1.0
+judge_bar w (at_tail offset bar_at fs f ∷ os) r at fine = is_misplaced refl refl refl
 
 judge_dot : (w : Forms) (os : List Bracketed) (r : Lasting) (at : ℕ) → Fine w os r → Judged w os r dot at
 judge_dot w [] none_last at fine = is_misplaced refl refl refl

@@ -10,12 +10,12 @@ use Rattle.erl_consult.specs.Faults.{is_sign, is_bar, is_dot, is_string, opens, 
 use Rattle.erl_consult.specs.Steps.{of_tuple, of_list, of_tail, Frame, Last, nothing, sign, term, text, Seen, goes, fails, take_part}
 use Rattle.erl_consult.proofs.Spelling.{Standing, in_tuple, in_list, in_tail, Read, no_form, sign_read, form_read, strings_read, State, state, step, sign_part}
 
--- States with places
+-- States with offsets
 
 pub data Bracketed : Type 0 where
   at_tuple : ℕ → Forms → Bracketed
   at_list : ℕ → Forms → Bracketed
-  -- with the place of the bar
+  -- with the offset of the bar
   at_tail : ℕ → ℕ → Forms → Form → Bracketed
 
 pub data Lasting : Type 0 where
@@ -24,14 +24,14 @@ pub data Lasting : Type 0 where
   form_last : Form → Lasting
   strings_last : List ℕ → List (List ℕ) → Lasting
 
-abbrev pub place_of : Bracketed → ℕ
-place_of (at_tuple at fs) = at
-place_of (at_list at fs) = at
-place_of (at_tail at bar_at fs f) = at
+abbrev pub offset_of : Bracketed → ℕ
+offset_of (at_tuple at fs) = at
+offset_of (at_list at fs) = at
+offset_of (at_tail at bar_at fs f) = at
 
-abbrev pub places : List Bracketed → List ℕ
-places [] = []
-places (o ∷ os) = place_of o ∷ places os
+abbrev pub offsets : List Bracketed → List ℕ
+offsets [] = []
+offsets (o ∷ os) = offset_of o ∷ offsets os
 
 -- what the parser holds then
 
@@ -53,7 +53,7 @@ show_last (strings_last cs others) = text (integers (cs ++ flat_map (λ ds. ds) 
 abbrev pub show : Forms → List Bracketed → Lasting → Seen
 show w os r = record { whole = form_trees w; open_ones = show_all os; last = show_last r }
 
--- and the state without places
+-- and the state without offsets
 
 abbrev pub bare_one : Bracketed → Standing
 bare_one (at_tuple at fs) = in_tuple fs
@@ -77,9 +77,9 @@ pub length-show : (os : List Bracketed) → length (show_all os) ≡ length os
 length-show [] = refl
 length-show (o ∷ os) = omega (arith, length-show os)
 
-pub length-places : (os : List Bracketed) → length (places os) ≡ length os
-length-places [] = refl
-length-places (o ∷ os) = omega (arith, length-places os)
+pub length-offsets : (os : List Bracketed) → length (offsets os) ≡ length os
+length-offsets [] = refl
+length-offsets (o ∷ os) = omega (arith, length-offsets os)
 
 -- What a state says of the token before it
 
@@ -105,38 +105,38 @@ end_at (strings_last cs others) os = string_end
 
 abbrev pub TellsPart : End → Part → ℕ → Type 0
 TellsPart start_end p at = p ≡ dot
-TellsPart (sign_end m place) p at = (p ≡ sign_part m) × (at ≡ place)
+TellsPart (sign_end m offset) p at = (p ≡ sign_part m) × (at ≡ offset)
 TellsPart string_end p at = (cs : List ℕ) × (p ≡ string cs)
-TellsPart (bar_end place) p at = (p ≡ bar) × (at ≡ place)
+TellsPart (bar_end offset) p at = (p ≡ bar) × (at ≡ offset)
 TellsPart other_end p at = (is_sign p ≡ false) × ((is_bar p ≡ false) × ((is_string p ≡ false) × (is_dot p ≡ false)))
 
 abbrev pub end_minus : End → Bool
 end_minus start_end = false
-end_minus (sign_end m place) = m
+end_minus (sign_end m offset) = m
 end_minus string_end = false
-end_minus (bar_end place) = false
+end_minus (bar_end offset) = false
 end_minus other_end = false
 
 abbrev pub end_string : End → Bool
 end_string start_end = false
-end_string (sign_end m place) = false
+end_string (sign_end m offset) = false
 end_string string_end = true
-end_string (bar_end place) = false
+end_string (bar_end offset) = false
 end_string other_end = false
 
 abbrev pub end_bar : End → Bool
 end_bar start_end = false
-end_bar (sign_end m place) = false
+end_bar (sign_end m offset) = false
 end_bar string_end = false
-end_bar (bar_end place) = true
+end_bar (bar_end offset) = true
 end_bar other_end = false
 
-abbrev pub end_place : End → ℕ → ℕ
-end_place start_end at = at
-end_place (sign_end m place) at = place
-end_place string_end at = at
-end_place (bar_end place) at = at
-end_place other_end at = at
+abbrev pub end_offset : End → ℕ → ℕ
+end_offset start_end at = at
+end_offset (sign_end m offset) at = offset
+end_offset string_end at = at
+end_offset (bar_end offset) at = at
+end_offset other_end at = at
 
 -- The tests of a token, by what they ask of the token before it
 
@@ -180,7 +180,7 @@ is_tuple (at_tuple at fs) = true
 is_tuple (at_list at fs) = false
 is_tuple (at_tail at bar_at fs f) = false
 
--- a bracket in a tail's place is a list's
+-- a bracket in a tail's offset is a list's
 abbrev pub FineAll : List Bracketed → Type 0
 FineAll [] = Unit {0}
 FineAll (o ∷ os) = FineOne (suc (length os)) o × ((is_tail os && is_tuple o ≡ false) × FineAll os)
@@ -200,9 +200,9 @@ pub record Fine (w : Forms) (os : List Bracketed) (r : Lasting) : Type 0 where
 -- What a token does
 
 pub data Moves (p : Part) (at : ℕ) (os qs : List Bracketed) : Type 0 where
-  same : opens p ≡ false → closes p ≡ false → places qs ≡ places os → Moves p at os qs
-  one_more : opens p ≡ true → places qs ≡ at ∷ places os → Moves p at os qs
-  one_less : opens p ≡ false → closes p ≡ true → (place : ℕ) → places os ≡ place ∷ places qs → Moves p at os qs
+  same : opens p ≡ false → closes p ≡ false → offsets qs ≡ offsets os → Moves p at os qs
+  one_more : opens p ≡ true → offsets qs ≡ at ∷ offsets os → Moves p at os qs
+  one_less : opens p ≡ false → closes p ≡ true → (offset : ℕ) → offsets os ≡ offset ∷ offsets qs → Moves p at os qs
 
 pub record Follows (w : Forms) (os : List Bracketed) (r : Lasting) (p : Part) (at : ℕ) (v : Forms) (qs : List Bracketed) (q : Lasting) : Type 0 where
   pub stepped : step (bare w os r) p ≡ Some (bare v qs q)
@@ -213,8 +213,8 @@ pub record Follows (w : Forms) (os : List Bracketed) (r : Lasting) (p : Part) (a
 
 pub data Judged (w : Forms) (os : List Bracketed) (r : Lasting) (p : Part) (at : ℕ) : Type 0 where
   is_unread_part : p ≡ unread → take_part (show w os r) p at ≡ fails Unsupported at → Judged w os r p at
-  is_out : out_by (end_minus (end_at r os)) p ≡ true → take_part (show w os r) p at ≡ fails IntegerRange (end_place (end_at r os) at) → Judged w os r p at
+  is_out : out_by (end_minus (end_at r os)) p ≡ true → take_part (show w os r) p at ≡ fails IntegerRange (end_offset (end_at r os) at) → Judged w os r p at
   is_misplaced : faulty_by (end_minus (end_at r os)) p ≡ false → step (bare w os r) p ≡ None → take_part (show w os r) p at ≡ fails Syntax at → Judged w os r p at
-  is_wrong : faulty_by (end_minus (end_at r os)) p ≡ false → (t : State) → step (bare w os r) p ≡ Some t → (place : ℕ) → end_at r os ≡ bar_end place → begins_list p ≡ false → take_part (show w os r) p at ≡ fails Unsupported place → Judged w os r p at
+  is_wrong : faulty_by (end_minus (end_at r os)) p ≡ false → (t : State) → step (bare w os r) p ≡ Some t → (offset : ℕ) → end_at r os ≡ bar_end offset → begins_list p ≡ false → take_part (show w os r) p at ≡ fails Unsupported offset → Judged w os r p at
   is_deep : faulty_by (end_minus (end_at r os)) p ≡ false → (t : State) → step (bare w os r) p ≡ Some t → tail_by (end_bar (end_at r os)) p ≡ false → nesting_by (end_string (end_at r os)) p ≡ true → deepest ≤ length os → take_part (show w os r) p at ≡ fails TooDeep at → Judged w os r p at
   is_next : faulty_by (end_minus (end_at r os)) p ≡ false → tail_by (end_bar (end_at r os)) p ≡ false → (nesting_by (end_string (end_at r os)) p ≡ true → length os < deepest) → (v : Forms) → (qs : List Bracketed) → (q : Lasting) → Follows w os r p at v qs q → Judged w os r p at

@@ -7,11 +7,11 @@ use Rattle.erl_scan.specs.declared.error.Fault.{Fault}
 use Rattle.erl_scan.specs.declared.error.Fault.TheVariants.{IntegerRange, Unsupported, TooDeep, Syntax}
 use Rattle.erl_scan.specs.declared.token.Spot.{Spot}
 use Rattle.erl_consult.specs.Grammar.{Part, number, minus, plus, name, string, open_tuple, close_tuple, open_list, close_list, comma, bar, dot, unread, foreign, Forms, start, IsStart}
-use Rattle.erl_consult.specs.Faults.{spot_part, parts, last_of, is_minus, is_sign, is_bar, is_string, last_is, opened, closed, is_unread, is_faulty, range_place_by, is_wrong_tail, begins_nesting, begins_list, IsFaulty, not_read, out_of_range, misplaced, wrong_tail, too_deep, is_out_of_range}
+use Rattle.erl_consult.specs.Faults.{spot_part, parts, last_of, is_minus, is_sign, is_bar, is_string, last_is, opened, closed, is_unread, is_faulty, range_offset_by, is_wrong_tail, begins_nesting, begins_list, IsFaulty, not_read, out_of_range, misplaced, wrong_tail, too_deep, is_out_of_range}
 use Rattle.erl_consult.specs.Steps.{Seen, nothing_seen, Outcome, goes, fails, take_part}
 use Rattle.erl_consult.proofs.Spelling.{State, step, run, beginning, sign_part, start-from_run, run-from_start, run-append}
 use Rattle.erl_consult.proofs.Nesting.{Nested, nested-plain, nested-open, nested-close, nested-counts}
-use Rattle.erl_consult.proofs.Judging.{Bracketed, Lasting, none_last, places, show, bare, length-places, End, start_end, sign_end, string_end, bar_end, other_end, end_at, TellsPart, end_minus, end_string, end_bar, end_place, out_by, faulty_by, tail_by, nesting_by, Fine, Moves, same, one_more, one_less, Follows, Judged, is_unread_part, is_out, is_misplaced, is_wrong, is_deep, is_next}
+use Rattle.erl_consult.proofs.Judging.{Bracketed, Lasting, none_last, offsets, show, bare, length-offsets, End, start_end, sign_end, string_end, bar_end, other_end, end_at, TellsPart, end_minus, end_string, end_bar, end_offset, out_by, faulty_by, tail_by, nesting_by, Fine, Moves, same, one_more, one_less, Follows, Judged, is_unread_part, is_out, is_misplaced, is_wrong, is_deep, is_next}
 use Rattle.erl_consult.proofs.Truth.{clash, or-right}
 
 -- Outcomes
@@ -36,9 +36,9 @@ kind_or : Fault → Outcome → Fault
 kind_or d (goes s) = d
 kind_or d (fails k at) = k
 
-place_or : ℕ → Outcome → ℕ
-place_or d (goes s) = d
-place_or d (fails k at) = at
+offset_or : ℕ → Outcome → ℕ
+offset_or d (goes s) = d
+offset_or d (fails k at) = at
 
 pub goes-fails : (s : Seen) (k : Fault) (at : ℕ) → goes s ≡ fails k at → ⊥
 unfolding goes_on
@@ -52,9 +52,9 @@ pub same_kind : (k l : Fault) (at to : ℕ) → fails k at ≡ fails l to → k 
 unfolding kind_or
 same_kind k l at to e = ap (kind_or k) e
 
-pub same_place : (k l : Fault) (at to : ℕ) → fails k at ≡ fails l to → at ≡ to
-unfolding place_or
-same_place k l at to e = ap (place_or at) e
+pub same_offset : (k l : Fault) (at to : ℕ) → fails k at ≡ fails l to → at ≡ to
+unfolding offset_or
+same_offset k l at to e = ap (offset_or at) e
 
 append-then_on : (xs ys : List Spot) (o : Outcome) → ((t : Seen) → take_all t (xs ++ ys) ≡ outcome_then (λ u. take_all u ys) (take_all t xs)) → outcome_then (λ t. take_all t (xs ++ ys)) o ≡ outcome_then (λ u. take_all u ys) (outcome_then (λ t. take_all t xs) o)
 append-then_on xs ys (goes s) later = later s
@@ -77,9 +77,9 @@ take_all-more before b s t o taken next =
 
 abbrev pub FitsEnd : Option Spot → End → Type 0
 FitsEnd None start_end = Unit {0}
-FitsEnd None (sign_end m place) = ⊥
+FitsEnd None (sign_end m offset) = ⊥
 FitsEnd None string_end = ⊥
-FitsEnd None (bar_end place) = ⊥
+FitsEnd None (bar_end offset) = ⊥
 FitsEnd None other_end = ⊥
 FitsEnd (Some b) e = TellsPart e (spot_part b) b.at
 
@@ -117,56 +117,56 @@ string-sign false = refl
 
 tells-minus : (o : Option Spot) (e : End) → FitsEnd o e → last_is is_minus o ≡ end_minus e
 tells-minus None start_end t = refl
-tells-minus None (sign_end m place) t = absurd t
+tells-minus None (sign_end m offset) t = absurd t
 tells-minus None string_end t = absurd t
-tells-minus None (bar_end place) t = absurd t
+tells-minus None (bar_end offset) t = absurd t
 tells-minus None other_end t = absurd t
 tells-minus (Some b) start_end t = ap is_minus t
-tells-minus (Some b) (sign_end m place) t = ap is_minus t.0 ∙ minus-sign m
+tells-minus (Some b) (sign_end m offset) t = ap is_minus t.0 ∙ minus-sign m
 tells-minus (Some b) string_end t = ap is_minus t.1
-tells-minus (Some b) (bar_end place) t = ap is_minus t.0
+tells-minus (Some b) (bar_end offset) t = ap is_minus t.0
 tells-minus (Some b) other_end t = minus-from_sign (spot_part b) t.0
 
 pub tells-bar : (o : Option Spot) (e : End) → FitsEnd o e → last_is is_bar o ≡ end_bar e
 tells-bar None start_end t = refl
-tells-bar None (sign_end m place) t = absurd t
+tells-bar None (sign_end m offset) t = absurd t
 tells-bar None string_end t = absurd t
-tells-bar None (bar_end place) t = absurd t
+tells-bar None (bar_end offset) t = absurd t
 tells-bar None other_end t = absurd t
 tells-bar (Some b) start_end t = ap is_bar t
-tells-bar (Some b) (sign_end m place) t = ap is_bar t.0 ∙ bar-sign m
+tells-bar (Some b) (sign_end m offset) t = ap is_bar t.0 ∙ bar-sign m
 tells-bar (Some b) string_end t = ap is_bar t.1
-tells-bar (Some b) (bar_end place) t = ap is_bar t.0
+tells-bar (Some b) (bar_end offset) t = ap is_bar t.0
 tells-bar (Some b) other_end t = t.1.0
 
 tells-string : (o : Option Spot) (e : End) → FitsEnd o e → last_is is_string o ≡ end_string e
 tells-string None start_end t = refl
-tells-string None (sign_end m place) t = absurd t
+tells-string None (sign_end m offset) t = absurd t
 tells-string None string_end t = absurd t
-tells-string None (bar_end place) t = absurd t
+tells-string None (bar_end offset) t = absurd t
 tells-string None other_end t = absurd t
 tells-string (Some b) start_end t = ap is_string t
-tells-string (Some b) (sign_end m place) t = ap is_string t.0 ∙ string-sign m
+tells-string (Some b) (sign_end m offset) t = ap is_string t.0 ∙ string-sign m
 tells-string (Some b) string_end t = ap is_string t.1
-tells-string (Some b) (bar_end place) t = ap is_string t.0
+tells-string (Some b) (bar_end offset) t = ap is_string t.0
 tells-string (Some b) other_end t = t.1.1.0
 
-tells-place : (o : Option Spot) (e : End) (at : ℕ) → FitsEnd o e → range_place_by o at ≡ end_place e at
-tells-place None start_end at t = refl
-tells-place None (sign_end m place) at t = absurd t
-tells-place None string_end at t = absurd t
-tells-place None (bar_end place) at t = absurd t
-tells-place None other_end at t = absurd t
-tells-place (Some b) start_end at t = ap (λ p. cond (is_sign p) b.at at) t
-tells-place (Some b) (sign_end m place) at t =
+tells-offset : (o : Option Spot) (e : End) (at : ℕ) → FitsEnd o e → range_offset_by o at ≡ end_offset e at
+tells-offset None start_end at t = refl
+tells-offset None (sign_end m offset) at t = absurd t
+tells-offset None string_end at t = absurd t
+tells-offset None (bar_end offset) at t = absurd t
+tells-offset None other_end at t = absurd t
+tells-offset (Some b) start_end at t = ap (λ p. cond (is_sign p) b.at at) t
+tells-offset (Some b) (sign_end m offset) at t =
     ap (λ p. cond (is_sign p) b.at at) t.0 ∙ (ap (λ c. cond c b.at at) (is-sign m) ∙ t.1)
-tells-place (Some b) string_end at t = ap (λ p. cond (is_sign p) b.at at) t.1
-tells-place (Some b) (bar_end place) at t = ap (λ p. cond (is_sign p) b.at at) t.0
-tells-place (Some b) other_end at t = ap (λ c. cond c b.at at) t.0
+tells-offset (Some b) string_end at t = ap (λ p. cond (is_sign p) b.at at) t.1
+tells-offset (Some b) (bar_end offset) at t = ap (λ p. cond (is_sign p) b.at at) t.0
+tells-offset (Some b) other_end at t = ap (λ c. cond c b.at at) t.0
 
-tells-bar_at : (o : Option Spot) (place : ℕ) → FitsEnd o (bar_end place) → (b : Spot) × ((o ≡ Some b) × (b.at ≡ place))
-tells-bar_at None place t = absurd t
-tells-bar_at (Some b) place t = (b, (refl, t.1))
+tells-bar_at : (o : Option Spot) (offset : ℕ) → FitsEnd o (bar_end offset) → (b : Spot) × ((o ≡ Some b) × (b.at ≡ offset))
+tells-bar_at None offset t = absurd t
+tells-bar_at (Some b) offset t = (b, (refl, t.1))
 
 -- What stands behind tokens
 
@@ -174,7 +174,7 @@ pub record Stands (before : List Spot) (w : Forms) (os : List Bracketed) (r : La
   pub took : take_all nothing_seen before ≡ goes (show w os r)
   pub ran : run beginning (parts before) ≡ Some (bare w os r)
   pub tells : FitsEnd (last_of before) (end_at r os)
-  pub nested : Nested before (places os)
+  pub nested : Nested before (offsets os)
   pub fine : Fine w os r
 
 pub stands-none : Stands [] start [] none_last
@@ -204,11 +204,11 @@ run-more : (before : List Spot) (p : Part) (s : State) → run beginning (parts 
 run-more before p s ran =
     run-append (parts before) (p ∷ []) beginning ∙ (ap (option_and_then (λ t. run t (p ∷ []))) ran ∙ run-one_on (step s p))
 
-moved : (before : List Spot) (b : Spot) (os qs : List Bracketed) → Nested before (places os) → Moves (spot_part b) b.at os qs → Nested (before ++ b ∷ []) (places qs)
-moved before b os qs nested (same o c e) = subst (Nested (before ++ b ∷ [])) (sym e) (nested-plain before (places os) b nested o c)
-moved before b os qs nested (one_more o e) = subst (Nested (before ++ b ∷ [])) (sym e) (nested-open before (places os) b nested o)
-moved before b os qs nested (one_less o c place e) =
-    nested-close before place (places qs) b (subst (Nested before) e nested) o c
+moved : (before : List Spot) (b : Spot) (os qs : List Bracketed) → Nested before (offsets os) → Moves (spot_part b) b.at os qs → Nested (before ++ b ∷ []) (offsets qs)
+moved before b os qs nested (same o c e) = subst (Nested (before ++ b ∷ [])) (sym e) (nested-plain before (offsets os) b nested o c)
+moved before b os qs nested (one_more o e) = subst (Nested (before ++ b ∷ [])) (sym e) (nested-open before (offsets os) b nested o)
+moved before b os qs nested (one_less o c offset e) =
+    nested-close before offset (offsets qs) b (subst (Nested before) e nested) o c
 
 pub stands-next : (before : List Spot) (w v : Forms) (os qs : List Bracketed) (r q : Lasting) (b : Spot) → Stands before w os r → Follows w os r (spot_part b) b.at v qs q → Stands (before ++ b ∷ []) v qs q
 stands-next before w v os qs r q b stands follows = record {
@@ -283,7 +283,7 @@ tests before w os r p stands =
       faulty = ap (λ b. is_unread p || b) out;
       tail = ap (λ b. tail_by b p) (tells-bar (last_of before) (end_at r os) stands.tells);
       nests = nests-by before p ∙ ap (λ b. nesting_by b p) (tells-string (last_of before) (end_at r os) stands.tells);
-      deep = omega (arith, nested-counts before (places os) stands.nested, length-places os);
+      deep = omega (arith, nested-counts before (offsets os) stands.nested, length-offsets os);
     }
 
 -- A token that fails is faulty
@@ -293,16 +293,16 @@ wrong-tail b p b_is p_is = ap (λ c. cond c (not (begins_list p)) false) b_is �
 
 pub faulty-from_judged : (before : List Spot) (w : Forms) (os : List Bracketed) (r : Lasting) (p : Part) (at : ℕ) (k : Fault) (told : ℕ) → Stands before w os r → Judged w os r p at → take_part (show w os r) p at ≡ fails k told → IsFaulty before p at k told
 faulty-from_judged before w os r p at k told stands (is_unread_part is took) e =
-    not_read is (same_kind k Unsupported told at (sym e ∙ took)) (same_place k Unsupported told at (sym e ∙ took))
+    not_read is (same_kind k Unsupported told at (sym e ∙ took)) (same_offset k Unsupported told at (sym e ∙ took))
 faulty-from_judged before w os r p at k told stands (is_out out took) e =
-    out_of_range ((tests before w os r p stands).out ∙ out) (same_kind k IntegerRange told (end_place (end_at r os) at) (sym e ∙ took)) (same_place k IntegerRange told (end_place (end_at r os) at) (sym e ∙ took) ∙ sym (tells-place (last_of before) (end_at r os) at stands.tells))
+    out_of_range ((tests before w os r p stands).out ∙ out) (same_kind k IntegerRange told (end_offset (end_at r os) at) (sym e ∙ took)) (same_offset k IntegerRange told (end_offset (end_at r os) at) (sym e ∙ took) ∙ sym (tells-offset (last_of before) (end_at r os) at stands.tells))
 faulty-from_judged before w os r p at k told stands (is_misplaced sound stuck took) e =
-    misplaced ((tests before w os r p stands).faulty ∙ sound) (no-step before p (bare w os r) stands.ran stuck) (same_kind k Syntax told at (sym e ∙ took)) (same_place k Syntax told at (sym e ∙ took))
-faulty-from_judged before w os r p at k told stands (is_wrong sound t stepped place end no_list took) e =
-    let b = tells-bar_at (last_of before) place (subst (FitsEnd (last_of before)) end stands.tells) in
-    wrong_tail ((tests before w os r p stands).faulty ∙ sound) (start-from_step before p (bare w os r) t stands.ran stepped) ((tests before w os r p stands).tail ∙ wrong-tail (end_bar (end_at r os)) p (ap end_bar end) no_list) b.0 b.1.0 (same_kind k Unsupported told place (sym e ∙ took)) (same_place k Unsupported told place (sym e ∙ took) ∙ sym b.1.1)
+    misplaced ((tests before w os r p stands).faulty ∙ sound) (no-step before p (bare w os r) stands.ran stuck) (same_kind k Syntax told at (sym e ∙ took)) (same_offset k Syntax told at (sym e ∙ took))
+faulty-from_judged before w os r p at k told stands (is_wrong sound t stepped offset end no_list took) e =
+    let b = tells-bar_at (last_of before) offset (subst (FitsEnd (last_of before)) end stands.tells) in
+    wrong_tail ((tests before w os r p stands).faulty ∙ sound) (start-from_step before p (bare w os r) t stands.ran stepped) ((tests before w os r p stands).tail ∙ wrong-tail (end_bar (end_at r os)) p (ap end_bar end) no_list) b.0 b.1.0 (same_kind k Unsupported told offset (sym e ∙ took)) (same_offset k Unsupported told offset (sym e ∙ took) ∙ sym b.1.1)
 faulty-from_judged before w os r p at k told stands (is_deep sound t stepped no_tail nests deep took) e =
-    too_deep ((tests before w os r p stands).faulty ∙ sound) (start-from_step before p (bare w os r) t stands.ran stepped) ((tests before w os r p stands).tail ∙ no_tail) ((tests before w os r p stands).nests ∙ nests) (omega (arith, deep, (tests before w os r p stands).deep)) (same_kind k TooDeep told at (sym e ∙ took)) (same_place k TooDeep told at (sym e ∙ took))
+    too_deep ((tests before w os r p stands).faulty ∙ sound) (start-from_step before p (bare w os r) t stands.ran stepped) ((tests before w os r p stands).tail ∙ no_tail) ((tests before w os r p stands).nests ∙ nests) (omega (arith, deep, (tests before w os r p stands).deep)) (same_kind k TooDeep told at (sym e ∙ took)) (same_offset k TooDeep told at (sym e ∙ took))
 faulty-from_judged before w os r p at k told stands (is_next sound no_tail room v qs q follows) e =
     absurd (goes-fails (show v qs q) k told (sym follows.took ∙ e))
 
@@ -315,54 +315,54 @@ unread-faulty : (b : Bool) (p : Part) → p ≡ unread → faulty_by b p ≡ tru
 unread-faulty b p is = ap (faulty_by b) is
 
 pub judged-from_faulty : (before : List Spot) (w : Forms) (os : List Bracketed) (r : Lasting) (p : Part) (at : ℕ) (k : Fault) (told : ℕ) → Stands before w os r → Judged w os r p at → IsFaulty before p at k told → take_part (show w os r) p at ≡ fails k told
-judged-from_faulty before w os r p at k told stands judged (not_read is kind place) =
-    ap (λ q. take_part (show w os r) q at) is ∙ fails-both Unsupported k at told (sym kind) (sym place)
-judged-from_faulty before w os r p at k told stands (is_unread_part is took) (out_of_range out kind place) =
+judged-from_faulty before w os r p at k told stands judged (not_read is kind offset) =
+    ap (λ q. take_part (show w os r) q at) is ∙ fails-both Unsupported k at told (sym kind) (sym offset)
+judged-from_faulty before w os r p at k told stands (is_unread_part is took) (out_of_range out kind offset) =
     clash (is_out_of_range before p) out (ap (is_out_of_range before) is)
-judged-from_faulty before w os r p at k told stands (is_out out' took) (out_of_range out kind place) =
-    took ∙ fails-both IntegerRange k (end_place (end_at r os) at) told (sym kind) (sym (tells-place (last_of before) (end_at r os) at stands.tells) ∙ sym place)
-judged-from_faulty before w os r p at k told stands (is_misplaced sound stuck took) (out_of_range out kind place) =
+judged-from_faulty before w os r p at k told stands (is_out out' took) (out_of_range out kind offset) =
+    took ∙ fails-both IntegerRange k (end_offset (end_at r os) at) told (sym kind) (sym (tells-offset (last_of before) (end_at r os) at stands.tells) ∙ sym offset)
+judged-from_faulty before w os r p at k told stands (is_misplaced sound stuck took) (out_of_range out kind offset) =
     clash (is_faulty before p) (or-right (is_unread p) (is_out_of_range before p) out) ((tests before w os r p stands).faulty ∙ sound)
-judged-from_faulty before w os r p at k told stands (is_wrong sound t stepped place' end no_list took) (out_of_range out kind place) =
+judged-from_faulty before w os r p at k told stands (is_wrong sound t stepped offset' end no_list took) (out_of_range out kind offset) =
     clash (is_faulty before p) (or-right (is_unread p) (is_out_of_range before p) out) ((tests before w os r p stands).faulty ∙ sound)
-judged-from_faulty before w os r p at k told stands (is_deep sound t stepped no_tail nests deep took) (out_of_range out kind place) =
+judged-from_faulty before w os r p at k told stands (is_deep sound t stepped no_tail nests deep took) (out_of_range out kind offset) =
     clash (is_faulty before p) (or-right (is_unread p) (is_out_of_range before p) out) ((tests before w os r p stands).faulty ∙ sound)
-judged-from_faulty before w os r p at k told stands (is_next sound no_tail room v qs q follows) (out_of_range out kind place) =
+judged-from_faulty before w os r p at k told stands (is_next sound no_tail room v qs q follows) (out_of_range out kind offset) =
     clash (is_faulty before p) (or-right (is_unread p) (is_out_of_range before p) out) ((tests before w os r p stands).faulty ∙ sound)
-judged-from_faulty before w os r p at k told stands (is_unread_part is took) (misplaced sound no_start kind place) =
+judged-from_faulty before w os r p at k told stands (is_unread_part is took) (misplaced sound no_start kind offset) =
     clash (is_faulty before p) (ap (is_faulty before) is) sound
-judged-from_faulty before w os r p at k told stands (is_out out took) (misplaced sound no_start kind place) =
+judged-from_faulty before w os r p at k told stands (is_out out took) (misplaced sound no_start kind offset) =
     clash (is_faulty before p) (or-right (is_unread p) (is_out_of_range before p) ((tests before w os r p stands).out ∙ out)) sound
-judged-from_faulty before w os r p at k told stands (is_misplaced sound' stuck took) (misplaced sound no_start kind place) =
-    took ∙ fails-both Syntax k at told (sym kind) (sym place)
-judged-from_faulty before w os r p at k told stands (is_wrong sound' t stepped place' end no_list took) (misplaced sound no_start kind place) =
+judged-from_faulty before w os r p at k told stands (is_misplaced sound' stuck took) (misplaced sound no_start kind offset) =
+    took ∙ fails-both Syntax k at told (sym kind) (sym offset)
+judged-from_faulty before w os r p at k told stands (is_wrong sound' t stepped offset' end no_list took) (misplaced sound no_start kind offset) =
     absurd (no_start (start-from_step before p (bare w os r) t stands.ran stepped))
-judged-from_faulty before w os r p at k told stands (is_deep sound' t stepped no_tail nests deep took) (misplaced sound no_start kind place) =
+judged-from_faulty before w os r p at k told stands (is_deep sound' t stepped no_tail nests deep took) (misplaced sound no_start kind offset) =
     absurd (no_start (start-from_step before p (bare w os r) t stands.ran stepped))
-judged-from_faulty before w os r p at k told stands (is_next sound' no_tail room v qs q follows) (misplaced sound no_start kind place) =
+judged-from_faulty before w os r p at k told stands (is_next sound' no_tail room v qs q follows) (misplaced sound no_start kind offset) =
     absurd (no_start (start-from_step before p (bare w os r) (bare v qs q) stands.ran follows.stepped))
-judged-from_faulty before w os r p at k told stands (is_unread_part is took) (wrong_tail sound start_is tail b last kind place) =
+judged-from_faulty before w os r p at k told stands (is_unread_part is took) (wrong_tail sound start_is tail b last kind offset) =
     clash (is_faulty before p) (ap (is_faulty before) is) sound
-judged-from_faulty before w os r p at k told stands (is_out out took) (wrong_tail sound start_is tail b last kind place) =
+judged-from_faulty before w os r p at k told stands (is_out out took) (wrong_tail sound start_is tail b last kind offset) =
     clash (is_faulty before p) (or-right (is_unread p) (is_out_of_range before p) ((tests before w os r p stands).out ∙ out)) sound
-judged-from_faulty before w os r p at k told stands (is_misplaced sound' stuck took) (wrong_tail sound start_is tail b last kind place) =
+judged-from_faulty before w os r p at k told stands (is_misplaced sound' stuck took) (wrong_tail sound start_is tail b last kind offset) =
     absurd (no-step before p (bare w os r) stands.ran stuck start_is)
-judged-from_faulty before w os r p at k told stands (is_wrong sound' t stepped place' end no_list took) (wrong_tail sound start_is tail b last kind place) =
-    let c = tells-bar_at (last_of before) place' (subst (FitsEnd (last_of before)) end stands.tells) in
-    took ∙ fails-both Unsupported k place' told (sym kind) (sym c.1.1 ∙ (ap (λ s. s.at) (same_Some c.0 b (sym c.1.0 ∙ last)) ∙ sym place))
-judged-from_faulty before w os r p at k told stands (is_deep sound' t stepped no_tail nests deep took) (wrong_tail sound start_is tail b last kind place) =
+judged-from_faulty before w os r p at k told stands (is_wrong sound' t stepped offset' end no_list took) (wrong_tail sound start_is tail b last kind offset) =
+    let c = tells-bar_at (last_of before) offset' (subst (FitsEnd (last_of before)) end stands.tells) in
+    took ∙ fails-both Unsupported k offset' told (sym kind) (sym c.1.1 ∙ (ap (λ s. s.at) (same_Some c.0 b (sym c.1.0 ∙ last)) ∙ sym offset))
+judged-from_faulty before w os r p at k told stands (is_deep sound' t stepped no_tail nests deep took) (wrong_tail sound start_is tail b last kind offset) =
     clash (is_wrong_tail before p) tail ((tests before w os r p stands).tail ∙ no_tail)
-judged-from_faulty before w os r p at k told stands (is_next sound' no_tail room v qs q follows) (wrong_tail sound start_is tail b last kind place) =
+judged-from_faulty before w os r p at k told stands (is_next sound' no_tail room v qs q follows) (wrong_tail sound start_is tail b last kind offset) =
     clash (is_wrong_tail before p) tail ((tests before w os r p stands).tail ∙ no_tail)
-judged-from_faulty before w os r p at k told stands (is_unread_part is took) (too_deep sound start_is tail nests deep kind place) =
+judged-from_faulty before w os r p at k told stands (is_unread_part is took) (too_deep sound start_is tail nests deep kind offset) =
     clash (is_faulty before p) (ap (is_faulty before) is) sound
-judged-from_faulty before w os r p at k told stands (is_out out took) (too_deep sound start_is tail nests deep kind place) =
+judged-from_faulty before w os r p at k told stands (is_out out took) (too_deep sound start_is tail nests deep kind offset) =
     clash (is_faulty before p) (or-right (is_unread p) (is_out_of_range before p) ((tests before w os r p stands).out ∙ out)) sound
-judged-from_faulty before w os r p at k told stands (is_misplaced sound' stuck took) (too_deep sound start_is tail nests deep kind place) =
+judged-from_faulty before w os r p at k told stands (is_misplaced sound' stuck took) (too_deep sound start_is tail nests deep kind offset) =
     absurd (no-step before p (bare w os r) stands.ran stuck start_is)
-judged-from_faulty before w os r p at k told stands (is_wrong sound' t stepped place' end no_list took) (too_deep sound start_is tail nests deep kind place) =
+judged-from_faulty before w os r p at k told stands (is_wrong sound' t stepped offset' end no_list took) (too_deep sound start_is tail nests deep kind offset) =
     clash (is_wrong_tail before p) ((tests before w os r p stands).tail ∙ wrong-tail (end_bar (end_at r os)) p (ap end_bar end) no_list) tail
-judged-from_faulty before w os r p at k told stands (is_deep sound' t stepped no_tail nests' deep' took) (too_deep sound start_is tail nests deep kind place) =
-    took ∙ fails-both TooDeep k at told (sym kind) (sym place)
-judged-from_faulty before w os r p at k told stands (is_next sound' no_tail room v qs q follows) (too_deep sound start_is tail nests deep kind place) =
+judged-from_faulty before w os r p at k told stands (is_deep sound' t stepped no_tail nests' deep' took) (too_deep sound start_is tail nests deep kind offset) =
+    took ∙ fails-both TooDeep k at told (sym kind) (sym offset)
+judged-from_faulty before w os r p at k told stands (is_next sound' no_tail room v qs q follows) (too_deep sound start_is tail nests deep kind offset) =
     absurd (omega (arith, room (sym (tests before w os r p stands).nests ∙ nests), deep, (tests before w os r p stands).deep))

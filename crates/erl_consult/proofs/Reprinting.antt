@@ -13,7 +13,7 @@ use Rattle.std.proofs.lemmas.Str.Parse.{digit_from_value}
 use Rattle.std.proofs.lemmas.Fmt.{decimal_is_IsNumeral}
 use borrow.Author.Tests.{ltb-true}
 use lib.Utf8.{scalar, scalars, encode, encodes, low_scalar}
-use Rattle.erl_chars.specs.Cursor.{byte_count, place}
+use Rattle.erl_chars.specs.Cursor.{byte_count, offset}
 use Rattle.erl_chars.specs.Gaps.{after_gap}
 use Rattle.erl_scan.specs.declared.token.Token.{Token}
 use Rattle.erl_scan.specs.declared.token.Token.TheVariants.{Integer, Atom, String, Mark as MarkOf, Dot}
@@ -217,7 +217,7 @@ pub record Reading (total : ℕ) (cs rest : List ℕ) (ps : List Part) : Type 0 
 
 one : (total : ℕ) (cs rest : List ℕ) (t : Token) → Comes (after_gap cs) (token t rest) → Reading total cs rest (part_of t ∷ [])
 one total cs rest t comes = record {
-  spots = record { what = t; at = place total (after_gap cs) } ∷ [];
+  spots = record { what = t; at = offset total (after_gap cs) } ∷ [];
   read = (rest, comes, refl, refl);
   are = refl;
 }

@@ -1,4 +1,4 @@
--- The grammar as a machine from token to token, without places and without limits: what it takes is what a text begins
+-- The grammar as a machine from token to token, without offsets and without limits: what it takes is what a text begins
 -- with.
 use Rattle.std.proofs.Common.{◌≡◌, ℕ, Bool, true, false, List, [], ◌∷◌, ◌++◌, Some, None, refl, ap, sym, subst, ◌∙◌, append_assoc}
 use Rattle.std.specs.Prelude.{Option}

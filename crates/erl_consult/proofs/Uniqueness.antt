@@ -3,7 +3,7 @@ use Rattle.std.proofs.Common.{◌≡◌, ℕ, zero, suc, ◌<◌, Bool, true, fa
 use Rattle.std.specs.Str.{chars}
 use Rattle.std.proofs.lemmas.Str.{utf8_valid_len-IsValidUpTo}
 use Rattle.erl_scan.specs.declared.error.Fault.{Fault}
-use Rattle.erl_chars.specs.Cursor.{byte_count, place}
+use Rattle.erl_chars.specs.Cursor.{byte_count, offset}
 use Rattle.erl_chars.specs.Gaps.{after_gap}
 use Rattle.erl_scan.specs.declared.token.Spot.{Spot}
 use Rattle.erl_scan.specs.Tokens.{Next, ends, token, fault, Comes, Reads, ComesOne, ReadsOne}
@@ -13,9 +13,9 @@ use Rattle.erl_consult.specs.Faults.{spot_part, parts, IsFaulty, IsCutShort, Nex
 use Rattle.erl_consult.specs.Steps.{nothing_seen, nothing, goes, end_of}
 use Rattle.erl_consult.proofs.Judged.{judged}
 use Rattle.erl_consult.proofs.Judging.{show}
-use Rattle.erl_consult.proofs.Reached.{take_all, same_goes, same_kind, same_place}
+use Rattle.erl_consult.proofs.Reached.{take_all, same_goes, same_kind, same_offset}
 use Rattle.erl_consult.proofs.Taking.{take_text}
-use Rattle.erl_consult.proofs.Ends.{end-from_cut, fails-from_faulty, same_cut_kind, same_cut_place, done-cut, stands-from_sound, stands-from_taken, sound-from_taken}
+use Rattle.erl_consult.proofs.Ends.{end-from_cut, fails-from_faulty, same_cut_kind, same_cut_offset, done-cut, stands-from_sound, stands-from_taken, sound-from_taken}
 
 -- Lengths
 
@@ -48,7 +48,7 @@ record Upto (total : ℕ) (cs : List ℕ) (xs : List Spot) (y : Spot) : Type 0 w
   rest : List ℕ
   read : Reads total cs xs left
   comes : Comes (after_gap left) (token y.what rest)
-  at : y.at ≡ place total (after_gap left)
+  at : y.at ≡ offset total (after_gap left)
 
 upto : (total : ℕ) (cs : List ℕ) (xs : List Spot) (y : Spot) (zs : List Spot) (end : List ℕ) → Reads total cs (xs ++ y ∷ zs) end → Upto total cs xs y
 upto total cs [] y zs end (rest, comes, at, later) = record { left = cs; rest = rest; read = refl; comes = comes; at = at }
@@ -56,7 +56,7 @@ upto total cs (x ∷ xs) y zs end (rest, comes, at, later) =
     let u = upto total rest xs y zs end later in
     record { left = u.left; rest = u.rest; read = (rest, comes, at, u.read); comes = u.comes; at = u.at }
 
--- a list at one of its places
+-- a list at one of its offsets
 record At (n : ℕ) (ys : List Spot) : Type 0 where
   front : List Spot
   here : Spot
@@ -64,11 +64,11 @@ record At (n : ℕ) (ys : List Spot) : Type 0 where
   split : ys ≡ front ++ here ∷ back
   size : length front ≡ n
 
-at_place : (n : ℕ) (ys : List Spot) → n < length ys → At n ys
-at_place n [] less = absurd (omega (arith, less))
-at_place zero (y ∷ ys) less = record { front = []; here = y; back = ys; split = refl; size = refl }
-at_place (suc n) (y ∷ ys) less =
-    let a = at_place n ys (omega (arith, less)) in
+at_index : (n : ℕ) (ys : List Spot) → n < length ys → At n ys
+at_index n [] less = absurd (omega (arith, less))
+at_index zero (y ∷ ys) less = record { front = []; here = y; back = ys; split = refl; size = refl }
+at_index (suc n) (y ∷ ys) less =
+    let a = at_index n ys (omega (arith, less)) in
     record { front = y ∷ a.front; here = a.here; back = a.back; split = ap (λ t. y ∷ t) a.split; size = omega (arith, a.size) }
 
 -- what the longer of two readings has behind the shorter
@@ -78,11 +78,11 @@ record Further (total : ℕ) (ys xs : List Spot) (left : List ℕ) : Type 0 wher
   rest : List ℕ
   split : ys ≡ xs ++ here ∷ back
   comes : Comes (after_gap left) (token here.what rest)
-  at : here.at ≡ place total (after_gap left)
+  at : here.at ≡ offset total (after_gap left)
 
 further : ReadsOne → (total : ℕ) (cs : List ℕ) (xs ys : List Spot) (left end : List ℕ) → Reads total cs xs left → Reads total cs ys end → length xs < length ys → Further total ys xs left
 further reads total cs xs ys left end shorter longer less =
-    let a = at_place (length xs) ys less in
+    let a = at_index (length xs) ys less in
     let u = upto total cs a.front a.here a.back end (subst (λ t. Reads total cs t end) a.split longer) in
     let same = reads total cs a.front xs u.left left u.read shorter a.size in
     record {
@@ -91,49 +91,49 @@ further reads total cs xs ys left end shorter longer less =
       rest = u.rest;
       split = a.split ∙ ap (λ t. t ++ a.here ∷ a.back) same.0;
       comes = subst (λ l. Comes (after_gap l) (token a.here.what u.rest)) same.1 u.comes;
-      at = u.at ∙ ap (λ l. place total (after_gap l)) same.1;
+      at = u.at ∙ ap (λ l. offset total (after_gap l)) same.1;
     }
 
 -- Faults
 
 -- what comes next is not faulty twice over
-one_fault : (cs : List ℕ) (before : List Spot) (here : List ℕ) (next : Next) (k l : Fault) (told place' : ℕ) → NoneFaults before → NextFaults cs before here next k told → NextFaults cs before here next l place' → (k ≡ l) × (told ≡ place')
-one_fault cs before here ends k l told place' sound first second =
+one_fault : (cs : List ℕ) (before : List Spot) (here : List ℕ) (next : Next) (k l : Fault) (told offset' : ℕ) → NoneFaults before → NextFaults cs before here next k told → NextFaults cs before here next l offset' → (k ≡ l) × (told ≡ offset')
+one_fault cs before here ends k l told offset' sound first second =
     let at = stands-from_sound before sound in
     let cut1 = end-from_cut before at.whole at.brackets at.last (byte_count cs) k told at.stands first in
-    let cut2 = end-from_cut before at.whole at.brackets at.last (byte_count cs) l place' at.stands second in
-    (same_cut_kind k l told place' (sym cut1 ∙ cut2), same_cut_place k l told place' (sym cut1 ∙ cut2))
-one_fault cs before here (token t rest) k l told place' sound first second =
+    let cut2 = end-from_cut before at.whole at.brackets at.last (byte_count cs) l offset' at.stands second in
+    (same_cut_kind k l told offset' (sym cut1 ∙ cut2), same_cut_offset k l told offset' (sym cut1 ∙ cut2))
+one_fault cs before here (token t rest) k l told offset' sound first second =
     let at = stands-from_sound before sound in
-    let b : Spot = record { what = t; at = place (byte_count cs) here } in
+    let b : Spot = record { what = t; at = offset (byte_count cs) here } in
     let fail1 = fails-from_faulty before at.whole at.brackets at.last b k told at.stands first in
-    let fail2 = fails-from_faulty before at.whole at.brackets at.last b l place' at.stands second in
-    (same_kind k l told place' (sym fail1 ∙ fail2), same_place k l told place' (sym fail1 ∙ fail2))
-one_fault cs before here (fault kind at) k l told place' sound first second = (first.0 ∙ sym second.0, first.1 ∙ sym second.1)
+    let fail2 = fails-from_faulty before at.whole at.brackets at.last b l offset' at.stands second in
+    (same_kind k l told offset' (sym fail1 ∙ fail2), same_offset k l told offset' (sym fail1 ∙ fail2))
+one_fault cs before here (fault kind at) k l told offset' sound first second = (first.0 ∙ sym second.0, first.1 ∙ sym second.1)
 
 -- no fault stands before the first
 no_earlier : ComesOne → ReadsOne → (cs : List ℕ) (k : Fault) (told : ℕ) (ys : List Spot) (end : List ℕ) → (f : FaultsFirst cs k told) → Reads (byte_count cs) cs ys end → NoneFaults ys → length f.before < length ys → ⊥
 no_earlier comes reads cs k told ys end f read sound less =
     let more = further reads (byte_count cs) cs f.before ys f.reached.left end f.reached.read read less in
     let next : f.next ≡ token more.here.what more.rest = comes f.here f.next (token more.here.what more.rest) f.reached.comes (subst (λ h. Comes h (token more.here.what more.rest)) (sym f.reached.gap) more.comes) in
-    let faulty : IsFaulty f.before (spot_part more.here) (place (byte_count cs) f.here) k told = subst (λ n. NextFaults cs f.before f.here n k told) next f.faults in
-    sound f.before more.back more.here more.split k told (subst (λ at. IsFaulty f.before (spot_part more.here) at k told) (ap (place (byte_count cs)) f.reached.gap ∙ sym more.at) faulty)
+    let faulty : IsFaulty f.before (spot_part more.here) (offset (byte_count cs) f.here) k told = subst (λ n. NextFaults cs f.before f.here n k told) next f.faults in
+    sound f.before more.back more.here more.split k told (subst (λ at. IsFaulty f.before (spot_part more.here) at k told) (ap (offset (byte_count cs)) f.reached.gap ∙ sym more.at) faulty)
 
-first_fault : ComesOne → ReadsOne → (cs : List ℕ) (k l : Fault) (told place' : ℕ) → FaultsFirst cs k told → FaultsFirst cs l place' → (k ≡ l) × (told ≡ place')
-first_fault comes reads cs k l told place' f g =
+first_fault : ComesOne → ReadsOne → (cs : List ℕ) (k l : Fault) (told offset' : ℕ) → FaultsFirst cs k told → FaultsFirst cs l offset' → (k ≡ l) × (told ≡ offset')
+first_fault comes reads cs k l told offset' f g =
     by (order (length f.before) (length g.before))
   where
-    by : (length f.before < length g.before) ⊎ ((length g.before < length f.before) ⊎ (length f.before ≡ length g.before)) → (k ≡ l) × (told ≡ place')
+    by : (length f.before < length g.before) ⊎ ((length g.before < length f.before) ⊎ (length f.before ≡ length g.before)) → (k ≡ l) × (told ≡ offset')
     by (inl less) =
         absurd (no_earlier comes reads cs k told g.before g.reached.left f g.reached.read g.first less)
     by (inr (inl less)) =
-        absurd (no_earlier comes reads cs l place' f.before f.reached.left g f.reached.read f.first less)
+        absurd (no_earlier comes reads cs l offset' f.before f.reached.left g f.reached.read f.first less)
     by (inr (inr same)) =
         let read = reads (byte_count cs) cs f.before g.before f.reached.left g.reached.left f.reached.read g.reached.read same in
         let here : f.here ≡ g.here = f.reached.gap ∙ (ap after_gap read.1 ∙ sym g.reached.gap) in
         let next : f.next ≡ g.next = comes f.here f.next g.next f.reached.comes (subst (λ h. Comes h g.next) (sym here) g.reached.comes) in
-        let second : NextFaults cs f.before f.here f.next l place' = subst (λ b. NextFaults cs b f.here f.next l place') (sym read.0) (subst (λ h. NextFaults cs g.before h f.next l place') (sym here) (subst (λ n. NextFaults cs g.before g.here n l place') (sym next) g.faults)) in
-        one_fault cs f.before f.here f.next k l told place' f.first f.faults second
+        let second : NextFaults cs f.before f.here f.next l offset' = subst (λ b. NextFaults cs b f.here f.next l offset') (sym read.0) (subst (λ h. NextFaults cs g.before h f.next l offset') (sym here) (subst (λ n. NextFaults cs g.before g.here n l offset') (sym next) g.faults)) in
+        one_fault cs f.before f.here f.next k l told offset' f.first f.faults second
 
 -- Texts
 
@@ -186,12 +186,12 @@ no_fault comes reads bytes ts k told text f =
 
 -- Bytes
 
-one_refusal : ComesOne → ReadsOne → (bytes : List ℕ) (k l : Fault) (told place' : ℕ) → IsRefused bytes k told → IsRefused bytes l place' → (k ≡ l) × (told ≡ place')
-one_refusal comes reads bytes k l told place' (not_utf8 bad k_is up) (not_utf8 bad' l_is up') =
-    (k_is ∙ sym l_is, sym (utf8_valid_len-IsValidUpTo bytes told up) ∙ utf8_valid_len-IsValidUpTo bytes place' up')
-one_refusal comes reads bytes k l told place' (not_utf8 bad k_is up) (faults good f) = absurd (bad good)
-one_refusal comes reads bytes k l told place' (faults good f) (not_utf8 bad l_is up) = absurd (bad good)
-one_refusal comes reads bytes k l told place' (faults good f) (faults good' g) = first_fault comes reads (chars bytes) k l told place' f g
+one_refusal : ComesOne → ReadsOne → (bytes : List ℕ) (k l : Fault) (told offset' : ℕ) → IsRefused bytes k told → IsRefused bytes l offset' → (k ≡ l) × (told ≡ offset')
+one_refusal comes reads bytes k l told offset' (not_utf8 bad k_is up) (not_utf8 bad' l_is up') =
+    (k_is ∙ sym l_is, sym (utf8_valid_len-IsValidUpTo bytes told up) ∙ utf8_valid_len-IsValidUpTo bytes offset' up')
+one_refusal comes reads bytes k l told offset' (not_utf8 bad k_is up) (faults good f) = absurd (bad good)
+one_refusal comes reads bytes k l told offset' (faults good f) (not_utf8 bad l_is up) = absurd (bad good)
+one_refusal comes reads bytes k l told offset' (faults good f) (faults good' g) = first_fault comes reads (chars bytes) k l told offset' f g
 
 not_both : ComesOne → ReadsOne → (bytes : List ℕ) (ts : Trees) (k : Fault) (told : ℕ) → IsTextOf bytes ts → IsRefused bytes k told → ⊥
 not_both comes reads bytes ts k told text (not_utf8 bad k_is up) = bad text.utf8

@@ -6,7 +6,7 @@ use Rattle.std.specs.Str.{chars, IsUtf8, IsValidUpTo}
 use Rattle.erl_scan.specs.declared.error.Fault.{Fault}
 use Rattle.erl_scan.specs.declared.error.Fault.TheVariants.{NotUtf8, Unclosed, IntegerRange, Unsupported, MissingDot, TooDeep}
 use Rattle.erl_scan.specs.declared.error.Fault.TheVariants.{Syntax}
-use Rattle.erl_chars.specs.Cursor.{byte_count, place}
+use Rattle.erl_chars.specs.Cursor.{byte_count, offset}
 use Rattle.erl_chars.specs.Gaps.{after_gap}
 use Rattle.erl_scan.specs.declared.token.Spot.{Spot}
 use Rattle.erl_scan.specs.Tokens.{Next, ends, token, fault, Reads, Reaches}
@@ -15,7 +15,7 @@ use Rattle.erl_term.specs.RoundTrip.{deepest}
 use Rattle.erl_consult.specs.Grammar.{Part, number, minus, plus, string, open_tuple, close_tuple, open_list, close_list, bar}
 use Rattle.erl_consult.specs.Grammar.{dot, unread, part_of, IsText, IsStart}
 
--- The tokens before a place
+-- The tokens before an offset
 
 abbrev pub spot_part : Spot → Part
 spot_part s = part_of s.what
@@ -98,12 +98,12 @@ abbrev pub is_faulty : List Spot → Part → Bool
 is_faulty before p = is_unread p || is_out_of_range before p
 
 -- where an integer is told that is out of range: at the sign before it, else at itself
-abbrev pub range_place_by : Option Spot → ℕ → ℕ
-range_place_by None at = at
-range_place_by (Some s) at = if is_sign (spot_part s) then s.at else at
+abbrev pub range_offset_by : Option Spot → ℕ → ℕ
+range_offset_by None at = at
+range_offset_by (Some s) at = if is_sign (spot_part s) then s.at else at
 
-abbrev pub range_place : List Spot → ℕ → ℕ
-range_place before at = range_place_by (last_of before) at
+abbrev pub range_offset : List Spot → ℕ → ℕ
+range_offset before at = range_offset_by (last_of before) at
 
 -- what a tail may begin with, since it has to be a list
 abbrev pub begins_list : Part → Bool
@@ -127,7 +127,7 @@ pub data IsFaulty (before : List Spot) (p : Part) (at : ℕ) (kind : Fault) (tol
   -- Erlang has it, but it is not read
   not_read : p ≡ unread → kind ≡ Unsupported → told ≡ at → IsFaulty before p at kind told
   -- an integer out of range
-  out_of_range : is_out_of_range before p ≡ true → kind ≡ IntegerRange → told ≡ range_place before at →
+  out_of_range : is_out_of_range before p ≡ true → kind ≡ IntegerRange → told ≡ range_offset before at →
       IsFaulty before p at kind told
   -- no text goes on so
   misplaced : is_faulty before p ≡ false → (IsStart (parts before ++ p ∷ []) → ⊥) → kind ≡ Syntax → told ≡ at →
@@ -154,8 +154,8 @@ pub data IsCutShort (before : List Spot) (total : ℕ) (kind : Fault) (told : �
 -- what comes next is a fault: a token that is faulty by itself, one that is faulty where it stands, or the end
 abbrev pub NextFaults : List ℕ → List Spot → List ℕ → Next → Fault → ℕ → Type 0
 NextFaults cs before here ends kind told = IsCutShort before (byte_count cs) kind told
-NextFaults cs before here (token t rest) kind told = IsFaulty before (part_of t) (place (byte_count cs) here) kind told
-NextFaults cs before here (fault k at) kind told = (kind ≡ k) × (told ≡ place (byte_count cs) at)
+NextFaults cs before here (token t rest) kind told = IsFaulty before (part_of t) (offset (byte_count cs) here) kind told
+NextFaults cs before here (fault k at) kind told = (kind ≡ k) × (told ≡ offset (byte_count cs) at)
 
 -- none of these tokens is faulty where it stands
 abbrev pub NoneFaults : List Spot → Type 0
@@ -194,7 +194,7 @@ pub data IsJudged (bytes : List ℕ) : Type 0 where
 -- The law: all bytes are a text of one list of terms, or refused for one reason at one byte, and never both.
 pub record OneReading (bytes : List ℕ) : Type 0 where
   pub terms : (ts us : Trees) → IsTextOf bytes ts → IsTextOf bytes us → ts ≡ us
-  pub faults : (kind other : Fault) → (told place : ℕ) → IsRefused bytes kind told → IsRefused bytes other place →
-      (kind ≡ other) × (told ≡ place)
+  pub faults : (kind other : Fault) → (told offset : ℕ) → IsRefused bytes kind told → IsRefused bytes other offset →
+      (kind ≡ other) × (told ≡ offset)
   pub apart : (ts : Trees) → (kind : Fault) → (told : ℕ) → IsTextOf bytes ts → IsRefused bytes kind told → ⊥
   pub judged : IsJudged bytes

@@ -63,7 +63,7 @@ with_frame s f = record { whole = s.whole; open_ones = f ∷ s.open_ones; last =
 abbrev pub Gives : {A : Type 0} → Outcome → Seen → Result A ReadError → Type 0
 Gives outcome new result = MatchResult result (λ _. outcome ≡ goes new) (λ e. (e.kind ≡ refused) ⊎ (outcome ≡ fails e.kind e.at))
 
--- a call finds this, as its value is seen; where there is none that is a fault of syntax at this place; or memory was
+-- a call finds this, as its value is seen; where there is none that is a fault of syntax at this offset; or memory was
 -- refused
 abbrev pub Finds : {A B : Type 0} → Option B → (A → B) → ℕ → Result A ReadError → Type 0
 Finds found as_seen at result =

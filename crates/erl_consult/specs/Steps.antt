@@ -69,10 +69,10 @@ if_room open_ones at outcome = if nat_lt (length open_ones) deepest then outcome
 abbrev pub take_number_by : Seen → Last → ℕ → ℕ → Outcome
 take_number_by s nothing n at =
     if nat_lt n (2 ^ 63) then begins s.open_ones (with_last s (term (int (pos n)))) else fails IntegerRange at
-take_number_by s (sign true place) n at =
-    if nat_le n (2 ^ 63) then with_last s (term (int (neg_ℤ (pos n)))) else fails IntegerRange place
-take_number_by s (sign false place) n at =
-    if nat_lt n (2 ^ 63) then with_last s (term (int (pos n))) else fails IntegerRange place
+take_number_by s (sign true offset) n at =
+    if nat_le n (2 ^ 63) then with_last s (term (int (neg_ℤ (pos n)))) else fails IntegerRange offset
+take_number_by s (sign false offset) n at =
+    if nat_lt n (2 ^ 63) then with_last s (term (int (pos n))) else fails IntegerRange offset
 take_number_by s (term t) n at = if nat_lt n (2 ^ 63) then fails Syntax at else fails IntegerRange at
 take_number_by s (text ts) n at = if nat_lt n (2 ^ 63) then fails Syntax at else fails IntegerRange at
 
@@ -80,20 +80,20 @@ take_number_by s (text ts) n at = if nat_lt n (2 ^ 63) then fails Syntax at else
 
 abbrev pub take_sign_by : Seen → Last → Bool → ℕ → Outcome
 take_sign_by s nothing is_minus at = begins s.open_ones (with_last s (sign is_minus at))
-take_sign_by s (sign m place) is_minus at = fails Syntax at
+take_sign_by s (sign m offset) is_minus at = fails Syntax at
 take_sign_by s (term t) is_minus at = fails Syntax at
 take_sign_by s (text ts) is_minus at = fails Syntax at
 
 abbrev pub take_name_by : Seen → Last → List ℕ → ℕ → Outcome
 take_name_by s nothing cs at = begins s.open_ones (with_last s (term (atom cs)))
-take_name_by s (sign m place) cs at = fails Syntax at
+take_name_by s (sign m offset) cs at = fails Syntax at
 take_name_by s (term t) cs at = fails Syntax at
 take_name_by s (text ts) cs at = fails Syntax at
 
 -- a string, which goes on where one was read
 abbrev pub take_string_by : Seen → Last → List ℕ → ℕ → Outcome
 take_string_by s nothing cs at = if_room s.open_ones at (with_last s (text (integers cs)))
-take_string_by s (sign m place) cs at = fails Syntax at
+take_string_by s (sign m offset) cs at = fails Syntax at
 take_string_by s (term t) cs at = fails Syntax at
 take_string_by s (text ts) cs at = with_last s (text (append_trees ts (integers cs)))
 
@@ -110,20 +110,20 @@ opened_by s bracket at =
 
 abbrev pub take_open_tuple_by : Seen → Last → ℕ → Outcome
 take_open_tuple_by s nothing at = begins s.open_ones (opened_by s of_tuple at)
-take_open_tuple_by s (sign m place) at = fails Syntax at
+take_open_tuple_by s (sign m offset) at = fails Syntax at
 take_open_tuple_by s (term t) at = fails Syntax at
 take_open_tuple_by s (text ts) at = fails Syntax at
 
 abbrev pub take_open_list_by : Seen → Last → ℕ → Outcome
 take_open_list_by s nothing at = opened_by s of_list at
-take_open_list_by s (sign m place) at = fails Syntax at
+take_open_list_by s (sign m offset) at = fails Syntax at
 take_open_list_by s (term t) at = fails Syntax at
 take_open_list_by s (text ts) at = fails Syntax at
 
 -- the term that was read whole, if one was
 abbrev pub term_of_last : Last → Option Tree
 term_of_last nothing = None
-term_of_last (sign m place) = None
+term_of_last (sign m offset) = None
 term_of_last (term t) = Some t
 term_of_last (text ts) = Some (list ts)
 
@@ -139,7 +139,7 @@ closed_to s fs t = goes (record { whole = s.whole; open_ones = fs; last = term t
 abbrev pub elements_at : Trees → Last → Option Trees
 elements_at none nothing = Some none
 elements_at (more u us) nothing = None
-elements_at ts (sign m place) = None
+elements_at ts (sign m offset) = None
 elements_at ts (term t) = Some (with_element ts t)
 elements_at ts (text us) = Some (with_element ts (list us))
 
@@ -214,7 +214,7 @@ abbrev pub take_dot_by : Seen → List Frame → ℕ → Outcome
 take_dot_by s [] at = dot_behind s (term_of_last s.last) at
 take_dot_by s (f ∷ fs) at = fails Syntax at
 
--- a token at a place
+-- a token at an offset
 abbrev pub take_part : Seen → Part → ℕ → Outcome
 take_part s (number n) at = take_number_by s s.last n at
 take_part s minus at = take_sign_by s s.last true at
@@ -239,7 +239,7 @@ pub data Ending : Type 0 where
 abbrev pub end_by : Trees → List Frame → Last → ℕ → Ending
 end_by whole (f ∷ fs) last total = cut_short Unclosed f.at
 end_by whole [] nothing total = done whole
-end_by whole [] (sign m place) total = cut_short Syntax place
+end_by whole [] (sign m offset) total = cut_short Syntax offset
 end_by whole [] (term t) total = cut_short MissingDot total
 end_by whole [] (text ts) total = cut_short MissingDot total
 

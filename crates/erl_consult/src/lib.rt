@@ -6,7 +6,7 @@
 //! # What is proved
 //!
 //! - [`read_terms`] gives the terms exactly of the texts of terms, and of every other bytes the first fault, at its
-//!   place, lack of memory aside. The grammar is one of whole token lists (`IsText`), and the first fault is that of
+//!   offset, lack of memory aside. The grammar is one of whole token lists (`IsText`), and the first fault is that of
 //!   the first token that is faulty by itself or that no text has behind the tokens before it, or the end
 //!   (`IsRefused`). [`texts_read_one_way`]: all bytes are a text of one list of terms, or refused for one reason at one
 //!   byte, and never both. [`first_fault_is_first`]: no text within the limits has a faulty token behind the tokens

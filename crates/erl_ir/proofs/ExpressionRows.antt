@@ -17,7 +17,7 @@ use Rattle.erl_ir.proofs.PatternRows.{pattern_of, pattern_of-pat}
 -- the way back
 abbrev pub expression_of : Expr → Expression
 expression_of (literal t) = variants.Literal (term_of t)
-expression_of (variable place) = variants.Variable place
+expression_of (variable index) = variants.Variable index
 expression_of (apply op es) = variants.Apply op es
 expression_of (match p body) = variants.Match (pattern_of p) body
 expression_of (block body) = variants.Block body
@@ -38,7 +38,7 @@ clauses_of (clause ps gs es cs) = record { patterns = ps; guard = gs; body = es 
 
 expression_of-expr : (e : Expression) → expression_of (expr e) ≡ e
 expression_of-expr (variants.Literal t) = ap variants.Literal (term_of-tree t)
-expression_of-expr (variants.Variable place) = refl
+expression_of-expr (variants.Variable index) = refl
 expression_of-expr (variants.Apply op es) = refl
 expression_of-expr (variants.Match p body) = ap (λ q. variants.Match q body) (pattern_of-pat p)
 expression_of-expr (variants.Block body) = refl

@@ -67,7 +67,7 @@ pub moved : (es : List (Key × Function)) (e : Key × Function) (rest : List (Ke
 moved [] e rest = refl
 moved (d ∷ ds) e rest = ap (λ fs. d ∷ fs) (moved ds e rest)
 
--- Two lists, passed place by place
+-- Two lists, passed index by index
 
 step : {A : Type 0} (xs ys : List A) (i : ℕ) → take i xs ≡ take i ys → slice_get xs i ≡ slice_get ys i → take (suc i) xs ≡ take (suc i) ys
 step [] [] i so_far here = refl

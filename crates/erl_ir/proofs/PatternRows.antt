@@ -10,7 +10,7 @@ use Rattle.erl_ir.specs.PatternForms.{pat, pats}
 -- the way back
 abbrev pub pattern_of : Pat → Pattern
 pattern_of (literal t) = patterns.Literal (term_of t)
-pattern_of (variable place) = patterns.Variable place
+pattern_of (variable index) = patterns.Variable index
 pattern_of anything = patterns.Anything
 pattern_of (tuple ps) = patterns.Tuple ps
 pattern_of (list ps) = patterns.List ps
@@ -23,7 +23,7 @@ patterns_of (more p ps) = pattern_of p ∷ patterns_of ps
 
 pub pattern_of-pat : (p : Pattern) → pattern_of (pat p) ≡ p
 pattern_of-pat (patterns.Literal t) = ap patterns.Literal (term_of-tree t)
-pattern_of-pat (patterns.Variable place) = refl
+pattern_of-pat (patterns.Variable index) = refl
 pattern_of-pat patterns.Anything = refl
 pattern_of-pat (patterns.Tuple ps) = refl
 pattern_of-pat (patterns.List ps) = refl

@@ -209,7 +209,7 @@ chars-parts (c ∷ cs) = tt
 
 pub pat-parts : (p : Pat) → IsNoNumber (pat_code p)
 pat-parts (pattern.literal t) = tt
-pat-parts (pattern.variable place) = tt
+pat-parts (pattern.variable index) = tt
 pat-parts pattern.anything = tt
 pat-parts (pattern.tuple ps) = tt
 pat-parts (pattern.list ps) = tt
@@ -222,7 +222,7 @@ pats-parts (pattern.more p ps) = tt
 
 pub expr-parts : (e : Expr) → IsNoNumber (expr_code e)
 expr-parts (expression.literal t) = tt
-expr-parts (expression.variable place) = tt
+expr-parts (expression.variable index) = tt
 expr-parts (expression.apply op es) = tt
 expr-parts (expression.match p es) = tt
 expr-parts (expression.block es) = tt

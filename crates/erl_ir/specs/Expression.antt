@@ -10,7 +10,7 @@ mutual
   pub data Expr : Type 0 where
     -- a literal
     literal : Tree → Expr
-    -- a variable, by its place in the bindings
+    -- a variable, by its index in the bindings
     variable : ℕ → Expr
     -- What is made of the values of all its operands: a tuple, a list, an operator, a call. (Reference Manual, Expression
     -- Evaluation: all subexpressions are evaluated before an expression itself is evaluated.)
@@ -50,7 +50,7 @@ abbrev mutual
   -- guards and rows are no level of their own.
   pub expr_depth : Expr → ℕ
   expr_depth (literal t) = 0
-  expr_depth (variable place) = 0
+  expr_depth (variable index) = 0
   expr_depth (apply op es) = 1 + exprs_depth es
   expr_depth (match p body) = 1 + max (pat_depth p) (exprs_depth body)
   expr_depth (block body) = 1 + exprs_depth body

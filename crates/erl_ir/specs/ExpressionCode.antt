@@ -46,7 +46,7 @@ module _ (operations : Coded Operation) where
   abbrev mutual
     pub expr_code : Expr → Gv
     expr_code (literal t) = gcons (gnum 0) (tree_code t)
-    expr_code (variable place) = gcons (gnum 1) (gnum place)
+    expr_code (variable index) = gcons (gnum 1) (gnum index)
     expr_code (apply op es) = gcons (gnum 2) (gcons (operations.code op) (exprs_code es))
     expr_code (match p body) = gcons (gnum 3) (gcons (pat_code p) (exprs_code body))
     expr_code (block body) = gcons (gnum 4) (exprs_code body)

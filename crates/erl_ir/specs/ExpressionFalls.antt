@@ -12,7 +12,7 @@ use Rattle.erl_ir.specs.Heights.{expr_height, exprs_height, guards_height, claus
 
 pub deep-Expression_le-height : (e : Expression) → deep-Expression e ≤ expr_height (expr e)
 deep-Expression_le-height (Literal t) = omega arith
-deep-Expression_le-height (Variable place) = omega arith
+deep-Expression_le-height (Variable index) = omega arith
 deep-Expression_le-height (Apply op es) = omega arith
 deep-Expression_le-height (Match p body) = omega arith
 deep-Expression_le-height (Block body) = omega arith

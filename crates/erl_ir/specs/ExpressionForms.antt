@@ -11,7 +11,7 @@ use Rattle.erl_ir.specs.Expression.{none, more, no_guards, guard, no_clauses, cl
 
 abbrev pub expr : Expression → Expr
 expr (variants.Literal t) = literal (tree t)
-expr (variants.Variable place) = variable place
+expr (variants.Variable index) = variable index
 expr (variants.Apply op es) = apply op es
 expr (variants.Match p body) = match (pat p) body
 expr (variants.Block body) = block body

@@ -7,7 +7,7 @@ use Rattle.erl_ir.specs.Expression.{none, more, no_guards, guard, no_clauses, cl
 abbrev mutual
   pub expr_height : Expr → ℕ
   expr_height (literal t) = 0
-  expr_height (variable place) = 0
+  expr_height (variable index) = 0
   expr_height (apply op es) = 1 + exprs_height es
   expr_height (match p body) = 1 + exprs_height body
   expr_height (block body) = 1 + exprs_height body

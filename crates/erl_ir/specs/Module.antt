@@ -15,7 +15,7 @@ use Rattle.erl_ir.specs.declared.function.Definition.TheVariants as definition
 use Rattle.erl_ir.specs.declared.function.Function.{Function}
 use Rattle.erl_ir.specs.Pattern.{pats_depth}
 use Rattle.erl_ir.specs.Expression as expression
-use Rattle.erl_ir.specs.Expression.{Expr, Exprs, Guards, Clauses, exprs_depth, guards_depth, clauses_depth}
+use Rattle.erl_ir.specs.Expression.{Expr, Exprs, Guards, Clauses, guards_depth, clauses_depth}
 
 -- what a function is called by: its name, and how many arguments it has
 abbrev pub Key : Type 0
@@ -25,7 +25,7 @@ abbrev pub key_eq : Key → Key → Bool
 key_eq a b = bytes_eq a.0 b.0 && (a.1 == b.1)
 
 -- A module: its name, the term of its attribute `-vsn`, if it has one, and its functions in the order of the source.
--- Blanks, comments and places of the source are no part of it.
+-- Blanks, comments and offsets in the source are no part of it.
 pub record Forms : Type 0 where
   pub name : List ℕ
   pub vsn : Option Term
@@ -79,7 +79,7 @@ called_by (operation.Remote called name) = called ∷ []
 abbrev mutual
   pub called_in : Expr → List (List ℕ)
   called_in (expression.literal t) = []
-  called_in (expression.variable place) = []
+  called_in (expression.variable index) = []
   called_in (expression.apply op es) = called_by op ++ called_in_row es
   called_in (expression.match p body) = called_in_row body
   called_in (expression.block body) = called_in_row body

@@ -10,7 +10,7 @@ use Rattle.erl_ir.specs.declared.operation.BuiltIn.TheVariants as built_in
 use Rattle.erl_ir.specs.declared.operation.Operation.{Operation}
 use Rattle.erl_ir.specs.declared.operation.Operation.TheVariants as operation
 
--- an operator's number: its place among them
+-- an operator's number: its index among them
 abbrev pub operator_number : Operator → ℕ
 operator_number operator.Negate = 0
 operator_number operator.Not = 1
@@ -42,7 +42,7 @@ operator_of n =
     cond (eqb n 15) operator.Greater (cond (eqb n 16) operator.AtMost
     (cond (eqb n 17) operator.AtLeast (operator.Send))))))))))))))))))
 
--- the number of a function that is built in: its place among them
+-- the number of a function that is built in: its index among them
 abbrev pub built_in_number : BuiltIn → ℕ
 built_in_number built_in.Abs = 0
 built_in_number built_in.Element = 1

@@ -6,7 +6,7 @@ mutual
   pub data Pat : Type 0 where
     -- a literal, which an equal term matches
     literal : Tree → Pat
-    -- A variable, by its place in the bindings. One that is unbound is bound by the match; a bound one matches what it is
+    -- A variable, by its index in the bindings. One that is unbound is bound by the match; a bound one matches what it is
     -- bound to.
     variable : ℕ → Pat
     -- the anonymous variable `_`
@@ -34,7 +34,7 @@ abbrev mutual
   -- How deep a pattern is nested: 0 for a literal, a variable and `_`, else 1 and the greatest depth of its parts.
   pub pat_depth : Pat → ℕ
   pat_depth (literal t) = 0
-  pat_depth (variable place) = 0
+  pat_depth (variable index) = 0
   pat_depth anything = 0
   pat_depth (tuple ps) = 1 + pats_depth ps
   pat_depth (list ps) = 1 + pats_depth ps

@@ -9,7 +9,7 @@ use Rattle.std.specs.Prelude.{cond, eqb, refl}
 abbrev mutual
   pub pat_code : Pat → Gv
   pat_code (literal t) = gcons (gnum 0) (tree_code t)
-  pat_code (variable place) = gcons (gnum 1) (gnum place)
+  pat_code (variable index) = gcons (gnum 1) (gnum index)
   pat_code anything = gcons (gnum 2) gnil
   pat_code (tuple ps) = gcons (gnum 3) (pats_code ps)
   pat_code (list ps) = gcons (gnum 4) (pats_code ps)
@@ -40,7 +40,7 @@ abbrev mutual
 mutual
   pub pat_back-code : (p : Pat) → pat_back (pat_code p) ≡ p
   pat_back-code (literal t) = ap literal (tree_back-code t)
-  pat_back-code (variable place) = refl
+  pat_back-code (variable index) = refl
   pat_back-code anything = refl
   pat_back-code (tuple ps) = ap tuple (pats_back-code ps)
   pat_back-code (list ps) = ap list (pats_back-code ps)

@@ -10,7 +10,7 @@ use Rattle.erl_ir.specs.PatternForms.{pat, pats}
 
 pub deep-Pattern_le-depth : (p : Pattern) → deep-Pattern p ≤ pat_depth (pat p)
 deep-Pattern_le-depth (Literal t) = omega arith
-deep-Pattern_le-depth (Variable place) = omega arith
+deep-Pattern_le-depth (Variable index) = omega arith
 deep-Pattern_le-depth Anything = omega arith
 deep-Pattern_le-depth (Tuple ps) = omega arith
 deep-Pattern_le-depth (ListOf ps) = omega arith

@@ -7,7 +7,7 @@ use Rattle.erl_ir.specs.Pattern.{Pat, Pats, literal, variable, anything, tuple, 
 
 abbrev pub pat : Pattern → Pat
 pat (patterns.Literal t) = literal (tree t)
-pat (patterns.Variable place) = variable place
+pat (patterns.Variable index) = variable index
 pat patterns.Anything = anything
 pat (patterns.Tuple ps) = tuple ps
 pat (patterns.List ps) = list ps

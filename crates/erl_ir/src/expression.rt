@@ -15,7 +15,7 @@ use std::marker::Model;
 pub enum Expression {
     /// A literal.
     Literal(Term),
-    /// A variable, by its place in the bindings.
+    /// A variable, by its index in the bindings.
     Variable(u32),
     /// What is made of the values of all operands: a tuple, a list, an operator, a call.
     Apply(Operation, Expressions),

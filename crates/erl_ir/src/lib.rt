@@ -3,7 +3,7 @@
 //! A [`Module`] has a name, the term of its attribute `-vsn`, where it has one, and functions in the order of the source. A
 //! [`Function`] is found by its name and its number of arguments, is exported or not, and is defined by clauses, or by one
 //! clause whose body is one `receive` ([`Definition`]). What clauses are made of are [`Pattern`]s and [`Expression`]s: rows
-//! of them are [`Patterns`], [`Expressions`], [`Guard`] and [`Clauses`], and a body is a row too. Blanks, comments and places
+//! of them are [`Patterns`], [`Expressions`], [`Guard`] and [`Clauses`], and a body is a row too. Blanks, comments and offsets
 //! of the source are no part of a module.
 //!
 //! Contracts see a row as a `Pats`, `Exprs`, `Guards` or `Clauses` of `specs/`, and a module as its `Forms`. Copies of a

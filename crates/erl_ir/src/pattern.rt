@@ -12,7 +12,7 @@ use values::{Duplicate, Same};
 pub enum Pattern {
     /// A literal, which an equal term matches.
     Literal(Term),
-    /// A variable, by its place in the bindings. One that is unbound is bound by the match; a bound one matches what it is
+    /// A variable, by its index in the bindings. One that is unbound is bound by the match; a bound one matches what it is
     /// bound to.
     Variable(u32),
     /// The anonymous variable `_`.
@@ -125,7 +125,7 @@ impl Duplicate for Pattern {
     {
         match self {
             Pattern::Literal(term) => Ok(Pattern::Literal(term.copy(alloc)?)),
-            Pattern::Variable(place) => Ok(Pattern::Variable(*place)),
+            Pattern::Variable(index) => Ok(Pattern::Variable(*index)),
             Pattern::Anything => Ok(Pattern::Anything),
             Pattern::Tuple(row) => Ok(Pattern::Tuple(row.copy(alloc)?)),
             Pattern::List(row) => Ok(Pattern::List(row.copy(alloc)?)),

@@ -1,4 +1,4 @@
-pub mod Places
+pub mod Indices
 pub mod Texts
 pub mod Rows
 pub mod Walking

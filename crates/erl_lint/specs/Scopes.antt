@@ -20,9 +20,9 @@ Names = List (List ℕ)
 abbrev pub is_bound : Names → List ℕ → Bool
 is_bound bound name = list_any (bytes_eq name) bound
 
--- The place of a variable: how many were bound before it. One that is not bound would be bound behind all.
-abbrev pub place_of : Names → List ℕ → ℕ
-place_of bound name = position_or_len (bytes_eq name) bound
+-- The index of a variable: how many were bound before it. One that is not bound would be bound behind all.
+abbrev pub index_of : Names → List ℕ → ℕ
+index_of bound name = position_or_len (bytes_eq name) bound
 
 -- the bound ones with one more, each once
 abbrev pub with_name : Names → List ℕ → Names

@@ -1,10 +1,10 @@
 // Static faults, and which of them is told.
 ghost use Rattle.std.specs.Prelude.{◌≡◌};
-ghost use Rattle.erl_lint.specs.First.{place, sooner as sooner_of};
+ghost use Rattle.erl_lint.specs.First.{offset, sooner as sooner_of};
 
 use thiserror::Error;
 
-/// A static fault of a module, with its place: the first byte of a token in the source, from 0.
+/// A static fault of a module, with its offset: the first byte of a token in the source, from 0.
 #[derive(Clone, Copy, Debug, PartialEq, Eq, Error)]
 pub enum StaticFault {
     /// An earlier function has this name and as many arguments, or a function that is built in and called plainly has.
@@ -20,8 +20,8 @@ pub enum StaticFault {
 
 impl StaticFault {
     /// Where it stands: the first byte of its token in the source, from 0.
-    pub fn place(&self) -> usize
-        ensures { result ≡ place self.now }
+    pub fn offset(&self) -> usize
+        ensures { result ≡ offset self.now }
     {
         match self {
             StaticFault::DuplicateFunction(at)
@@ -31,12 +31,12 @@ impl StaticFault {
     }
 }
 
-/// The one of two faults that stands at the lesser place, the first one where they stand at one place.
+/// The one of two faults that stands at the lesser offset, the first one where they stand at one offset.
 pub(crate) fn sooner(first: Option<StaticFault>, fault: StaticFault) -> Option<StaticFault>
     ensures { result ≡ sooner_of first fault }
 {
     match first {
-        Some(found) if found.place() <= fault.place() => Some(found),
+        Some(found) if found.offset() <= fault.offset() => Some(found),
         _ => Some(fault),
     }
 }

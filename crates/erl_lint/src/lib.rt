@@ -23,13 +23,13 @@
 //! | `A andalso B`, `A orelse B` | what `A` binds | `B`, and what comes behind; what `B` binds stays in it |
 //! | a tuple, a list, a call, any other operator | what its parts bind | what comes behind it; the parts see nothing of one another |
 //!
-//! A [`Scope`] is what is bound at a place, in the order in which a module that runs binds it: so it tells also the place that
-//! a variable has in the bindings ([`Scope::place`]).
+//! A [`Scope`] is what is bound at a point, in the order in which a module that runs binds it: so it tells also the index that
+//! a variable has in the bindings ([`Scope::index_of`]).
 //!
 //! # What is proved
 //!
 //! Form after form, the fault so far is the first of those of the forms so far, by the definitions of `specs/` (`soonest`): none
-//! exactly where they have no fault, and else one of theirs, where no fault stands at a lesser place.
+//! exactly where they have no fault, and else one of theirs, where no fault stands at a lesser offset.
 //!
 //! # What no contract says
 //!
@@ -38,7 +38,7 @@
 //! subject of a `case` and side of `andalso` or `orelse` that it stands in, so at most as often as it is nested. Recursion goes
 //! as deep as the trees are nested: who reads a module from outside bounds that.
 //!
-//! Which of two faults at one place is told is not said either: in a tree that was read from a source there are none.
+//! Which of two faults at one offset is told is not said either: in a tree that was read from a source there are none.
 #![tactic(auto)]
 
 mod binding;

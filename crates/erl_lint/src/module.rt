@@ -14,7 +14,7 @@ use std::alloc::AllocError;
 /// The first fault with those of a form of a module that has these functions. In `scope` nothing is bound, before and behind it.
 ///
 /// Takes time for each part of the form, and what an expression binds is looked for once more in each body, block, subject of
-/// a `case` and side of `andalso` or `orelse` that it stands in. Takes memory for each variable that is bound at one place.
+/// a `case` and side of `andalso` or `orelse` that it stands in. Takes memory for each variable that is bound at one point.
 /// Recurses as deep as the trees are nested.
 ///
 /// # Errors

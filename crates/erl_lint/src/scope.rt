@@ -1,4 +1,4 @@
-// The variables that are bound at a place.
+// The variables that are bound at a point.
 ghost use Rattle.std.specs.Prelude.{◌≡◌, ℕ, List, [], length, take, IfOk, OnOk};
 ghost use Rattle.std.specs.Str.{bytes_eq, chars};
 ghost use Rattle.std.specs.Hash as fed;
@@ -7,7 +7,7 @@ ghost use Rattle.std.specs.Cmp.Lexicographic.{nat_list_eq_equiv};
 ghost use Rattle.std.specs.Cmp.Rules.{hashing};
 ghost use Rattle.std.proofs.Common.{rules};
 ghost use Rattle.erl_term.specs.Text.{utf8};
-ghost use Rattle.erl_lint.specs.Scopes.{is_bound, place_of, with_name};
+ghost use Rattle.erl_lint.specs.Scopes.{is_bound, index_of, with_name};
 
 use erl_chars::SharedText;
 use indexmap::IndexSet;
@@ -67,7 +67,7 @@ impl Hash for VariableName<'_> {
     }
 }
 
-/// The variables that are bound at a place, each once, in the order in which they are bound when the module runs. Contracts
+/// The variables that are bound at a point, each once, in the order in which they are bound when the module runs. Contracts
 /// see their names.
 #[derive(Drop)]
 pub struct Scope<'a> {
@@ -99,27 +99,27 @@ impl<'a> Scope<'a> {
         self.names.contains(&VariableName::of(name))
     }
 
-    /// The place of a variable: how many were bound before it; of one that is not bound, how many are bound. Takes no memory.
-    pub fn place(&self, name: &'a SharedText) -> usize
-        ensures { result ≡ place_of self.now name.now }
+    /// The index of a variable: how many were bound before it; of one that is not bound, how many are bound. Takes no memory.
+    pub fn index_of(&self, name: &'a SharedText) -> usize
+        ensures { result ≡ index_of self.now name.now }
     {
         match self.names.get_index_of(&VariableName::of(name)) {
-            Some(place) => place,
+            Some(index) => index,
             None => self.names.len(),
         }
     }
 
-    /// Binds a variable, and gives its place. One that is bound keeps its place.
+    /// Binds a variable, and gives its index. One that is bound keeps its index.
     ///
     /// # Errors
     ///
     /// `AllocError` where memory is refused.
     pub fn bind(&mut self, name: &'a SharedText) -> Result<usize, AllocError>
         ensures bound { OnOk result (self.new ≡ with_name self.old name.now) }
-        ensures place { IfOk result (λ place. place ≡ place_of self.old name.now) }
+        ensures index { IfOk result (λ index. index ≡ index_of self.old name.now) }
     {
-        let (place, _) = self.names.insert_full(VariableName::of(name))?;
-        Ok(place)
+        let (index, _) = self.names.insert_full(VariableName::of(name))?;
+        Ok(index)
     }
 
     /// How many variables are bound. Takes no memory.

@@ -2,7 +2,7 @@
 --
 -- The lowering numbers variables by all that are bound, also by those that other operands bind; lint reads only variables that
 -- it sees there. So each lemma on expressions has two lists of names: those that are seen, and those that are bound, of which
--- the seen ones are some (`Sees`). The places are those of the second list, and its length is how many variables are bound.
+-- the seen ones are some (`Sees`). The indices are those of the second list, and its length is how many variables are bound.
 use Rattle.std.proofs.Common.{◌≡◌, ℕ, ◌+◌, ◌<◌, suc, Bool, true, false, ◌||◌, not, cond, if◌then◌else◌, ◌⊎◌, inl, inr, codes}
 use Rattle.std.proofs.Common.{List, [], ◌∷◌, ◌++◌, length, All, sym, ap, ◌∙◌, subst, refl, arith}
 use Rattle.std.specs.Option.{option_to_list}
@@ -30,7 +30,7 @@ use Rattle.erl_ast.specs.Tree.{Tree, Trees, tree_count}
 use Rattle.erl_lint.specs.declared.fault.StaticFault.TheVariants.{UnboundVariable}
 use Rattle.erl_lint.specs.Keys.{duplicates}
 use Rattle.erl_lint.specs.Keys as keys
-use Rattle.erl_lint.specs.Scopes.{Names, is_bound, place_of, with_name, with_names}
+use Rattle.erl_lint.specs.Scopes.{Names, is_bound, index_of, with_name, with_names}
 use Rattle.erl_lint.specs.Scopes.{leaf_names, pattern_names, pattern_names_in}
 use Rattle.erl_lint.specs.Scopes.{binds, binds_in, binds_in_match, binds_in_first}
 use Rattle.erl_lint.specs.Faults.{call_faults, leaf_faults, faults_in, faults_apart, faults_in_turn, faults_behind}
@@ -67,27 +67,27 @@ right_empty : {A : Type 0} (xs ys : List A) → xs ++ ys ≡ [] → ys ≡ []
 right_empty [] ys e = e
 right_empty (x ∷ xs) ys e = cc
 
--- Places. A variable that is bound has a place below the number of those that are; one that is not has this number.
+-- Indices. A variable that is bound has an index below the number of those that are; one that is not has this number.
 
 below_head : (is_head : Bool) (at n : ℕ) (is_behind : Bool) → (is_behind ≡ true → at < n) → (is_head || is_behind) ≡ true →
     cond (not is_head) (1 + at) 0 < suc n
 below_head true at n is_behind below e = omega arith
 below_head false at n is_behind below e = let within : at < n = below e in omega arith
 
-place_below : (bound : Names) (name : List ℕ) → is_bound bound name ≡ true → place_of bound name < length bound
-place_below [] name e = cc
-place_below (b ∷ bound) name e =
-    below_head (bytes_eq name b) (place_of bound name) (length bound) (is_bound bound name) (place_below bound name) e
+index_below : (bound : Names) (name : List ℕ) → is_bound bound name ≡ true → index_of bound name < length bound
+index_below [] name e = cc
+index_below (b ∷ bound) name e =
+    below_head (bytes_eq name b) (index_of bound name) (length bound) (is_bound bound name) (index_below bound name) e
 
 behind_head : (is_head : Bool) (at n : ℕ) (is_behind : Bool) → (is_behind ≡ false → at ≡ n) → (is_head || is_behind) ≡ false →
     cond (not is_head) (1 + at) 0 ≡ suc n
 behind_head true at n is_behind behind e = cc
 behind_head false at n is_behind behind e = let same : at ≡ n = behind e in omega arith
 
-place_behind : (bound : Names) (name : List ℕ) → is_bound bound name ≡ false → place_of bound name ≡ length bound
-place_behind [] name e = refl
-place_behind (b ∷ bound) name e =
-    behind_head (bytes_eq name b) (place_of bound name) (length bound) (is_bound bound name) (place_behind bound name) e
+index_behind : (bound : Names) (name : List ℕ) → is_bound bound name ≡ false → index_of bound name ≡ length bound
+index_behind [] name e = refl
+index_behind (b ∷ bound) name e =
+    behind_head (bytes_eq name b) (index_of bound name) (length bound) (is_bound bound name) (index_behind bound name) e
 
 -- What is bound stays bound, and a name that is added is bound.
 
@@ -147,16 +147,16 @@ sees_behind (n ∷ ns) seen bound sees = sees_behind ns seen (with_name bound n)
 -- Patterns
 
 variable_if : (known : Bool) (bound : Names) (name : List ℕ) → is_bound bound name ≡ known →
-    PatternBinds (length bound) (pattern.variable (place_of bound name))
+    PatternBinds (length bound) (pattern.variable (index_of bound name))
     (length (if known then bound else bound ++ name ∷ []))
-variable_if true bound name e = compared (place_below bound name e)
+variable_if true bound name e = compared (index_below bound name e)
 variable_if false bound name e =
-    subst (λ place. PatternBinds (length bound) (pattern.variable place) (length (bound ++ name ∷ [])))
-    (sym (place_behind bound name e))
+    subst (λ index. PatternBinds (length bound) (pattern.variable index) (length (bound ++ name ∷ [])))
+    (sym (index_behind bound name e))
     (subst (λ m. PatternBinds (length bound) (pattern.variable (length bound)) m) (sym (length-append bound (name ∷ []))) fresh)
 
 named_if : (is_anonymous : Bool) (bound : Names) (name : List ℕ) →
-    PatternBinds (length bound) (if is_anonymous then pattern.anything else pattern.variable (place_of bound name))
+    PatternBinds (length bound) (if is_anonymous then pattern.anything else pattern.variable (index_of bound name))
     (length (with_names bound (if is_anonymous then [] else name ∷ [])))
 named_if true bound name = anything
 named_if false bound name = variable_if (is_bound bound name) bound name refl
@@ -203,7 +203,7 @@ no_fault false at e = cc
 leaf_reads : (own : List ℕ) (seen bound : Names) (l : Leaf) → Sees seen bound → leaf_faults seen l ≡ [] →
     ExprBinds (length bound) (leaf_expression own bound l) (length bound)
 leaf_reads own seen bound (leaves.Variable name at) sees e =
-    variable (place_below bound name (sees name (no_fault (is_bound seen name) at e)))
+    variable (index_below bound name (sees name (no_fault (is_bound seen name) at e)))
 leaf_reads own seen bound l sees e = literal
 
 only_reads : {n m : ℕ} (es : Exprs) → ExprsBind n es m → ExprBinds n (expressions.alone es) m

@@ -1,4 +1,4 @@
--- What expressions mean (Erlang Reference Manual, Expressions): a variable is its place among those that are bound, in the
+-- What expressions mean (Erlang Reference Manual, Expressions): a variable is its index among those that are bound, in the
 -- order of evaluation, from left to right. Parentheses mean nothing.
 use Rattle.std.specs.Prelude.{ℕ, List}
 use Rattle.erl_ast.specs.declared.leaf.Leaf.{Leaf}
@@ -13,7 +13,7 @@ use Rattle.erl_ast.specs.declared.shape.Shape.{Shape}
 use Rattle.erl_ast.specs.declared.shape.Shape.TheVariants as shapes
 use Rattle.erl_ast.specs.Tree as tree
 use Rattle.erl_ast.specs.Tree.{Tree, Trees, leaf, node, tree_count}
-use Rattle.erl_lint.specs.Scopes.{Names, binds, binds_in, pattern_names_in, place_of, with_names}
+use Rattle.erl_lint.specs.Scopes.{Names, binds, binds_in, pattern_names_in, index_of, with_names}
 use Rattle.erl_ir.specs.declared.operation.Connective.{Connective}
 use Rattle.erl_ir.specs.declared.operation.Connective.TheVariants as connective
 use Rattle.erl_ir.specs.declared.operation.Operation.TheVariants as operation
@@ -28,7 +28,7 @@ use Rattle.erl_lower.specs.Literals.{literal_of}
 use Rattle.erl_lower.specs.Patterns.{pattern_of, patterns_of}
 
 abbrev pub leaf_expression : List ℕ → Names → Leaf → Expr
-leaf_expression own bound (leaves.Variable name at) = variable (place_of bound name)
+leaf_expression own bound (leaves.Variable name at) = variable (index_of bound name)
 leaf_expression own bound l = literal (literal_of own l)
 
 -- Operators

@@ -1,4 +1,4 @@
--- What patterns mean (Erlang Reference Manual, Expressions, Pattern Matching): a variable is its place among those that are
+-- What patterns mean (Erlang Reference Manual, Expressions, Pattern Matching): a variable is its index among those that are
 -- bound, in the order in which patterns are matched, from left to right. One that is not bound is bound behind all.
 use Rattle.std.specs.Prelude.{ℕ, if◌then◌else◌, List, codes}
 use Rattle.std.specs.Str.{bytes_eq}
@@ -7,13 +7,13 @@ use Rattle.erl_ast.specs.declared.leaf.Leaf.TheVariants as leaves
 use Rattle.erl_ast.specs.declared.shape.Shape.{Shape}
 use Rattle.erl_ast.specs.declared.shape.Shape.TheVariants as shapes
 use Rattle.erl_ast.specs.Tree.{Tree, Trees, leaf, node, case, none, more}
-use Rattle.erl_lint.specs.Scopes.{Names, pattern_names, place_of, with_names}
+use Rattle.erl_lint.specs.Scopes.{Names, pattern_names, index_of, with_names}
 use Rattle.erl_ir.specs.Pattern as pattern
 use Rattle.erl_ir.specs.Pattern.{Pat, Pats}
 use Rattle.erl_lower.specs.Literals.{literal_of}
 
 abbrev pub pattern_variable : Names → List ℕ → Pat
-pattern_variable bound name = if bytes_eq name (codes "_") then pattern.anything else pattern.variable (place_of bound name)
+pattern_variable bound name = if bytes_eq name (codes "_") then pattern.anything else pattern.variable (index_of bound name)
 
 abbrev pub leaf_pattern : List ℕ → Names → Leaf → Pat
 leaf_pattern own bound (leaves.Variable name at) = pattern_variable bound name

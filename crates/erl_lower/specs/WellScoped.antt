@@ -1,7 +1,7 @@
 -- Modules that are well scoped: each variable is read where it is bound (Erlang Reference Manual, Expressions, Variables and
 -- Match Operator; Pattern Matching; sentences in quotes are its).
 --
--- A state is how many variables are bound, n: these have the places 0 to n - 1, and the next one that is bound gets place n.
+-- A state is how many variables are bound, n: these have the indices 0 to n - 1, and the next one that is bound gets index n.
 use Rattle.std.specs.Prelude.{◌≡◌, ℕ, ◌+◌, ◌<◌, All}
 use Rattle.erl_term.specs.Tree.{Tree}
 use Rattle.erl_ir.specs.declared.operation.Connective.{Connective}
@@ -20,8 +20,8 @@ mutual
   pub data PatternBinds : ℕ → Pat → ℕ → Type 0 where
     constant : {n : ℕ} {t : Tree} → PatternBinds n (pattern.literal t) n
     -- a variable that is bound is compared
-    compared : {n place : ℕ} → place < n → PatternBinds n (pattern.variable place) n
-    -- "any unbound variable in the pattern becomes bound": it gets the next place
+    compared : {n index : ℕ} → index < n → PatternBinds n (pattern.variable index) n
+    -- "any unbound variable in the pattern becomes bound": it gets the next index
     fresh : {n : ℕ} → PatternBinds n (pattern.variable n) (n + 1)
     -- `_` binds nothing
     anything : {n : ℕ} → PatternBinds n pattern.anything n
@@ -42,7 +42,7 @@ mutual
   pub data ExprBinds : ℕ → Expr → ℕ → Type 0 where
     literal : {n : ℕ} {t : Tree} → ExprBinds n (form.literal t) n
     -- a variable is read where it is bound
-    variable : {n place : ℕ} → place < n → ExprBinds n (form.variable place) n
+    variable : {n index : ℕ} → index < n → ExprBinds n (form.variable index) n
     apply : {n m : ℕ} {op : Operation} {es : Exprs} → ExprsBind n es m → ExprBinds n (form.apply op es) m
     -- `P = E`: first E is evaluated, then P is matched
     match : {n k m : ℕ} {p : Pat} {body : Exprs} →

@@ -27,7 +27,7 @@ fn lower_leaf<'a>(
     ensures { IfOk result (λ e. expr e ≡ leaf_expression own.now scope.now leaf.now) }
 {
     match leaf {
-        Leaf::Variable(name, _) => Ok(Expression::Variable(number_of(scope.place(name))?)),
+        Leaf::Variable(name, _) => Ok(Expression::Variable(number_of(scope.index_of(name))?)),
         _ => Ok(Expression::Literal(literal(alloc, own, leaf)?)),
     }
 }

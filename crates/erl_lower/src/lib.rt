@@ -3,7 +3,7 @@
 //! [`lowered`] makes of a [`erl_ast::ModuleTree`] the [`erl_ir::Module`] that it means, or tells its first static fault
 //! (Erlang Reference Manual, Modules, Functions and Expressions):
 //!
-//! - A variable becomes its place among those that are bound, in the order of evaluation: the first that a clause binds is 0.
+//! - A variable becomes its index among those that are bound, in the order of evaluation: the first that a clause binds is 0.
 //!   Of a tuple, a list, a call or an operator the parts are evaluated from left to right, of `P = E` first E and then P. `_`
 //!   binds nothing.
 //! - A call becomes one of a function that is built in, where there is one of its name and number of arguments, and of its module
@@ -16,7 +16,7 @@
 //! [`lowered`] tells the first static fault of a tree exactly where `erl_lint`'s definitions say that it has one. Of a tree
 //! without one it gives the module that the definitions of `specs/` say: `meaning` of the tree, and none exactly where two
 //! functions have one name and number of arguments. The definitions are total functions of trees. So they say something also of
-//! trees that no source is read as: there a variable that nothing binds has the place behind all that are bound, and an integer
+//! trees that no source is read as: there a variable that nothing binds has the index behind all that are bound, and an integer
 //! that no term has is the nearest one.
 //!
 //! A module without a static fault is well scoped ([`modules_are_well_scoped`]): the definitions of `specs/WellScoped.antt` say

@@ -1,9 +1,9 @@
-// Numbers of parts, and places.
+// Numbers of parts, and indices.
 ghost use Rattle.std.specs.Prelude.{◌≡◌, IfOk};
 
 use std::alloc::AllocError;
 
-/// A number of parts or a place. No memory holds so many that there is no number.
+/// A number of parts or an index. No memory holds so many that there is no number.
 pub(crate) fn number_of(n: usize) -> Result<u32, AllocError>
     ensures { IfOk result (λ it. it ≡ n) }
 {

@@ -22,8 +22,8 @@ fn lower_variable<'a>(name: &'a SharedText, scope: &mut Scope<'a>) -> Result<Pat
     if is_anonymous(name) {
         return Ok(Pattern::Anything);
     }
-    let place = scope.bind(name)?;
-    Ok(Pattern::Variable(number_of(place)?))
+    let index = scope.bind(name)?;
+    Ok(Pattern::Variable(number_of(index)?))
 }
 
 /// The pattern of a leaf.

@@ -155,7 +155,7 @@ module _ (bytes : List ℕ) (tokens : List Spot) (stop : Option ReadError) (erro
     stands = stands;
     behind_start = first.told.within;
     before_dot = first.told.before_dot;
-    place = refl;
+    offset = refl;
   })
 
 pub tokens_say : (bytes : List ℕ) (tokens : List Spot) (stop : Option ReadError) (error : LangError) → IsUtf8 bytes →

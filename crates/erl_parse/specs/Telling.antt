@@ -45,14 +45,14 @@ error_of_static (statics.DuplicateFunction at) = errors.DuplicateFunction at
 error_of_static (statics.UnboundVariable at) = errors.UnboundVariable at
 error_of_static (statics.UndefinedLocal at) = errors.UndefinedLocal at
 
--- a token with which no module goes on, by the reason
+-- a token of a form that is none, by the reason
 abbrev pub error_at : Reason → ℕ → LangError
 error_at reasons.Syntax at = errors.Syntax at
 error_at reasons.Unsupported at = errors.Unsupported at
 error_at reasons.IntegerRange at = text_error faults.IntegerRange at
 error_at reasons.TooDeep at = text_error faults.TooDeep at
 
--- the end of a text of so many bytes in a form, by the place of the innermost bracket that is open there
+-- the end of a text of so many bytes in a form, by the offset of the innermost bracket that is open there
 abbrev pub cut_off : Option ℕ → ℕ → LangError
 cut_off (Some at) total = text_error faults.Unclosed at
 cut_off None total = text_error faults.MissingDot total
@@ -88,7 +88,7 @@ pub record IsMisplaced (bytes : List ℕ) (at : ℕ) : Type 0 where
   pub stands : StandsAt tokens left spot
   pub behind_start : left ≤ length form
   pub before_dot : from_dot form ≤ left
-  pub place : at ≡ spot.at
+  pub offset : at ≡ spot.at
 
 -- The text ends in a form, before its dot, and this is the innermost bracket that is open there, if there is one.
 pub record EndsInForm (bytes : List ℕ) (bracket : Option ℕ) : Type 0 where
@@ -98,7 +98,7 @@ pub record EndsInForm (bytes : List ℕ) (bracket : Option ℕ) : Type 0 where
   pub no_dot : from_dot form ≡ 0
   pub is_innermost : innermost tokens ≡ bracket
 
--- The bytes are written as a module with this static fault, and with none at a lesser place.
+-- The bytes are written as a module with this static fault, and with none at a lesser offset.
 pub record FaultsFirst (bytes : List ℕ) (fault : StaticFault) : Type 0 where
   pub tree : ModuleTree
   pub written : IsWritten bytes tree
@@ -109,7 +109,7 @@ pub data Says (bytes : List ℕ) (error : LangError) : Type 0 where
   not_utf8 : {at : ℕ} → error ≡ text_error faults.NotUtf8 at → (IsUtf8 bytes → ⊥) → IsValidUpTo bytes at → Says bytes error
   -- a token that is faulty by itself
   faulty : {e : ReadError} → error ≡ error_of_token e → StopsAt bytes e → Says bytes error
-  -- a token with which no module goes on within the limits
+  -- a token of the first form that is none
   misplaced : (reason : Reason) {at : ℕ} → error ≡ error_at reason at → IsMisplaced bytes at → Says bytes error
   -- the end inside a bracket, and elsewhere
   unclosed : {at : ℕ} → error ≡ text_error faults.Unclosed at → EndsInForm bytes (Some at) → Says bytes error

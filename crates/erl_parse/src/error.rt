@@ -8,7 +8,7 @@ pub enum LangError {
     /// The text is faulty: it is not UTF-8, a token is faulty by itself or nested too deep, or the text ends too soon.
     #[error("{0}")]
     Text(ReadError),
-    /// No source goes on with this token.
+    /// The form that this token stands in is none, and this token is wrong there.
     #[error("wrong syntax at byte {0}")]
     Syntax(usize),
     /// Erlang has this, but it is not read here.

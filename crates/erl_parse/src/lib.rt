@@ -10,13 +10,13 @@
 //! - [`read_module`], `found`: the module that is given is what the bytes mean: they are UTF-8, their tokens up to the end are
 //!   written as a module in the grammar of `erl_ast`, which has no static fault, and that is its meaning (`IsSource`).
 //! - [`read_module`], `refused`: what each error says of the bytes (`Says`). A static fault is told of bytes that are written as
-//!   a module: it is one of its faults, and none stands at a lesser place. `NotUtf8` is told at the first byte that is none. All
+//!   a module: it is one of its faults, and none stands at a lesser offset. `NotUtf8` is told at the first byte that is none. All
 //!   others say that the tokens up to the end, or to a faulty one, are written as no module:
 //!   - A token that is told stands in the first form that is none, up to its dot: before that form stand `-module` and whole
 //!     forms, if anything (`IsMisplaced`).
 //!   - `Unclosed` and `MissingDot` say that the text ends in that form, and no dot ends it: `Unclosed` stands at the innermost
 //!     bracket that is open there, and `MissingDot` says that there is none (`EndsInForm`, `innermost`).
-//!   - The fault that a token has by itself is told at its place, where all forms before the one that it is in are whole
+//!   - The fault that a token has by itself is told at its offset, where all forms before the one that it is in are whole
 //!     (`StopsAt`).
 //! - [`read_module`], `meaningless`: bytes of which an error is told are no source of a module (`IsNoSource`).
 //! - [`sources_mean_one_module`]: bytes mean at most one module, and they mean one where they are written as a module without

@@ -27,9 +27,8 @@ use values::Failure;
 ///
 /// # Errors
 ///
-/// `Refused` by what stands first against the bytes, from left to right: a token that is faulty by itself, or with which no
-/// source within the limits goes on, or the end; where there is none, by the first static fault. `Memory` where memory is
-/// refused.
+/// `Refused` by a token that is faulty by itself, by one of the first form that is none, up to its dot, or by the end in such a
+/// form; where the tokens are a module's, by the first static fault. `Memory` where memory is refused.
 pub fn read_module(
     alloc: Global,
     hashing: RandomState,

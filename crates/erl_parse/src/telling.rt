@@ -69,7 +69,7 @@ fn at_end(tokens: &[Spot], stop: Option<ReadError>, total: usize) -> LangError
     }
 }
 
-/// The error of a text that ends in a form, by the place of the innermost bracket that is open there.
+/// The error of a text that ends in a form, by the offset of the innermost bracket that is open there.
 fn cut_off(bracket: Option<usize>, total: usize) -> LangError
     ensures { result ≡ cut_off_in bracket total }
 {

@@ -9,7 +9,7 @@ use Rattle.erl_chars.specs.declared.escapes.EscapeError.{EscapeError}
 use Rattle.erl_chars.specs.declared.escapes.EscapeError.TheVariants.{Cut, Wrong}
 use Rattle.erl_chars.specs.declared.quotes.QuoteError.TheVariants.{BadEscape as EscapeAt}
 use Rattle.erl_chars.specs.Chars.{is_name_char, front, after_front}
-use Rattle.erl_chars.specs.Cursor.{place, first_of, after_first}
+use Rattle.erl_chars.specs.Cursor.{offset, first_of, after_first}
 use Rattle.erl_chars.specs.Quotes.{escape, escape_step, closed, unclosed, bad_escape, IsQuoted}
 use Rattle.erl_chars.specs.QuoteErrors.{IsNotQuoted}
 use Rattle.erl_scan.specs.declared.token.Token.{Token}
@@ -39,7 +39,7 @@ nothing_first (c ∷ cs) e = cc
 
 -- Names
 
-pub name_atom : (whole at : ℕ) (here rest text : List ℕ) (result : Result Token ReadError) → text ≡ front is_name_char here → rest ≡ after_front is_name_char here → None ≡ word_of text → at ≡ place whole here → result ≡ atom_at text at → Answers whole (name_in here) result rest
+pub name_atom : (whole at : ℕ) (here rest text : List ℕ) (result : Result Token ReadError) → text ≡ front is_name_char here → rest ≡ after_front is_name_char here → None ≡ word_of text → at ≡ offset whole here → result ≡ atom_at text at → Answers whole (name_in here) result rest
 name_atom whole at here rest text result name behind plain placed is =
     let word : word_of (front is_name_char here) ≡ None = ap word_of (sym name) ∙ sym plain in
     elim (cases_Bool (nat_lt 255 (length text))) [
@@ -96,7 +96,7 @@ pub escape_told : (whole total quote at : ℕ) (here now : List ℕ) → now ≡
 escape_told whole total quote at here now is same h =
     bad_escape_at h.0 (rw is at h.1) refl (rw same at h.2)
 
-pub quoted_atom : (whole at : ℕ) (here rest text : List ℕ) (result : Result Token ReadError) → first_of here ≡ Some 39 → IsQuoted 39 (after_first here) (closed text rest) → at ≡ place whole here → result ≡ atom_at text at → AnswersFirst whole here result rest
+pub quoted_atom : (whole at : ℕ) (here rest text : List ℕ) (result : Result Token ReadError) → first_of here ≡ Some 39 → IsQuoted 39 (after_first here) (closed text rest) → at ≡ offset whole here → result ≡ atom_at text at → AnswersFirst whole here result rest
 quoted_atom whole at [] rest text result first quoted placed is = cc
 quoted_atom whole at (c ∷ cs) rest text result first quoted placed is =
     let quote : c ≡ 39 = cc in
@@ -139,7 +139,7 @@ string_fault whole (c ∷ cs) e first single (bad_escape_at h quoted kind at) =
     is_faulty h (rw (quote, kind) (bad_escape h, quoted, rw single refl)) at
 
 -- between the first two of three double quotes stands nothing
-pub three_quotes : (whole at : ℕ) (here : List ℕ) → first_of here ≡ Some 34 → begins_two_quotes (after_first here) ≡ true → at ≡ place whole here → IsFault whole here (record { kind = Unsupported; at = at })
+pub three_quotes : (whole at : ℕ) (here : List ℕ) → first_of here ≡ Some 34 → begins_two_quotes (after_first here) ≡ true → at ≡ offset whole here → IsFault whole here (record { kind = Unsupported; at = at })
 three_quotes whole at [] first two placed = cc
 three_quotes whole at (c ∷ []) first two placed = cc
 three_quotes whole at (c ∷ d ∷ []) first two placed = cc

@@ -6,7 +6,7 @@ use Rattle.std.proofs.lemmas.Str.{encodes-chars}
 use Rattle.erl_scan.specs.declared.error.Fault.{Fault}
 use Rattle.erl_scan.specs.declared.error.Fault.TheVariants.{Memory}
 use Rattle.erl_scan.specs.declared.error.ReadError.{ReadError}
-use Rattle.erl_chars.specs.Cursor.{byte_count, place}
+use Rattle.erl_chars.specs.Cursor.{byte_count, offset}
 use Rattle.erl_chars.specs.Gaps.{after_gap}
 use Rattle.erl_scan.specs.declared.token.Spot.{Spot}
 use Rattle.erl_scan.specs.declared.token.Token.{Token}
@@ -19,9 +19,9 @@ use Rattle.erl_scan.proofs.Shorter.{token-less}
 -- The tokens so far
 
 -- one token more
-pub reads-more : (total : ℕ) (cs left rest : List ℕ) (before : List Spot) (s : Spot) → Reads total cs before left → Comes (after_gap left) (token s.what rest) → s.at ≡ place total (after_gap left) → Reads total cs (before ++ s ∷ []) rest
+pub reads-more : (total : ℕ) (cs left rest : List ℕ) (before : List Spot) (s : Spot) → Reads total cs before left → Comes (after_gap left) (token s.what rest) → s.at ≡ offset total (after_gap left) → Reads total cs (before ++ s ∷ []) rest
 reads-more total cs left rest [] s read comes at =
-    (rest, subst (λ l. Comes (after_gap l) (token s.what rest)) (sym read) comes, at ∙ ap (λ l. place total (after_gap l)) (sym read), refl)
+    (rest, subst (λ l. Comes (after_gap l) (token s.what rest)) (sym read) comes, at ∙ ap (λ l. offset total (after_gap l)) (sym read), refl)
 reads-more total cs left rest (b ∷ bs) s (more, first, b_at, later) comes at =
     (more, first, b_at, reads-more total more left rest bs s later comes at)
 
@@ -41,9 +41,9 @@ so_far-none text left total tokens utf8 left_is total_is none = record {
   total_is = total_is ∙ byte_count-chars text utf8;
 }
 
-pub so_far-more : (text left rest : List ℕ) (total after : ℕ) (old new : List Spot) (s : Spot) → SoFar text left total old → Comes (after_gap left) (token s.what rest) × (s.at ≡ place total (after_gap left)) → new ≡ old ++ s ∷ [] → after ≡ total → SoFar text rest after new
+pub so_far-more : (text left rest : List ℕ) (total after : ℕ) (old new : List Spot) (s : Spot) → SoFar text left total old → Comes (after_gap left) (token s.what rest) × (s.at ≡ offset total (after_gap left)) → new ≡ old ++ s ∷ [] → after ≡ total → SoFar text rest after new
 so_far-more text left rest total after old new s so scanned pushed after_is = record {
-  read = rw pushed (reads-more (byte_count (chars text)) (chars text) left rest old s so.read scanned.0 (scanned.1 ∙ ap (λ n. place n (after_gap left)) so.total_is));
+  read = rw pushed (reads-more (byte_count (chars text)) (chars text) left rest old s so.read scanned.0 (scanned.1 ∙ ap (λ n. offset n (after_gap left)) so.total_is));
   total_is = after_is ∙ so.total_is;
 }
 
@@ -52,7 +52,7 @@ so_far-more text left rest total after old new s so scanned pushed after_is = re
 faulty-stops : (whole total : ℕ) (here : List ℕ) (e : ReadError) → whole ≡ total → IsFault whole here e → (e.kind ≡ Memory → ⊥) → IsStop total here (Some e)
 faulty-stops whole total here e same (memory is) other = absurd (other is)
 faulty-stops whole total here e same (faulty at comes told) other =
-    (at, comes, told ∙ ap (λ n. place n at) same)
+    (at, comes, told ∙ ap (λ n. offset n at) same)
 
 pub scan-faulty : (text left : List ℕ) (total : ℕ) (tokens : List Spot) (e : ReadError) → SoFar text left total tokens → IsFault total (after_gap left) e → (e.kind ≡ Memory → ⊥) → IsScanOf (chars text) tokens (Some e)
 scan-faulty text left total tokens e so is other = record {
@@ -80,7 +80,7 @@ scan-by total cs ends comes behind = record { tokens = []; stop = None; left = c
 scan-by total cs (token t rest) comes behind =
     let later : Scan total rest = behind rest (token-less cs t rest comes) in
     record {
-      tokens = spot t (place total (after_gap cs)) ∷ later.tokens;
+      tokens = spot t (offset total (after_gap cs)) ∷ later.tokens;
       stop = later.stop;
       left = later.left;
       read = (rest, comes, refl, later.read);
@@ -88,7 +88,7 @@ scan-by total cs (token t rest) comes behind =
     }
 scan-by total cs (fault kind at) comes behind = record {
   tokens = [];
-  stop = Some (error kind (place total at));
+  stop = Some (error kind (offset total at));
   left = cs;
   read = refl;
   stops = (at, comes, refl);
@@ -114,7 +114,7 @@ stop_one quoted total here (Some e) (Some f) p q =
     let next : fault e.kind p.0 ≡ fault f.kind q.0 = comes_one quoted here (fault e.kind p.0) (fault f.kind q.0) p.1 q.1 in
     let kind : e.kind ≡ f.kind = cc in
     let told : p.0 ≡ q.0 = cc in
-    let at : e.at ≡ f.at = p.2 ∙ (ap (place total) told ∙ sym q.2) in
+    let at : e.at ≡ f.at = p.2 ∙ (ap (offset total) told ∙ sym q.2) in
     let same : e ≡ f = ap (λ k. error k e.at) kind ∙ ap (λ a. error f.kind a) at in
     ap (λ x. Some x) same
 

@@ -3,7 +3,7 @@ use Rattle.std.specs.Prelude.{◌≡◌, ℕ, nat_lt, if◌then◌else◌, List,
 use Rattle.erl_scan.specs.declared.error.Fault.TheVariants.{Unclosed, BadEscape, AtomTooLong, Memory}
 use Rattle.erl_scan.specs.declared.error.ReadError.{ReadError}
 use Rattle.erl_chars.specs.Chars.{is_name_char, front, after_front}
-use Rattle.erl_chars.specs.Cursor.{place, after_first}
+use Rattle.erl_chars.specs.Cursor.{offset, after_first}
 use Rattle.erl_chars.specs.Quotes.{closed, unclosed, bad_escape, IsQuoted}
 use Rattle.erl_scan.specs.declared.token.Token.{Token}
 use Rattle.erl_scan.specs.declared.token.Token.TheVariants.{Atom, Variable}
@@ -14,7 +14,7 @@ use Rattle.erl_scan.specs.Words.{word_of}
 -- an error tells the fault that comes next, in a text of so many bytes, unless memory was refused
 pub data TellsFault (whole : ℕ) (next : Next) (error : ReadError) : Type 0 where
   memory : error.kind ≡ Memory → TellsFault whole next error
-  faulty : (at : List ℕ) → next ≡ fault error.kind at → error.at ≡ place whole at → TellsFault whole next error
+  faulty : (at : List ℕ) → next ≡ fault error.kind at → error.at ≡ offset whole at → TellsFault whole next error
 
 -- an answer gives what comes next, with what is left after it
 abbrev pub Answers : ℕ → Next → Result Token ReadError → List ℕ → Type 0
@@ -42,7 +42,7 @@ variable_in cs = token (Variable (front is_name_char cs)) (after_front is_name_c
 abbrev pub character_in : List ℕ → Next
 character_in cs = character_next cs (after_first cs)
 
--- the atom of a text at a place
+-- the atom of a text at an offset
 abbrev pub atom_at : List ℕ → ℕ → Result Token ReadError
 atom_at text at = if nat_lt 255 (length text) then Err (record { kind = AtomTooLong; at = at }) else Ok (Atom text)
 
@@ -55,10 +55,10 @@ NameGoesOn cs (Some c) rest =
 -- an error tells why nothing stands between quotes, by the text at the opening one
 pub data IsNotBetween (whole quote : ℕ) (here : List ℕ) (error : ReadError) : Type 0 where
   no_memory : error.kind ≡ Memory → IsNotBetween whole quote here error
-  open_end : IsQuoted quote (after_first here) unclosed → error.kind ≡ Unclosed → error.at ≡ place whole here →
+  open_end : IsQuoted quote (after_first here) unclosed → error.kind ≡ Unclosed → error.at ≡ offset whole here →
       IsNotBetween whole quote here error
   escape : (at : List ℕ) → IsQuoted quote (after_first here) (bad_escape at) → error.kind ≡ BadEscape →
-      error.at ≡ place whole at → IsNotBetween whole quote here error
+      error.at ≡ offset whole at → IsNotBetween whole quote here error
 
 -- an answer tells what stands between quotes, by the text at the opening one
 abbrev pub IsBetween : ℕ → ℕ → List ℕ → Result (List ℕ) ReadError → List ℕ → Type 0

@@ -1,7 +1,7 @@
 -- A whole text as its tokens.
 use Rattle.std.specs.Prelude.{◌≡◌, ℕ, List, Option, Some, None}
 use Rattle.erl_scan.specs.declared.error.ReadError.{ReadError}
-use Rattle.erl_chars.specs.Cursor.{byte_count, place}
+use Rattle.erl_chars.specs.Cursor.{byte_count, offset}
 use Rattle.erl_chars.specs.Gaps.{after_gap}
 use Rattle.erl_scan.specs.declared.token.Spot.{Spot}
 use Rattle.erl_scan.specs.Tokens.{ends, fault, Comes, Reads}
@@ -10,7 +10,7 @@ use Rattle.erl_scan.specs.Tokens.{ends, fault, Comes, Reads}
 -- that is faulty by itself, with its fault where that is told.
 abbrev pub IsStop : ℕ → List ℕ → Option ReadError → Type 0
 IsStop total here None = Comes here ends
-IsStop total here (Some error) = (at : List ℕ) × Comes here (fault error.kind at) × (error.at ≡ place total at)
+IsStop total here (Some error) = (at : List ℕ) × Comes here (fault error.kind at) × (error.at ≡ offset total at)
 
 -- These are the tokens of a text, each where it stands, up to its end or to the first that is faulty by itself, and this is
 -- that fault.

@@ -5,7 +5,7 @@ use Rattle.std.specs.Prelude.{Some, None}
 use Rattle.erl_scan.specs.declared.error.Fault.{Fault}
 use Rattle.erl_scan.specs.declared.error.Fault.TheVariants.{BadChar, Unclosed, BadEscape, Unsupported, AtomTooLong, Syntax}
 use Rattle.erl_chars.specs.Chars.{is_blank, is_digit, is_small, is_name_char, begins_variable, front, after_front}
-use Rattle.erl_chars.specs.Cursor.{byte_count, place}
+use Rattle.erl_chars.specs.Cursor.{byte_count, offset}
 use Rattle.erl_chars.specs.Gaps.{after_gap}
 use Rattle.erl_chars.specs.Quotes.{Step, stands, closing, cut, wrong, escape, Quoted, closed, unclosed, bad_escape, IsQuoted}
 use Rattle.erl_scan.specs.declared.token.Token.{Token}
@@ -113,9 +113,9 @@ Comes (c ∷ cs) next = NextBy (c == 39) (c == 34) c cs next
 abbrev pub Reads : ℕ → List ℕ → List Spot → List ℕ → Type 0
 Reads total cs [] rest = cs ≡ rest
 Reads total cs (s ∷ ss) rest =
-    (more : List ℕ) × Comes (after_gap cs) (token s.what more) × (s.at ≡ place total (after_gap cs)) × Reads total more ss rest
+    (more : List ℕ) × Comes (after_gap cs) (token s.what more) × (s.at ≡ offset total (after_gap cs)) × Reads total more ss rest
 
--- The tokens of a text up to some place, what is left there behind blanks and comments, and what comes next.
+-- The tokens of a text up to some offset, what is left there behind blanks and comments, and what comes next.
 pub record Reaches (cs : List ℕ) (before : List Spot) (here : List ℕ) (next : Next) : Type 0 where
   pub left : List ℕ
   pub read : Reads (byte_count cs) cs before left

@@ -45,6 +45,6 @@ pub enum Fault {
 pub struct ReadError {
     /// Why.
     pub kind: Fault,
-    /// The place, in bytes from the start. Of `Memory` it says nothing.
+    /// The offset, in bytes from the start. Of `Memory` it says nothing.
     pub at: usize,
 }

@@ -11,11 +11,11 @@
 //! # What is proved
 //!
 //! - [`Scanner::new`] stands at the start of the text.
-//! - [`Scanner::next_token`] gives the token that comes next behind blanks and comments, with its place, and stands
+//! - [`Scanner::next_token`] gives the token that comes next behind blanks and comments, with its offset, and stands
 //!   right behind it; it gives none exactly at the end, and stands there. An error other than `Memory` is the fault
-//!   that comes next, at its place: a token's own fault at the token's first character, but a bad escape at its
+//!   that comes next, at its offset: a token's own fault at the token's first character, but a bad escape at its
 //!   backslash.
-//! - [`scan`] gives the tokens that the text has from its start on, each with its place, up to the end, and no fault;
+//! - [`scan`] gives the tokens that the text has from its start on, each with its offset, up to the end, and no fault;
 //!   or up to the first that is faulty by itself, and its fault as `next_token` tells it, other than `Memory`.
 //! - [`texts_scan_one_way`]: a text has one such list and one such fault or end, so that what `scan` answers is fixed
 //!   by the text, lack of memory aside.

@@ -43,7 +43,7 @@ impl<'a> Scanner<'a> {
             }
             None => Err(ReadError {
                 kind: Fault::BadChar,
-                at: self.cursor.place(),
+                at: self.cursor.offset(),
             }),
         }
     }

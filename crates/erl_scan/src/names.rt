@@ -20,7 +20,7 @@ impl<'a> Scanner<'a> {
         ensures answers { Answers (total self.old) (name_in (left self.old)) result (left self.new) }
         ensures total { total self.new ≡ total self.old }
     {
-        let at = self.cursor.place();
+        let at = self.cursor.offset();
         let name = self.name();
         match Word::reserved(name) {
             Some(word) => Ok(Token::Word(word)),
@@ -80,7 +80,7 @@ fn next_name_char(cursor: &mut Cursor) -> Option<char>
     Some(c)
 }
 
-/// The atom of a text that stands at a place.
+/// The atom of a text that stands at an offset.
 pub(crate) fn atom(text: SharedText, at: usize) -> Result<Token, ReadError>
     ensures { result ≡ atom_at text at }
 {

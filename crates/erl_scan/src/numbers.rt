@@ -31,7 +31,7 @@ impl<'a> Scanner<'a> {
             (left self.new) }
         ensures total { total self.new ≡ total self.old }
     {
-        let at = self.cursor.place();
+        let at = self.cursor.offset();
         match self.number() {
             Number::Integer(value) => Ok(Token::Integer(value)),
             Number::Float => Ok(Token::Float),

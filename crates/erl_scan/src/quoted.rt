@@ -19,7 +19,7 @@ impl<'a> Scanner<'a> {
         ensures takes { AnswersFirst (total self.old) (left self.old) result (left self.new) }
         ensures total { total self.new ≡ total self.old }
     {
-        let at = self.cursor.place();
+        let at = self.cursor.offset();
         let text = match self.between('\'') {
             Ok(text) => text,
             Err(error) => return Err(error),
@@ -39,7 +39,7 @@ impl<'a> Scanner<'a> {
         if self.begins_three_quotes() {
             return Err(ReadError {
                 kind: Fault::Unsupported,
-                at: self.cursor.place(),
+                at: self.cursor.offset(),
             });
         }
         match self.between('"') {
@@ -60,7 +60,7 @@ impl<'a> Scanner<'a> {
         ensures between { IsBetween (total self.old) quote (left self.old) result (left self.new) }
         ensures total { total self.new ≡ total self.old }
     {
-        let at = self.cursor.place();
+        let at = self.cursor.offset();
         self.cursor.advance();
         match self.cursor.quoted(self.alloc, quote) {
             Ok(text) => Ok(text),
@@ -81,9 +81,9 @@ impl<'a> Scanner<'a> {
         ensures answers { Answers (total self.old) (character_in (left self.old)) result (left self.new) }
         ensures total { total self.new ≡ total self.old }
     {
-        let dollar = self.cursor.place();
+        let dollar = self.cursor.offset();
         self.cursor.advance();
-        let at = self.cursor.place();
+        let at = self.cursor.offset();
         let Some(c) = self.cursor.peek() else {
             return Err(ReadError {
                 kind: Fault::BadChar,

@@ -17,21 +17,21 @@ const SHORT: usize = 64;
 /// From so many bytes on, a text is long.
 const LONG: usize = 4096;
 
-/// Texts that were read. Each is kept at the place of its characters until another comes there. So a text that is read
+/// Texts that were read. Each is kept at the slot of its characters until another comes there. So a text that is read
 /// often is made once, and all its copies share the characters.
 #[derive(Drop)]
 pub(crate) struct RecentTexts {
-    /// How many places there are: none, or a power of two.
-    places: usize,
-    /// None, or one for each place.
+    /// How many slots there are: none, or a power of two.
+    slots: usize,
+    /// None, or one for each slot.
     kept: Vec<Option<SharedText>>,
 }
 
 impl RecentTexts {
-    /// No texts, with places for those in a text of so many bytes. They take memory from `alloc`.
+    /// No texts, with slots for those in a text of so many bytes. They take memory from `alloc`.
     pub(crate) fn new(alloc: Global, bytes: usize) -> RecentTexts {
         RecentTexts {
-            places: places_for(bytes),
+            slots: slots_for(bytes),
             kept: Vec::new(alloc),
         }
     }
@@ -44,17 +44,17 @@ impl RecentTexts {
     pub(crate) fn text(&mut self, alloc: Global, characters: &str) -> Result<SharedText, AllocError>
         ensures { IfOk result (λ it. it ≡ chars characters.now) }
     {
-        let Some(last) = self.places.checked_sub(1) else {
+        let Some(last) = self.slots.checked_sub(1) else {
             return SharedText::new(alloc, characters);
         };
-        let place = sum_of(characters) & last;
-        match self.copy_at(place, characters)? {
+        let slot = sum_of(characters) & last;
+        match self.copy_at(slot, characters)? {
             Some(text) => Ok(text),
-            None => self.made(alloc, place, characters),
+            None => self.made(alloc, slot, characters),
         }
     }
 
-    /// A new text of characters, which is kept at a place. Few texts are made in a long text, so this stands by itself.
+    /// A new text of characters, which is kept at a slot. Few texts are made in a long text, so this stands by itself.
     ///
     /// # Errors
     ///
@@ -63,22 +63,22 @@ impl RecentTexts {
     fn made(
         &mut self,
         alloc: Global,
-        place: usize,
+        slot: usize,
         characters: &str,
     ) -> Result<SharedText, AllocError>
         ensures { IfOk result (λ it. it ≡ chars characters.now) }
     {
         let text = SharedText::new(alloc, characters)?;
-        self.keep(place, text.share()?)?;
+        self.keep(slot, text.share()?)?;
         Ok(text)
     }
 
-    /// A copy of the text at a place, where it has these characters.
-    fn copy_at(&self, place: usize, characters: &str) -> Result<Option<SharedText>, AllocError>
+    /// A copy of the text at a slot, where it has these characters.
+    fn copy_at(&self, slot: usize, characters: &str) -> Result<Option<SharedText>, AllocError>
         ensures { IfOk result (λ found. MatchOption found ⊤ (λ it. it ≡ chars characters.now)) }
     {
-        if let Some(Some(text)) = self.kept.get(place) {
-            // Another text may have the same place.
+        if let Some(Some(text)) = self.kept.get(slot) {
+            // Another text may have the same slot.
             if text.as_str() == characters {
                 return Ok(Some(text.share()?));
             }
@@ -86,20 +86,20 @@ impl RecentTexts {
         Ok(None)
     }
 
-    /// Keeps a text at a place.
-    fn keep(&mut self, place: usize, text: SharedText) -> Result<(), AllocError> {
-        for _ in self.kept.len()..self.places {
+    /// Keeps a text at a slot.
+    fn keep(&mut self, slot: usize, text: SharedText) -> Result<(), AllocError> {
+        for _ in self.kept.len()..self.slots {
             self.kept.push(None)?;
         }
-        if let Some(kept) = self.kept.get_mut(place) {
+        if let Some(kept) = self.kept.get_mut(slot) {
             *kept = Some(text);
         }
         Ok(())
     }
 }
 
-/// How many places there are for the names in a text of so many bytes.
-fn places_for(bytes: usize) -> usize {
+/// How many slots there are for the names in a text of so many bytes.
+fn slots_for(bytes: usize) -> usize {
     match bytes {
         0..SHORT => 0,
         SHORT..LONG => FEW_PLACES,
@@ -107,7 +107,7 @@ fn places_for(bytes: usize) -> usize {
     }
 }
 
-/// A number that characters choose. Its last bits name their place. Names of four bytes and more are told by how many they have,
+/// A number that characters choose. Its last bits name their slot. Names of four bytes and more are told by how many they have,
 /// the first of them and the last three, as most names in a text differ in one of these.
 #[inline(always)]
 fn sum_of(characters: &str) -> usize {

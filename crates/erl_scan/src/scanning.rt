@@ -41,7 +41,7 @@ impl<'a> Scanner<'a> {
         ensures total { total self.new ≡ total self.old }
     {
         self.cursor.skip_gap();
-        let at = self.cursor.place();
+        let at = self.cursor.offset();
         match self.cursor.peek() {
             None => Ok(None),
             Some(first) => match self.token(first) {

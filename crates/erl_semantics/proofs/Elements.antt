@@ -1,4 +1,4 @@
--- Elements of tuples and lists: terms of the code by their places.
+-- Elements of tuples and lists: terms of the code by their indices.
 use Rattle.std.specs.Prelude.{◌≡◌, ℕ, zero, suc, pos, negsuc, List, [], ◌∷◌, ◌++◌, refl, Option, None, Some, option_map, slice_get}
 use Rattle.std.specs.Prelude.{reverse, ◌<◌, ◌≤◌, length, Bool, true, false, if◌then◌else◌, ◌==◌, set, MatchOption}
 use Rattle.std.proofs.Common.{arith, ap, sym, subst, ◌∙◌}
@@ -17,10 +17,10 @@ use Rattle.erl_semantics.proofs.Options.{some_none, some_injective}
 use Rattle.erl_semantics.proofs.Uniqueness.{ap2}
 use Rattle.erl_term.specs.Order.{tree_cmp}
 
-nth_is : (ts : List Term) (place : ℕ) → nth (suc place) (trees ts) ≡ option_map tree (slice_get ts place)
-nth_is [] place = refl
+nth_is : (ts : List Term) (index : ℕ) → nth (suc index) (trees ts) ≡ option_map tree (slice_get ts index)
+nth_is [] index = refl
 nth_is (t ∷ ts) zero = refl
-nth_is (t ∷ ts) (suc place) = nth_is ts place
+nth_is (t ∷ ts) (suc index) = nth_is ts index
 
 nth_zero : (ts : Trees) → nth 0 ts ≡ None
 nth_zero none = refl
@@ -30,9 +30,9 @@ with_nth_zero : (u : Tree) (ts : Trees) → with_nth 0 u ts ≡ None
 with_nth_zero u none = refl
 with_nth_zero u (more t ts) = refl
 
-pub element_at : (x : Tree) (ts : List Term) (place : ℕ) (o : Option Term) → x ≡ int (pos (suc place)) →
-    slice_get ts place ≡ o → element_of x (trees ts) ≡ option_map tree o
-element_at x ts place o e f = ap (λ y. element_of y (trees ts)) e ∙ nth_is ts place ∙ ap (λ p. option_map tree p) f
+pub element_at : (x : Tree) (ts : List Term) (index : ℕ) (o : Option Term) → x ≡ int (pos (suc index)) →
+    slice_get ts index ≡ o → element_of x (trees ts) ≡ option_map tree o
+element_at x ts index o e f = ap (λ y. element_of y (trees ts)) e ∙ nth_is ts index ∙ ap (λ p. option_map tree p) f
 
 pub element_nowhere : (x : Tree) (ts : Trees) → ((n : ℕ) → x ≡ int (pos n) → n ≡ 0) → element_of x ts ≡ None
 element_nowhere (int (pos n)) ts nowhere = ap (λ k. nth k ts) (nowhere n refl) ∙ nth_zero ts
@@ -50,35 +50,35 @@ with_element_nowhere (pid n) u ts nowhere = refl
 with_element_nowhere (tuple us) u ts nowhere = refl
 with_element_nowhere (list us) u ts nowhere = refl
 
--- what stands at a place of the code's terms
+-- what stands at an index of the code's terms
 
-pub nth_matches : (x : Tree) (row : Trees) (ts : List Term) (place : ℕ) (o : Option (Bor Term)) → trees ts ≡ row →
-    x ≡ int (pos (suc place)) → MatchOption o (slice_get ts place ≡ None) (λ t. slice_get ts place ≡ Some t.now) →
+pub nth_matches : (x : Tree) (row : Trees) (ts : List Term) (index : ℕ) (o : Option (Bor Term)) → trees ts ≡ row →
+    x ≡ int (pos (suc index)) → MatchOption o (slice_get ts index ≡ None) (λ t. slice_get ts index ≡ Some t.now) →
     MatchOption o (element_of x row ≡ None) (λ t. element_of x row ≡ Some (tree t.now))
-nth_matches x row ts place None e f m = ap (λ r. element_of x r) (sym e) ∙ element_at x ts place None f m
-nth_matches x row ts place (Some t) e f m = ap (λ r. element_of x r) (sym e) ∙ element_at x ts place (Some t.now) f m
+nth_matches x row ts index None e f m = ap (λ r. element_of x r) (sym e) ∙ element_at x ts index None f m
+nth_matches x row ts index (Some t) e f m = ap (λ r. element_of x r) (sym e) ∙ element_at x ts index (Some t.now) f m
 
-with_nth_is : (ts : List Term) (place : ℕ) (v : Term) → place < length ts →
-    with_nth (suc place) (tree v) (trees ts) ≡ Some (trees (set ts place v))
-with_nth_is [] place v within = absurd (omega (arith, within))
+with_nth_is : (ts : List Term) (index : ℕ) (v : Term) → index < length ts →
+    with_nth (suc index) (tree v) (trees ts) ≡ Some (trees (set ts index v))
+with_nth_is [] index v within = absurd (omega (arith, within))
 with_nth_is (t ∷ ts) zero v within = refl
-with_nth_is (t ∷ ts) (suc place) v within = ap (λ o. option_map (λ us. more (tree t) us) o) (with_nth_is ts place v (omega (arith, within)))
+with_nth_is (t ∷ ts) (suc index) v within = ap (λ o. option_map (λ us. more (tree t) us) o) (with_nth_is ts index v (omega (arith, within)))
 
-with_nth_past : (ts : List Term) (place : ℕ) (u : Tree) → length ts ≤ place → with_nth (suc place) u (trees ts) ≡ None
-with_nth_past [] place u past = refl
+with_nth_past : (ts : List Term) (index : ℕ) (u : Tree) → length ts ≤ index → with_nth (suc index) u (trees ts) ≡ None
+with_nth_past [] index u past = refl
 with_nth_past (t ∷ ts) zero u past = absurd (omega (arith, past))
-with_nth_past (t ∷ ts) (suc place) u past =
-    ap (λ o. option_map (λ us. more (tree t) us) o) (with_nth_past ts place u (omega (arith, past)))
+with_nth_past (t ∷ ts) (suc index) u past =
+    ap (λ o. option_map (λ us. more (tree t) us) o) (with_nth_past ts index u (omega (arith, past)))
 
-pub with_element_at : (x : Tree) (row : Trees) (ts : List Term) (place : ℕ) (v : Term) (made : Trees) → trees ts ≡ row →
-    x ≡ int (pos (suc place)) → place < length ts → made ≡ trees (set ts place v) → Some made ≡ with_element x (tree v) row
-with_element_at x row ts place v made e f within m =
-    ap Some m ∙ sym (ap2 (λ y r. with_element y (tree v) r) f (sym e) ∙ with_nth_is ts place v within)
+pub with_element_at : (x : Tree) (row : Trees) (ts : List Term) (index : ℕ) (v : Term) (made : Trees) → trees ts ≡ row →
+    x ≡ int (pos (suc index)) → index < length ts → made ≡ trees (set ts index v) → Some made ≡ with_element x (tree v) row
+with_element_at x row ts index v made e f within m =
+    ap Some m ∙ sym (ap2 (λ y r. with_element y (tree v) r) f (sym e) ∙ with_nth_is ts index v within)
 
-pub with_element_past : (x u : Tree) (row : Trees) (ts : List Term) (place : ℕ) → trees ts ≡ row →
-    x ≡ int (pos (suc place)) → length ts ≤ place → None ≡ with_element x u row
-with_element_past x u row ts place e f past =
-    sym (ap2 (λ y r. with_element y u r) f (sym e) ∙ with_nth_past ts place u past)
+pub with_element_past : (x u : Tree) (row : Trees) (ts : List Term) (index : ℕ) → trees ts ≡ row →
+    x ≡ int (pos (suc index)) → length ts ≤ index → None ≡ with_element x u row
+with_element_past x u row ts index e f past =
+    sym (ap2 (λ y r. with_element y u r) f (sym e) ∙ with_nth_past ts index u past)
 
 in_either : (b c : Bool) → c ≡ true → (if b then true else c) ≡ true
 in_either true c holds = refl
@@ -87,12 +87,12 @@ in_either false c holds = holds
 in_first : (b c : Bool) → b ≡ true → (if b then true else c) ≡ true
 in_first b c holds = ap (λ d. if d then true else c) holds
 
-pub member_at : (x : Tree) (ts : List Term) (place : ℕ) (t : Term) → slice_get ts place ≡ Some t →
+pub member_at : (x : Tree) (ts : List Term) (index : ℕ) (t : Term) → slice_get ts index ≡ Some t →
     tree_cmp x (tree t) ≡ Equal → has_member x (trees ts) ≡ true
-member_at x [] place t e same = absurd (some_none (sym e))
+member_at x [] index t e same = absurd (some_none (sym e))
 member_at x (u ∷ us) zero t e same =
     in_first _ _ (ap is_equal (ap (λ v. tree_cmp x (tree v)) (some_injective e) ∙ same))
-member_at x (u ∷ us) (suc place) t e same = in_either _ _ (member_at x us place t e same)
+member_at x (u ∷ us) (suc index) t e same = in_either _ _ (member_at x us index t e same)
 
 reverse_onto : (t : Term) (ts us : List Term) → reverse ts ++ t ∷ us ≡ reverse (t ∷ ts) ++ us
 reverse_onto t ts us = sym (ap (λ r. r ++ us) (reverse-append (t ∷ []) ts) ∙ append_assoc (reverse ts) (t ∷ []) us)

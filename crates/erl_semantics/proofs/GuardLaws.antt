@@ -179,7 +179,7 @@ module _ (w : World) where
         tested w.pid s.bindings e s.calls ≡ (value t, n) → Eval w a tail e s (value t) (with_calls n s)
     evaluates (form.literal u) s t n is =
         let same = same_value is in rule.literal (same.0, ap (λ k. with_calls k s) same.1)
-    evaluates (form.variable place) s t n is =
+    evaluates (form.variable index) s t n is =
         let same = same_value is in rule.variable (same.0, ap (λ k. with_calls k s) same.1)
     evaluates (form.apply op es) s t n is =
         apply_by op es s t n (tested_row w.pid s.bindings es s.calls) (row_ends w.pid s.bindings es s.calls)
@@ -291,7 +291,7 @@ module _ (w : World) where
     gives : {a : Activation} {tail : Bool} (e : Expr) (s : State) → is_guard_expression e ≡ true →
         Eval w a tail e s (tested w.pid s.bindings e s.calls).0 (with_calls (tested w.pid s.bindings e s.calls).1 s)
     gives (form.literal t) s ok = rule.literal (refl, refl)
-    gives (form.variable place) s ok = rule.variable (refl, refl)
+    gives (form.variable index) s ok = rule.variable (refl, refl)
     gives (form.apply op es) s ok =
         let parts = both_true (is_guard_operation op) (are_guard_expressions es) ok in
         apply_gives op es s (tested_row w.pid s.bindings es s.calls) parts.0 (row_gives es s parts.1)

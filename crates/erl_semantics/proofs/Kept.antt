@@ -357,7 +357,7 @@ module _ (w : World) (code : List Instance) (within : (i : Instance) → Contain
     pub eval_keeps : {a : Activation} {tail : Bool} {e : Expr} {s : State} {r : Result} {x : State} →
         Contains code a.instance → Sound s.acts s.startup → Eval w a tail e s r x → Kept a.may_rest r x
     eval_keeps there sound (literal g) = moved g (returned tt sound)
-    eval_keeps there sound (variable {place = p} {s = s} g) =
+    eval_keeps there sound (variable {index = p} {s = s} g) =
         moved g (returned (bound_returns (slice_get s.bindings p)) sound)
     eval_keeps there sound (apply d f) = applied_keeps there (operands_keep there sound d) f
     eval_keeps there sound (match d f) = match_keeps (body_keeps there sound d) f

@@ -264,8 +264,8 @@ nth_behind (t ∷ before) v behind = nth_behind before v behind
 
 pub numbered : ElementsAreNumberedFromOne
 numbered self before v behind =
-    let place : length before + 1 ≡ suc (length before) = omega arith in
-    ap (λ n. value_or_badarg (nth n (row (before ++ v ∷ behind)))) place ∙ ap value_or_badarg (nth_behind before v behind)
+    let index : length before + 1 ≡ suc (length before) = omega arith in
+    ap (λ n. value_or_badarg (nth n (row (before ++ v ∷ behind)))) index ∙ ap value_or_badarg (nth_behind before v behind)
 
 with_nth_behind : (before : List Tree) (t : Tree) (behind : List Tree) (v : Tree) →
     with_nth (suc (length before)) v (row (before ++ t ∷ behind)) ≡ Some (row (before ++ v ∷ behind))
@@ -274,8 +274,8 @@ with_nth_behind (u ∷ before) t behind v = ap (λ o. option_map (λ us. more u 
 
 pub replaces : SetElementReplaces
 replaces self before t behind v =
-    let place : length before + 1 ≡ suc (length before) = omega arith in
-    ap (λ n. made_or_badarg (with_nth n v (row (before ++ t ∷ behind)))) place ∙
+    let index : length before + 1 ≡ suc (length before) = omega arith in
+    ap (λ n. made_or_badarg (with_nth n v (row (before ++ t ∷ behind)))) index ∙
     ap made_or_badarg (with_nth_behind before t behind v)
 
 nth_nowhere : (n : ℕ) (ts : List Tree) → ((k : ℕ) → k < length ts → ¬ (n ≡ k)) → nth (suc n) (row ts) ≡ None
@@ -298,28 +298,28 @@ no_others self (list us) ts nowhere = refl
 
 -- an element that is there, or isn't, with the row that has another there
 
-pub data Place (o : Option Tree) (p : Option Trees) : Type 0 where
-  missing : o ≡ None → p ≡ None → Place o p
-  found : (t : Tree) (us : Trees) → o ≡ Some t → p ≡ Some us → Place o p
+pub data Element (o : Option Tree) (p : Option Trees) : Type 0 where
+  missing : o ≡ None → p ≡ None → Element o p
+  found : (t : Tree) (us : Trees) → o ≡ Some t → p ≡ Some us → Element o p
 
-place_behind : (n : ℕ) (t v : Tree) (ts : Trees) → Place (nth (suc n) ts) (with_nth (suc n) v ts) →
-    Place (nth (suc (suc n)) (more t ts)) (with_nth (suc (suc n)) v (more t ts))
-place_behind n t v ts (missing p q) = missing p (ap (λ o. option_map (λ us. more t us) o) q)
-place_behind n t v ts (found u us p q) = found u (more t us) p (ap (λ o. option_map (λ vs. more t vs) o) q)
+index_behind : (n : ℕ) (t v : Tree) (ts : Trees) → Element (nth (suc n) ts) (with_nth (suc n) v ts) →
+    Element (nth (suc (suc n)) (more t ts)) (with_nth (suc (suc n)) v (more t ts))
+index_behind n t v ts (missing p q) = missing p (ap (λ o. option_map (λ us. more t us) o) q)
+index_behind n t v ts (found u us p q) = found u (more t us) p (ap (λ o. option_map (λ vs. more t vs) o) q)
 
-place_of : (n : ℕ) (v : Tree) (ts : Trees) → Place (nth n ts) (with_nth n v ts)
-place_of n v none = missing refl refl
-place_of zero v (more t ts) = missing refl refl
-place_of (suc zero) v (more t ts) = found t (more v ts) refl refl
-place_of (suc (suc n)) v (more t ts) = place_behind n t v ts (place_of (suc n) v ts)
+index_of : (n : ℕ) (v : Tree) (ts : Trees) → Element (nth n ts) (with_nth n v ts)
+index_of n v none = missing refl refl
+index_of zero v (more t ts) = missing refl refl
+index_of (suc zero) v (more t ts) = found t (more v ts) refl refl
+index_of (suc (suc n)) v (more t ts) = index_behind n t v ts (index_of (suc n) v ts)
 
-element_place : (x v : Tree) (ts : Trees) → Place (element_of x ts) (with_element x v ts)
-element_place (int (pos n)) v ts = place_of n v ts
-element_place (int (negsuc n)) v ts = missing refl refl
-element_place (atom cs) v ts = missing refl refl
-element_place (pid n) v ts = missing refl refl
-element_place (tuple us) v ts = missing refl refl
-element_place (list us) v ts = missing refl refl
+element_index : (x v : Tree) (ts : Trees) → Element (element_of x ts) (with_element x v ts)
+element_index (int (pos n)) v ts = index_of n v ts
+element_index (int (negsuc n)) v ts = missing refl refl
+element_index (atom cs) v ts = missing refl refl
+element_index (pid n) v ts = missing refl refl
+element_index (tuple us) v ts = missing refl refl
+element_index (list us) v ts = missing refl refl
 
 -- the first character of a reason
 abbrev initial : Result → ℕ
@@ -330,7 +330,7 @@ made_not_badarg : (b : Bool) (t : Tree) → (if b then value t else exit_by (cod
 made_not_badarg true t e = cc
 made_not_badarg false t e = omega (arith, ap initial e)
 
-both_fail : (o : Option Tree) (p : Option Trees) → Place o p → (made_or_badarg p ≡ badarg) ↔ (value_or_badarg o ≡ badarg)
+both_fail : (o : Option Tree) (p : Option Trees) → Element o p → (made_or_badarg p ≡ badarg) ↔ (value_or_badarg o ≡ badarg)
 both_fail o p (missing e f) = (λ is. ap value_or_badarg e, λ is. ap made_or_badarg f)
 both_fail o p (found t us e f) = (
   λ is. absurd (made_not_badarg (is_within (tuple us)) (tuple us) (sym (ap made_or_badarg f) ∙ is)),
@@ -341,7 +341,7 @@ pub fails : SetElementFailsWhereElementDoes
 fails self n (int m) v = (λ e. refl, λ e. refl)
 fails self n (atom cs) v = (λ e. refl, λ e. refl)
 fails self n (pid m) v = (λ e. refl, λ e. refl)
-fails self n (tuple ts) v = both_fail (element_of n ts) (with_element n v ts) (element_place n v ts)
+fails self n (tuple ts) v = both_fail (element_of n ts) (with_element n v ts) (element_index n v ts)
 fails self n (list ts) v = (λ e. refl, λ e. refl)
 
 -- lists

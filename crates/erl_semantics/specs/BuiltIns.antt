@@ -17,14 +17,14 @@ abbrev pub absolute : Tree → Result
 absolute (int n) = integer (pos (nat_abs n))
 absolute _ = badarg
 
--- the element of a row at a place, counted from 1
+-- the element of a row at an index, counted from 1
 abbrev pub nth : ℕ → Trees → Option Tree
 nth n none = None
 nth zero (more t ts) = None
 nth (suc zero) (more t ts) = Some t
 nth (suc (suc n)) (more t ts) = nth (suc n) ts
 
--- the row with another element at a place, counted from 1, where it has that place
+-- the row with another element at an index, counted from 1, where it has that index
 abbrev pub with_nth : ℕ → Tree → Trees → Option Trees
 with_nth n u none = None
 with_nth zero u (more t ts) = None
@@ -47,7 +47,7 @@ abbrev pub made_or_badarg : Option Trees → Result
 made_or_badarg None = badarg
 made_or_badarg (Some ts) = made (tuple ts)
 
--- the same at the place that a term is
+-- the same at the index that a term is
 abbrev pub element_of : Tree → Trees → Option Tree
 element_of (int (pos n)) ts = nth n ts
 element_of _ ts = None

@@ -18,7 +18,7 @@ use Rattle.erl_ir.specs.Module.{function_of}
 use Rattle.erl_ir.specs.Pattern.{Pat, Pats}
 use Rattle.erl_ir.specs.Expression as form
 use Rattle.erl_ir.specs.Expression.{Expr, Exprs, Guards, Clauses}
-use Rattle.erl_semantics.specs.State.{Instance, Place, Result, IsEnd, exit_by, exit_by_pair, made, bound_to, World, Activation}
+use Rattle.erl_semantics.specs.State.{Instance, Result, IsEnd, exit_by, exit_by_pair, made, bound_to, World, Activation}
 use Rattle.erl_semantics.specs.State.{callee, State, with_bindings, with_calls, after}
 use Rattle.erl_semantics.specs.State as state
 use Rattle.erl_semantics.specs.Operators.{operated, sends, truth_of, consed}
@@ -86,8 +86,8 @@ module _ (w : World) where
       literal : {a : Activation} {tail : Bool} {t : Tree} {s : State} {r : Result} {s' : State} →
           Gives r s' (state.value t) s → Eval a tail (form.literal t) s r s'
       -- "If a variable is bound to a value, the return value is this value."
-      variable : {a : Activation} {tail : Bool} {place : ℕ} {s : State} {r : Result} {s' : State} →
-          Gives r s' (bound_to (slice_get s.bindings place)) s → Eval a tail (form.variable place) s r s'
+      variable : {a : Activation} {tail : Bool} {index : ℕ} {s : State} {r : Result} {s' : State} →
+          Gives r s' (bound_to (slice_get s.bindings index)) s → Eval a tail (form.variable index) s r s'
       -- "all subexpressions are evaluated before an expression itself is evaluated"
       apply : {a : Activation} {tail : Bool} {op : Operation} {es : Exprs} {s s1 s2 : State} {v : Values} {r : Result} →
           Operands a es s v s1 → Applied a tail op v s1 r s2 → Eval a tail (form.apply op es) s r s2

@@ -1,7 +1,7 @@
 -- Examples: that the rules give what the Reference Manual says of small modules.
 use Rattle.std.specs.Prelude.{ℕ, ◌-◌, ◌^◌, pos, true, false, List, [], ◌∷◌, codes, None}
 use Rattle.erl_term.specs.Tree as term
-use Rattle.erl_term.specs.Tree.{Tree, Trees, int, atom, pid}
+use Rattle.erl_term.specs.Tree.{Tree, int, atom, pid}
 use Rattle.erl_term.specs.Conversions.{row}
 use Rattle.erl_ir.specs.declared.operation.Connective.TheVariants.{AndAlso}
 use Rattle.erl_ir.specs.declared.operation.BuiltIn.{BuiltIn}
@@ -65,7 +65,7 @@ abbrev pub literal : Tree → Expr
 literal t = form.literal t
 
 abbrev pub var : ℕ → Expr
-var place = form.variable place
+var index = form.variable index
 
 abbrev pub tuple_of : List Expr → Expr
 tuple_of es = form.apply operation.Tuple (exprs es)

@@ -113,7 +113,7 @@ abbrev mutual
   -- an expression of a guard, by the process that evaluates it, the bindings, and the calls before
   pub tested : ℕ → List Tree → Expr → ℕ → Tested
   tested self env (form.literal t) calls = (value t, calls)
-  tested self env (form.variable place) calls = (bound_to (slice_get env place), calls)
+  tested self env (form.variable index) calls = (bound_to (slice_get env index), calls)
   tested self env (form.apply op es) calls = applied_to self op (tested_row self env es calls)
   tested self env (form.match p body) calls = (no_guard, calls)
   tested self env (form.block body) calls = (no_guard, calls)

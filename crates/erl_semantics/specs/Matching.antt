@@ -17,13 +17,13 @@ same_term t u env = if is_equal (tree_cmp t u) then Some env else None
 
 -- A bound variable matches what it is bound to. "If matching succeeds, any unbound variable in the pattern becomes bound."
 abbrev pub matched_variable : Option Tree → ℕ → Tree → List Tree → Option (List Tree)
-matched_variable (Some u) place t env = same_term t u env
-matched_variable None place t env = if length env == place then Some (env ++ t ∷ []) else None
+matched_variable (Some u) index t env = same_term t u env
+matched_variable None index t env = if length env == index then Some (env ++ t ∷ []) else None
 
 abbrev mutual
   pub matched : Pat → Tree → List Tree → Option (List Tree)
   matched (pattern.literal u) t env = same_term t u env
-  matched (pattern.variable place) t env = matched_variable (slice_get env place) place t env
+  matched (pattern.variable index) t env = matched_variable (slice_get env index) index t env
   -- the anonymous variable matches any term
   matched pattern.anything t env = Some env
   -- a tuple matches one of as many elements, element by element; so does a list without a tail

@@ -160,7 +160,7 @@ is_guard_operation (operation.Remote module_name name) = false
 abbrev mutual
   pub is_guard_expression : Expr → Bool
   is_guard_expression (form.literal t) = true
-  is_guard_expression (form.variable place) = true
+  is_guard_expression (form.variable index) = true
   is_guard_expression (form.apply op es) = is_guard_operation op && are_guard_expressions es
   is_guard_expression (form.match p body) = false
   is_guard_expression (form.block body) = false

@@ -104,7 +104,7 @@ pub record Startup : Type 0 where
   pub registered : Option (List ℕ × Bool)
   pub place : Option Place
 
--- What changes while a callback is evaluated: the bindings of the variables that are bound, by place; how many calls were
+-- What changes while a callback is evaluated: the bindings of the variables that are bound, by index; how many calls were
 -- made; the acts in order; and the process that is started.
 pub record State : Type 0 where
   pub bindings : List Tree

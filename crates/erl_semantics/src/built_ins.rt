@@ -106,33 +106,33 @@ fn reverse(alloc: Global, x: &Term) -> Result<Given, AllocError>
     made(alloc, Term::List(Terms::new(alloc, items)?))
 }
 
-/// A place of an element, which is counted from 1, as it is counted from 0.
-fn place_of(x: &Term) -> Option<usize>
-    ensures { MatchOption result ((n : ℕ) → tree x.now ≡ int (pos n) → n ≡ 0) (λ place. tree x.now ≡ int (pos (suc place))) }
+/// An index of an element, which is counted from 1, as it is counted from 0.
+fn index_of(x: &Term) -> Option<usize>
+    ensures { MatchOption result ((n : ℕ) → tree x.now ≡ int (pos n) → n ≡ 0) (λ index. tree x.now ≡ int (pos (suc index))) }
 {
     let n = x.as_int()?.checked_sub(1)?;
     usize::try_from(n).ok()
 }
 
-/// The term at a place, if the terms have it.
-fn item_at(terms: &[Term], place: usize) -> Option<&Term>
-    ensures { MatchOption result (slice_get terms.now place ≡ None) (λ t. slice_get terms.now place ≡ Some t.now) }
+/// The term at an index, if the terms have it.
+fn item_at(terms: &[Term], index: usize) -> Option<&Term>
+    ensures { MatchOption result (slice_get terms.now index ≡ None) (λ t. slice_get terms.now index ≡ Some t.now) }
 {
-    if place < terms.len() {
-        Some(&terms[place])
+    if index < terms.len() {
+        Some(&terms[index])
     } else {
         None
     }
 }
 
-/// The element of a row at a place that is counted from 1.
+/// The element of a row at an index that is counted from 1.
 fn nth<'a>(x: &Term, row: &'a Terms) -> Option<&'a Term>
     ensures { MatchOption result (element_of (tree x.now) row.now ≡ None)
         (λ t. element_of (tree x.now) row.now ≡ Some (tree t.now)) }
 {
     let terms = row.as_slice();
-    match place_of(x) {
-        Some(place) => item_at(terms, place),
+    match index_of(x) {
+        Some(index) => item_at(terms, index),
         None => None,
     }
 }
@@ -150,19 +150,19 @@ fn element(alloc: Global, x: &Term, y: &Term) -> Result<Given, AllocError>
     }
 }
 
-/// The row with another element at a place that is counted from 1, if it has that place.
+/// The row with another element at an index that is counted from 1, if it has that index.
 fn with_nth(alloc: Global, x: &Term, row: &Terms, z: &Term) -> Result<Option<Terms>, AllocError>
     ensures { IfOk result (λ made. made ≡ with_element (tree x.now) (tree z.now) row.now) }
 {
     let terms = row.as_slice();
-    let Some(place) = place_of(x) else {
+    let Some(index) = index_of(x) else {
         return Ok(None);
     };
-    if place >= terms.len() {
+    if index >= terms.len() {
         return Ok(None);
     }
     let mut items = copied_slice(alloc, terms)?;
-    items[place] = z.copy(alloc)?;
+    items[index] = z.copy(alloc)?;
     Ok(Some(Terms::new(alloc, items)?))
 }
 

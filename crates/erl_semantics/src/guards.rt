@@ -141,11 +141,11 @@ fn apply_in_guard(
 }
 
 /// What a variable gives.
-fn value_of(alloc: Global, bound_terms: &Bound<'_>, place: usize) -> Result<Given, AllocError>
+fn value_of(alloc: Global, bound_terms: &Bound<'_>, index: usize) -> Result<Given, AllocError>
     ensures { IfOk result (λ it. result_of it ≡ bound_to
-        (slice_get (bindings bound_terms.now.base.now bound_terms.now.fresh.now) place)) }
+        (slice_get (bindings bound_terms.now.base.now bound_terms.now.fresh.now) index)) }
 {
-    match bound(bound_terms.base, bound_terms.fresh, place) {
+    match bound(bound_terms.base, bound_terms.fresh, index) {
         Some(term) => Ok(Given::Value(term.copy(alloc)?)),
         None => exit_by(alloc, "undef"),
     }
@@ -164,7 +164,7 @@ fn test(
 {
     match expression {
         Expression::Literal(term) => Ok(Given::Value(term.copy(setting.alloc)?)),
-        Expression::Variable(place) => value_of(setting.alloc, bound, *place as usize),
+        Expression::Variable(index) => value_of(setting.alloc, bound, *index as usize),
         Expression::Apply(operation, operands) => {
             test_operation(setting, bound, operation, operands.as_slice(), calls)
         }

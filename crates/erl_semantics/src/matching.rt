@@ -11,17 +11,17 @@ use erl_term::{Term, Terms};
 use std::alloc::{AllocError, Global};
 use values::Duplicate;
 
-/// The term at a place of the bindings: of `base`, and of `fresh` behind it. Takes no memory.
-pub fn bound<'a>(base: &'a [Term], fresh: &'a [Term], place: usize) -> Option<&'a Term>
-    ensures { MatchOption result (slice_get (bindings base.now fresh.now) place ≡ None)
-        (λ t. slice_get (bindings base.now fresh.now) place ≡ Some (tree t.now)) }
+/// The term at an index of the bindings: of `base`, and of `fresh` behind it. Takes no memory.
+pub fn bound<'a>(base: &'a [Term], fresh: &'a [Term], index: usize) -> Option<&'a Term>
+    ensures { MatchOption result (slice_get (bindings base.now fresh.now) index ≡ None)
+        (λ t. slice_get (bindings base.now fresh.now) index ≡ Some (tree t.now)) }
 {
-    if place < base.len() {
-        return Some(&base[place]);
+    if index < base.len() {
+        return Some(&base[index]);
     }
-    let place = place - base.len();
-    if place < fresh.len() {
-        Some(&fresh[place])
+    let index = index - base.len();
+    if index < fresh.len() {
+        Some(&fresh[index])
     } else {
         None
     }
@@ -30,18 +30,18 @@ pub fn bound<'a>(base: &'a [Term], fresh: &'a [Term], place: usize) -> Option<&'
 /// Matches a variable: a bound one compares, and the next one is bound.
 fn match_variable(
     alloc: Global,
-    place: usize,
+    index: usize,
     term: &Term,
     base: &[Term],
     fresh: &mut Vec<Term>,
 ) -> Result<bool, AllocError>
-    ensures { IfOk result (λ ok. matched (pattern.variable place) (tree term.now)
+    ensures { IfOk result (λ ok. matched (pattern.variable index) (tree term.now)
         (bindings base.now fresh.old.items) ≡ bound_if ok (bindings base.now fresh.new.items)) }
 {
-    if let Some(value) = bound(base, fresh.as_slice(), place) {
+    if let Some(value) = bound(base, fresh.as_slice(), index) {
         return Ok(term == value);
     }
-    if place == base.len() + fresh.len() {
+    if index == base.len() + fresh.len() {
         fresh.push(term.copy(alloc)?)?;
         return Ok(true);
     }
@@ -67,8 +67,8 @@ pub fn match_pattern(
 {
     match (pattern, term) {
         (Pattern::Literal(literal), _) => Ok(term == literal),
-        (Pattern::Variable(place), _) => {
-            match_variable(alloc, *place as usize, term, base, fresh)
+        (Pattern::Variable(index), _) => {
+            match_variable(alloc, *index as usize, term, base, fresh)
         }
         (Pattern::Anything, _) => Ok(true),
         (Pattern::Tuple(patterns), Term::Tuple(row)) | (Pattern::List(patterns), Term::List(row)) =>

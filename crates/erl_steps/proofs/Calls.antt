@@ -63,7 +63,7 @@ module _ (self : ℕ) (env : List Tree) where
   mutual
     tested_counts : (e : Expr) (n : ℕ) → n ≤ (tested self env e n).1
     tested_counts (form.literal t) n = omega arith
-    tested_counts (form.variable place) n = omega arith
+    tested_counts (form.variable index) n = omega arith
     tested_counts (form.apply op es) n = applied_values self op n (tested_row self env es n) (row_counts es n)
     tested_counts (form.match p body) n = omega arith
     tested_counts (form.block body) n = omega arith

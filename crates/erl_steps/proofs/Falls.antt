@@ -289,8 +289,8 @@ module _ (w : World) where
   going_on_falls op ts form.none m x le = applying_falls op ts m x (omega (arith, le))
   going_on_falls op ts (form.more (form.literal t) es) m x le =
       going_on_falls op (append_trees ts (term.more t term.none)) es m x (omega (arith, le))
-  going_on_falls op ts (form.more (form.variable place) es) m x le =
-      known_falls op ts (form.variable place) es m x (slice_get m.state.bindings place) le
+  going_on_falls op ts (form.more (form.variable index) es) m x le =
+      known_falls op ts (form.variable index) es m x (slice_get m.state.bindings index) le
       (λ t. going_on_falls op (append_trees ts (term.more t term.none)) es m x (omega (arith, le)))
   going_on_falls op ts (form.more (form.apply o args) es) m x le =
       known_falls op ts (form.apply o args) es m x (machine.known (form.apply o args) m.state) le
@@ -307,8 +307,8 @@ module _ (w : World) where
       Falls m.state.calls (call_weight w m) (expr_weight e + frames_weight m.frames) (beginning w e m)
   beginning_falls (form.literal t) m =
       moves m m (machine.give t) (2 + frames_weight m.frames) (omega arith) (omega arith) (omega arith)
-  beginning_falls (form.variable place) m =
-      at_once_falls (bound_to (slice_get m.state.bindings place)) m m.state (2 + frames_weight m.frames) refl (omega arith)
+  beginning_falls (form.variable index) m =
+      at_once_falls (bound_to (slice_get m.state.bindings index)) m m.state (2 + frames_weight m.frames) refl (omega arith)
   beginning_falls (form.apply op es) m =
       going_on_falls op term.none es m (1 + row_weight es + frames_weight m.frames) (omega arith)
   beginning_falls (form.match p body) m = moves m (machine.pushed (machine.binding p) m) (machine.run body)

@@ -59,14 +59,14 @@ if_grows : (b : Bool) (env found : List Tree) → Extends env found → Grows en
 if_grows true env found behind = behind
 if_grows false env found behind = tt
 
-variable_grows : (o : Option Tree) (place : ℕ) (t : Tree) (env : List Tree) → Grows env (matched_variable o place t env)
-variable_grows (Some u) place t env = if_grows (is_equal (tree_cmp t u)) env env (extends_itself env)
-variable_grows None place t env = if_grows (length env == place) env (env ++ t ∷ []) (record { rest = t ∷ []; is = refl })
+variable_grows : (o : Option Tree) (index : ℕ) (t : Tree) (env : List Tree) → Grows env (matched_variable o index t env)
+variable_grows (Some u) index t env = if_grows (is_equal (tree_cmp t u)) env env (extends_itself env)
+variable_grows None index t env = if_grows (length env == index) env (env ++ t ∷ []) (record { rest = t ∷ []; is = refl })
 
 mutual
   pub match_grows : (p : Pat) (t : Tree) (env : List Tree) → Grows env (matched p t env)
   match_grows (pattern.literal u) t env = if_grows (is_equal (tree_cmp t u)) env env (extends_itself env)
-  match_grows (pattern.variable place) t env = variable_grows (slice_get env place) place t env
+  match_grows (pattern.variable index) t env = variable_grows (slice_get env index) index t env
   match_grows pattern.anything t env = extends_itself env
   match_grows (pattern.tuple ps) (term.tuple ts) env = each_grows ps ts env
   match_grows (pattern.tuple ps) (term.int n) env = tt

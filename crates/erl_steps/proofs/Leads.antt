@@ -392,7 +392,7 @@ module _ (w : World) where
   simple_evals : (a : Activation) (e : Expr) (s : State) (t : Tree) → machine.simple e s ≡ Some t →
       Eval w a false e s (state.value t) s
   simple_evals a (form.literal u) s t gives = rule.literal (ap state.value (sym (some_injective gives)), refl)
-  simple_evals a (form.variable place) s t gives = rule.variable (sym (ap bound_to gives), refl)
+  simple_evals a (form.variable index) s t gives = rule.variable (sym (ap bound_to gives), refl)
   simple_evals a (form.apply op es) s t gives = absurd (some_none (sym gives))
   simple_evals a (form.match p body) s t gives = absurd (some_none (sym gives))
   simple_evals a (form.block body) s t gives = absurd (some_none (sym gives))
@@ -453,8 +453,8 @@ module _ (w : World) where
   going_on_leads op ts (form.more (form.literal t) es) m f c =
       known_leads op ts (form.literal t) es m f t (rule.literal (refl, refl))
       (going_on_leads op (append_trees ts (term.more t term.none)) es m f c)
-  going_on_leads op ts (form.more (form.variable place) es) m f c =
-      maybe_leads op ts (form.variable place) es m f (slice_get m.state.bindings place)
+  going_on_leads op ts (form.more (form.variable index) es) m f c =
+      maybe_leads op ts (form.variable index) es m f (slice_get m.state.bindings index)
       (λ t gives. rule.variable (sym (ap bound_to gives), refl))
       (λ t d. going_on_leads op (append_trees ts (term.more t term.none)) es m f d) c
   going_on_leads op ts (form.more (form.apply o args) es) m f c =
@@ -472,11 +472,11 @@ module _ (w : World) where
   beginning_leads : (e : Expr) (m : Machine) (f : Final) → Comes w (beginning w e m).0 (beginning w e m).1 f →
       Comes w (machine.evaluate e) m f
   beginning_leads (form.literal t) m f c = (state.value t, m.state, rule.literal (refl, refl), c)
-  beginning_leads (form.variable place) m f c = (
-    bound_to (slice_get m.state.bindings place),
+  beginning_leads (form.variable index) m f c = (
+    bound_to (slice_get m.state.bindings index),
     m.state,
     rule.variable (refl, refl),
-    given_leads (bound_to (slice_get m.state.bindings place)) m f c,
+    given_leads (bound_to (slice_get m.state.bindings index)) m f c,
   )
   beginning_leads (form.apply op es) m f c =
       let d = going_on_leads op term.none es m f c in (d.2, d.3, rule.apply d.4 d.5, d.6)

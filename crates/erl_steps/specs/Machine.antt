@@ -184,7 +184,7 @@ applying w (operation.Remote called name) ts m =
 -- what an expression gives without any work, where it does: a literal its term, a variable what it is bound to
 abbrev pub simple : Expr → State → Option Tree
 simple (form.literal t) s = Some t
-simple (form.variable place) s = slice_get s.bindings place
+simple (form.variable index) s = slice_get s.bindings index
 simple (form.apply op es) s = None
 simple (form.match p body) s = None
 simple (form.block body) s = None
@@ -228,7 +228,7 @@ worked_out (operation.Remote called name) p = None
 -- of these its value.
 abbrev pub known : Expr → State → Option Tree
 known (form.literal t) s = Some t
-known (form.variable place) s = slice_get s.bindings place
+known (form.variable index) s = slice_get s.bindings index
 known (form.apply op es) s = worked_out op (simple_two es s)
 known (form.match p body) s = None
 known (form.block body) s = None
@@ -246,7 +246,7 @@ going_on w op ts (form.more e es) m =
 -- an expression is evaluated
 abbrev pub beginning : World → Expr → Machine → Next
 beginning w (form.literal t) m = (give t, m)
-beginning w (form.variable place) m = (of_result (bound_to (slice_get m.state.bindings place)), m)
+beginning w (form.variable index) m = (of_result (bound_to (slice_get m.state.bindings index)), m)
 beginning w (form.apply op es) m = going_on w op term.none es m
 beginning w (form.match p body) m = (run body, pushed (binding p) m)
 beginning w (form.block body) m = (run body, m)

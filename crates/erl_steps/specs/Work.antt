@@ -16,7 +16,7 @@ use Rattle.erl_steps.specs.Machine.{Control, evaluate, run, give, settle, end, M
 abbrev mutual
   pub expr_weight : Expr → ℕ
   expr_weight (form.literal t) = 2
-  expr_weight (form.variable place) = 2
+  expr_weight (form.variable index) = 2
   expr_weight (form.apply op es) = 1 + row_weight es
   expr_weight (form.match p body) = 2 + row_weight body
   expr_weight (form.block body) = 1 + row_weight body

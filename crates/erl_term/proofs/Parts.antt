@@ -1,4 +1,4 @@
--- Lemmas on rows that are seen from a place in them on.
+-- Lemmas on rows that are seen from an index on.
 use Rattle.std.proofs.Common.{◌≡◌, ℕ, zero, suc, ◌+◌, ◌-◌, ◌^◌, ◌<◌, ◌≤◌, max, min, List, [], ◌∷◌, ◌++◌, length, get_or, take, drop, refl, sym, ap, ◌∙◌, subst, arith}
 use Rattle.std.proofs.lemmas.List.{drop-append-le, drop-drop, length-append, length-drop, length-take-le}
 use Rattle.std.proofs.Math.Seq.{drop-append_seam, drop-append-add}
@@ -42,7 +42,7 @@ told_none items = record { depth_is = omega arith; last_has_it = omega arith; la
 
 -- A row that is seen whole
 
--- a place before the last that has the greatest depth serves as well
+-- an index before the last that has the greatest depth serves as well
 pub earlier_part : (items : List Term) (d last s earlier : ℕ) → HasExtent items d last s → d < 2 ^ 64 - 1 → earlier ≤ last → IsPart items d earlier s 0 0
 earlier_part items d last s earlier told below before = record {
   depth_is = omega (arith, told.depth_is, below);

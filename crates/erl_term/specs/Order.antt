@@ -7,7 +7,7 @@ use Rattle.std.specs.Ordering.{ordering_then, nat_cmp, int_cmp}
 use Rattle.std.specs.Cmp.Lexicographic.{slice_cmp}
 use Rattle.erl_term.specs.Tree.{Tree, Trees, int, atom, pid, tuple, list, none, more, count}
 
--- the place of a term's kind
+-- the rank of a term's kind
 abbrev pub kind : Tree → ℕ
 kind (int n) = 0
 kind (atom cs) = 1

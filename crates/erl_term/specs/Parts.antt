@@ -1,4 +1,4 @@
--- Rows of terms that are seen from a place in them on.
+-- Rows of terms that are seen from an index on.
 use Rattle.std.specs.Prelude.{◌≡◌, ℕ, zero, suc, ◌-◌, ◌^◌, ◌<◌, ◌≤◌, min, List, [], ◌∷◌, length, drop}
 use Rattle.std.proofs.Common.{arith}
 use Rattle.erl_term.specs.declared.term.Term.{Term}
@@ -10,7 +10,7 @@ abbrev pub behind : Trees → Trees
 behind none = none
 behind (more t ts) = ts
 
--- What is told of all terms of a row: their greatest depth, which one of those has that stand from the place `last` on,
+-- What is told of all terms of a row: their greatest depth, which one of those has that stand from the index `last` on,
 -- and the sum of their sizes, up to 2^64 - 1.
 pub record HasExtent (items : List Term) (depth last size : ℕ) : Type 0 where
   pub depth_is : depth ≡ min (greatest_depth (trees items)) (2 ^ 64 - 1)
@@ -18,7 +18,7 @@ pub record HasExtent (items : List Term) (depth last size : ℕ) : Type 0 where
   pub last_within : last ≤ length items
   pub size_is : size ≡ min (total_size (trees items)) (2 ^ 64 - 1)
 
--- What holds of a row that is seen from the place `from` on. It hides no term that is deeper than all that it shows, so
+-- What holds of a row that is seen from the index `from` on. It hides no term that is deeper than all that it shows, so
 -- that its depth is the greatest of them all; `hidden` is the sum of the sizes of those that it hides.
 pub record IsPart (items : List Term) (depth last size from hidden : ℕ) : Type 0 where
   pub depth_is : depth ≡ greatest_depth (trees items)

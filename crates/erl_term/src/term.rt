@@ -38,13 +38,13 @@ const _: () = prove!(size_of::<Term>() == 24);
 
 /// Terms in a row: the elements of a tuple or a list.
 ///
-/// A row has any number of owners, each of which sees it from a place in it on. So a copy, and the row behind the
+/// A row has any number of owners, each of which sees it from an index in it on. So a copy, and the row behind the
 /// first term, take no more time and memory than a count, however many terms there are.
 #[cycle(term)]
 #[derive(Drop)]
 pub struct Terms {
     row: Arc<Row>,
-    /// The place of the first term that is seen.
+    /// The index of the first term that is seen.
     from: u32,
     /// The sum of the sizes of the terms before it.
     hidden: u32,
@@ -59,7 +59,7 @@ struct Row {
     size: u64,
     /// The greatest depth of the terms.
     depth: u32,
-    /// The place of the last term that has that depth, or one before it.
+    /// The index of the last term that has that depth, or one before it.
     last: u32,
 }
 

@@ -24,7 +24,7 @@ abbrev pub script_to : List ℕ → List Listed → Option (Entry Term Low)
 script_to vsn releases =
     option_and_then (λ now. option_and_then (λ new. script_for now.release new.release) (listed vsn releases)) (running releases)
 
--- The first instruction that is to purge old code softly in which a process lingers, by its place.
+-- The first instruction that is to purge old code softly in which a process lingers, by its index.
 
 abbrev pub has_old_if_soft : Kind → List ℕ → Loaded Forms → Table → Bool
 has_old_if_soft Soft m modules t = is_lingered_in m modules t
@@ -46,7 +46,7 @@ has_old_processes modules t (Apply m f args) = false
 abbrev pub old_processes : Loaded Forms → Table → List Low → Option ℕ
 old_processes modules t script = position (has_old_processes modules t) script
 
--- the module that an instruction loads or removes, by its place: of the first that is told a node tells the module
+-- the module that an instruction loads or removes, by its index: of the first that is told a node tells the module
 
 abbrev pub replaced_module : Option Low → Option (List ℕ)
 replaced_module None = None
@@ -63,18 +63,18 @@ replaced_module (Some (Start ms)) = None
 replaced_module (Some (Apply m f args)) = None
 
 abbrev pub module_at : List Low → ℕ → Option (List ℕ)
-module_at script place = replaced_module (slice_get script place)
+module_at script index = replaced_module (slice_get script index)
 
 -- Why it is not installed, in order: there is no such release, or it runs; no script leads to it; the script can't be
 -- installed; a process lingers.
 
 abbrev pub unless_lingering : Option ℕ → Option InstallError
 unless_lingering None = None
-unless_lingering (Some place) = Some (OldProcesses place)
+unless_lingering (Some index) = Some (OldProcesses index)
 
 abbrev pub unless_bad : Option ℕ → Option InstallError → Option InstallError
 unless_bad None otherwise = otherwise
-unless_bad (Some place) otherwise = Some (BadScript place)
+unless_bad (Some index) otherwise = Some (BadScript index)
 
 abbrev pub script_refusal : Loaded Forms → Table → List Low → Option InstallError
 script_refusal modules t script = unless_bad (bad_script script) (unless_lingering (old_processes modules t script))

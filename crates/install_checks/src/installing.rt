@@ -16,7 +16,7 @@ use release_words::Purge;
 use script_checks::check;
 use script_state::script_for;
 
-/// Why a release is not installed (release_handler(3), install_release/1). Places are those of instructions in the script,
+/// Why a release is not installed (release_handler(3), install_release/1). Indices are those of instructions in the script,
 /// counted from 0.
 #[derive(Clone, Copy, Debug, PartialEq, Eq)]
 pub enum InstallError {
@@ -24,10 +24,10 @@ pub enum InstallError {
     OfReleases(RelError),
     /// No relup leads from the release that runs to this one.
     NoMatchingRelup,
-    /// The script can't be installed: the least place of a faulty instruction, or its length where the point of no return is
+    /// The script can't be installed: the least index of a faulty instruction, or its length where the point of no return is
     /// missing.
     BadScript(usize),
-    /// The first place of a load or a removal that is to purge softly, and in the old code of whose module a process lingers.
+    /// The first index of a load or a removal that is to purge softly, and in the old code of whose module a process lingers.
     OldProcesses(usize),
 }
 
@@ -64,18 +64,18 @@ fn has_old_processes(modules: &Modules<Module>, processes: &Processes, instructi
     }
 }
 
-/// The first place of an instruction of a script that is to purge old code softly in which a process lingers.
+/// The first index of an instruction of a script that is to purge old code softly in which a process lingers.
 fn old_processes(modules: &Modules<Module>, processes: &Processes, script: &[Low]) -> Option<usize>
     ensures { result ≡ old_processes modules.now processes.now script.now }
 {
     script.iter().position(|instruction| has_old_processes(modules, processes, instruction))
 }
 
-/// The module that the instruction at a place of a script loads or removes, if it does. Takes no memory.
-pub fn module_at(script: &[Low], place: usize) -> Option<&Atom>
-    ensures { option_copied result ≡ module_at script.now place }
+/// The module that the instruction at an index of a script loads or removes, if it does. Takes no memory.
+pub fn module_at(script: &[Low], index: usize) -> Option<&Atom>
+    ensures { option_copied result ≡ module_at script.now index }
 {
-    match script.get(place)? {
+    match script.get(index)? {
         Low::Load { name, .. } | Low::Remove { name, .. } => Some(name),
         Low::LoadObjectCode { .. } | Low::PointOfNoReturn | Low::Purge { .. } => None,
         Low::Suspend { .. } | Low::Resume { .. } | Low::CodeChange { .. } => None,
@@ -91,11 +91,11 @@ fn script_refusal(
 ) -> Option<InstallError>
     ensures { result ≡ script_refusal modules.now processes.now script.now }
 {
-    if let Some(place) = check(script) {
-        return Some(InstallError::BadScript(place));
+    if let Some(index) = check(script) {
+        return Some(InstallError::BadScript(index));
     }
     match old_processes(modules, processes, script) {
-        Some(place) => Some(InstallError::OldProcesses(place)),
+        Some(index) => Some(InstallError::OldProcesses(index)),
         None => None,
     }
 }

@@ -5,8 +5,8 @@
 //! - [`script_to`] is the script that leads from the release that runs to that of a version: up from the one in the relup of the
 //!   other, or else down to the other in the relup of the one.
 //! - An install is refused by the rules, in their order, without memory: there is no such release, or it runs; no relup leads
-//!   to it; its script can't be installed, at the least place; a process lingers in code that is to be purged softly
-//!   ([`install_refusal`]). Of the last the place is told, and [`module_at`] is the module that stands there.
+//!   to it; its script can't be installed, at the least index; a process lingers in code that is to be purged softly
+//!   ([`install_refusal`]). Of the last the index is told, and [`module_at`] is the module that stands there.
 //!
 //! # What no contract says
 //!

@@ -10,17 +10,17 @@ use Rattle.line_server.specs.declared.ended.Fault.TheVariants.{Read, Endless, Wr
 use Rattle.line_server.specs.declared.ended.ServeEnd.{ServeEnd}
 use Rattle.line_server.specs.declared.pending.Pending.{Pending}
 use Rattle.line_server.specs.Lines.{lines_of, longest_line}
-use Rattle.line_server.specs.Session.{Turns, lines_in, text_of, session_after}
+use Rattle.line_server.specs.Session.{Exchanges, lines_in, text_of, session_after}
 use Rattle.line_server.specs.Serving.{IsFrontOf, AreAnswered, IsWritten, Stands, Serves, ServesWhole, most_reads}
 use Rattle.line_server.specs.Progress.{SoFar, IsOfWriting, GoesOn, StopsIn, Finishes, fault_of}
 
 -- Some chunks are served: the reader gave bytes, the text of their whole lines is written, and no answer waits.
-pub record Served {S F : Type 0} (turn : Turns S F) (start now : S) (left rest held holds : Option (List ℕ)) (pending : Pending) : Type 0 where
+pub record Served {S F : Type 0} (exchange : Exchanges S F) (start now : S) (left rest held holds : Option (List ℕ)) (pending : Pending) : Type 0 where
   pub bytes : List ℕ
   pub output : List ℕ
   pub consumed : Consumes left rest bytes
   pub written : Appends held holds output
-  pub so_far : SoFar turn start bytes output now pending
+  pub so_far : SoFar exchange start bytes output now pending
   pub none_left : pending.answers.text.items ≡ []
 
 -- after a fault of writing
@@ -52,9 +52,9 @@ no_fault fault P is = absurd (let never : ⊥ = cc in never)
 not_endless : (fault : Fault) (reads : ℕ) (P : Type 0) → IsOfWriting fault → Some fault ≡ Some (Endless reads) → P
 not_endless fault reads P writing is = let same : fault ≡ Endless reads = cc in absurd (subst IsOfWriting same writing)
 
-module _ {S F : Type 0} (turn : Turns S F) (start : S) where
+module _ {S F : Type 0} (exchange : Exchanges S F) (start : S) where
   -- before the first read
-  pub Served-none : (left held : Option (List ℕ)) (pending : Pending) → pending.line.bytes.items ≡ [] → pending.answers.text.items ≡ [] → pending.answers.is_refused ≡ false → Served turn start start left left held held pending
+  pub Served-none : (left held : Option (List ℕ)) (pending : Pending) → pending.line.bytes.items ≡ [] → pending.answers.text.items ≡ [] → pending.answers.is_refused ≡ false → Served exchange start start left left held held pending
   Served-none left held pending line text unrefused = record {
     bytes = [];
     output = [];
@@ -74,7 +74,7 @@ module _ {S F : Type 0} (turn : Turns S F) (start : S) where
   }
 
   -- a chunk more
-  pub Served-chunk : (chunk : List ℕ) (old new : S) (left rest resting held holds holding : Option (List ℕ)) (before after : Pending) → Served turn start old left rest held holds before → Consumes rest resting chunk → GoesOn turn chunk old new holds holding before after → after.answers.text.items ≡ [] → Served turn start new left resting held holding after
+  pub Served-chunk : (chunk : List ℕ) (old new : S) (left rest resting held holds holding : Option (List ℕ)) (before after : Pending) → Served exchange start old left rest held holds before → Consumes rest resting chunk → GoesOn exchange chunk old new holds holding before after → after.answers.text.items ≡ [] → Served exchange start new left resting held holding after
   Served-chunk chunk old new left rest resting held holds holding before after served read on none = record {
     bytes = served.bytes ++ chunk;
     output = served.output ++ on.taken;
@@ -85,7 +85,7 @@ module _ {S F : Type 0} (turn : Turns S F) (start : S) where
   }
 
   -- a read that was interrupted
-  pub Served-kept : (now : S) (left rest resting held holds : Option (List ℕ)) (pending : Pending) → Served turn start now left rest held holds pending → Keeps rest resting → Served turn start now left resting held holds pending
+  pub Served-kept : (now : S) (left rest resting held holds : Option (List ℕ)) (pending : Pending) → Served exchange start now left rest held holds pending → Keeps rest resting → Served exchange start now left resting held holds pending
   Served-kept now left rest resting held holds pending served kept = record {
     bytes = served.bytes;
     output = served.output;
@@ -96,12 +96,12 @@ module _ {S F : Type 0} (turn : Turns S F) (start : S) where
   }
 
   -- the text of the whole lines is written
-  whole_text : (now : S) (left rest held holds : Option (List ℕ)) (pending : Pending) (served : Served turn start now left rest held holds pending) → served.output ≡ text_of served.so_far.answered
+  whole_text : (now : S) (left rest held holds : Option (List ℕ)) (pending : Pending) (served : Served exchange start now left rest held holds pending) → served.output ≡ text_of served.so_far.answered
   whole_text now left rest held holds pending served =
       sym (served.so_far.text ∙ ap (λ l. served.output ++ l) served.none_left ∙ append-nil served.output)
 
   -- the reader failed, or has no end
-  pub Serves-read : (e : _) (now : S) (left rest resting held holds : Option (List ℕ)) (pending : Pending) → Served turn start now left rest held holds pending → Keeps rest resting → Serves turn start now left resting held holds record { fault = Some (Read e); is_refused = pending.answers.is_refused }
+  pub Serves-read : (e : _) (now : S) (left rest resting held holds : Option (List ℕ)) (pending : Pending) → Served exchange start now left rest held holds pending → Keeps rest resting → Serves exchange start now left resting held holds record { fault = Some (Read e); is_refused = pending.answers.is_refused }
   Serves-read e now left rest resting held holds pending served kept = record {
     bytes = served.bytes;
     answered = served.so_far.answered;
@@ -118,7 +118,7 @@ module _ {S F : Type 0} (turn : Turns S F) (start : S) where
     refused = served.so_far.refused;
   }
 
-  pub Serves-endless : (reads : ℕ) (now : S) (left rest held holds : Option (List ℕ)) (pending : Pending) → reads ≡ most_reads → Served turn start now left rest held holds pending → Serves turn start now left rest held holds record { fault = Some (Endless reads); is_refused = pending.answers.is_refused }
+  pub Serves-endless : (reads : ℕ) (now : S) (left rest held holds : Option (List ℕ)) (pending : Pending) → reads ≡ most_reads → Served exchange start now left rest held holds pending → Serves exchange start now left rest held holds record { fault = Some (Endless reads); is_refused = pending.answers.is_refused }
   Serves-endless reads now left rest held holds pending all served = record {
     bytes = served.bytes;
     answered = served.so_far.answered;
@@ -136,7 +136,7 @@ module _ {S F : Type 0} (turn : Turns S F) (start : S) where
   }
 
   -- the writer failed, or memory is wanted
-  pub Serves-stopped : (chunk : List ℕ) (old new : S) (left rest resting held holds holding : Option (List ℕ)) (before after : Pending) (fault : Fault) → Served turn start old left rest held holds before → Consumes rest resting chunk → StopsIn turn chunk old holds holding before after fault → Serves turn start new left resting held holding record { fault = Some fault; is_refused = after.answers.is_refused }
+  pub Serves-stopped : (chunk : List ℕ) (old new : S) (left rest resting held holds holding : Option (List ℕ)) (before after : Pending) (fault : Fault) → Served exchange start old left rest held holds before → Consumes rest resting chunk → StopsIn exchange chunk old holds holding before after fault → Serves exchange start new left resting held holding record { fault = Some fault; is_refused = after.answers.is_refused }
   Serves-stopped chunk old new left rest resting held holds holding before after fault served read stops =
       let bytes = served.bytes ++ chunk in
       let part = stops.part start served.bytes served.output served.so_far in
@@ -157,7 +157,7 @@ module _ {S F : Type 0} (turn : Turns S F) (start : S) where
       }
 
   -- the reader is at its end
-  Serves-finished : (old new : S) (left rest resting held holds holding : Option (List ℕ)) (before after : Pending) → Served turn start old left rest held holds before → Consumes rest resting [] → IsAtEnd resting → Finishes turn old new holds holding before after → after.answers.text.items ≡ [] → Serves turn start new left resting held holding record { fault = None; is_refused = after.answers.is_refused }
+  Serves-finished : (old new : S) (left rest resting held holds holding : Option (List ℕ)) (before after : Pending) → Served exchange start old left rest held holds before → Consumes rest resting [] → IsAtEnd resting → Finishes exchange old new holds holding before after → after.answers.text.items ≡ [] → Serves exchange start new left resting held holding record { fault = None; is_refused = after.answers.is_refused }
   Serves-finished old new left rest resting held holds holding before after served read end finishes none =
       let output = served.output ++ finishes.taken in
       let all = finishes.goes start served.bytes served.output served.so_far in
@@ -177,14 +177,14 @@ module _ {S F : Type 0} (turn : Turns S F) (start : S) where
         refused = all.refused;
       }
 
-  pub Serves-end : (result : Result (Unit {0}) Fault) (old new : S) (left rest resting held holds holding : Option (List ℕ)) (before after : Pending) → Served turn start old left rest held holds before → Consumes rest resting [] → IsAtEnd resting → OnOk result (Finishes turn old new holds holding before after) → OnOk result (after.answers.text.items ≡ []) → IfErr result (StopsIn turn [] old holds holding before after) → Serves turn start new left resting held holding record { fault = fault_of result; is_refused = after.answers.is_refused }
+  pub Serves-end : (result : Result (Unit {0}) Fault) (old new : S) (left rest resting held holds holding : Option (List ℕ)) (before after : Pending) → Served exchange start old left rest held holds before → Consumes rest resting [] → IsAtEnd resting → OnOk result (Finishes exchange old new holds holding before after) → OnOk result (after.answers.text.items ≡ []) → IfErr result (StopsIn exchange [] old holds holding before after) → Serves exchange start new left resting held holding record { fault = fault_of result; is_refused = after.answers.is_refused }
   Serves-end (Ok u) old new left rest resting held holds holding before after served read end finishes none stops =
       Serves-finished old new left rest resting held holds holding before after served read end finishes none
   Serves-end (Err fault) old new left rest resting held holds holding before after served read end finishes none stops =
       Serves-stopped [] old new left rest resting held holds holding before after fault served read stops
 
   -- without a fault and lack of memory, the text of all lines is written behind what the writer held
-  pub whole-from_Serves : (new : S) (left rest held holds : Option (List ℕ)) (ended : ServeEnd) (input before : List ℕ) → Serves turn start new left rest held holds ended → left ≡ Some input → held ≡ Some before → ended.fault ≡ None → ended.is_refused ≡ false → ServesWhole turn start new input before holds
+  pub whole-from_Serves : (new : S) (left rest held holds : Option (List ℕ)) (ended : ServeEnd) (input before : List ℕ) → Serves exchange start new left rest held holds ended → left ≡ Some input → held ≡ Some before → ended.fault ≡ None → ended.is_refused ≡ false → ServesWhole exchange start new input before holds
   whole-from_Serves new left rest held holds ended input before serves gave had none unrefused =
       let all = all_read rest (subst (λ o. Consumes o rest serves.bytes) gave serves.consumed) (serves.at_end none) in
       let text = subst (λ fault. IsWritten fault (text_of serves.answered) serves.output) none serves.text in
@@ -215,8 +215,8 @@ fault_of-err (Ok u) = refl
 fault_of-err (Err e) = refl
 
 -- nothing is read where there is no memory to begin with
-pub Serves-memory : {S F : Type 0} (turn : Turns S F) (start : S) (left held : Option (List ℕ)) → Serves turn start start left left held held record { fault = Some Memory; is_refused = false }
-Serves-memory turn start left held = record {
+pub Serves-memory : {S F : Type 0} (exchange : Exchanges S F) (start : S) (left held : Option (List ℕ)) → Serves exchange start start left left held held record { fault = Some Memory; is_refused = false }
+Serves-memory exchange start left held = record {
   bytes = [];
   answered = [];
   output = [];

@@ -5,24 +5,24 @@ use Rattle.std.proofs.lemmas.List.{take_all, take_min, map-append}
 use Rattle.std.proofs.lemmas.Grind.{flat_map-append}
 use Rattle.std.proofs.Math.Seq.{take-append-add}
 use Rattle.line_server.specs.Lines.{heard, longest_line}
-use Rattle.line_server.specs.Session.{Turns, Answered, AreInTurn, lines_in, text_of, session_after}
+use Rattle.line_server.specs.Session.{Exchanges, Answered, AreInTurn, lines_in, text_of, session_after}
 
 -- One more line that was answered behind others.
-module _ {S F : Type 0} (may : Turns S F) where
-  pub AreInTurn-push : (start : S) (answered : List (Answered S F)) (a : Answered S F) → AreInTurn may start answered → may a.fate (session_after start answered) (heard a.line) a.turn → AreInTurn may start (answered ++ a ∷ [])
+module _ {S F : Type 0} (may : Exchanges S F) where
+  pub AreInTurn-push : (start : S) (answered : List (Answered S F)) (a : Answered S F) → AreInTurn may start answered → may a.fate (session_after start answered) (heard a.line) a.exchange → AreInTurn may start (answered ++ a ∷ [])
   AreInTurn-push start [] a before last = (last, tt)
-  AreInTurn-push start (b ∷ bs) a before last = (before.0, AreInTurn-push b.turn.after bs a before.1 last)
+  AreInTurn-push start (b ∷ bs) a before last = (before.0, AreInTurn-push b.exchange.after bs a before.1 last)
 
-pub session_after-push : {S F : Type 0} (start : S) (answered : List (Answered S F)) (a : Answered S F) → session_after start (answered ++ a ∷ []) ≡ a.turn.after
+pub session_after-push : {S F : Type 0} (start : S) (answered : List (Answered S F)) (a : Answered S F) → session_after start (answered ++ a ∷ []) ≡ a.exchange.after
 session_after-push start [] a = refl
-session_after-push start (b ∷ bs) a = session_after-push b.turn.after bs a
+session_after-push start (b ∷ bs) a = session_after-push b.exchange.after bs a
 
 pub lines_in-push : {S F : Type 0} (answered : List (Answered S F)) (a : Answered S F) → lines_in (answered ++ a ∷ []) ≡ lines_in answered ++ a.line ∷ []
 lines_in-push answered a = map-append (λ b. b.line) answered (a ∷ [])
 
-pub text_of-push : {S F : Type 0} (answered : List (Answered S F)) (a : Answered S F) → text_of (answered ++ a ∷ []) ≡ text_of answered ++ a.turn.text
+pub text_of-push : {S F : Type 0} (answered : List (Answered S F)) (a : Answered S F) → text_of (answered ++ a ∷ []) ≡ text_of answered ++ a.exchange.text
 text_of-push answered a =
-    flat_map-append (λ b. b.turn.text) answered (a ∷ []) ∙ ap (λ l. text_of answered ++ l) (append-nil a.turn.text)
+    flat_map-append (λ b. b.exchange.text) answered (a ∷ []) ∙ ap (λ l. text_of answered ++ l) (append-nil a.exchange.text)
 
 -- what is heard of a line is heard of as much of it as tells whether it is too long
 heard-take_at : (n : ℕ) (line : List ℕ) → cond (ltb n (length (take (n + 1) line))) None (Some (take (n + 1) line)) ≡ cond (ltb n (length line)) None (Some line)

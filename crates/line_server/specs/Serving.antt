@@ -5,7 +5,7 @@ use Rattle.line_server.specs.declared.ended.Fault.{Fault}
 use Rattle.line_server.specs.declared.ended.Fault.TheVariants.{Read, Endless, Write, WriteZero, Memory}
 use Rattle.line_server.specs.declared.ended.ServeEnd.{ServeEnd}
 use Rattle.line_server.specs.Lines.{whole_lines, lines_of}
-use Rattle.line_server.specs.Session.{Turns, Answered, AreInTurn, lines_in, text_of, session_after}
+use Rattle.line_server.specs.Session.{Exchanges, Answered, AreInTurn, lines_in, text_of, session_after}
 
 -- the one list is a front of the other
 abbrev pub IsFrontOf : {A : Type 0} → List A → List A → Type 0
@@ -48,14 +48,14 @@ most_reads = 2 ^ 32
 -- Serving lines from one session to another: the bytes that the reader gave, the lines that were answered, and the bytes
 -- that the writer took. `left` and `rest` are what the reader has left before and after, `held` and `holds` what the
 -- writer holds, where these are known.
-pub record Serves {S F : Type 0} (turn : Turns S F) (start new : S) (left rest held holds : Option (List ℕ)) (ended : ServeEnd)
+pub record Serves {S F : Type 0} (exchange : Exchanges S F) (start new : S) (left rest held holds : Option (List ℕ)) (ended : ServeEnd)
     : Type 0 where
   pub bytes : List ℕ
   pub answered : List (Answered S F)
   pub output : List ℕ
   pub consumed : Consumes left rest bytes
   pub written : Appends held holds output
-  pub in_turn : AreInTurn turn start answered
+  pub in_turn : AreInTurn exchange start answered
   pub lines : AreAnswered ended.fault bytes (lines_in answered)
   pub text : IsWritten ended.fault (text_of answered) output
   pub stands : Stands ended.fault new (session_after start answered)
@@ -66,10 +66,10 @@ pub record Serves {S F : Type 0} (turn : Turns S F) (start new : S) (left rest h
 
 -- Where reader and writer tell their bytes, no fault came and no memory was refused: all that the reader had was read,
 -- and the text of its lines was written behind what the writer held.
-pub record ServesWhole {S F : Type 0} (turn : Turns S F) (start new : S) (input before : List ℕ) (holds : Option (List ℕ))
+pub record ServesWhole {S F : Type 0} (exchange : Exchanges S F) (start new : S) (input before : List ℕ) (holds : Option (List ℕ))
     : Type 0 where
   pub answered : List (Answered S F)
-  pub in_turn : AreInTurn turn start answered
+  pub in_turn : AreInTurn exchange start answered
   pub unrefused : All (λ a. a.fate ≡ None) answered
   pub lines : lines_in answered ≡ lines_of input
   pub stands : new ≡ session_after start answered

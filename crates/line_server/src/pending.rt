@@ -35,8 +35,8 @@ impl Pending {
     /// Answers the line that ends with these bytes. It is not copied where it begins with them too.
     fn end_line<S: Session>(&mut self, session: &mut S, end: &[u8]) -> Result<(), AllocError>
         requires { has_newline end.now ≡ false }
-        ensures ok { OnOk result ((start : S) (had output : List ℕ) → SoFar S.turn start had output session.old self.old
-            → SoFar S.turn start (had ++ (end.now ++ 10 ∷ [])) output session.new self.new) }
+        ensures ok { OnOk result ((start : S) (had output : List ℕ) → SoFar S.exchange start had output session.old self.old
+            → SoFar S.exchange start (had ++ (end.now ++ 10 ∷ [])) output session.new self.new) }
         ensures err { OnErr result (Stays self.old.answers self.new.answers) }
     {
         if self.line.is_empty() {
@@ -48,8 +48,8 @@ impl Pending {
     /// Answers the line that was begun, and ends with these bytes.
     fn end_begun<S: Session>(&mut self, session: &mut S, end: &[u8]) -> Result<(), AllocError>
         requires { has_newline end.now ≡ false }
-        ensures ok { OnOk result ((start : S) (had output : List ℕ) → SoFar S.turn start had output session.old self.old
-            → SoFar S.turn start (had ++ (end.now ++ 10 ∷ [])) output session.new self.new) }
+        ensures ok { OnOk result ((start : S) (had output : List ℕ) → SoFar S.exchange start had output session.old self.old
+            → SoFar S.exchange start (had ++ (end.now ++ 10 ∷ [])) output session.new self.new) }
         ensures err { OnErr result (Stays self.old.answers self.new.answers) }
     {
         self.line.append(end);
@@ -67,8 +67,8 @@ impl Pending {
         requires { 0 < length chunk.now }
         ensures shorter { IfOk result (λ rest. length rest.now < length chunk.now) }
         ensures ok { IfOk result (λ rest. (piece : List ℕ) × (chunk.now ≡ piece ++ rest.now)
-            × ((start : S) (had output : List ℕ) → SoFar S.turn start had output session.old self.old
-            → SoFar S.turn start (had ++ piece) output session.new self.new)) }
+            × ((start : S) (had output : List ℕ) → SoFar S.exchange start had output session.old self.old
+            → SoFar S.exchange start (had ++ piece) output session.new self.new)) }
         ensures err { OnErr result (Stays self.old.answers self.new.answers) }
     {
         match memchr(b'\n', chunk) {
@@ -96,10 +96,10 @@ impl Pending {
         chunk: &[u8],
         writer: &mut W,
     ) -> Result<(), Fault>
-        ensures ok { OnOk result (GoesOn S.turn chunk.now session.old session.new
+        ensures ok { OnOk result (GoesOn S.exchange chunk.now session.old session.new
             (W.contents writer.old) (W.contents writer.new) self.old self.new) }
         ensures none_left { OnOk result (self.new.answers.text.items ≡ []) }
-        ensures err { IfErr result (StopsIn S.turn chunk.now session.old
+        ensures err { IfErr result (StopsIn S.exchange chunk.now session.old
             (W.contents writer.old) (W.contents writer.new) self.old self.new) }
     {
         let mut rest = chunk;
@@ -117,8 +117,8 @@ impl Pending {
 
     /// Answers the rest behind the last newline, where there is one.
     fn end_input<S: Session>(&mut self, session: &mut S) -> Result<(), AllocError>
-        ensures ok { OnOk result ((start : S) (had output : List ℕ) → SoFar S.turn start had output session.old self.old
-            → IsAnswered S.turn start (lines_of had) output session.new self.new.answers) }
+        ensures ok { OnOk result ((start : S) (had output : List ℕ) → SoFar S.exchange start had output session.old self.old
+            → IsAnswered S.exchange start (lines_of had) output session.new self.new.answers) }
         ensures err { OnErr result (Stays self.old.answers self.new.answers) }
     {
         if self.line.is_empty() {
@@ -133,10 +133,10 @@ impl Pending {
         session: &mut S,
         writer: &mut W,
     ) -> Result<(), Fault>
-        ensures ok { OnOk result (Finishes S.turn session.old session.new
+        ensures ok { OnOk result (Finishes S.exchange session.old session.new
             (W.contents writer.old) (W.contents writer.new) self.old self.new) }
         ensures none_left { OnOk result (self.new.answers.text.items ≡ []) }
-        ensures err { IfErr result (StopsIn S.turn [] session.old
+        ensures err { IfErr result (StopsIn S.exchange [] session.old
             (W.contents writer.old) (W.contents writer.new) self.old self.new) }
     {
         match self.end_input(session) {

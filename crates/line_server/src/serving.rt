@@ -27,14 +27,14 @@ pub fn serve<S: Session, R: Read, W: Write>(
     reader: &mut R,
     writer: &mut W,
 ) -> ServeEnd
-    ensures served { Serves S.turn session.old session.new (R.remaining reader.old) (R.remaining reader.new)
+    ensures served { Serves S.exchange session.old session.new (R.remaining reader.old) (R.remaining reader.new)
         (W.contents writer.old) (W.contents writer.new) result }
 
     // Where reader and writer tell their bytes, no fault came and no memory was refused: all that the reader had
     // was read, and the text of its lines was written behind what the writer held.
     ensures whole { (input before : List ℕ) → R.remaining reader.old ≡ Some input → W.contents writer.old ≡ Some before
         → result.fault ≡ None → result.is_refused ≡ false
-        → ServesWhole S.turn session.old session.new input before (W.contents writer.new) }
+        → ServesWhole S.exchange session.old session.new input before (W.contents writer.new) }
 {
     let Ok((mut pending, mut chunk)) = buffers(alloc) else {
         return ServeEnd {
@@ -71,7 +71,7 @@ fn serve_reads<S: Session, R: Read, W: Write>(
     requires text { pending.old.answers.text.items ≡ [] }
     requires unrefused { pending.old.answers.is_refused ≡ false }
     requires room { 0 < length chunk.old }
-    ensures { Serves S.turn session.old session.new (R.remaining reader.old) (R.remaining reader.new)
+    ensures { Serves S.exchange session.old session.new (R.remaining reader.old) (R.remaining reader.new)
         (W.contents writer.old) (W.contents writer.new)
         record { fault = fault_of result; is_refused = pending.new.answers.is_refused } }
 {

@@ -1,6 +1,6 @@
 // What answers lines.
 ghost use Rattle.std.specs.Prelude.{◌≡◌, List, ℕ, Option, None, Some, IfOk, OnErr};
-ghost use Rattle.line_server.specs.Session.{Turns, IsTurn};
+ghost use Rattle.line_server.specs.Session.{Exchanges, IsExchange};
 
 use std::alloc::AllocError;
 
@@ -12,7 +12,7 @@ pub trait Session: Drop {
     type Fate: Drop;
 
     /// How the session may answer a line, by what lack of memory made of it.
-    ghost turn: { Turns Self Self.Fate };
+    ghost exchange: { Exchanges Self Self.Fate };
 
     /// Whether a line that begins with these bytes, others behind it among them, may take long to answer. The answers of
     /// the lines before it are written first then, so that nobody waits for them.
@@ -26,7 +26,7 @@ pub trait Session: Drop {
     /// session is not used again.
     fn line(&mut self, line: &[u8], out: &mut Vec<u8>) -> Result<Option<Self::Fate>, AllocError>
         ensures answered { IfOk result
-            (λ fate. IsTurn (turn fate self.old (Some line.now)) self.new out.old.items out.new.items) }
+            (λ fate. IsExchange (exchange fate self.old (Some line.now)) self.new out.old.items out.new.items) }
         ensures err { OnErr result (out.new.items ≡ out.old.items) };
 
     /// Answers a line of more bytes.
@@ -36,6 +36,6 @@ pub trait Session: Drop {
     /// As [`Session::line`].
     fn too_long(&mut self, out: &mut Vec<u8>) -> Result<Option<Self::Fate>, AllocError>
         ensures answered { IfOk result
-            (λ fate. IsTurn (turn fate self.old None) self.new out.old.items out.new.items) }
+            (λ fate. IsExchange (exchange fate self.old None) self.new out.old.items out.new.items) }
         ensures err { OnErr result (out.new.items ≡ out.old.items) };
 }

@@ -3,7 +3,7 @@ ghost use Rattle.std.specs.Prelude.{◌≡◌, ◌↔◌, [], false, IfErr, IfOk
 ghost use Rattle.std.specs.Io.KnownBytes.{Appends};
 ghost use Rattle.line_server.specs.declared.ended.Fault.TheVariants.{Memory};
 ghost use Rattle.line_server.specs.Lines.{heard};
-ghost use Rattle.line_server.specs.Session.{IsTurn};
+ghost use Rattle.line_server.specs.Session.{IsExchange};
 ghost use Rattle.line_server.specs.Progress.{Hears, Stays, TakesFront, IsOfWriting};
 
 use crate::ended::Fault;
@@ -46,7 +46,7 @@ impl Waiting {
         session: &mut S,
         line: &[u8],
     ) -> Result<(), AllocError>
-        ensures heard { OnOk result (Hears S.turn line.now session.old session.new self.old self.new) }
+        ensures heard { OnOk result (Hears S.exchange line.now session.old session.new self.old self.new) }
         ensures err { OnErr result (Stays self.old self.new) }
     {
         let fate = answer(session, line, &mut self.text)?;
@@ -93,7 +93,7 @@ fn answer<S: Session>(
     text: &mut Vec<u8>,
 ) -> Result<Option<S::Fate>, AllocError>
     ensures answered { IfOk result
-        (λ fate. IsTurn (S.turn fate session.old (heard line.now)) session.new text.old.items text.new.items) }
+        (λ fate. IsExchange (S.exchange fate session.old (heard line.now)) session.new text.old.items text.new.items) }
     ensures err { OnErr result (text.new.items ≡ text.old.items) }
 {
     if line.len() <= LONGEST_LINE {

@@ -4,4 +4,4 @@ pub mod Sound
 pub mod ReadBack
 pub mod Modules
 pub mod FirstFault
-pub mod TokenPlaces
+pub mod TokenIndices

@@ -42,13 +42,13 @@ abbrev pub brackets : List Spot → Brackets
 brackets [] = Closing 0
 brackets (s ∷ ss) = behind_token s.what s.at (brackets ss)
 
-abbrev pub place_of : Brackets → Option ℕ
-place_of (Open at) = Some at
-place_of b = None
+abbrev pub offset_of : Brackets → Option ℕ
+offset_of (Open at) = Some at
+offset_of b = None
 
 -- where the innermost bracket stands that is open at the end of tokens, in the form that they end in
 abbrev pub innermost : List Spot → Option ℕ
-innermost ss = place_of (brackets ss)
+innermost ss = offset_of (brackets ss)
 
 -- how many brackets are closed that are opened before
 abbrev pub closing_count : Brackets → ℕ

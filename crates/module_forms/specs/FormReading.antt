@@ -1,5 +1,5 @@
 -- Reading forms as a function of tokens: the form that tokens begin with, and what is left behind it, if they begin with one.
-use Rattle.std.specs.Prelude.{ℕ, zero, suc, Bool, true, false, ◌&&◌, ◌==◌, nat_le, if◌then◌else◌, List, [], ◌∷◌, ◌++◌, length, codes}
+use Rattle.std.specs.Prelude.{ℕ, zero, suc, Bool, true, false, ◌==◌, nat_le, if◌then◌else◌, List, [], ◌∷◌, ◌++◌, length, codes}
 use Rattle.std.specs.Prelude.{Option, None, Some}
 use Rattle.std.specs.Str.{bytes_eq}
 use Rattle.erl_scan.specs.declared.mark.Mark.TheVariants as marks
@@ -10,7 +10,7 @@ use Rattle.erl_ast.specs.declared.form.FunctionClause.{FunctionClause}
 use Rattle.erl_ast.specs.declared.form.FormTree.{FormTree}
 use Rattle.erl_ast.specs.declared.form.FormTree.TheVariants as forms
 use Rattle.erl_ast.specs.declared.form.ModuleTree.{ModuleTree}
-use Rattle.erl_ast.specs.Terminal.{Terminal, integer, atom, mark}
+use Rattle.erl_ast.specs.Terminal.{Terminal, integer, atom}
 use Rattle.erl_ast.specs.Tree.{Tree, Trees, Guards, none, more, tree_count}
 use Rattle.erl_ast.specs.Grammar.{matches}
 use Rattle.erl_ast.specs.Forms.{Attribute, module_name, export, version, unsupported, skipped, attribute, is_term, after_dot}

@@ -1,7 +1,7 @@
 // The brackets that are open where tokens end.
 ghost use Rattle.std.specs.Prelude.{◌≡◌, ◌+◌, ◌<◌, ◌≤◌, ◌^◌, ◌-◌};
 ghost use Rattle.module_forms.specs.Brackets.{opened_at as opened_in, one_closed as closed_in, dotted as dotted_in, behind_mark as mark_in};
-ghost use Rattle.module_forms.specs.Brackets.{behind_token as token_in, innermost as innermost_in, place_of as place_in, closing_count};
+ghost use Rattle.module_forms.specs.Brackets.{behind_token as token_in, innermost as innermost_in, offset_of as offset_in, closing_count};
 
 use erl_scan::{Mark, Spot, Token};
 
@@ -27,7 +27,7 @@ pub fn open_bracket(tokens: &[Spot]) -> Option<usize>
         found = behind_token(&token.what, token.at, found);
         left -= 1;
     }
-    place_of(found)
+    offset_of(found)
 }
 
 /// What a token, which stands at a byte, and those behind it come to.
@@ -92,8 +92,8 @@ fn dotted(behind: Brackets) -> Brackets
 }
 
 /// Where the innermost open bracket stands.
-fn place_of(brackets: Brackets) -> Option<usize>
-    ensures { result ≡ place_in brackets }
+fn offset_of(brackets: Brackets) -> Option<usize>
+    ensures { result ≡ offset_in brackets }
 {
     match brackets {
         Brackets::Open(at) => Some(at),

@@ -1,5 +1,5 @@
 -- What a command gives, before it's entered.
-use Rattle.std.specs.Prelude.{◌≡◌, ℕ, List, [], ◌∷◌, ◌++◌, None, Option, Result, Ok, Err}
+use Rattle.std.specs.Prelude.{◌≡◌, ℕ, List, [], ◌∷◌, None, Result, Ok, Err}
 use Rattle.undo_journal.specs.Reversible.{Accepted, told_of}
 use Rattle.undo_journal.specs.Timeline.{appended, here}
 use Rattle.undo_journal.specs.declared.error.JournalError.{JournalError}

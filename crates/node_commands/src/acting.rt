@@ -46,7 +46,7 @@ pub fn act(
     }))
 }
 
-/// The replies to a client, from a place on.
+/// The replies to a client, from an index on.
 ///
 /// # Errors
 ///

@@ -14,6 +14,6 @@ of_stations r None p undoes = tt
 of_stations r (Some before) None undoes = tt
 of_stations r (Some before) (Some after) undoes = held_lost r.way_back before.node after.node undoes.1
 
-pub of_record : (place : ℕ) (t : Timeline NodeState Note) (o : Option (Bor Record)) → IfSome o (λ it. IsRecordAt Undoes place t it.now) → IfSome o (λ it. IsRecordAt (λ (r : Record). HoldsLost r.way_back) place t it.now)
-of_record place t None undoes = tt
-of_record place t (Some it) undoes = of_stations it.now (slice_get (t.first ∷ t.later) place) (slice_get t.later place) undoes
+pub of_record : (index : ℕ) (t : Timeline NodeState Note) (o : Option (Bor Record)) → IfSome o (λ it. IsRecordAt Undoes index t it.now) → IfSome o (λ it. IsRecordAt (λ (r : Record). HoldsLost r.way_back) index t it.now)
+of_record index t None undoes = tt
+of_record index t (Some it) undoes = of_stations it.now (slice_get (t.first ∷ t.later) index) (slice_get t.later index) undoes

@@ -7,11 +7,11 @@ use crate::node::Node;
 use script_events::Record;
 use undo_journal::Journal;
 
-/// The record that takes back the step to the station at a place behind a journal's first, counted from 0; none past its
+/// The record that takes back the step to the station at an index behind a journal's first, counted from 0; none past its
 /// last station. It holds only what its step has lost, and each piece once (`HoldsLost`). Takes no memory.
-pub fn record_at(journal: &Journal<Node>, place: usize) -> Option<&Record>
-    ensures kept { IsTrue (is_some result) ↔ (place < length journal.now.later) }
-    ensures lost { IfSome result (λ it. IsRecordAt (λ r. HoldsLost r.way_back) place journal.now it.now) }
+pub fn record_at(journal: &Journal<Node>, index: usize) -> Option<&Record>
+    ensures kept { IsTrue (is_some result) ↔ (index < length journal.now.later) }
+    ensures lost { IfSome result (λ it. IsRecordAt (λ r. HoldsLost r.way_back) index journal.now it.now) }
 {
-    journal.record(place)
+    journal.record(index)
 }

@@ -115,23 +115,23 @@ replies_in (Some note) = note.replies
 abbrev pub replies_to : ℕ → List Entry → List Reply
 replies_to client entries = lists.replies_to (λ e. replies_in e.note) (λ r. r.client) client entries
 
--- An idle turn: a take where nobody could take a message, or a look at no replies.
-abbrev pub IsIdleTurn : Command → Result Said Fault → Type 0
-IsIdleTurn (command.Perform e) answer = ⊥
-IsIdleTurn (command.Call name term) answer = ⊥
-IsIdleTurn (command.TakeAny above) answer = answer ≡ Ok (said.Taken None)
-IsIdleTurn command.Mark answer = ⊥
-IsIdleTurn (command.Undo mark) answer = ⊥
-IsIdleTurn (command.Forget mark) answer = ⊥
-IsIdleTurn (command.Retake pid) answer = ⊥
-IsIdleTurn (command.Replies from) answer = answer ≡ Ok (said.Replied [])
-IsIdleTurn command.Which answer = ⊥
+-- An idle command: a take where nobody could take a message, or a look at no replies.
+abbrev pub IsIdleCommand : Command → Result Said Fault → Type 0
+IsIdleCommand (command.Perform e) answer = ⊥
+IsIdleCommand (command.Call name term) answer = ⊥
+IsIdleCommand (command.TakeAny above) answer = answer ≡ Ok (said.Taken None)
+IsIdleCommand command.Mark answer = ⊥
+IsIdleCommand (command.Undo mark) answer = ⊥
+IsIdleCommand (command.Forget mark) answer = ⊥
+IsIdleCommand (command.Retake pid) answer = ⊥
+IsIdleCommand (command.Replies from) answer = answer ≡ Ok (said.Replied [])
+IsIdleCommand command.Which answer = ⊥
 
 abbrev pub IsIdleEntry : Entry → Type 0
-IsIdleEntry e = IsIdleTurn e.command e.answer × (e.note ≡ None)
+IsIdleEntry e = IsIdleCommand e.command e.answer × (e.note ≡ None)
 
 abbrev pub IsIdleLine : Line → Type 0
-IsIdleLine l = IsIdleTurn l.command l.answer
+IsIdleLine l = IsIdleCommand l.command l.answer
 
 -- What a command of a seat gives behind the entries so far: its answer, its note, and where it leads.
 abbrev pub Gives : NodeTimeline → List Entry → ℕ → Command → Result Said Fault → Option Note → NodeTimeline → Type 0

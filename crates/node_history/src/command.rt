@@ -32,7 +32,7 @@ pub enum Command {
     Forget(Mark),
     /// The job that the process of a pid runs, given once more.
     Retake(u64),
-    /// The replies to the seat, from this place on, counted from 0.
+    /// The replies to the seat, from this index on, counted from 0.
     Replies(usize),
     /// The releases with their statuses (release_handler(3), which_releases).
     Which,

@@ -1,5 +1,5 @@
-// Idle turns: a take of nothing, and a look at no replies.
-ghost use Rattle.node_history.specs.History.{IsIdleTurn};
+// Idle commands: a take of nothing, and a look at no replies.
+ghost use Rattle.node_history.specs.History.{IsIdleCommand};
 ghost use Rattle.std.specs.Prelude.{◌≡◌, ◌↔◌, [], IsTrue, None};
 
 use crate::command::{Command, Fault, Said};
@@ -24,15 +24,15 @@ fn found_no_reply(answer: &Result<Said, Fault>) -> bool
     }
 }
 
-/// Whether a command and its answer are an idle turn, a take of nothing or a look at no replies, and another command and its
+/// Whether a command and its answer are an idle command, a take of nothing or a look at no replies, and another command and its
 /// answer are the same.
-fn is_same_idle_turn(
+fn is_same_idle_command(
     command: &Command,
     answer: &Result<Said, Fault>,
     other: &Command,
     told: &Result<Said, Fault>,
 ) -> bool
-    ensures { IsTrue result ↔ (command.now ≡ other.now) × (answer.now ≡ told.now) × IsIdleTurn command.now answer.now }
+    ensures { IsTrue result ↔ (command.now ≡ other.now) × (answer.now ≡ told.now) × IsIdleCommand command.now answer.now }
 {
     match (command, other) {
         (Command::TakeAny(above), Command::TakeAny(after)) => {
@@ -45,7 +45,7 @@ fn is_same_idle_turn(
     }
 }
 
-/// An entry of an idle turn says the same as another where both are of one seat, and without a note.
+/// An entry of an idle command says the same as another where both are of one seat, and without a note.
 impl Repeats for Entry {
     ghost use Rattle.node_history.specs.History.{IsIdleEntry};
 
@@ -55,7 +55,7 @@ impl Repeats for Entry {
         self.seat == other.seat
             && self.note.is_none()
             && other.note.is_none()
-            && is_same_idle_turn(&self.command, &self.answer, &other.command, &other.answer)
+            && is_same_idle_command(&self.command, &self.answer, &other.command, &other.answer)
     }
 }
 
@@ -89,6 +89,6 @@ impl Repeats for Line {
     ghost IsIdle = { IsIdleLine };
 
     fn repeats(&self, other: &Line) -> bool {
-        is_same_idle_turn(&self.command, &self.answer, &other.command, &other.answer)
+        is_same_idle_command(&self.command, &self.answer, &other.command, &other.answer)
     }
 }

@@ -47,7 +47,7 @@ use Rattle.upgrade_calls.proofs.Seen.{seen, seen_begun}
 use Rattle.upgrade_calls.proofs.StatesFirst.{MessagesOnly}
 use Rattle.upgrade_calls.specs.Changing.{AllChange, AreCounted, Changes, FailsToChange, FirstUnchanged, Gives, GivesAt, HasTurnLeft}
 use Rattle.upgrade_calls.specs.Changing.{after_change, change_told, return_of, with_state}
-use Rattle.upgrade_calls.specs.declared.changing.Change.{Change}
+use Rattle.upgrade_calls.specs.declared.changing.CodeChangeCall.{CodeChangeCall}
 use Rattle.upgrade_calls.specs.declared.changing.ChangeFailed.{ChangeFailed}
 
 -- What is done by a call that starts nothing is messages and replies.
@@ -61,7 +61,7 @@ messages_only (a ∷ acts) messages = (
 
 -- A gen_server process stays one.
 
-abbrev Served : List Change → Table → Type 0
+abbrev Served : List CodeChangeCall → Table → Type 0
 Served cs t = AllByRecursion (λ c. is_server (living c.pid t) ≡ true) cs
 
 same_by_seen : (l m : Option ProcessEntry) → seen l ≡ seen m → is_server l ≡ is_server m
@@ -86,7 +86,7 @@ same_pid p q is = search rules
 other_pid : (p q : ℕ) → nat_eq p q ≡ false → p ≡ q → ⊥
 other_pid p q is same = search rules
 
-server_with_state : (c : Change) (state : Term) (t : Table) (q : ℕ) (b : Bool) → nat_eq c.pid q ≡ b →
+server_with_state : (c : CodeChangeCall) (state : Term) (t : Table) (q : ℕ) (b : Bool) → nat_eq c.pid q ≡ b →
     is_server (living q (with_state c state t)) ≡ is_server (living q t)
 server_with_state c state t q true is =
     subst (λ p. is_server (living p (with_state c state t)) ≡ is_server (living p t)) (same_pid c.pid q is)
@@ -94,8 +94,8 @@ server_with_state c state t q true is =
 server_with_state c state t q false is =
     ap is_server (living_elsewhere (restate_living state 1) t.slots c.pid q (other_pid c.pid q is))
 
-still_served : (code : List Instance) (c : Change) (o : Outcome) (state : Term) (t : Table) → MessagesOnly o.acts →
-    (cs : List Change) →
+still_served : (code : List Instance) (c : CodeChangeCall) (o : Outcome) (state : Term) (t : Table) → MessagesOnly o.acts →
+    (cs : List CodeChangeCall) →
     Served cs t → Served cs (after_change code c o state t)
 still_served code c o state t only [] served = tt
 still_served code c o state t only (d ∷ cs) served = (
@@ -107,15 +107,15 @@ still_served code c o state t only (d ∷ cs) served = (
 
 -- One process
 
-abbrev OneChanges : List Instance → Change → Table → Type 0
+abbrev OneChanges : List Instance → CodeChangeCall → Table → Type 0
 OneChanges code c t =
     ((o : Outcome) × (state : Term) × Changes code c t o state × MessagesOnly o.acts) ⊎
     ((reason : Term) × FailsToChange code c t reason)
 
-abbrev Given : List Instance → Change → Option ProcessEntry → Type 0
+abbrev Given : List Instance → CodeChangeCall → Option ProcessEntry → Type 0
 Given code c l = (o : Outcome) × Gives code c l o × MessagesOnly o.acts
 
-given_at : (code : List Instance) (c : Change) (at : Place) → is_server_at at ≡ true →
+given_at : (code : List Instance) (c : CodeChangeCall) (at : Place) → is_server_at at ≡ true →
     (o : Outcome) × GivesAt code c at o × MessagesOnly o.acts
 given_at code c (Server m s) served =
     let w : World = record { code = map instance code; pid = c.pid; mode = plain } in
@@ -125,11 +125,11 @@ given_at code c (Server m s) served =
     (e.0, e.1, messages_only e.0.acts (kept.messages refl))
 given_at code c (Loop m serial f args) served = absurd (true≢false (sym served))
 
-given : (code : List Instance) (c : Change) (l : Option ProcessEntry) → is_server l ≡ true → Given code c l
+given : (code : List Instance) (c : CodeChangeCall) (l : Option ProcessEntry) → is_server l ≡ true → Given code c l
 given code c None served = absurd (true≢false (sym served))
 given code c (Some l) served = given_at code c l.process.place served
 
-change_by : (code : List Instance) (c : Change) (t : Table) (o : Outcome) → Gives code c (living c.pid t) o →
+change_by : (code : List Instance) (c : CodeChangeCall) (t : Table) (o : Outcome) → Gives code c (living c.pid t) o →
     MessagesOnly o.acts →
     (returned : ChangeReturn) → return_of o ≡ returned → OneChanges code c t
 change_by code c t o gives only (new_state u) is =
@@ -137,23 +137,23 @@ change_by code c t o gives only (new_state u) is =
 change_by code c t o gives only (unchanged u) is =
     inr (term_of u, record { outcome = o; gives = gives; returns = is ∙ ap (λ x. unchanged x) (sym (tree_back u)) })
 
-one_changes : (code : List Instance) (c : Change) (t : Table) → is_server (living c.pid t) ≡ true → OneChanges code c t
+one_changes : (code : List Instance) (c : CodeChangeCall) (t : Table) → is_server (living c.pid t) ≡ true → OneChanges code c t
 one_changes code c t served =
     let g = given code c (living c.pid t) served in change_by code c t g.0 g.1 g.2 (return_of g.0) refl
 
 -- Several, in order
 
-abbrev AllChangeOr : List Instance → List Change → Table → Type 0
+abbrev AllChangeOr : List Instance → List CodeChangeCall → Table → Type 0
 AllChangeOr code cs t = ((after : Table) × (told : List Reply) × AllChange code cs t after told) ⊎
     ((failed : ChangeFailed) × FirstUnchanged code cs t failed)
 
-change_behind : (code : List Instance) (c : Change) (cs : List Change) (t : Table) (o : Outcome) (state : Term) →
+change_behind : (code : List Instance) (c : CodeChangeCall) (cs : List CodeChangeCall) (t : Table) (o : Outcome) (state : Term) →
     Changes code c t o state → AllChangeOr code cs (after_change code c o state t) → AllChangeOr code (c ∷ cs) t
 change_behind code c cs t o state changes (inl (after, told, all)) =
     inl (after, change_told code c o state t ++ told, (o, state, told, changes, all, refl))
 change_behind code c cs t o state changes (inr (failed, fails)) = inr (failed, inr (o, state, changes, fails))
 
-change_first : (code : List Instance) (c : Change) (cs : List Change) (t : Table) → Served cs t → OneChanges code c t →
+change_first : (code : List Instance) (c : CodeChangeCall) (cs : List CodeChangeCall) (t : Table) → Served cs t → OneChanges code c t →
     ((u : Table) → Served cs u → AllChangeOr code cs u) → AllChangeOr code (c ∷ cs) t
 change_first code c cs t served (inl (o, state, changes, only)) others =
     change_behind code c cs t o state changes
@@ -161,7 +161,7 @@ change_first code c cs t served (inl (o, state, changes, only)) others =
 change_first code c cs t served (inr (reason, fails)) others =
     inr (record { pid = c.pid; reason = reason }, inl (refl, fails))
 
-all_change : (code : List Instance) (cs : List Change) (t : Table) → Served cs t → AllChangeOr code cs t
+all_change : (code : List Instance) (cs : List CodeChangeCall) (t : Table) → Served cs t → AllChangeOr code cs t
 all_change code [] t served = inl (t, [], (refl, refl))
 all_change code (c ∷ cs) t served =
     change_first code c cs t served.1 (one_changes code c t served.0) (λ u others. all_change code cs u others)
@@ -321,6 +321,6 @@ both_counted (inl a) (inl b) = inl (a, b)
 both_counted (inl a) (inr never) = inr (λ both. never both.1)
 both_counted (inr never) b = inr (λ both. never both.0)
 
-pub counted_or_not : (cs : List Change) (t : Table) → AreCounted cs t ⊎ (AreCounted cs t → ⊥)
+pub counted_or_not : (cs : List CodeChangeCall) (t : Table) → AreCounted cs t ⊎ (AreCounted cs t → ⊥)
 counted_or_not [] t = inl tt
 counted_or_not (c ∷ cs) t = both_counted (turn_left (living c.pid t)) (counted_or_not cs t)

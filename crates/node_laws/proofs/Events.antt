@@ -48,7 +48,7 @@ use Rattle.std.specs.Prelude.{◌<◌, ◌^◌, ◌+◌, nat_lt, IfSome}
 use Rattle.std.proofs.Common.{rules}
 use Rattle.process_table.specs.declared.error.ProcError.TheVariants as proc
 use Rattle.release_statuses.proofs.Permanent.{permanent-there}
-use Rattle.release_statuses.specs.Statuses.{HasPermanent, has_status, is_permanent, listed, permanent_refusal, place_of, place_with}
+use Rattle.release_statuses.specs.Statuses.{HasPermanent, has_status, is_permanent, listed, permanent_refusal, index_of, index_with}
 use Rattle.release_statuses.specs.Statuses.{reboot_refusal, rebooted, restarted, running, status_of, unless_old, vsn_of}
 use Rattle.release_statuses.specs.declared.error.RelError.{RelError}
 use Rattle.release_statuses.specs.declared.listed.Listed.{Listed}
@@ -193,14 +193,14 @@ restarts r releases n unrefused =
       },
     )
 
--- the release of a version is listed where its place is known
+-- the release of a version is listed where its index is known
 
-place_listed : (vsn : List ℕ) (releases : List Listed) (place : ℕ) → place_of vsn releases ≡ Some place → (d : Listed) →
+index_listed : (vsn : List ℕ) (releases : List Listed) (index : ℕ) → index_of vsn releases ≡ Some index → (d : Listed) →
     (it : Listed) × (listed vsn releases ≡ Some it)
-place_listed vsn releases place at d =
-    let within = position-Some (λ it. bytes_eq vsn (vsn_of it)) releases place d at in (
-      slice_index_or releases place d,
-      ap (λ o. option_and_then (slice_get releases) o) at ∙ slice_get-get_or releases place d within.0,
+index_listed vsn releases index at d =
+    let within = position-Some (λ it. bytes_eq vsn (vsn_of it)) releases index d at in (
+      slice_index_or releases index d,
+      ap (λ o. option_and_then (slice_get releases) o) at ∙ slice_get-get_or releases index d within.0,
     )
 
 -- Reboot old
@@ -236,16 +236,16 @@ reboots_by vsn n None is =
 
 -- Advance: the permanent release is there to fall back on
 
-permanent_at : (n : NodeState) (place : Option ℕ) → place_with Permanent n.releases ≡ place → HasPermanent n.releases →
+permanent_at : (n : NodeState) (index : Option ℕ) → index_with Permanent n.releases ≡ index → HasPermanent n.releases →
     (d : Listed) →
     (r : Release) × (permanent_in n ≡ Some r)
 permanent_at n None at has d = absurd (permanent-there n.releases at has)
-permanent_at n (Some place) at has d =
-    let within = position-Some (has_status Permanent) n.releases place d at in
-    let it = slice_index_or n.releases place d in (
+permanent_at n (Some index) at has d =
+    let within = position-Some (has_status Permanent) n.releases index d at in
+    let it = slice_index_or n.releases index d in (
       it.release,
       ap (λ o. option_map (λ x. x.release) (option_and_then (slice_get n.releases) o)) at
-          ∙ ap (λ o. option_map (λ x. x.release) o) (slice_get-get_or n.releases place d within.0),
+          ∙ ap (λ o. option_map (λ x. x.release) o) (slice_get-get_or n.releases index d within.0),
     )
 
 module _ (r : Release) (give_up : Bool) (i : Low) (s : RunnerState) (n : NodeState)
@@ -312,14 +312,14 @@ some_listed : (releases : List Listed) → HasPermanent releases → Listed
 some_listed [] has = absurd (true≢false (sym has))
 some_listed (it ∷ releases) has = it
 
-place_known : (o : Option ℕ) → IsSome o → (place : ℕ) × (o ≡ Some place)
-place_known None known = absurd (true≢false (sym known))
-place_known (Some place) known = (place, refl)
+index_known : (o : Option ℕ) → IsSome o → (index : ℕ) × (o ≡ Some index)
+index_known None known = absurd (true≢false (sym known))
+index_known (Some index) known = (index, refl)
 
 advance_target : (give_up : Bool) (s : RunnerState) (n : NodeState) → IsSoundNode n → HasPermanent n.releases →
     (target : Listed) × (listed s.target n.releases ≡ Some target) → SomeOutcome (GoesOn (target_in s n) give_up s n)
 advance_target give_up s n kept has (target, found) =
-    let permanent = permanent_at n (place_with Permanent n.releases) refl has (some_listed n.releases has) in
+    let permanent = permanent_at n (index_with Permanent n.releases) refl has (some_listed n.releases has) in
     subst (λ o. SomeOutcome (GoesOn (option_map (λ it. it.release) o) give_up s n)) (sym found)
     (advance_next target.release give_up (next_in s) s n kept permanent)
 
@@ -328,8 +328,8 @@ advances_by : (give_up : Bool) (o : Option RunnerState) (n : NodeState) → n.ru
 advances_by give_up None n is kept has = (Err refusal.NotInstalling, refl)
 advances_by give_up (Some s) n is kept has =
     let script : IsInstalling s n.releases n.apps = subst (λ o. RunsScript o n.releases n.apps) is kept.script in
-    let place = place_known (place_of s.target n.releases) script.known in
-    advance_target give_up s n kept has (place_listed s.target n.releases place.0 place.1 (some_listed n.releases has))
+    let index = index_known (index_of s.target n.releases) script.known in
+    advance_target give_up s n kept has (index_listed s.target n.releases index.0 index.1 (some_listed n.releases has))
 
 pub each_event_has_an_outcome : EachEventHasAnOutcome
 each_event_has_an_outcome n (Arrive client name body) kept has = (arrived client name body n, refl)

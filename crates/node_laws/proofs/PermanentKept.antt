@@ -22,7 +22,7 @@ use Rattle.node_types.specs.declared.event.Refusal.TheVariants as refusal
 use Rattle.process_table.specs.Messages.{arrival_of, message_of}
 use Rattle.process_table.specs.Steps.{after_arrival, arrive_refusal, kind_of}
 use Rattle.release_statuses.proofs.Permanent.{permanent-installed, permanent-made_permanent, permanent-rebooted, permanent-removed, permanent-restarted}
-use Rattle.release_statuses.specs.Statuses.{HasPermanent, has_status, place_of, remove_refusal, removed, removed_at, unpack_refusal, unpacked}
+use Rattle.release_statuses.specs.Statuses.{HasPermanent, has_status, index_of, remove_refusal, removed, removed_at, unpack_refusal, unpacked}
 use Rattle.release_statuses.specs.declared.listed.Listed.{Listed}
 use Rattle.release_statuses.specs.declared.status.Status.TheVariants.{Permanent, Unpacked}
 use Rattle.release_table.specs.declared.table.Release.{Release}
@@ -49,10 +49,10 @@ more_releases release xs has =
     let last : List Listed = (record { release = release; status = Unpacked }) ∷ [] in
     list_any-append (has_status Permanent) xs last ∙ ap (λ b. b || false) has
 
-fewer_releases : (vsn : List ℕ) (xs : List Listed) (place : Option ℕ) → place_of vsn xs ≡ place → remove_refusal vsn xs ≡ None →
-    HasPermanent xs → HasPermanent (removed_at place xs)
+fewer_releases : (vsn : List ℕ) (xs : List Listed) (index : Option ℕ) → index_of vsn xs ≡ index → remove_refusal vsn xs ≡ None →
+    HasPermanent xs → HasPermanent (removed_at index xs)
 fewer_releases vsn xs None at unrefused has = has
-fewer_releases vsn xs (Some place) at unrefused has = permanent-removed vsn xs place at unrefused has
+fewer_releases vsn xs (Some index) at unrefused has = permanent-removed vsn xs index at unrefused has
 
 -- A script goes on.
 
@@ -143,7 +143,7 @@ keeps n (Remove vsn) a is has =
     } in
     by_rule (remove_refusal vsn n.releases) refusal.OfReleases made a
     (no_runner n.runner (λ it. it ≡ release_removed vsn n) a is).1
-    (λ unrefused. fewer_releases vsn n.releases (place_of vsn n.releases) refl unrefused has)
+    (λ unrefused. fewer_releases vsn n.releases (index_of vsn n.releases) refl unrefused has)
 keeps n (Install vsn) a is has = moved a _ (no_runner n.runner (Installs vsn n) a is).1.is has
 keeps n (Advance give_up) a goes has = advance_keeps give_up n.runner n a goes has
 keeps n (MakePermanent vsn) a is has =

@@ -14,16 +14,16 @@ use Rattle.script_state.specs.declared.unpurged.Unpurged.{Unpurged}
 use Rattle.unpurged_code.proofs.Gathering.{Gathered, all_gathered, gathered_next, left_alone, none_gathered}
 use Rattle.unpurged_code.specs.Unpurged.{AreNoted, AreSwept, is_left_alone, with_entry}
 
-gathered : (kind : Purge) (unpurged : List Unpurged) (es : List (Entry Forms)) (place : ℕ) →
-    (names : List (List ℕ)) × Gathered kind unpurged (take place es) names
+gathered : (kind : Purge) (unpurged : List Unpurged) (es : List (Entry Forms)) (index : ℕ) →
+    (names : List (List ℕ)) × Gathered kind unpurged (take index es) names
 gathered kind unpurged es zero = ([], none_gathered kind unpurged [] refl)
-gathered kind unpurged es (suc place) =
-    let before = gathered kind unpurged es place in
-    let more = with_entry kind unpurged (slice_get es place) before.0 in
-    let one : place + 1 ≡ suc place = omega arith in (
+gathered kind unpurged es (suc index) =
+    let before = gathered kind unpurged es index in
+    let more = with_entry kind unpurged (slice_get es index) before.0 in
+    let one : index + 1 ≡ suc index = omega arith in (
       more,
       subst (λ n. Gathered kind unpurged (take n es) more) one
-          (gathered_next kind unpurged es place before.0 more refl before.1),
+          (gathered_next kind unpurged es index before.0 more refl before.1),
     )
 
 pub noted : (kind : Purge) (modules : Loaded Forms) (unpurged : List Unpurged) → IsModuleTable modules →

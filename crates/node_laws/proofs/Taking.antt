@@ -80,35 +80,35 @@ code_of t (Some i) = code_for t i (all_reached t i.«module» t.entries)
 
 -- The message that is next stands in the mailbox.
 
-taken_first : (a : Activity) (first : Option ℕ) (place : ℕ) → next_message_by a first ≡ Some place → first ≡ Some place
-taken_first activity.Idle first place is = is
-taken_first activity.Suspended first place is = absurd (none-some place is)
-taken_first (activity.Runs r) first place is = absurd (none-some place is)
+taken_first : (a : Activity) (first : Option ℕ) (index : ℕ) → next_message_by a first ≡ Some index → first ≡ Some index
+taken_first activity.Idle first index is = is
+taken_first activity.Suspended first index is = absurd (none-some index is)
+taken_first (activity.Runs r) first index is = absurd (none-some index is)
 
-resting_takes : (a : Activity) (first : Option ℕ) → resting_refusal a first ≡ None → (place : ℕ) × (first ≡ Some place)
+resting_takes : (a : Activity) (first : Option ℕ) → resting_refusal a first ≡ None → (index : ℕ) × (first ≡ Some index)
 resting_takes activity.Suspended first unrefused = absurd (none-some Suspended (sym unrefused))
 resting_takes (activity.Runs r) first unrefused = absurd (none-some Running (sym unrefused))
 resting_takes activity.Idle None unrefused = absurd (none-some Idle (sym unrefused))
-resting_takes activity.Idle (Some place) unrefused = (place, refl)
+resting_takes activity.Idle (Some index) unrefused = (index, refl)
 
-message_there : (l : ProcessEntry) (place : ℕ) → next_message l.process ≡ Some place → (m : Term) ×
-    (slice_get l.process.mailbox place ≡ Some m)
-message_there l place takes =
+message_there : (l : ProcessEntry) (index : ℕ) → next_message l.process ≡ Some index → (m : Term) ×
+    (slice_get l.process.mailbox index ≡ Some m)
+message_there l index takes =
     let p = l.process in
-    let first = taken_first p.activity (first_taken p.pid p.place p.rests_in p.mailbox) place takes in
+    let first = taken_first p.activity (first_taken p.pid p.place p.rests_in p.mailbox) index takes in
     let some = term_of (atom []) in
-    let within = position-Some (takes_at p.pid p.place p.rests_in) p.mailbox place some first in
-    (slice_index_or p.mailbox place some, slice_get-get_or p.mailbox place some within.0)
+    let within = position-Some (takes_at p.pid p.place p.rests_in) p.mailbox index some first in
+    (slice_index_or p.mailbox index some, slice_get-get_or p.mailbox index some within.0)
 
 -- The job
 
 abbrev Taken : ℕ → NodeState → Type 0
 Taken pid n = (r : Outcome) × Takes pid n r
 
-taken_by : (pid : ℕ) (n : NodeState) (l : ProcessEntry) (place : ℕ) (message : Term) → living pid n.processes ≡ Some l →
-    take_refusal_of (Some l) ≡ None → next_message l.process ≡ Some place → slice_get l.process.mailbox place ≡ Some message →
+taken_by : (pid : ℕ) (n : NodeState) (l : ProcessEntry) (index : ℕ) (message : Term) → living pid n.processes ≡ Some l →
+    take_refusal_of (Some l) ≡ None → next_message l.process ≡ Some index → slice_get l.process.mailbox index ≡ Some message →
     Code n.modules (entered n.modules l.process.place l.process.rests_in) → Taken pid n
-taken_by pid n l place message lives unrefused takes at (serial, code, is) =
+taken_by pid n l index message lives unrefused takes at (serial, code, is) =
     let job : Job = record {
       pid = l.process.pid;
       turn = l.process.turn;
@@ -118,11 +118,11 @@ taken_by pid n l place message lives unrefused takes at (serial, code, is) =
       code = code;
     } in
     let t = n.processes in
-    let changed_to = changed (run place serial code) pid t in
-    let same = taken_is t changed_to (Some l) pid place serial code lives takes refl in
-    let now = ap (living pid) (sym same) ∙ living_changed (run place serial code) t.slots pid ∙
-    ap (option_map (run place serial code)) lives in
-    let runs = job_is (living pid (taken pid serial code t)) l place job now at refl refl refl in
+    let changed_to = changed (run index serial code) pid t in
+    let same = taken_is t changed_to (Some l) pid index serial code lives takes refl in
+    let now = ap (living pid) (sym same) ∙ living_changed (run index serial code) t.slots pid ∙
+    ap (option_map (run index serial code)) lives in
+    let runs = job_is (living pid (taken pid serial code t)) l index job now at refl refl refl in
     let made : Accepted NodeState Answer Note = record
     { node = run_taken pid job n; answer = answer.Job job; note = reporting [] } in (
       Ok made,

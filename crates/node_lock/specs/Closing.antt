@@ -32,7 +32,7 @@ pub record AreAll (count : ℕ) (seats : List SeatState) : Type 0 where
 abbrev pub IsListOf : List Entry → SeatState → Type 0
 IsListOf history seat = seat.lines ≡ lines_of seat.number history
 
--- Of the seats handed in, the one at some place has another list.
+-- Of the seats handed in, the one at some index has another list.
 abbrev pub HasForeign : List Entry → List SeatState → Type 0
 HasForeign history seats = (i : ℕ) × (seat : SeatState) × (slice_get seats i ≡ Some seat) × (IsListOf history seat → ⊥)
 

@@ -33,7 +33,7 @@
 //!
 //! That a call gets the lock; fairness, freedom from deadlock, time; the order of calls of different seats but by the
 //! history. That a call of a seat goes through [`Core::enter`], which its list and the history show where the node is
-//! closed. That there is memory, and what a command costs: it costs what it changes and copies. An idle turn that is
+//! closed. That there is memory, and what a command costs: it costs what it changes and copies. An idle command that is
 //! repeated takes no room in the history, and none in the list.
 #![tactic(auto)]
 

@@ -67,7 +67,7 @@ impl<N: Naming> Seat<N> {
     }
 
     /// What it has asked and was answered, in order: each line as often as its run counts it, which is once but for
-    /// idle turns. Takes no memory.
+    /// idle commands. Takes no memory.
     pub fn lines(&self) -> &[Run<Line>]
         ensures lines { written_out result.now ≡ self.now.lines }
         ensures counts { All (IsRun IsIdleLine) result.now }

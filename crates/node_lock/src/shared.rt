@@ -182,7 +182,7 @@ impl<N: Naming> SharedNode<N> {
         }
     }
 
-    /// The replies to the seat's calls so far, from a place on, counted from 0; those of steps that were undone too.
+    /// The replies to the seat's calls so far, from an index on, counted from 0; those of steps that were undone too.
     ///
     /// # Errors
     ///

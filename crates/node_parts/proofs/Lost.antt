@@ -33,13 +33,13 @@ use Rattle.node_parts.specs.declared.record.WayBack.TheVariants.{OfProcesses, Of
 
 releases_taken : (u : releases_undo.ReleasesUndo) (before after : List Listed) → TakesBack u before after → ReleasesLost (removed_by u) before after
 releases_taken Added before after takes = inl refl
-releases_taken (Removed place it) before after takes =
-    inr (subst (λ (l : List Listed). IsPermutation (it ∷ after) l) takes.back (IsPermutation-insert after place it))
+releases_taken (Removed index it) before after takes =
+    inr (subst (λ (l : List Listed). IsPermutation (it ∷ after) l) takes.back (IsPermutation-insert after index it))
 releases_taken (Statuses former) before after takes = inl refl
 
 none_removed : (u : releases_undo.ReleasesUndo) → (IsRemoval u → ⊥) → removed_by u ≡ []
 none_removed Added kept = refl
-none_removed (Removed place it) kept = absurd (kept tt)
+none_removed (Removed index it) kept = absurd (kept tt)
 none_removed (Statuses former) kept = refl
 
 none_if_any : (o : Option releases_undo.ReleasesUndo) (before after : List Listed) → ReleasesBack o before after → removed_if_any o ≡ []

@@ -30,14 +30,15 @@ state_of p = record {
 -- A step is made by a rule, and its record takes it back; or it is refused, or memory was, and nothing is changed.
 abbrev pub IsStepOf : (Outcome → Type 0) → Type 0 → ℕ → NodeState → NodeState →
     Result (Stepped Answer Note Record) (Failure Refusal) → Type 0
-IsStepOf IsRuled MayWant n before after (Ok done) = Accepts IsRuled after n done.told.items × Restores done.trace.way_back before after
+IsStepOf IsRuled MayWant n before after (Ok done) =
+    Accepts IsRuled after n done.told.items × Restores done.trace.way_back before after
 IsStepOf IsRuled MayWant n before after (Err failure) = Refuses IsRuled MayWant failure × (after ≡ before)
 
 -- the step of an event, by the rule of a node
 abbrev pub IsStep : Event → ℕ → NodeState → NodeState → Result (Stepped Answer Note Record) (Failure Refusal) → Type 0
 IsStep e n before after result = IsStepOf (Step before e) (MayRunOut before e) n before after result
 
--- A way back is gone; or memory was refused, it is handed out again, and nothing is changed.
+-- The node is again the one that a way back leads to; or memory was refused, it is handed out again, and nothing is changed.
 abbrev pub IsGoneBack : WayBack → NodeState → NodeState → Result (Unit {0}) WayBack → Type 0
 IsGoneBack w now after (Ok done) = (before : NodeState) → LeadsBack w before now → after ≡ before
 IsGoneBack w now after (Err back) = (back ≡ w) × (after ≡ now)

@@ -1,6 +1,6 @@
--- What the way back of a record holds of a node, by the kinds of its pieces: the messages and places of processes, the instances of code, the
--- specifications of applications and of their children, the releases, and the script that runs, with its description and
--- what is noted for it. Besides pieces it holds numbers, names, statuses, flags and positions.
+-- What the way back of a record holds of a node, by the kinds of its pieces: the messages and places of processes, the
+-- instances of code, the specifications of applications and of their children, the releases, and the script that runs, with
+-- its description and what is noted for it. Besides pieces it holds numbers, names, statuses, flags and positions.
 use Rattle.std.specs.Prelude.{◌≡◌, ℕ, ◌⊎◌, ◌++◌, IsPermutation, List, [], ◌∷◌, Option, None, Some, option_map, option_to_list}
 use Rattle.std.specs.List.{flat_map}
 use Rattle.app_table.specs.Pieces as apps
@@ -88,7 +88,7 @@ SpecsLost (OfRestart d) before after = AllTaken (specs_kept (option_map runner_o
 -- the releases
 abbrev pub removed_by : releases_undo.ReleasesUndo → List Listed
 removed_by Added = []
-removed_by (Removed place it) = it ∷ []
+removed_by (Removed index it) = it ∷ []
 removed_by (Statuses former) = []
 
 abbrev pub removed_if_any : Option releases_undo.ReleasesUndo → List Listed

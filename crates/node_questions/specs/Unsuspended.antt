@@ -23,8 +23,9 @@ suspended_by (Some (Stop modules)) = []
 suspended_by (Some (Start modules)) = []
 suspended_by (Some (Apply name function arguments)) = []
 
--- Nobody is suspended for a module where no child that runs names it in its specification: a child that runs a loop function counts,
--- though no instruction suspends it. A callback module of an application is not told so, for its supervisor is no process here.
+-- Nobody is suspended for a module where no child that runs names it in its specification: a child that runs a loop function
+-- counts, though no instruction suspends it. A callback module of an application is not told so, for its supervisor is no
+-- process here.
 
 abbrev pub is_empty : {X : Type 0} → List X → Bool
 is_empty [] = true

@@ -1,10 +1,11 @@
-//! What is asked of a node between two instructions of an upgrade: which modules nobody is suspended for, and who lingers in old code.
+//! What is asked of a node between two instructions of an upgrade: which modules nobody is suspended for, and who lingers in
+//! old code.
 //!
 //! # What is proved
 //!
 //! - [`nobody_of`] has the modules that an instruction suspends and of which no child runs, in order (`nobody_of`). A callback
-//!   module of an application is none of them, for its supervisor is no process here. A child that runs a loop function counts as one
-//!   that runs, though no instruction suspends it.
+//!   module of an application is none of them, for its supervisor is no process here. A child that runs a loop function
+//!   counts as one that runs, though no instruction suspends it.
 //! - [`lingerers`] has each module that has old code with each process that lingers in it: modules in order, and the processes
 //!   of each in order of pid (`lingerers`).
 //!

@@ -57,8 +57,8 @@ pub fn lingerers(
     ensures { IfOk result (λ found. found ≡ lingerers processes.now modules.now.entries) }
 {
     let mut found = Vec::new(alloc);
-    for place in 0..modules.len() {
-        let Some((name, slots)) = modules.entry(place) else {
+    for index in 0..modules.len() {
+        let Some((name, slots)) = modules.entry(index) else {
             unreachable!()
         };
         push_lingerers(alloc, processes, name, slots, &mut found)?;

@@ -14,8 +14,8 @@ use values::{Duplicate, Row};
 fn is_callback_module(apps: &AppTable, name: &Atom) -> bool
     ensures { result ≡ is_callback_module name.now apps.now }
 {
-    for place in 0..apps.len() {
-        let Some(app) = apps.app(place) else {
+    for index in 0..apps.len() {
+        let Some(app) = apps.app(index) else {
             unreachable!()
         };
         if is_start_module(&app.spec().start, name) {

@@ -30,25 +30,25 @@ none_at test (x ∷ xs) none (suc k) d below =
 
 none_missing : (o : Option ℕ) (script : List Low) → or_missing o script ≡ None → o ≡ None
 none_missing None script is = refl
-none_missing (Some place) script is = absurd (none-some place (sym is))
+none_missing (Some index) script is = absurd (none-some index (sym is))
 
-faultless : (script : List Low) (place : ℕ) (i : Low) → bad_script script ≡ None → slice_get script place ≡ Some i →
-    is_faulty (take place script) i ≡ false
-faultless script place i checked at =
+faultless : (script : List Low) (index : ℕ) (i : Low) → bad_script script ≡ None → slice_get script index ≡ Some i →
+    is_faulty (take index script) i ≡ false
+faultless script index i checked at =
     let n = length script in
-    let within = slice_get_within script place i at in
+    let within = slice_get_within script index i at in
     let none = none_missing (find (is_faulty_at script) (range_with_len 0 n)) script checked in
-    let below : place < length (range_with_len 0 n) = omega (arith, within, length-range_with_len 0 n) in
-    let it = get_or-range_with_len 0 n place place within ∙ zero-add place in
-    let fine = none_at (is_faulty_at script) (range_with_len 0 n) none place place below in
-    sym (ap (any_faulty (take place script)) at) ∙ ap (is_faulty_at script) (sym it) ∙ fine
+    let below : index < length (range_with_len 0 n) = omega (arith, within, length-range_with_len 0 n) in
+    let it = get_or-range_with_len 0 n index index within ∙ zero-add index in
+    let fine = none_at (is_faulty_at script) (range_with_len 0 n) none index index below in
+    sym (ap (any_faulty (take index script)) at) ∙ ap (is_faulty_at script) (sym it) ∙ fine
 
 -- the point stands neither before an instruction nor there, where it isn't among the instructions up to it
-no_point : (script : List Low) (place : ℕ) (i : Low) → slice_get script place ≡ Some i →
-    has_point (take (place + 1) script) ≡ false → has_point (take place script) ≡ false
-no_point script place i at none =
-    let more = list_any_more is_point script place i (slice_get_within script place i at) in
-    (or_parts (has_point (take place script)) (is_point (get_or script place i)) (sym more ∙ none)).0
+no_point : (script : List Low) (index : ℕ) (i : Low) → slice_get script index ≡ Some i →
+    has_point (take (index + 1) script) ≡ false → has_point (take index script) ≡ false
+no_point script index i at none =
+    let more = list_any_more is_point script index i (slice_get_within script index i at) in
+    (or_parts (has_point (take index script)) (is_point (get_or script index i)) (sym more ∙ none)).0
 
 -- What it does leaves applications as they are.
 
@@ -72,16 +72,16 @@ leaves before r (Apply m f args) p q told none fine (s, is, applied) =
     ap (λ (it : Parts). it.apps) is ∙ (rw other at applied).1
 leaves before r _ p q told none fine does = absurd (behind (has_point before) none fine)
 
-pub record IsBefore (script : List Low) (place : ℕ) (p q : Parts) : Type 0 where
-  pub point : has_point (take place script) ≡ false
+pub record IsBefore (script : List Low) (index : ℕ) (p q : Parts) : Type 0 where
+  pub point : has_point (take index script) ≡ false
   pub apps : q.apps ≡ p.apps
 
-pub before_point : (r : Release) (script : List Low) (place : ℕ) (i : Low) (p q : Parts) (told : List Reply) →
-    bad_script script ≡ None → slice_get script place ≡ Some i → has_point (take (place + 1) script) ≡ false →
-    RunsInstruction r i p q told → IsBefore script place p q
-before_point r script place i p q told checked at none does =
-    let before = no_point script place i at none in
+pub before_point : (r : Release) (script : List Low) (index : ℕ) (i : Low) (p q : Parts) (told : List Reply) →
+    bad_script script ≡ None → slice_get script index ≡ Some i → has_point (take (index + 1) script) ≡ false →
+    RunsInstruction r i p q told → IsBefore script index p q
+before_point r script index i p q told checked at none does =
+    let before = no_point script index i at none in
     record {
       point = before;
-      apps = leaves (take place script) r i p q told before (faultless script place i checked at) does;
+      apps = leaves (take index script) r i p q told before (faultless script index i checked at) does;
     }

@@ -10,7 +10,7 @@ use Rattle.code_loading.specs.Consistent.{IsConsistent}
 use Rattle.code_loading.specs.Current.{current_code}
 use Rattle.code_loading.specs.Laws.{StartsIn}
 use Rattle.code_server.specs.Modules as code_tables
-use Rattle.code_server.specs.Modules.{IsModuleTable, Table as Loaded, load_refusal, loaded, old_of, place_of, purged}
+use Rattle.code_server.specs.Modules.{IsModuleTable, Table as Loaded, load_refusal, loaded, old_of, index_of, purged}
 use Rattle.erl_ir.specs.Module.{Forms}
 use Rattle.erl_semantics.specs.State.{World, plain, start_mode}
 use Rattle.erl_semantics.specs.Views.{instance}

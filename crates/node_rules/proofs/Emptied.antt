@@ -10,7 +10,7 @@ use Rattle.code_loading.proofs.Consistency.{load_keeps, sound_purged}
 use Rattle.code_loading.proofs.Emptied.{own_purged}
 use Rattle.code_loading.specs.Consistent.{Enters, IsConsistent}
 use Rattle.code_server.specs.Modules as code_tables
-use Rattle.code_server.specs.Modules.{IsModuleTable, Table as Loaded, load_refusal, loaded, old_of, place_of, purged}
+use Rattle.code_server.specs.Modules.{IsModuleTable, Table as Loaded, load_refusal, loaded, old_of, index_of, purged}
 use Rattle.code_server.specs.declared.error.CodeError.TheVariants.{CounterEnd, NotPurged}
 use Rattle.code_server.specs.declared.modules.Instance as held
 use Rattle.erl_ir.specs.Module.{Forms}
@@ -54,7 +54,7 @@ unrefused o at_end no_old left = (λ i. if is_some (no_old i) then Some NotPurge
 loaded_is_sound : (m : Forms) (t : Loaded Forms) → IsModuleTable t → t.next < 2 ^ 64 → IsModuleTable (loaded m.name m (purged m.name t))
 loaded_is_sound m t sound below =
     let mid = purged m.name t in
-    let kept = vacant_is_consistent mid no_processes nobody (sound_purged m.name t (place_of m.name t.entries) sound refl) in
+    let kept = vacant_is_consistent mid no_processes nobody (sound_purged m.name t (index_of m.name t.entries) sound refl) in
     let left = ne_eqb t.next (2 ^ 64) (λ same. omega (arith, same, below)) in
     let fine = unrefused (old_of m.name mid) (t.next == 2 ^ 64) (own_purged m.name t sound) left in
     (load_keeps m.name m mid no_processes kept fine).sound

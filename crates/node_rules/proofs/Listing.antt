@@ -7,7 +7,7 @@ use Rattle.std.proofs.lemmas.Slice.Eq.{bytes_eq-Decides}
 use Rattle.std.specs.List.{position_or_len}
 use Rattle.std.specs.Prelude.{nat_lt}
 use Rattle.std.specs.Str.{bytes_eq}
-use Rattle.release_statuses.specs.Statuses.{listed, place_of, vsn_of}
+use Rattle.release_statuses.specs.Statuses.{listed, index_of, vsn_of}
 use Rattle.release_statuses.specs.declared.listed.Listed.{Listed}
 
 -- The first that passes a test is the first still where more stand behind them.
@@ -35,22 +35,22 @@ module _ {A : Type 0} (test : A → Bool) where
       let below = ltb-true i (length xs) (some_below (nat_lt i (length xs)) i some) in
       ap is_some (cond-true (nat_lt j n) (Some j) None (lt-ltb j n (first_more xs ys below)))
 
-pub known_more : (vsn : List ℕ) (releases more : List Listed) → IsSome (place_of vsn releases) →
-    IsSome (place_of vsn (releases ++ more))
+pub known_more : (vsn : List ℕ) (releases more : List Listed) → IsSome (index_of vsn releases) →
+    IsSome (index_of vsn (releases ++ more))
 known_more vsn releases more known = found_more (λ (it : Listed). bytes_eq vsn (vsn_of it)) releases more known
 
 -- The release of a version has that version.
 pub known_found : (vsn : List ℕ) (releases : List Listed) (it : Listed) → listed vsn releases ≡ Some it →
-    IsSome (place_of (vsn_of it) releases)
+    IsSome (index_of (vsn_of it) releases)
 known_found vsn releases it found =
-    by (place_of vsn releases) refl
+    by (index_of vsn releases) refl
   where
-    by : (o : Option ℕ) → place_of vsn releases ≡ o → IsSome (place_of (vsn_of it) releases)
+    by : (o : Option ℕ) → index_of vsn releases ≡ o → IsSome (index_of (vsn_of it) releases)
     by None none = absurd (none-some it (sym (ap (option_and_then (slice_get releases)) none) ∙ found))
-    by (Some place) at =
+    by (Some index) at =
         let test = λ (other : Listed). bytes_eq vsn (vsn_of other) in
-        let there : slice_get releases place ≡ Some it = sym (ap (option_and_then (slice_get releases)) at) ∙ found in
-        let passes = (position-Some test releases place it at).1 in
-        let is = get_or_from_slice_get releases place it it there in
+        let there : slice_get releases index ≡ Some it = sym (ap (option_and_then (slice_get releases)) at) ∙ found in
+        let passes = (position-Some test releases index it at).1 in
+        let is = get_or_from_slice_get releases index it it there in
         let same = (bytes_eq-Decides vsn (vsn_of it)).0 (sym (ap test is) ∙ passes) in
-        subst (λ (v : List ℕ). IsSome (place_of v releases)) same (ap is_some at)
+        subst (λ (v : List ℕ). IsSome (index_of v releases)) same (ap is_some at)

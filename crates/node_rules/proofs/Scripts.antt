@@ -20,7 +20,7 @@ use Rattle.otp_files.specs.declared.upgrade.Entry.{Entry}
 use Rattle.process_effects.specs.declared.told.Reply.{Reply}
 use Rattle.release_specs.specs.Specs.{specs_of}
 use Rattle.release_statuses.specs.Statuses as statuses
-use Rattle.release_statuses.specs.Statuses.{place_of}
+use Rattle.release_statuses.specs.Statuses.{index_of}
 use Rattle.release_statuses.specs.declared.error.RelError.{RelError}
 use Rattle.release_statuses.specs.declared.listed.Listed.{Listed}
 use Rattle.release_table.specs.declared.table.Release.{Release}
@@ -47,7 +47,7 @@ same_specs (Some s) releases apps after same runs = record {
 }
 
 pub more_known : (o : Option RunnerState) (releases after : List Listed) (apps : List Application) →
-    ((vsn : List ℕ) → IsSome (place_of vsn releases) → IsSome (place_of vsn after)) →
+    ((vsn : List ℕ) → IsSome (index_of vsn releases) → IsSome (index_of vsn after)) →
     RunsScript o releases apps → RunsScript o after apps
 more_known None releases after apps more runs = tt
 more_known (Some s) releases after apps more runs = record {
@@ -61,7 +61,7 @@ more_known (Some s) releases after apps more runs = record {
 script_checked : (refused : Option RelError) (bad old : Option ℕ) →
     unless_refused refused (unless_bad bad (unless_lingering old)) ≡ None → bad ≡ None
 script_checked (Some e) bad old is = absurd (none-some (OfReleases e) (sym is))
-script_checked None (Some place) old is = absurd (none-some (BadScript place) (sym is))
+script_checked None (Some index) old is = absurd (none-some (BadScript index) (sym is))
 script_checked None None old is = refl
 
 entry_checked : (vsn : List ℕ) (n : NodeState) (entry : Entry Term Low) → script_to vsn n.releases ≡ Some entry →

@@ -8,7 +8,7 @@ use Rattle.code_server.specs.Modules.{Table as Loaded}
 use Rattle.process_store.specs.Table.{Table}
 use Rattle.app_table.specs.Applications.{Application}
 use Rattle.app_table.specs.Undo.{Fits}
-use Rattle.release_statuses.specs.Statuses.{place_of}
+use Rattle.release_statuses.specs.Statuses.{index_of}
 use Rattle.release_statuses.specs.declared.listed.Listed.{Listed}
 use Rattle.script_checks.specs.Checks.{bad_script, has_point}
 use Rattle.script_state.specs.Runner.{RunnerState}
@@ -26,7 +26,7 @@ pub record NodeState : Type 0 where
 -- A script that runs: the release that it installs is known, the script is one that can be installed, and before its point of no
 -- return the specifications can be put back that stood there before.
 pub record IsInstalling (r : RunnerState) (releases : List Listed) (apps : List Application) : Type 0 where
-  pub known : IsSome (place_of r.target releases)
+  pub known : IsSome (index_of r.target releases)
   pub checked : bad_script r.script ≡ None
   pub fits : has_point (take r.progress.next r.script) ≡ false → Fits r.former apps
 

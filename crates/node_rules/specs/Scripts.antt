@@ -16,7 +16,7 @@ use Rattle.code_server.specs.declared.error.CodeError.TheVariants.{CounterEnd}
 use Rattle.otp_files.specs.declared.upgrade.Entry.{Entry}
 use Rattle.process_effects.specs.declared.told.Reply.{Reply}
 use Rattle.release_specs.specs.Specs.{specs_of}
-use Rattle.release_statuses.specs.Statuses.{first_with, is_permanent, listed, made_permanent, permanent_refusal, place_of, reboot_refusal, rebooted, restarted, status_of}
+use Rattle.release_statuses.specs.Statuses.{first_with, is_permanent, listed, made_permanent, permanent_refusal, index_of, reboot_refusal, rebooted, restarted, status_of}
 use Rattle.release_statuses.specs.declared.error.RelError.{RelError}
 use Rattle.release_statuses.specs.declared.listed.Listed.{Listed}
 use Rattle.release_statuses.specs.declared.status.Status.TheVariants.{Permanent}
@@ -244,7 +244,7 @@ HaltsAs (Failed Behind reason) s n out = FallBack reason n out
 HaltsAs no_step.CounterEnd s n out = out ≡ Err refusal.CounterEnd
 
 abbrev pub CanHalt : NoStep → RunnerState → NodeState → Type 0
-CanHalt AtEnd s n = IsSome (place_of s.target n.releases)
+CanHalt AtEnd s n = IsSome (index_of s.target n.releases)
 CanHalt (Busy pid) s n = Unit {0}
 CanHalt (Failed Before reason) s n = Fits s.former n.apps
 CanHalt (Failed Behind reason) s n = Unit {0}

@@ -1,3 +1,3 @@
 mod Led
 mod Replays
-mod Turns
+mod Exchanges

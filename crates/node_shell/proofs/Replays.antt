@@ -25,10 +25,10 @@ use Rattle.shell_exec.specs.Fate.{Fate}
 use Rattle.shell_exec.specs.Fate.TheVariants.{StoppedAt}
 use Rattle.node_shell.specs.Replay.{Executed, AreExecuted, Forgets, IsReplayed, IsHeadline, IsNamed, MarksName, NamesMark, Stops, Undoes, commands_in, shell_behind, timeline_behind}
 use Rattle.node_shell.specs.Run.{RunsShell, RunsWhole, BootsFiles}
-use Rattle.node_shell.specs.Shell.{shell_turn}
+use Rattle.node_shell.specs.Shell.{shell_exchange}
 use Rattle.shell_exec.proofs.Led.{Does-led}
 use Rattle.node_shell.proofs.Led.{Does-cuts, Does-dead, Does-floors, Does-forgotten, Does-stops}
-use Rattle.node_shell.proofs.Turns.{executed-from_answered, unrefused-executed}
+use Rattle.node_shell.proofs.Exchanges.{executed-from_answered, unrefused-executed}
 
 after-executed : (s : ShellState) (executed : List Executed) → AreExecuted s executed → AreAfter Step (commands_in executed) s.timeline (timeline_behind s executed)
 after-executed s [] in_turn = refl
@@ -174,7 +174,7 @@ module _ (node : NodeState) (start : ShellState) (begun : start.timeline ≡ ope
 -- A run over files, of what the shell answered.
 
 module _ (files : Contents) (vsn : List ℕ) (node : NodeState) (starts : BootsFiles files vsn node) where
-  pub RunsCommands-served : (end : ShellState) (left rest held holds : Option (List ℕ)) (ended : ServeEnd) → Serves shell_turn (opened_shell files node) end left rest held holds ended → RunsShell files vsn left rest held holds ended
+  pub RunsCommands-served : (end : ShellState) (left rest held holds : Option (List ℕ)) (ended : ServeEnd) → Serves shell_exchange (opened_shell files node) end left rest held holds ended → RunsShell files vsn left rest held holds ended
   RunsCommands-served end left rest held holds ended serves =
       let were = executed-from_answered (opened_shell files node) serves.answered serves.in_turn in
       record {
@@ -188,7 +188,7 @@ module _ (files : Contents) (vsn : List ℕ) (node : NodeState) (starts : BootsF
         headline = executed-headline node (opened_shell files node) refl were.executed were.in_turn;
       }
 
-  pub RunsWhole-served : (end : ShellState) (input before : List ℕ) (holds : Option (List ℕ)) → ServesWhole shell_turn (opened_shell files node) end input before holds → RunsWhole files vsn input before holds
+  pub RunsWhole-served : (end : ShellState) (input before : List ℕ) (holds : Option (List ℕ)) → ServesWhole shell_exchange (opened_shell files node) end input before holds → RunsWhole files vsn input before holds
   RunsWhole-served end input before holds serves =
       let were = executed-from_answered (opened_shell files node) serves.answered serves.in_turn in
       record {

@@ -18,7 +18,7 @@ use Rattle.shell_exec.specs.Execution.{ExecutesLine}
 use Rattle.shell_exec.specs.State.{Effect, NodeTimeline, ShellState, answered}
 use Rattle.shell_exec.specs.Fate.{Fate}
 use Rattle.shell_exec.specs.Fate.TheVariants.{StoppedAt}
-use Rattle.node_shell.specs.Shell.{turn_of}
+use Rattle.node_shell.specs.Shell.{exchange_of}
 
 -- A line that was executed, what became of it for lack of memory, and what it did.
 pub record Executed : Type 0 where
@@ -33,7 +33,7 @@ AreExecuted s (o ∷ others) = ExecutesLine o.fate s (spoken (heard o.line)) o.e
 
 -- as the line server sees it
 abbrev pub answered_as : Executed → Answered ShellState Fate
-answered_as o = record { line = o.line; fate = o.fate; turn = turn_of o.effect }
+answered_as o = record { line = o.line; fate = o.fate; exchange = exchange_of o.effect }
 
 -- the commands that were carried out, in order: accepted events, undos to the marks that they reached, and forgets
 abbrev pub commands_in : List Executed → List (Command Event)

@@ -14,7 +14,7 @@ use Rattle.release_statuses.specs.Statuses.{booted}
 use Rattle.shell_exec.specs.Node.{NodeState}
 use Rattle.shell_exec.specs.State.{ShellState, opened_shell}
 use Rattle.node_shell.specs.Replay.{Executed, AreExecuted, IsHeadline, answered_as}
-use Rattle.node_shell.specs.Shell.{shell_turn}
+use Rattle.node_shell.specs.Shell.{shell_exchange}
 use Rattle.node_shell.specs.declared.fault.StartFault.{StartFault}
 use Rattle.node_shell.specs.declared.fault.StartFault.TheVariants as fault
 
@@ -40,7 +40,7 @@ pub record RunsShell (files : Contents) (vsn : List ℕ) (left rest held holds :
   pub node : NodeState
   pub starts : BootsFiles files vsn node
   pub end : ShellState
-  pub serves : Serves shell_turn (opened_shell files node) end left rest held holds ended
+  pub serves : Serves shell_exchange (opened_shell files node) end left rest held holds ended
   pub executed : List Executed
   pub answered : serves.answered ≡ map answered_as executed
   pub in_turn : AreExecuted (opened_shell files node) executed

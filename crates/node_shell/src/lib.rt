@@ -6,7 +6,7 @@
 //! node, and reports what it cut.
 //!
 //! What a line does is `shell_exec`'; how it is read is `shell_requests`', and how answers are written `shell_answers`'.
-//! Here its effects are the turns of a session ([`line_server`]), and what is said of the journal is said of the lines of a
+//! Here its effects are the exchanges of a session ([`line_server`]), and what is said of the journal is said of the lines of a
 //! run.
 //!
 //! # What is proved

@@ -1,6 +1,6 @@
 // The shell: a session over what it holds.
 ghost use Rattle.std.specs.Prelude.{◌≡◌, IfOk};
-ghost use Rattle.node_shell.specs.Shell.{shell_turn};
+ghost use Rattle.node_shell.specs.Shell.{shell_exchange};
 ghost use Rattle.shell_exec.specs.State.{opened_shell};
 
 use line_server::Session;
@@ -58,7 +58,7 @@ impl ShellSession {
 impl Session for ShellSession {
     type Fate = Fate;
 
-    ghost turn = { shell_turn };
+    ghost exchange = { shell_exchange };
 
     fn may_take_long(&self, start: &[u8]) -> bool {
         runs_code(start)

@@ -42,7 +42,7 @@ module _ (P : ℕ → Type 0) where
 pub nobody_past : (v : NodeView) (pid : ℕ) → length v.processes ≤ pid → process_of pid v ≡ None
 nobody_past v pid past = ap (λ (o : Option (Option ProcessView)). option_and_then (λ p. p) o) (slice_get_past v.processes pid past)
 
--- a module that is found by a name stands at a place, and has the name
+-- a module that is found by a name stands at an index, and has the name
 stands_by : (m : ModuleView) (ms : List ModuleView) (name : List ℕ) (b : Bool) → bytes_eq m.name name ≡ b →
     ((i : ℕ) × (x : ModuleView) × (slice_get ms i ≡ Some x) × (x.name ≡ name)) ⊎ (b ≡ true) →
     (i : ℕ) × (x : ModuleView) × (slice_get (m ∷ ms) i ≡ Some x) × (x.name ≡ name)
@@ -62,7 +62,7 @@ stands (m ∷ ms) name some = stands_by m ms name (bytes_eq m.name name) refl
       | inr here ↦ inr here
     ])
 
--- and a module that stands at a place is found by its name
+-- and a module that stands at an index is found by its name
 some_later : (b : Bool) (m : ModuleView) (o : Option ModuleView) → IsSome o → IsSome (cond b (Some m) o)
 some_later true m o some = refl
 some_later false m o some = some

@@ -18,7 +18,7 @@ module _ {X Y : Type 0} (f : X → Y) where
   pub one_more : (xs : List X) (n : ℕ) (x : X) → slice_get xs n ≡ Some x → map f (take (n + 1) xs) ≡ map f (take n xs) ++ f x ∷ []
   one_more xs n x is = simp unary_clauses (one_behind xs n x is)
 
--- what is seen of the process at a place, where it lives
+-- what is seen of the process at an index, where it lives
 abbrev pub entry_view : Option ProcessEntry → Option ProcessView
 entry_view o = option_map (λ entry. process_view entry.process) o
 

@@ -35,7 +35,7 @@ process_view p = record {
   mailbox = p.mailbox;
 }
 
--- The process of a pid, where it lives, and so at the place of each pid that was given.
+-- The process of a pid, where it lives; and a row with that of each pid that was given, the pid its index.
 
 abbrev pub living_view : Table → ℕ → Option ProcessView
 living_view t pid = option_map (λ entry. process_view entry.process) (living pid t)

@@ -14,8 +14,8 @@
 //! # What no contract says
 //!
 //! That there is memory, and what a call costs. A view takes time for each pid that was ever given, each module, each
-//! application and each release, and for each message that waits; terms are shared. Changes take time for each pid, and for each module
-//! with each other one.
+//! application and each release, and for each message that waits; terms are shared. Changes take time for each pid, and for
+//! each module with each other one.
 #![tactic(auto)]
 
 mod changes;

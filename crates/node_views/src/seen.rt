@@ -39,8 +39,8 @@ fn module_views(alloc: Global, modules: &Modules<Module>) -> Result<Row<ModuleVi
     ensures { IfOk result (λ it. it ≡ map module_view modules.now.entries) }
 {
     let mut views = Vec::with_capacity(alloc, modules.len())?;
-    for place in 0..modules.len() {
-        let Some((name, slots)) = modules.entry(place) else {
+    for index in 0..modules.len() {
+        let Some((name, slots)) = modules.entry(index) else {
             unreachable!()
         };
         views.push(module_view(alloc, name, slots)?)?;
@@ -62,7 +62,7 @@ fn living_view(
     }
 }
 
-/// What is seen of the processes: at the place of each pid that was given, where it lives.
+/// What is seen of the processes: a row with one of each pid that was given, where it lives, the pid its index.
 fn process_views(
     alloc: Global,
     processes: &Processes,
@@ -83,8 +83,8 @@ fn app_views(alloc: Global, apps: &AppTable) -> Result<Row<AppView>, AllocError>
     ensures { IfOk result (λ it. it ≡ map app_view apps.now) }
 {
     let mut views = Vec::with_capacity(alloc, apps.len())?;
-    for place in 0..apps.len() {
-        let Some(app) = apps.app(place) else {
+    for index in 0..apps.len() {
+        let Some(app) = apps.app(index) else {
             unreachable!()
         };
         views.push(AppView {

@@ -16,11 +16,11 @@ app_names apps = map (λ app. app.name) apps
 abbrev pub app_named : List ℕ → List RelApp → Option RelApp
 app_named name apps = find (λ app. bytes_eq app.name name) apps
 
--- and its place, where the first of these stands at this place
-abbrev pub place_of : ℕ → List ℕ → List RelApp → Option ℕ
-place_of place name [] = None
-place_of place name (app ∷ apps) = if bytes_eq app.name name then Some place else place_of (place + 1) name apps
+-- and its index, where the first of these stands at this index
+abbrev pub index_of : ℕ → List ℕ → List RelApp → Option ℕ
+index_of index name [] = None
+index_of index name (app ∷ apps) = if bytes_eq app.name name then Some index else index_of (index + 1) name apps
 
--- a map finds these places by the text of a name
+-- a map finds these indices by the text of a name
 abbrev pub FindsFrom : {A : Type 0} → ℕ → BTreeMap (String A) ℕ → List RelApp → Type 0
-FindsFrom place places apps = (text : List ℕ) → IsUtf8 text → get_by_text places text ≡ place_of place (chars text) apps
+FindsFrom index indices apps = (text : List ℕ) → IsUtf8 text → get_by_text indices text ≡ index_of index (chars text) apps

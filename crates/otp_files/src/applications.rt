@@ -27,7 +27,7 @@ pub struct RelApp {
 #[derive(Drop)]
 pub struct Applications {
     items: Row<RelApp>,
-    places: BTreeMap<String, usize>,
+    indices: BTreeMap<String, usize>,
 }
 
 impl Model for Applications {
@@ -39,7 +39,7 @@ impl Model for Applications {
 
     ghost view = { λ a. a.items };
 
-    ghost invariant = { λ a. (are_distinct (app_names a.items) ≡ true) × FindsFrom 0 a.places a.items };
+    ghost invariant = { λ a. (are_distinct (app_names a.items) ≡ true) × FindsFrom 0 a.indices a.items };
 }
 
 impl Applications {
@@ -52,12 +52,12 @@ impl Applications {
         ensures { IfOk result (λ found. MatchOption found (are_distinct (app_names items.items) ≡ false)
             (λ apps. (apps ≡ items.items) × (are_distinct (app_names items.items) ≡ true))) }
     {
-        let (places, is_each_once) = index(alloc, items.as_slice())?;
+        let (indices, is_each_once) = index(alloc, items.as_slice())?;
         if !is_each_once {
             return Ok(None);
         }
         let items = Row::new(items);
-        Ok(Some(Applications { items, places }))
+        Ok(Some(Applications { items, indices }))
     }
 
     /// The applications, in order. Takes no memory.
@@ -72,28 +72,28 @@ impl Applications {
     pub fn get(&self, name: &Atom) -> Option<&RelApp>
         ensures { option_copied result ≡ app_named name.now self.now }
     {
-        match self.places.get(name.as_str()) {
-            Some(place) => self.as_slice().get(*place),
+        match self.indices.get(name.as_str()) {
+            Some(index) => self.as_slice().get(*index),
             None => None,
         }
     }
 }
 
-/// The place of the first application of each name, and whether no name stands twice. Names are told apart by their order:
+/// The index of the first application of each name, and whether no name stands twice. Names are told apart by their order:
 /// whoever picks them can make them collide under a hasher that everybody knows.
 fn index(alloc: Global, items: &[RelApp]) -> Result<(BTreeMap<String, usize>, bool), AllocError>
-    ensures places { IfOk result (λ found. FindsFrom 0 found.0 items.now) }
+    ensures indices { IfOk result (λ found. FindsFrom 0 found.0 items.now) }
     ensures is_each_once { IfOk result (λ found. found.1 ≡ are_distinct (app_names items.now)) }
 {
-    let mut places = BTreeMap::new(alloc);
+    let mut indices = BTreeMap::new(alloc);
     let mut is_each_once = true;
-    for place in (0..items.len()).rev() {
-        let name = String::from_str(alloc, items[place].name.as_str())?;
-        if places.insert(name, place)?.is_some() {
+    for index in (0..items.len()).rev() {
+        let name = String::from_str(alloc, items[index].name.as_str())?;
+        if indices.insert(name, index)?.is_some() {
             is_each_once = false;
         }
     }
-    Ok((places, is_each_once))
+    Ok((indices, is_each_once))
 }
 
 impl Same for RelApp {
@@ -125,7 +125,7 @@ impl Same for Applications {
 impl Duplicate for Applications {
     fn copy(&self, alloc: Global) -> Result<Applications, AllocError> {
         let items = self.items.copy(alloc)?;
-        let (places, _) = index(alloc, items.as_slice())?;
-        Ok(Applications { items, places })
+        let (indices, _) = index(alloc, items.as_slice())?;
+        Ok(Applications { items, indices })
     }
 }

@@ -65,7 +65,7 @@ fn text_error(text: &[u8], error: ReadError) -> FileError
     }
 }
 
-/// Whether `<<` stands at a place of a text.
+/// Whether `<<` stands at an index of a text.
 fn begins_pattern(text: &[u8], at: usize) -> bool
     ensures { IsTrue result ↔ (take 2 (drop at text.now) ≡ codes "<<") }
 {

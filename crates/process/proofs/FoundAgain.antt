@@ -10,10 +10,10 @@ use Rattle.erl_semantics.specs.State.{Instance}
 use Rattle.code_server.specs.Modules.{Entry, IsModuleTable, Table, current_of, in_entry, in_entries, in_slot, old_of}
 use Rattle.code_server.specs.declared.modules.Instance as loaded
 use Rattle.code_server.proofs.Changes.{current_of-slots, old_of-slots}
-use Rattle.code_server.proofs.Standing.{Stands-place}
+use Rattle.code_server.proofs.Standing.{Stands-index}
 use Rattle.process.specs.JobCode.{AreReached, none, reached, without_code, not_reached, job_code, instance_of}
 use Rattle.process.specs.Named.{AreFoundAgain, JobCodeStands, StandsIn, as_current, as_old, all_found, and_others, found, if_serial, named_instance}
-use Rattle.process.proofs.Standing.{current-at_place, place-of_entry, placed}
+use Rattle.process.proofs.Standing.{current-at_index, index-of_entry, placed}
 
 -- What a loop found so far, before what it finds of the others.
 abbrev pub prefixed : List Instance → Option (List Instance) → Option (List Instance)
@@ -27,13 +27,13 @@ slot_of i serial o is same = ap (in_slot serial) is ∙ ap (λ b. cond b 1 0) (e
 
 apart : (t : Table Forms) (name : List ℕ) (c l : loaded.Instance Forms) → IsModuleTable t → current_of name t ≡ Some c → old_of name t ≡ Some l → c.serial ≡ l.serial → ⊥
 apart t name c l sound at at_old same =
-    let place = placed name t c at in
-    let stands = Stands-place name t.entries place.0 place.1 in
+    let index = placed name t c at in
+    let stands = Stands-index name t.entries index.0 index.1 in
     let entry : Entry Forms = (name, stands.slots) in
-    let first : in_slot l.serial stands.slots.current ≡ 1 = slot_of c l.serial stands.slots.current (sym (current_of-slots name t place.0 stands) ∙ at) same in
-    let second : in_slot l.serial stands.slots.former ≡ 1 = slot_of l l.serial stands.slots.former (sym (old_of-slots name t place.0 stands) ∙ at_old) refl in
-    let is : in_entry l.serial (get_or t.entries place.0 entry) ≡ in_entry l.serial entry = ap (in_entry l.serial) (get_or_from_slice_get t.entries place.0 entry entry stands.entry) in
-    let most : in_entry l.serial (get_or t.entries place.0 entry) ≤ in_entries l.serial t.entries = get_or-le-sum_by (in_entry l.serial) t.entries place.0 entry stands.within in
+    let first : in_slot l.serial stands.slots.current ≡ 1 = slot_of c l.serial stands.slots.current (sym (current_of-slots name t index.0 stands) ∙ at) same in
+    let second : in_slot l.serial stands.slots.former ≡ 1 = slot_of l l.serial stands.slots.former (sym (old_of-slots name t index.0 stands) ∙ at_old) refl in
+    let is : in_entry l.serial (get_or t.entries index.0 entry) ≡ in_entry l.serial entry = ap (in_entry l.serial) (get_or_from_slice_get t.entries index.0 entry entry stands.entry) in
+    let most : in_entry l.serial (get_or t.entries index.0 entry) ≤ in_entries l.serial t.entries = get_or-le-sum_by (in_entry l.serial) t.entries index.0 entry stands.within in
     let once : in_entries l.serial t.entries ≤ 1 = sound.once l.serial in
     omega (arith, first, second, is, most, once)
 
@@ -76,4 +76,4 @@ job_code_stands t entered _ sound stands (job_code {reached = code} are) =
   where
     current : (j : ℕ) (entry : Entry Forms) → slice_get t.entries j ≡ Some entry → current_of entry.0 t ≡ entry.1.current
     current j entry at =
-        current-at_place entry.0 t j (place-of_entry t.entries j entry sound.distinct at) ∙ ap (option_and_then (λ e. e.1.current)) at
+        current-at_index entry.0 t j (index-of_entry t.entries j entry sound.distinct at) ∙ ap (option_and_then (λ e. e.1.current)) at

@@ -4,7 +4,7 @@ pub mod JobCode
 pub mod Listing
 pub mod Living
 pub mod Mailboxes
-pub mod Places
+pub mod Indices
 pub mod Reruns
 pub mod Restating
 pub mod Standing

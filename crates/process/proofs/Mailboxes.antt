@@ -5,7 +5,7 @@ use Rattle.process.specs.declared.activity.Activity.{Activity}
 use Rattle.process.specs.declared.activity.Activity.TheVariants.{Idle, Suspended, Runs}
 use Rattle.process.specs.declared.activity.Running.{Running}
 use Rattle.process.specs.Process.{ProcessState, awaited, awaited_by, delivered, first_taken, takes_at}
-use Rattle.process.proofs.Places.{position_last}
+use Rattle.process.proofs.Indices.{position_last}
 
 -- what a process that doesn't run takes next is what it takes where it rests
 pub awaited_by-resting : (a : Activity) (first : Option ℕ) → ((r : Running) → a ≡ Runs r → ⊥) → awaited_by a first ≡ first

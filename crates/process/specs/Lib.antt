@@ -1,6 +1,6 @@
 pub mod Ended
 pub mod JobCode
 pub mod Named
-pub mod Places
+pub mod Indices
 pub mod Process
 pub mod Rerun

@@ -58,7 +58,7 @@
 //! Ending moves the mailbox, and takes memory for names and serials alone. A process that lives again looks at its mailbox as
 //! one that rests again does, unless it ran: nothing here says that the code that is found is the code that it had.
 //!
-//! [`job_code`] looks each remote module of each instance that is reached up once, by key, and puts its place into an
+//! [`job_code`] looks each remote module of each instance that is reached up once, by key, and puts its index into an
 //! ordered set: so it costs what is reached, however many modules there are besides. [`instances_of`] looks each name up,
 //! by key, once or twice.
 //!

@@ -7,7 +7,7 @@ ghost use Rattle.code_server.specs.Modules.{Table};
 ghost use Rattle.erl_ir.specs.Module.{Forms};
 ghost use Rattle.erl_semantics.specs.Views.{instance};
 ghost use Rattle.process.specs.JobCode.{IsJobCode};
-ghost use Rattle.process.specs.Places.{AreFound, AreFoundFrom, AreReachedPlaces, Grows, Has, IsNamedAt, IsNamedFrom, current_code, named_current_at};
+ghost use Rattle.process.specs.Indices.{AreFound, AreFoundFrom, AreReachedIndices, Grows, Has, IsNamedAt, IsNamedFrom, current_code, named_current_at};
 
 use code_server::Modules;
 use erl_ir::Module;
@@ -17,60 +17,60 @@ use std::alloc::{AllocError, Global};
 use std::collections::BTreeSet;
 use values::{Duplicate, Row};
 
-/// What was found so far of the modules that can be reached, by their places in the table.
+/// What was found so far of the modules that can be reached, by their indices in the table.
 #[derive(Drop)]
 struct Found {
-    /// The places that were found.
-    places: BTreeSet<usize>,
+    /// The indices that were found.
+    indices: BTreeSet<usize>,
     /// Those of them whose code was not looked at yet.
     waiting: Vec<usize>,
 }
 
 impl Found {
-    /// The module at a place is found.
-    fn add(&mut self, place: usize) -> Result<(), AllocError>
-        ensures found { OnOk result (Has self.new.places place) }
-        ensures grows { OnOk result (Grows (λ p. p ≡ place) self.old self.new) }
+    /// The module at an index is found.
+    fn add(&mut self, index: usize) -> Result<(), AllocError>
+        ensures found { OnOk result (Has self.new.indices index) }
+        ensures grows { OnOk result (Grows (λ p. p ≡ index) self.old self.new) }
     {
-        if self.places.insert(place)? {
-            self.waiting.push(place)?;
+        if self.indices.insert(index)? {
+            self.waiting.push(index)?;
         }
         Ok(())
     }
 
     /// The modules that are named in code are found.
     fn add_named(&mut self, modules: &Modules<Module>, code: &Module) -> Result<(), AllocError>
-        ensures found { OnOk result (AreFound modules.now code.now self.new.places) }
+        ensures found { OnOk result (AreFound modules.now code.now self.new.indices) }
         ensures grows { OnOk result (Grows (IsNamedAt modules.now code.now) self.old self.new) }
     {
         for name in code.remote_modules() {
-            if let Some(place) = modules.place(name) {
-                self.add(place)?;
+            if let Some(index) = modules.index_of(name) {
+                self.add(index)?;
             }
         }
         Ok(())
     }
 
-    /// The modules that are named in the current code of the module at a place are found.
-    fn follow(&mut self, modules: &Modules<Module>, place: usize) -> Result<(), AllocError>
-        ensures found { OnOk result (AreFoundFrom modules.now place self.new.places) }
-        ensures grows { OnOk result (Grows (IsNamedFrom modules.now place) self.old self.new) }
+    /// The modules that are named in the current code of the module at an index are found.
+    fn follow(&mut self, modules: &Modules<Module>, index: usize) -> Result<(), AllocError>
+        ensures found { OnOk result (AreFoundFrom modules.now index self.new.indices) }
+        ensures grows { OnOk result (Grows (IsNamedFrom modules.now index) self.old self.new) }
     {
-        match current_at(modules, place) {
+        match current_at(modules, index) {
             Some((_, current)) => self.add_named(modules, &current.code),
             None => Ok(()),
         }
     }
 }
 
-/// The name of the module at a place, with its current code.
+/// The name of the module at an index, with its current code.
 fn current_at(
     modules: &Modules<Module>,
-    place: usize,
+    index: usize,
 ) -> Option<(&Atom, &code_server::Instance<Module>)>
-    ensures { option_map deref_pair result ≡ named_current_at modules.now.entries place }
+    ensures { option_map deref_pair result ≡ named_current_at modules.now.entries index }
 {
-    match modules.entry(place) {
+    match modules.entry(index) {
         Some((name, slots)) => match &slots.current {
             Some(current) => Some((name, current)),
             None => None,
@@ -79,37 +79,37 @@ fn current_at(
     }
 }
 
-/// The places of the modules that can be reached from code.
-fn reached_places(
+/// The indices of the modules that can be reached from code.
+fn reached_indices(
     alloc: Global,
     modules: &Modules<Module>,
     from: &Module,
 ) -> Result<BTreeSet<usize>, AllocError>
-    ensures { IfOk result (AreReachedPlaces modules.now from.now) }
+    ensures { IfOk result (AreReachedIndices modules.now from.now) }
 {
     let mut found = Found {
-        places: BTreeSet::new(alloc),
+        indices: BTreeSet::new(alloc),
         waiting: Vec::new(alloc),
     };
     found.add_named(modules, from)?;
-    while let Some(place) = found.waiting.pop() {
-        found.follow(modules, place)?;
+    while let Some(index) = found.waiting.pop() {
+        found.follow(modules, index)?;
     }
-    Ok(found.places)
+    Ok(found.indices)
 }
 
-/// Puts the current code of the modules at these places last.
+/// Puts the current code of the modules at these indices last.
 fn push_current(
     alloc: Global,
     modules: &Modules<Module>,
-    places: &BTreeSet<usize>,
+    indices: &BTreeSet<usize>,
     code: &mut Vec<Instance>,
 ) -> Result<(), AllocError>
     ensures { OnOk result (map instance code.new.items ≡ map instance code.old.items ++
-        current_code modules.now.entries places.now.keys) }
+        current_code modules.now.entries indices.now.keys) }
 {
-    for place in places {
-        if let Some((name, current)) = current_at(modules, *place) {
+    for index in indices {
+        if let Some((name, current)) = current_at(modules, *index) {
             code.push(Instance {
                 name: name.copy(alloc)?,
                 serial: current.serial,
@@ -120,18 +120,18 @@ fn push_current(
     Ok(())
 }
 
-/// An instance, and behind it the current code of the modules at these places.
+/// An instance, and behind it the current code of the modules at these indices.
 fn code_of(
     alloc: Global,
     modules: &Modules<Module>,
     entered: Instance,
-    places: &BTreeSet<usize>,
+    indices: &BTreeSet<usize>,
 ) -> Result<Row<Instance>, AllocError>
-    ensures { IfOk result (λ code. map instance code ≡ instance entered ∷ current_code modules.now.entries places.now.keys) }
+    ensures { IfOk result (λ code. map instance code ≡ instance entered ∷ current_code modules.now.entries indices.now.keys) }
 {
-    let mut code = Vec::with_capacity(alloc, places.len().saturating_add(1))?;
+    let mut code = Vec::with_capacity(alloc, indices.len().saturating_add(1))?;
     code.push(entered)?;
-    push_current(alloc, modules, places, &mut code)?;
+    push_current(alloc, modules, indices, &mut code)?;
     Ok(Row::new(code))
 }
 
@@ -148,10 +148,10 @@ pub fn job_code(
 ) -> Result<Row<Instance>, AllocError>
     ensures { IfOk result (λ code. IsJobCode modules.now (instance entered) (map instance code)) }
 {
-    let places = reached_places(alloc, modules, &entered.module)?;
+    let indices = reached_indices(alloc, modules, &entered.module)?;
     // The proof asks that names differ in the table, and `len` tells it.
     let _ = modules.len();
-    let code = code_of(alloc, modules, entered, &places)?;
+    let code = code_of(alloc, modules, entered, &indices)?;
     Ok(code)
 }
 

@@ -17,7 +17,7 @@ use Rattle.process_store.specs.Table.{Table}
 use Rattle.process_effects.proofs.Joining.{all_answered_added, told_added}
 use Rattle.process_effects.specs.Batches.{AllFit, all_undone}
 use Rattle.process_effects.specs.Begins.{IsUnderWay, act_begun, act_made, acts_begun, acts_made, begun_told, name_left}
-use Rattle.process_effects.specs.declared.change.Change.{Change}
+use Rattle.process_effects.specs.declared.change.Addition.{Addition}
 
 -- One more answer.
 
@@ -82,7 +82,7 @@ told_parted name code (a ∷ acts) others t =
     ap (λ xs. answers_told xs (acts_made left code acts made)) (sym (append_assoc others (act_answers a) (answers_of acts))) ∙ told_parted left code acts (others ++ act_answers a) made ∙ (λ i. told_one name code others a t i ++ begun_told left code acts (sym (begun_one name code others a t) i)) ∙ append_assoc (answers_told others t) (act_told a here) (begun_told left code acts (act_begun name code a here))
 
 -- what is under way, and acts on top of it
-pub more_under_way : (name : Option (List ℕ)) (code : List Instance) (acts : List Act) (changes more : List Change) (answers given : List Answer) (before now after t : Table) (told : List Reply) → IsUnderWay changes answers before now t told → after ≡ acts_made name code acts now → given ≡ answers ++ answers_of acts → all_undone more after ≡ all_undone changes now → (AllFit changes now → AllFit more after) → IsUnderWay more given before after (acts_begun name code acts t) (told ++ begun_told name code acts t)
+pub more_under_way : (name : Option (List ℕ)) (code : List Instance) (acts : List Act) (changes more : List Addition) (answers given : List Answer) (before now after t : Table) (told : List Reply) → IsUnderWay changes answers before now t told → after ≡ acts_made name code acts now → given ≡ answers ++ answers_of acts → all_undone more after ≡ all_undone changes now → (AllFit changes now → AllFit more after) → IsUnderWay more given before after (acts_begun name code acts t) (told ++ begun_told name code acts t)
 more_under_way name code acts changes more answers given before now after t told way is noted back fits = record {
   back = (fits way.back.0, back ∙ way.back.1);
   makes = ap (acts_begun name code acts) way.makes ∙ begun_parted name code acts answers now ∙ (λ i. all_answered (sym noted i) (sym is i));

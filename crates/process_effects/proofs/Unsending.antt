@@ -37,8 +37,8 @@ reopens_at [] k d t within all = absurd (omega (arith, within))
 reopens_at (c ∷ cs) zero d t within all = all.1
 reopens_at (c ∷ cs) (suc k) d t within all = reopens_at cs k d t (omega (arith, within)) all.0
 
-pub reopens_next : (cs : List Closed) (place : ℕ) (d : Closed) (t now : Table) → 0 < place → place ≤ length cs → AllReopen cs t → now ≡ all_reopened (drop place cs) t → CanReopen (get_or cs (place - 1) d).pid (get_or cs (place - 1) d).call now
-reopens_next cs place d t now some within all is =
-    let k = place - 1 in
-    let next : suc k ≡ place = omega (arith, some) in
+pub reopens_next : (cs : List Closed) (index : ℕ) (d : Closed) (t now : Table) → 0 < index → index ≤ length cs → AllReopen cs t → now ≡ all_reopened (drop index cs) t → CanReopen (get_or cs (index - 1) d).pid (get_or cs (index - 1) d).call now
+reopens_next cs index d t now some within all is =
+    let k = index - 1 in
+    let next : suc k ≡ index = omega (arith, some) in
     subst (CanReopen (get_or cs k d).pid (get_or cs k d).call) (sym (is ∙ ap (λ n. all_reopened (drop n cs) t) (sym next))) (reopens_at cs k d t (omega (arith, some, within)) all)

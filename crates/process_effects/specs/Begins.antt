@@ -11,7 +11,7 @@ use Rattle.process_effects.specs.declared.answers.Answer.{Answer}
 use Rattle.process_effects.specs.declared.told.Reply.{Reply}
 use Rattle.process_store.specs.Table.{Table, added}
 use Rattle.process_effects.specs.Batches.{AllFit, all_undone}
-use Rattle.process_effects.specs.declared.change.Change.{Change}
+use Rattle.process_effects.specs.declared.change.Addition.{Addition}
 
 -- One act: the processes after it. What is started is of this code, and has this name, if any, which is then given.
 
@@ -52,10 +52,10 @@ acts_made name code (a ∷ others) t = acts_made (name_left name a) code others 
 -- Changes are under way: taken back they give the processes before, and with the answers that are left to give they make
 -- the processes that the acts in order make, and tell what those tell.
 
-abbrev pub CanGiveUp : List Change → Table → Table → Type 0
+abbrev pub CanGiveUp : List Addition → Table → Table → Type 0
 CanGiveUp changes before now = AllFit changes now × (all_undone changes now ≡ before)
 
-pub record IsUnderWay (changes : List Change) (answers : List Answer) (before now after : Table) (told : List Reply)
+pub record IsUnderWay (changes : List Addition) (answers : List Answer) (before now after : Table) (told : List Reply)
     : Type 0 where
   pub back : CanGiveUp changes before now
   pub makes : after ≡ all_answered answers now

@@ -44,7 +44,7 @@ pub record IsReadyFor (replies : List Reply) (n : ℕ) (t : Telling) : Type 0 wh
   pub ready : IsReady answers reasons n t
   pub told : IsToldBy answers reasons replies
 
--- the client of a reply at a place, where it is one to a call of this number
+-- the client of the reply at an index, where it is one to a call of this number
 
 abbrev pub client_if : ℕ → ℕ → ℕ → ReplyBody → Option ℕ
 client_if number client next (told.Reply reply) = if next == number then Some client else None
@@ -55,7 +55,7 @@ client_of number None = None
 client_of number (Some r) = client_if number r.client r.number r.body
 
 abbrev pub client_at : ℕ → ℕ → List Reply → Option ℕ
-client_at number place replies = client_of number (slice_get replies place)
+client_at number index replies = client_of number (slice_get replies index)
 
 -- a reply that says that its call is down, for this reason
 abbrev pub IsDown : Term → Reply → Type 0

@@ -130,10 +130,10 @@ pub fn reopen_all(store: &mut ProcessStore, closed: &[Closed]) -> Result<(), All
     ensures again { OnOk result (all_reclosed closed.now store.new ≡ store.old) }
     ensures err { OnErr result (store.new ≡ store.old) }
 {
-    for place in (0..closed.len()).rev() {
-        let each = &closed[place];
+    for index in (0..closed.len()).rev() {
+        let each = &closed[index];
         if let Err(refused) = store.reopen(each.pid, each.call) {
-            close_again(store, &closed[place + 1..]);
+            close_again(store, &closed[index + 1..]);
             return Err(refused);
         }
     }

@@ -7,7 +7,7 @@ ghost use Rattle.process_effects.specs.Batches.{AllFit, CanUnbatch, FitsOne, all
 ghost use Rattle.process_effects.specs.Begins.{CanGiveUp, IsUnderWay, acts_begun, begun_told};
 
 use crate::answers::{Answer, Closed, answer_all, reopen_all};
-use crate::change::Change;
+use crate::change::Addition;
 use crate::making::make_all;
 use crate::told::Reply;
 use erl_semantics::{Act, Instance};
@@ -20,7 +20,7 @@ use values::Row;
 #[derive(Drop)]
 pub struct Batch {
     /// What was done, in order.
-    pub changes: Vec<Change>,
+    pub changes: Vec<Addition>,
     /// The replies that are left to give, in order.
     pub answers: Vec<Answer>,
 }
@@ -29,7 +29,7 @@ pub struct Batch {
 #[derive(Drop)]
 pub struct Batched {
     /// What was done, in order.
-    pub changes: Row<Change>,
+    pub changes: Row<Addition>,
     /// The calls that were closed by replies, in order.
     pub closed: Row<Closed>,
 }
@@ -82,23 +82,23 @@ pub fn begin(
 }
 
 /// Takes one change back. Takes no memory.
-fn take_back(store: &mut ProcessStore, change: &Change)
+fn take_back(store: &mut ProcessStore, change: &Addition)
     requires { FitsOne change.now store.old }
     ensures { store.new ≡ change_undone change.now store.old }
 {
     match change {
-        Change::Sent(pid) => store.undeliver(*pid),
-        Change::Started => store.remove_last(),
+        Addition::Sent(pid) => store.undeliver(*pid),
+        Addition::Started => store.remove_last(),
     }
 }
 
 /// Takes changes back, the last of them first. Takes no memory.
-fn take_all_back(store: &mut ProcessStore, changes: &[Change])
+fn take_all_back(store: &mut ProcessStore, changes: &[Addition])
     requires { AllFit changes.now store.old }
     ensures { store.new ≡ all_undone changes.now store.old }
 {
-    for place in (0..changes.len()).rev() {
-        take_back(store, &changes[place]);
+    for index in (0..changes.len()).rev() {
+        take_back(store, &changes[index]);
     }
 }
 

@@ -1,8 +1,8 @@
 // Changes that are taken back without memory.
 
-/// A change of the processes that is taken back without memory.
+/// What was added to the processes, and is taken away again without memory.
 #[derive(Drop)]
-pub enum Change {
+pub enum Addition {
     /// A message was sent to the process of a pid.
     Sent(u64),
     /// A process was started, the last.

@@ -8,7 +8,7 @@ ghost use Rattle.process_effects.specs.Begins.{act_made, acts_made, name_left};
 ghost use Rattle.process_store.specs.Table.{added, is_taken};
 
 use crate::answers::Answer;
-use crate::change::Change;
+use crate::change::Addition;
 use crate::resting::rests_in;
 use crate::sends::receiver_of;
 use erl_semantics::{Act, Instance, Place, Receiver};
@@ -19,7 +19,7 @@ use std::alloc::{AllocError, Global};
 /// Sends a message to the process of a pid, and notes it.
 fn send_to(
     store: &mut ProcessStore,
-    changes: &mut Vec<Change>,
+    changes: &mut Vec<Addition>,
     pid: u64,
     message: Term,
 ) -> Result<(), AllocError>
@@ -28,7 +28,7 @@ fn send_to(
     ensures fits { AllFit changes.old.items store.old → AllFit changes.new.items store.new }
     ensures err { OnErr result (store.new ≡ store.old) }
 {
-    changes.push(Change::Sent(pid))?;
+    changes.push(Addition::Sent(pid))?;
     match store.deliver(pid, message) {
         Ok(()) => Ok(()),
         Err(refused) => {
@@ -41,7 +41,7 @@ fn send_to(
 /// Sends a message, where it has a receiver, and notes it.
 fn send(
     store: &mut ProcessStore,
-    changes: &mut Vec<Change>,
+    changes: &mut Vec<Addition>,
     to: &Receiver,
     message: Term,
 ) -> Result<(), AllocError>
@@ -64,7 +64,7 @@ fn send(
 fn start(
     store: &mut ProcessStore,
     alloc: Global,
-    changes: &mut Vec<Change>,
+    changes: &mut Vec<Addition>,
     name: Option<Atom>,
     place: Place,
     code: &[Instance],
@@ -79,7 +79,7 @@ fn start(
         return Err(AllocError);
     }
     let rests_in = rests_in(alloc, &place, code)?;
-    changes.push(Change::Started)?;
+    changes.push(Addition::Started)?;
     match store.add(name, place, rests_in) {
         Ok(_) => Ok(()),
         Err(refused) => {
@@ -93,7 +93,7 @@ fn start(
 fn make_one(
     store: &mut ProcessStore,
     alloc: Global,
-    changes: &mut Vec<Change>,
+    changes: &mut Vec<Addition>,
     answers: &mut Vec<Answer>,
     name: Option<Atom>,
     code: &[Instance],
@@ -135,7 +135,7 @@ fn make_one(
 pub(crate) fn make_all(
     store: &mut ProcessStore,
     alloc: Global,
-    changes: &mut Vec<Change>,
+    changes: &mut Vec<Addition>,
     answers: &mut Vec<Answer>,
     name: Option<Atom>,
     code: &[Instance],

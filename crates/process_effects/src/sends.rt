@@ -91,8 +91,8 @@ fn send(
 pub(crate) fn unsend_all(store: &mut ProcessStore, receivers: &[u64])
     ensures { store.new ≡ all_unsent receivers.now store.old }
 {
-    for place in (0..receivers.len()).rev() {
-        store.undeliver(receivers[place]);
+    for index in (0..receivers.len()).rev() {
+        store.undeliver(receivers[index]);
     }
 }
 

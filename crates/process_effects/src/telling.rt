@@ -78,11 +78,11 @@ fn make_echoes(
     Ok(echoes)
 }
 
-/// The client of a reply that was told at a place, where it is one to a call of this number.
-fn client_at(told: &[Reply], place: usize, number: u64) -> Option<u64>
-    ensures { result ≡ client_at number place told.now }
+/// The client of the reply at an index of those that are told, where it is one to a call of this number.
+fn client_at(told: &[Reply], index: usize, number: u64) -> Option<u64>
+    ensures { result ≡ client_at number index told.now }
 {
-    match told.get(place) {
+    match told.get(index) {
         Some(next) => match next.body {
             ReplyBody::Reply(_) if next.number == number => Some(next.client),
             ReplyBody::Reply(_) => None,

@@ -1,4 +1,4 @@
--- Lemmas on what is kept by number: what a change of one place makes of the slots, and what lives in them.
+-- Lemmas on what is kept by pid: what a change of one pid makes of the slots, and what lives in them.
 use Rattle.std.proofs.Common.{◌≡◌, ℕ, zero, suc, ◌+◌, ◌-◌, ◌<◌, ◌≤◌, Bool, true, false, cond, List, [], ◌∷◌, ◌++◌, length, drop, filter, take, Option, None, Some, is_some, IsSome, MutBor, inl, inr, refl, sym, ap, subst, ◌∙◌, zero-add, arith, ⊎_elim}
 use borrow.Follows.Closed.{read_of}
 use Rattle.std.specs.List.{AllByRecursion, list_any}
@@ -20,38 +20,38 @@ use Rattle.process_index.specs.Standing.{alive_from, alive, standing, stands_at,
 
 -- The order of numbers tells them apart
 
-at_itself : (place : ℕ) → is_eq (nat_cmp place place) ≡ true
-at_itself place = grind (arith, nat_tests)
+at_itself : (pid : ℕ) → is_eq (nat_cmp pid pid) ≡ true
+at_itself pid = grind (arith, nat_tests)
 
-at_another : (place q : ℕ) → (q ≡ place → ⊥) → is_eq (nat_cmp place q) ≡ false
-at_another place q apart = grind (arith, nat_tests)
+at_another : (pid q : ℕ) → (q ≡ pid → ⊥) → is_eq (nat_cmp pid q) ≡ false
+at_another pid q apart = grind (arith, nat_tests)
 
-below_another : (q place : ℕ) → q < place → is_eq (nat_cmp q place) ≡ false
-below_another q place below = grind (arith, nat_tests)
+below_another : (q pid : ℕ) → q < pid → is_eq (nat_cmp q pid) ≡ false
+below_another q pid below = grind (arith, nat_tests)
 
-above_another : (q place : ℕ) → place < q → is_eq (nat_cmp q place) ≡ false
-above_another q place above = grind (arith, nat_tests)
+above_another : (q pid : ℕ) → pid < q → is_eq (nat_cmp q pid) ≡ false
+above_another q pid above = grind (arith, nat_tests)
 
 less_below : (x y : ℕ) → nat_cmp x y ≡ Less → x < y
 less_below x y less = grind (arith, nat_tests)
 
-is_from : (place q : ℕ) → place ≤ q → range_contains nat_cmp (Included place) Unbounded q ≡ true
-is_from place q later = grind (arith, nat_tests)
+is_from : (pid q : ℕ) → pid ≤ q → range_contains nat_cmp (Included pid) Unbounded q ≡ true
+is_from pid q later = grind (arith, nat_tests)
 
-is_before : (place q : ℕ) → q < place → range_contains nat_cmp (Included place) Unbounded q ≡ false
-is_before place q before = grind (arith, nat_tests)
+is_before : (pid q : ℕ) → q < pid → range_contains nat_cmp (Included pid) Unbounded q ≡ false
+is_before pid q before = grind (arith, nat_tests)
 
 module _ {T : Type 0} where
   pub length-standing : (at : ℕ → Option T) (from count : ℕ) → length (standing at from count) ≡ count
   length-standing at from zero = refl
   length-standing at from (suc count) = ap suc (length-standing at (suc from) count)
 
-  -- what stands at a place, where nothing does past the last
-  pub stands_at-standing : (at : ℕ → Option T) (from count place there : ℕ) → there ≡ from + place → ((q : ℕ) → from + count ≤ q → at q ≡ None) → stands_at (standing at from count) place ≡ at there
-  stands_at-standing at from zero place there is none = sym (none there (omega (arith, is)))
+  -- what stands at a pid, where nothing does past the last
+  pub stands_at-standing : (at : ℕ → Option T) (from count pid there : ℕ) → there ≡ from + pid → ((q : ℕ) → from + count ≤ q → at q ≡ None) → stands_at (standing at from count) pid ≡ at there
+  stands_at-standing at from zero pid there is none = sym (none there (omega (arith, is)))
   stands_at-standing at from (suc count) zero there is none = ap at (omega (arith, is))
-  stands_at-standing at from (suc count) (suc place) there is none =
-      stands_at-standing at (suc from) count place there (omega (arith, is)) (λ q past. none q (omega (arith, past)))
+  stands_at-standing at from (suc count) (suc pid) there is none =
+      stands_at-standing at (suc from) count pid there (omega (arith, is)) (λ q past. none q (omega (arith, past)))
 
   pub standing_same : (f g : ℕ → Option T) (from count : ℕ) → ((q : ℕ) → from ≤ q → q < from + count → g q ≡ f q) → standing g from count ≡ standing f from count
   standing_same f g from zero same = refl
@@ -59,23 +59,23 @@ module _ {T : Type 0} where
       ap (λ o. o ∷ standing g (suc from) count) (same from (omega arith) (omega arith))
       ∙ ap (λ os. f from ∷ os) (standing_same f g (suc from) count (λ q low high. same q (omega (arith, low)) (omega (arith, high))))
 
-  -- as many places, where nothing stands at any
+  -- as many pids, where nothing stands at any
   pub standing-vacant : (f g : ℕ → Option T) → ((q : ℕ) → g q ≡ None) → (from count : ℕ) → standing g from count ≡ vacant (standing f from count)
   standing-vacant f g none from zero = refl
   standing-vacant f g none from (suc count) = ap (λ o. o ∷ standing g (suc from) count) (none from) ∙ ap (λ os. None ∷ os) (standing-vacant f g none (suc from) count)
 
-  -- one place is changed
-  pub standing-changed : (f g : ℕ → Option T) (h : Option T → Option T) (from count place there : ℕ) → there ≡ from + place → g there ≡ h (f there) → ((q : ℕ) → (q ≡ there → ⊥) → g q ≡ f q) → standing g from count ≡ changed_at h (standing f from count) place
-  standing-changed f g h from zero place there is here elsewhere = refl
+  -- one pid is changed
+  pub standing-changed : (f g : ℕ → Option T) (h : Option T → Option T) (from count pid there : ℕ) → there ≡ from + pid → g there ≡ h (f there) → ((q : ℕ) → (q ≡ there → ⊥) → g q ≡ f q) → standing g from count ≡ changed_at h (standing f from count) pid
+  standing-changed f g h from zero pid there is here elsewhere = refl
   standing-changed f g h from (suc count) zero there is here elsewhere =
       let first : there ≡ from = omega (arith, is) in
       ap (λ o. o ∷ standing g (suc from) count) (subst (λ k. g k ≡ h (f k)) first here)
       ∙ ap (λ os. h (f from) ∷ os) (standing_same f g (suc from) count (λ q low high. elsewhere q (λ e. absurd (omega (arith, e, low, first)))))
-  standing-changed f g h from (suc count) (suc place) there is here elsewhere =
+  standing-changed f g h from (suc count) (suc pid) there is here elsewhere =
       ap (λ o. o ∷ standing g (suc from) count) (elsewhere from (λ e. absurd (omega (arith, e, is))))
-      ∙ ap (λ os. f from ∷ os) (standing-changed f g h (suc from) count place there (omega (arith, is)) here elsewhere)
+      ∙ ap (λ os. f from ∷ os) (standing-changed f g h (suc from) count pid there (omega (arith, is)) here elsewhere)
 
-  -- one more place stands behind the others
+  -- one more pid stands behind the others
   pub standing-behind : (f g : ℕ → Option T) (from count there : ℕ) (it : Option T) → there ≡ from + count → g there ≡ it → ((q : ℕ) → q < there → g q ≡ f q) → standing g from (suc count) ≡ standing f from count ++ it ∷ []
   standing-behind f g from zero there it is here before =
       let first : from ≡ there = omega (arith, is) in
@@ -84,47 +84,47 @@ module _ {T : Type 0} where
       ap (λ o. o ∷ standing g (suc from) (suc count)) (before from (omega (arith, is)))
       ∙ ap (λ os. f from ∷ os) (standing-behind f g (suc from) count there it (omega (arith, is)) here before)
 
-  -- the first places
+  -- the first pids
   pub take-standing : (f : ℕ → Option T) (from count : ℕ) → take count (standing f from (suc count)) ≡ standing f from count
   take-standing f from zero = refl
   take-standing f from (suc count) = ap (λ os. f from ∷ os) (take-standing f (suc from) count)
 
-  -- A change of one place, as a map tells it
+  -- A change of one pid, as a map tells it
 
   abbrev pub IsUpdate : (ℕ → Option T) → (ℕ → Option T) → ℕ → Option T → Type 0
-  IsUpdate f g place now = (q : ℕ) → g q ≡ cond (is_eq (nat_cmp place q)) now (f q)
+  IsUpdate f g pid now = (q : ℕ) → g q ≡ cond (is_eq (nat_cmp pid q)) now (f q)
 
-  updated_here : (f g : ℕ → Option T) (place : ℕ) (now : Option T) → IsUpdate f g place now → g place ≡ now
-  updated_here f g place now update = update place ∙ cond-true (is_eq (nat_cmp place place)) now (f place) (at_itself place)
+  updated_here : (f g : ℕ → Option T) (pid : ℕ) (now : Option T) → IsUpdate f g pid now → g pid ≡ now
+  updated_here f g pid now update = update pid ∙ cond-true (is_eq (nat_cmp pid pid)) now (f pid) (at_itself pid)
 
-  updated_elsewhere : (f g : ℕ → Option T) (place : ℕ) (now : Option T) → IsUpdate f g place now → (q : ℕ) → (q ≡ place → ⊥) → g q ≡ f q
-  updated_elsewhere f g place now update q apart =
-      update q ∙ cond-false (is_eq (nat_cmp place q)) now (f q) (at_another place q apart)
+  updated_elsewhere : (f g : ℕ → Option T) (pid : ℕ) (now : Option T) → IsUpdate f g pid now → (q : ℕ) → (q ≡ pid → ⊥) → g q ≡ f q
+  updated_elsewhere f g pid now update q apart =
+      update q ∙ cond-false (is_eq (nat_cmp pid q)) now (f q) (at_another pid q apart)
 
-  -- Nothing lives past the last place.
+  -- Nothing lives past the last pid.
   abbrev pub EndsAt : (ℕ → Option T) → ℕ → Type 0
   EndsAt f last = (q : ℕ) → last < q → f q ≡ None
 
-  pub updated_ends : (f g : ℕ → Option T) (place : ℕ) (now : Option T) (last end : ℕ) → EndsAt f last → last ≤ end → place ≤ end → IsUpdate f g place now → EndsAt g end
-  updated_ends f g place now last end ends later within update q past =
-      updated_elsewhere f g place now update q (λ e. absurd (omega (arith, e, past, within))) ∙ ends q (omega (arith, past, later))
+  pub updated_ends : (f g : ℕ → Option T) (pid : ℕ) (now : Option T) (last end : ℕ) → EndsAt f last → last ≤ end → pid ≤ end → IsUpdate f g pid now → EndsAt g end
+  updated_ends f g pid now last end ends later within update q past =
+      updated_elsewhere f g pid now update q (λ e. absurd (omega (arith, e, past, within))) ∙ ends q (omega (arith, past, later))
 
   -- What the slots are after a change
 
-  pub found : (f : ℕ → Option T) (last place : ℕ) (slots : List (Option T)) → EndsAt f last → standing f 0 (suc last) ≡ slots → f place ≡ stands_at slots place
-  found f last place slots ends is =
-      sym (stands_at-standing f 0 (suc last) place place (sym (zero-add place)) (λ q past. ends q (omega (arith, past)))) ∙ ap (λ xs. stands_at xs place) is
+  pub found : (f : ℕ → Option T) (last pid : ℕ) (slots : List (Option T)) → EndsAt f last → standing f 0 (suc last) ≡ slots → f pid ≡ stands_at slots pid
+  found f last pid slots ends is =
+      sym (stands_at-standing f 0 (suc last) pid pid (sym (zero-add pid)) (λ q past. ends q (omega (arith, past)))) ∙ ap (λ xs. stands_at xs pid) is
 
-  pub changed : (f g : ℕ → Option T) (last place : ℕ) (now : Option T) (slots : List (Option T)) → standing f 0 (suc last) ≡ slots → IsUpdate f g place now → standing g 0 (suc last) ≡ changed_at (λ o. now) slots place
-  changed f g last place now slots is update =
-      standing-changed f g (λ o. now) 0 (suc last) place place (sym (zero-add place)) (updated_here f g place now update) (updated_elsewhere f g place now update)
-      ∙ ap (λ xs. changed_at (λ o. now) xs place) is
+  pub changed : (f g : ℕ → Option T) (last pid : ℕ) (now : Option T) (slots : List (Option T)) → standing f 0 (suc last) ≡ slots → IsUpdate f g pid now → standing g 0 (suc last) ≡ changed_at (λ o. now) slots pid
+  changed f g last pid now slots is update =
+      standing-changed f g (λ o. now) 0 (suc last) pid pid (sym (zero-add pid)) (updated_here f g pid now update) (updated_elsewhere f g pid now update)
+      ∙ ap (λ xs. changed_at (λ o. now) xs pid) is
 
-  pub pushed : (f g : ℕ → Option T) (last place : ℕ) (it : T) (slots : List (Option T)) → place ≡ last + 1 → standing f 0 (suc last) ≡ slots → IsUpdate f g place (Some it) → standing g 0 (suc place) ≡ slots ++ Some it ∷ []
-  pushed f g last place it slots next is update =
-      let next_one : place ≡ suc last = omega (arith, next) in
+  pub pushed : (f g : ℕ → Option T) (last pid : ℕ) (it : T) (slots : List (Option T)) → pid ≡ last + 1 → standing f 0 (suc last) ≡ slots → IsUpdate f g pid (Some it) → standing g 0 (suc pid) ≡ slots ++ Some it ∷ []
+  pushed f g last pid it slots next is update =
+      let next_one : pid ≡ suc last = omega (arith, next) in
       ap (λ n. standing g 0 (suc n)) next_one
-      ∙ standing-behind f g 0 (suc last) place (Some it) (omega (arith, next)) (updated_here f g place (Some it) update) (λ q below. updated_elsewhere f g place (Some it) update q (λ e. absurd (omega (arith, e, below))))
+      ∙ standing-behind f g 0 (suc last) pid (Some it) (omega (arith, next)) (updated_here f g pid (Some it) update) (λ q below. updated_elsewhere f g pid (Some it) update q (λ e. absurd (omega (arith, e, below))))
       ∙ ap (λ xs. xs ++ Some it ∷ []) is
 
   pub popped : (f g : ℕ → Option T) (last end : ℕ) (slots : List (Option T)) → last ≡ suc end → standing f 0 (suc last) ≡ slots → IsUpdate f g last None → standing g 0 (suc end) ≡ take (length slots - 1) slots
@@ -139,22 +139,22 @@ module _ {T : Type 0} where
 
   -- What lives
 
-  -- places that rise from one on
+  -- pids that rise from one on
   abbrev Rises : ℕ → List (ℕ × T) → Type 0
   Rises from [] = Unit {0}
   Rises from (e ∷ es) = (from ≤ e.0) × Rises (suc e.0) es
 
-  rises_behind : (place : ℕ) (es : List (ℕ × T)) → AllByRecursion (λ k. nat_cmp place k ≡ Less) (keys_of es) → IsStrictlySortedBy nat_cmp (keys_of es) → Rises (suc place) es
+  rises_behind : (pid : ℕ) (es : List (ℕ × T)) → AllByRecursion (λ k. nat_cmp pid k ≡ Less) (keys_of es) → IsStrictlySortedBy nat_cmp (keys_of es) → Rises (suc pid) es
   unfolding IsStrictlySortedBy
-  rises_behind place [] behind sorted = tt
-  rises_behind place (e ∷ es) behind sorted = (less_below place e.0 behind.0, rises_behind e.0 es sorted.0 sorted.1)
+  rises_behind pid [] behind sorted = tt
+  rises_behind pid (e ∷ es) behind sorted = (less_below pid e.0 behind.0, rises_behind e.0 es sorted.0 sorted.1)
 
   rises_from_sorted : (es : List (ℕ × T)) → IsStrictlySortedBy nat_cmp (keys_of es) → Rises 0 es
   unfolding IsStrictlySortedBy
   rises_from_sorted [] sorted = tt
   rises_from_sorted (e ∷ es) sorted = (omega arith, rises_behind e.0 es sorted.0 sorted.1)
 
-  -- what the entries have at a place
+  -- what the entries have at a pid
   abbrev entry_at : List (ℕ × T) → ℕ → Option T
   entry_at es q = lookup (is_at (nat_cmp q)) es
 
@@ -189,31 +189,31 @@ module _ {T : Type 0} where
   all_alive es last slots sorted ends is =
       sym (alive-standing es 0 (suc last) (rises_from_sorted es sorted) (λ q past. ends q (omega (arith, past)))) ∙ ap alive is
 
-  -- What lives from a place on
+  -- What lives from a pid on
 
   abbrev from_on : ℕ → ℕ × T → Bool
-  from_on place e = range_contains nat_cmp (Included place) Unbounded e.0
+  from_on pid e = range_contains nat_cmp (Included pid) Unbounded e.0
 
-  later_all : (place from : ℕ) (slots : List (Option T)) → place ≤ from → filter (from_on place) (alive_from from slots) ≡ alive_from from slots
-  later_all place from [] later = refl
-  later_all place from (None ∷ slots) later = later_all place (suc from) slots (omega (arith, later))
-  later_all place from (Some it ∷ slots) later =
-      ap (λ b. cond b ((from, it) ∷ filter (from_on place) (alive_from (suc from) slots)) (filter (from_on place) (alive_from (suc from) slots))) (is_from place from later)
-      ∙ ap (λ es. (from, it) ∷ es) (later_all place (suc from) slots (omega (arith, later)))
+  later_all : (pid from : ℕ) (slots : List (Option T)) → pid ≤ from → filter (from_on pid) (alive_from from slots) ≡ alive_from from slots
+  later_all pid from [] later = refl
+  later_all pid from (None ∷ slots) later = later_all pid (suc from) slots (omega (arith, later))
+  later_all pid from (Some it ∷ slots) later =
+      ap (λ b. cond b ((from, it) ∷ filter (from_on pid) (alive_from (suc from) slots)) (filter (from_on pid) (alive_from (suc from) slots))) (is_from pid from later)
+      ∙ ap (λ es. (from, it) ∷ es) (later_all pid (suc from) slots (omega (arith, later)))
 
-  later_only : (place from skipped : ℕ) (slots : List (Option T)) → place ≡ from + skipped → filter (from_on place) (alive_from from slots) ≡ alive_from place (drop skipped slots)
-  later_only place from zero slots at =
-      let first : place ≡ from = omega (arith, at) in
-      later_all place from slots (omega (arith, first)) ∙ ap (λ k. alive_from k slots) (sym first)
-  later_only place from (suc skipped) [] at = refl
-  later_only place from (suc skipped) (None ∷ slots) at = later_only place (suc from) skipped slots (omega (arith, at))
-  later_only place from (suc skipped) (Some it ∷ slots) at =
-      ap (λ b. cond b ((from, it) ∷ filter (from_on place) (alive_from (suc from) slots)) (filter (from_on place) (alive_from (suc from) slots))) (is_before place from (omega (arith, at)))
-      ∙ later_only place (suc from) skipped slots (omega (arith, at))
+  later_only : (pid from skipped : ℕ) (slots : List (Option T)) → pid ≡ from + skipped → filter (from_on pid) (alive_from from slots) ≡ alive_from pid (drop skipped slots)
+  later_only pid from zero slots at =
+      let first : pid ≡ from = omega (arith, at) in
+      later_all pid from slots (omega (arith, first)) ∙ ap (λ k. alive_from k slots) (sym first)
+  later_only pid from (suc skipped) [] at = refl
+  later_only pid from (suc skipped) (None ∷ slots) at = later_only pid (suc from) skipped slots (omega (arith, at))
+  later_only pid from (suc skipped) (Some it ∷ slots) at =
+      ap (λ b. cond b ((from, it) ∷ filter (from_on pid) (alive_from (suc from) slots)) (filter (from_on pid) (alive_from (suc from) slots))) (is_before pid from (omega (arith, at)))
+      ∙ later_only pid (suc from) skipped slots (omega (arith, at))
 
-  pub later_alive : (place : ℕ) (es : List (ℕ × T)) (slots : List (Option T)) → es ≡ alive slots → entries_between nat_cmp (Included place) Unbounded es ≡ alive_from place (drop place slots)
-  later_alive place es slots is =
-      ap (filter (from_on place)) is ∙ later_only place 0 place slots (sym (zero-add place))
+  pub later_alive : (pid : ℕ) (es : List (ℕ × T)) (slots : List (Option T)) → es ≡ alive slots → entries_between nat_cmp (Included pid) Unbounded es ≡ alive_from pid (drop pid slots)
+  later_alive pid es slots is =
+      ap (filter (from_on pid)) is ∙ later_only pid 0 pid slots (sym (zero-add pid))
 
   -- What was lent
 
@@ -221,7 +221,7 @@ module _ {T : Type 0} where
   absent_unless None absent = refl
   absent_unless (Some it) absent = absurd (true≢false absent)
 
-  -- entries that have the places of others end where they end
+  -- entries that have the pids of others end where they end
   pub lent_ends : (es fs : List (ℕ × T)) (last : ℕ) → keys_of fs ≡ keys_of es → EndsAt (entry_at es) last → EndsAt (entry_at fs) last
   lent_ends es fs last same ends q past =
       let alike : is_some (entry_at fs q) ≡ is_some (entry_at es q) = is_some-lookup (is_at (nat_cmp q)) fs ∙ ap (list_any (is_at (nat_cmp q))) same ∙ sym (is_some-lookup (is_at (nat_cmp q)) es) in

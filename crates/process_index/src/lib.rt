@@ -5,7 +5,7 @@
 //! table. The open calls that were made to one process are its [`Calls`], in order of client and number.
 //!
 //! Contracts see each as a value that says what there is and nothing more: calls as the list in order, slots as the list of what
-//! lives at each place, an index as a finite map (`FinMap` of std), from a name's characters to a pid, or from a number to the
+//! lives at each pid, an index as a finite map (`FinMap` of std), from a name's characters to a pid, or from a number to the
 //! call's [`Owner`]. Two that mean the same are equal: no order of entries, no capacity, no hash is seen. An index is a
 //! finite map and not a function from keys, since that is one value for all that it says, where contracts would have to
 //! tell two functions apart.
@@ -16,9 +16,9 @@
 //!   it is there. [`Calls::iter`] gives the calls, each before all behind it.
 //! - `get` of an index gives what there is under a key, a name being asked for by its text; `insert` puts a value there, or
 //!   leaves all as it was; `remove` puts nothing there. Nothing else changes.
-//! - [`Slots::get`] and [`Slots::get_mut`] give what lives at a place, and what is written there stands there afterwards;
-//!   [`Slots::push`], [`Slots::pop`], [`Slots::take`] and [`Slots::put`] change one place, or leave all as it was;
-//!   [`Slots::iter`] gives just what lives, in order of place.
+//! - [`Slots::get`] and [`Slots::get_mut`] give what lives at a pid, and what is written there stands there afterwards;
+//!   [`Slots::push`], [`Slots::pop`], [`Slots::take`] and [`Slots::put`] change what lives at one pid, or leave all as it was;
+//!   [`Slots::iter`] gives just what lives, in order of pid.
 //! - [`calls_in_order_are_one`], [`calls_come_back`], [`names_are_indexed`], [`numbers_are_indexed`]: values that say the same
 //!   are equal; a change is taken back, whole, by the one that puts back what was there.
 //!

@@ -10,15 +10,15 @@ use std::collections::BTreeMap;
 use std::collections::btree_map::{Iter, Range};
 use std::marker::Model;
 
-/// What is kept by number, of which few may live: numbers are given one after another, and one is not given again.
+/// What is kept by pid, of which few may live: pids are given one after another, and one is not given again.
 ///
-/// Contracts see it as a list: at each place, from 0 on, what lives there, or nothing. Memory and time hang on what lives
-/// alone, and not on how many numbers were given.
+/// Contracts see it as a list: at each pid, from 0 on, what lives there, or nothing. Memory and time hang on what lives
+/// alone, and not on how many pids were given.
 #[derive(Drop)]
 pub struct Slots<T> {
-    /// What lives, by its place.
+    /// What lives, by its pid.
     living: BTreeMap<u64, T>,
-    /// The place that was given last.
+    /// The pid that was given last.
     last: u64,
 }
 
@@ -38,7 +38,7 @@ impl<T> Model for Slots<T> {
 impl<T: Drop> Slots<T> {
     ghost use Rattle.process_index.specs.Slots.{lends_living};
 
-    /// One place was given, 0, and nothing lives there. Takes no memory.
+    /// One pid was given, 0, and nothing lives there. Takes no memory.
     pub fn new(alloc: Global) -> Slots<T>
         ensures { result ≡ None ∷ [] }
     {
@@ -48,7 +48,7 @@ impl<T: Drop> Slots<T> {
         }
     }
 
-    /// As many places as were given here, and nothing lives at any. Takes no memory.
+    /// As many pids as were given here, and nothing lives at any. Takes no memory.
     pub fn vacant(&self, alloc: Global) -> Slots<T>
         ensures { result ≡ vacant self.now }
     {
@@ -58,29 +58,29 @@ impl<T: Drop> Slots<T> {
         }
     }
 
-    /// The place that was given last. Takes no memory.
+    /// The pid that was given last. Takes no memory.
     pub fn last(&self) -> u64
         ensures { result + 1 ≡ length self.now }
     {
         self.last
     }
 
-    /// What lives at a place, in logarithmic time. Takes no memory.
-    pub fn get(&self, place: u64) -> Option<&T>
-        ensures { option_copied result ≡ stands_at self.now place }
+    /// What lives at a pid, in logarithmic time. Takes no memory.
+    pub fn get(&self, pid: u64) -> Option<&T>
+        ensures { option_copied result ≡ stands_at self.now pid }
     {
-        self.living.get(&place)
+        self.living.get(&pid)
     }
 
-    /// What lives at a place, to be changed, in logarithmic time. Takes no memory.
-    pub fn get_mut(&mut self, place: u64) -> Option<&mut T>
-        ensures* writes_back { sem 𝓛 (lends_living T.row self.entry place result) }
-        ensures value { option_copied_mut result ≡ stands_at self.old place }
+    /// What lives at a pid, to be changed, in logarithmic time. Takes no memory.
+    pub fn get_mut(&mut self, pid: u64) -> Option<&mut T>
+        ensures* writes_back { sem 𝓛 (lends_living T.row self.entry pid result) }
+        ensures value { option_copied_mut result ≡ stands_at self.old pid }
     {
-        self.living.get_mut(&place)
+        self.living.get_mut(&pid)
     }
 
-    /// Gives the next place, and this lives there.
+    /// Gives the next pid, and this lives there.
     ///
     /// # Errors
     ///
@@ -91,17 +91,17 @@ impl<T: Drop> Slots<T> {
         ensures back { IfErr result (λ back. back ≡ it) }
         ensures err { OnErr result (self.new ≡ self.old) }
     {
-        let place = self.last + 1;
-        match self.living.insert(place, it) {
+        let pid = self.last + 1;
+        match self.living.insert(pid, it) {
             Ok(_) => {
-                self.last = place;
+                self.last = pid;
                 Ok(())
             }
             Err(failed) => Err(failed.value.1),
         }
     }
 
-    /// The place that was given last is given no more. What lived there is handed out. Takes no memory.
+    /// The pid that was given last is given no more. What lived there is handed out. Takes no memory.
     pub fn pop(&mut self) -> Option<T>
         requires { 1 < length self.old }
         ensures last { result ≡ stands_at self.old (length self.old - 1) }
@@ -112,32 +112,32 @@ impl<T: Drop> Slots<T> {
         last
     }
 
-    /// What lives at a place lives there no more, and is handed out. Takes no memory.
-    pub fn take(&mut self, place: u64) -> Option<T>
-        ensures taken { result ≡ stands_at self.old place }
-        ensures rest { self.new ≡ taken_at place self.old }
+    /// What lives at a pid lives there no more, and is handed out. Takes no memory.
+    pub fn take(&mut self, pid: u64) -> Option<T>
+        ensures taken { result ≡ stands_at self.old pid }
+        ensures rest { self.new ≡ taken_at pid self.old }
     {
-        self.living.remove(&place)
+        self.living.remove(&pid)
     }
 
-    /// This lives at a place that was given. What lived there before is dropped.
+    /// This lives at a pid that was given. What lived there before is dropped.
     ///
     /// # Errors
     ///
     /// What was to live there, where memory is refused. All is then as it was.
-    pub fn put(&mut self, place: u64, it: T) -> Result<(), T>
-        requires { place < length self.old }
-        ensures ok { OnOk result (self.new ≡ put_at place it self.old) }
+    pub fn put(&mut self, pid: u64, it: T) -> Result<(), T>
+        requires { pid < length self.old }
+        ensures ok { OnOk result (self.new ≡ put_at pid it self.old) }
         ensures back { IfErr result (λ back. back ≡ it) }
         ensures err { OnErr result (self.new ≡ self.old) }
     {
-        match self.living.insert(place, it) {
+        match self.living.insert(pid, it) {
             Ok(_) => Ok(()),
             Err(failed) => Err(failed.value.1),
         }
     }
 
-    /// What lives, with its place, in order. Takes no memory.
+    /// What lives, with its pid, in order. Takes no memory.
     pub fn iter(&self) -> Iter<'_, u64, T>
         ensures rest { result ≡ alive self.now }
         ensures runs { ShowsInOrder (deref_pair {K = ℕ} {X = T}) }
@@ -145,11 +145,11 @@ impl<T: Drop> Slots<T> {
         self.living.iter()
     }
 
-    /// What lives at a place or behind it, with its place, in order; the first is found in logarithmic time. Takes no memory.
-    pub fn iter_from(&self, place: u64) -> Range<'_, u64, T>
-        ensures rest { result ≡ alive_from place (drop place self.now) }
+    /// What lives at a pid or behind it, with its pid, in order; the first is found in logarithmic time. Takes no memory.
+    pub fn iter_from(&self, pid: u64) -> Range<'_, u64, T>
+        ensures rest { result ≡ alive_from pid (drop pid self.now) }
         ensures runs { ShowsInOrder (deref_pair {K = ℕ} {X = T}) }
     {
-        self.living.range(place..)
+        self.living.range(pid..)
     }
 }

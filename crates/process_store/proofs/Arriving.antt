@@ -2,7 +2,7 @@
 use Rattle.std.proofs.Common.{◌≡◌, ℕ, ◌-◌, false, ◌||◌, List, [], ◌∷◌, ◌++◌, length, take, Option, None, Some, IfSome, IsSome, is_some, option_map, refl, sym, ap, subst, ◌∙◌, arith}
 use Rattle.std.proofs.lemmas.Grind.{common_steps}
 use Rattle.std.specs.FinMap.{get}
-use Rattle.values.proofs.Edits.{last_place, take-end}
+use Rattle.values.proofs.Edits.{last_index, take-end}
 use Rattle.erl_term.specs.declared.term.Term.{Term}
 use Rattle.process.specs.Process.{ProcessState, delivered, undelivered}
 use Rattle.process_index.proofs.OpenCalls.{has-with_call, same_itself, without-with_call}
@@ -41,7 +41,7 @@ uncalled names open_calls slots t c pid indexed is shut =
 
 delivered_back : (message : Term) (p : ProcessState) → undelivered (delivered message p) ≡ p
 delivered_back message p =
-    let e : take (length (p.mailbox ++ message ∷ []) - 1) (p.mailbox ++ message ∷ []) ≡ p.mailbox = ap (λ n. take n (p.mailbox ++ message ∷ [])) (last_place p.mailbox message) ∙ take-end p.mailbox message in
+    let e : take (length (p.mailbox ++ message ∷ []) - 1) (p.mailbox ++ message ∷ []) ≡ p.mailbox = ap (λ n. take n (p.mailbox ++ message ∷ [])) (last_index p.mailbox message) ∙ take-end p.mailbox message in
     λ i. record p { mailbox = e i }
 
 pub arrived_back : (message : Term) (call : Option Call) (l : ProcessEntry) → IfSome call (λ c. has c l.calls ≡ false) → unarrived call (arrived message call l) ≡ l

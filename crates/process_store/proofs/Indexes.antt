@@ -10,7 +10,7 @@ use Rattle.std.specs.List.{position, position_or_len}
 use Rattle.std.specs.Str.{bytes_eq}
 use Rattle.std.specs.Ordering.{nat_cmp}
 use Rattle.std.specs.Cmp.Lexicographic.{slice_cmp}
-use Rattle.process.proofs.Places.{position_at, position_nowhere}
+use Rattle.process.proofs.Indices.{position_at, position_nowhere}
 use Rattle.process_index.proofs.Index.{names_read, numbers_read}
 use Rattle.process_index.proofs.OpenCalls.{AreInOrder-with_call, AreInOrder-without, has-with_call, has-without}
 use Rattle.process_index.specs.Calls.{AreInOrder, has, is_same, with_call, without}

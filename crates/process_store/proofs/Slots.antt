@@ -5,7 +5,7 @@ use Rattle.process_index.specs.Standing.{put_at, vacant}
 use Rattle.process_store.specs.declared.living.ProcessEntry.{ProcessEntry}
 use Rattle.process_store.specs.Table.{changed_slots, living_at}
 
--- what is written at the place of a process that lives is a change of it
+-- what is written in the slot of a process that lives is a change of it
 pub slots_changed : (f : ProcessEntry → ProcessEntry) (slots : List (Option ProcessEntry)) (pid : ℕ) (l w : ProcessEntry) → Some l ≡ living_at slots pid → w ≡ f l → put_at pid w slots ≡ changed_slots f pid slots
 slots_changed f [] pid l w lives done = refl
 slots_changed f (s ∷ ss) zero l w lives done = ap (λ o. o ∷ ss) (ap (λ x. Some x) done ∙ ap (option_map f) lives)
@@ -109,7 +109,7 @@ living_past [] q past = refl
 living_past (s ∷ ss) zero past = absurd (omega (arith, past))
 living_past (s ∷ ss) (suc q) past = living_past ss q (omega (arith, past))
 
--- what stands at a place within
+-- what stands at an index within
 pub living_within : (slots : List (Option ProcessEntry)) (k : ℕ) (d : Option ProcessEntry) → k < length slots → living_at slots k ≡ get_or slots k d
 living_within [] k d within = absurd (omega (arith, within))
 living_within (None ∷ ss) zero d within = refl

@@ -3,7 +3,7 @@ use Rattle.std.proofs.Common.{◌≡◌, ℕ, suc, ◌-◌, ◌<◌, true, false
 use Rattle.std.proofs.lemmas.Grind.{common_steps}
 use Rattle.std.proofs.lemmas.Option.{none-some, same_Some}
 use Rattle.std.specs.FinMap.{get}
-use Rattle.values.proofs.Edits.{last_place, take-end}
+use Rattle.values.proofs.Edits.{last_index, take-end}
 use Rattle.process_index.specs.Index.{Names}
 use Rattle.process_index.specs.Numbers.{Owners}
 use Rattle.process_store.specs.declared.living.ProcessEntry.{ProcessEntry}
@@ -36,7 +36,7 @@ unnamed_again names after again open_calls slots now name pid indexed able was i
 -- the last process goes, and the table is as it was
 pub started_back : (slots now : List (Option ProcessEntry)) (t : Table) (l : ProcessEntry) → now ≡ slots ++ Some l ∷ [] → l.calls ≡ [] → record { slots = slots } ≡ t → WasStarted (living_at now (length now - 1)) × ◌≡◌ {A = Table} (record { slots = take (length now - 1) now }) t
 started_back slots now t l is uncalled was =
-    let count : length now - 1 ≡ length slots = ap (λ x. length x - 1) is ∙ last_place slots (Some l) in
+    let count : length now - 1 ≡ length slots = ap (λ x. length x - 1) is ∙ last_index slots (Some l) in
     let there : living_at now (length now - 1) ≡ Some l = (λ i. living_at (is i) (count i)) ∙ living_last slots (Some l) in
     (subst WasStarted (sym there) uncalled, ap (λ x. record { slots = x }) ((λ i. take (count i) (is i)) ∙ take-end slots (Some l)) ∙ was)
 

@@ -34,15 +34,15 @@
 //!
 //! That there is memory, and what a call costs. A name and the number of a call are found by hash, and a process by its pid in
 //! logarithmic time, and so is the next that could take a message. A change touches one process. Memory and time hang on the
-//! processes that live, and not on how many pids were given, but for the set: it has a place for each pid since the table was
+//! processes that live, and not on how many pids were given, but for the set: it has a flag for each pid since the table was
 //! last emptied, of about four bytes, and time is logarithmic in their number. Only a start asks for memory for it, and a
 //! return of a process from before that.
 #![tactic(auto)]
 
 mod living;
 mod marked;
-mod places;
 mod ready;
+mod slot_changes;
 mod store;
 
 pub use living::ProcessEntry;

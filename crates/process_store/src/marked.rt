@@ -1,5 +1,5 @@
 // The slots of processes, with the set of those that could take a message now. A change of one process is that of its slot
-// (`places`), and then its place in the set is marked by what the process is.
+// (`slot_changes`), and then its number in the set is marked by what the process is.
 ghost use Rattle.std.specs.Prelude.{◌≡◌, ◌+◌, ◌-◌, ◌^◌, ◌<◌, ◌++◌, ◌∷◌, [], None, Some, length, map, take, IfErr, IsSome, OnOk, OnErr, ℕ};
 ghost use Rattle.std.specs.Map.Iter.{ShowsInOrder, deref_pair};
 ghost use Rattle.std.specs.Option.{option_copied};
@@ -71,7 +71,7 @@ fn mark(ready: &mut ReadySet, below: u64, slots: &Slots<ProcessEntry>, pid: u64)
     }
 }
 
-/// The pids from one on have places in the set.
+/// The pids from one on have numbers in the set.
 fn reach(
     ready: &mut ReadySet,
     below: &mut u64,

@@ -7,11 +7,11 @@ use std::marker::Model;
 
 /// The pids of the processes that could take a message now, in order, lent by the table.
 ///
-/// Contracts see it as a set of places: for each pid that was given, whether it is in the set.
+/// Contracts see it as a set of numbers: for each pid that was given, whether it is in the set.
 #[derive(Drop)]
 pub struct Ready<'a> {
-    // The places of the pids above one, the first that of the next pid.
-    places: &'a ReadySet,
+    // The numbers of the pids above one, the first that of the next pid.
+    numbers: &'a ReadySet,
     below: u64,
 }
 
@@ -21,36 +21,36 @@ impl<'a> Model for Ready<'a> {
 
     ghost Value = { List Bool };
 
-    ghost view = { λ r. set_above r.below r.places.now };
+    ghost view = { λ r. set_above r.below r.numbers.now };
 
-    ghost invariant = { λ r. r.below + 1 + length r.places.now ≤ 2 ^ 64 };
+    ghost invariant = { λ r. r.below + 1 + length r.numbers.now ≤ 2 ^ 64 };
 }
 
 impl<'a> Ready<'a> {
     ghost use Rattle.std.specs.Prelude.{◌^◌, ◌≤◌, length};
     ghost use Rattle.process_store.specs.Ready.{set_above};
 
-    /// The places of a set, as those of the pids above one.
-    pub(crate) fn new(places: &'a ReadySet, below: u64) -> Ready<'a>
-        requires { below + 1 + length places.now ≤ 2 ^ 64 }
-        ensures { result ≡ set_above below places.now }
+    /// The numbers of a set, as those of the pids above one.
+    pub(crate) fn new(numbers: &'a ReadySet, below: u64) -> Ready<'a>
+        requires { below + 1 + length numbers.now ≤ 2 ^ 64 }
+        ensures { result ≡ set_above below numbers.now }
     {
-        Ready { places, below }
+        Ready { numbers, below }
     }
 
     /// Whether a pid is among them. Takes no memory.
     pub fn contains(&self, pid: u64) -> bool
         ensures { result ≡ is_in self.now pid }
     {
-        self.below < pid && self.places.contains((pid - self.below - 1) as usize)
+        self.below < pid && self.numbers.contains((pid - self.below - 1) as usize)
     }
 
     /// The least of them above a pid, in logarithmic time. Takes no memory.
     pub fn next(&self, after: u64) -> Option<u64>
         ensures { IsNext (after + 1) self.now result }
     {
-        match self.places.next(after.saturating_sub(self.below) as usize) {
-            Some(place) => Some(self.below + 1 + place as u64),
+        match self.numbers.next(after.saturating_sub(self.below) as usize) {
+            Some(number) => Some(self.below + 1 + number as u64),
             None => None,
         }
     }

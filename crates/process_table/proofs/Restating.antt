@@ -89,7 +89,7 @@ apart_same (x ∷ xs) (y ∷ ys) same apart =
     let rest : pids xs ≡ pids ys = cc in
     (from_same x.pid y.pid xs ys first rest apart.0, apart_same xs ys rest apart.1)
 
--- those before a place, and those behind it, are apart from the one there
+-- those before an index, and those behind it, are apart from the one there
 apart_at : (before cs : List StateChange) (i : ℕ) (c : StateChange) → i < length cs → c ≡ get_or cs i c → pids cs ≡ pids before → AreApart before → All (IsFrom c.pid) (take i cs) × All (IsFrom c.pid) (drop (i + 1) cs)
 apart_at before cs i c within at same apart =
     let split : cs ≡ take i cs ++ c ∷ drop (i + 1) cs = sym (take-append-drop i cs) ∙ ap (λ xs. take i cs ++ xs) (drop_more cs i c within ∙ ap (λ x. x ∷ drop (i + 1) cs) (sym at)) in

@@ -1,6 +1,6 @@
 -- Steps of processes: why each is refused, in order, and the table after it (Erlang Reference Manual, Processes; gen_server
 -- behaviour).
-use Rattle.std.specs.Prelude.{◌≡◌, ℕ, ◌^◌, ◌<◌, ◌==◌, nat_lt, Bool, true, false, if◌then◌else◌, List, [], map, replicate}
+use Rattle.std.specs.Prelude.{◌≡◌, ℕ, ◌^◌, ◌<◌, ◌==◌, nat_lt, true, false, if◌then◌else◌, List, [], map, replicate}
 use Rattle.std.specs.Prelude.{Option, None, Some, is_some, option_map}
 use Rattle.erl_term.specs.declared.term.Term.{Term}
 use Rattle.erl_semantics.specs.declared.acts.Place.{Place}
@@ -18,8 +18,8 @@ use Rattle.process_effects.specs.Commits.{job_at, rests_in}
 use Rattle.process_index.specs.declared.calls.Call.{Call}
 use Rattle.process_table.specs.declared.body.ClientMessage.{ClientMessage}
 use Rattle.process_table.specs.declared.body.ClientMessage.TheVariants as body
-use Rattle.process_table.specs.declared.body.BodyKind.{BodyKind}
-use Rattle.process_table.specs.declared.body.BodyKind.TheVariants as kinds
+use Rattle.process_table.specs.declared.body.MessageKind.{MessageKind}
+use Rattle.process_table.specs.declared.body.MessageKind.TheVariants as kinds
 use Rattle.process_table.specs.declared.error.ProcError.{ProcError}
 use Rattle.process_table.specs.declared.error.ProcError.TheVariants.{NoProc, Suspended, Idle, Running, NotRunning, NameTaken, DuplicateCall, CounterEnd}
 use Rattle.process_store.specs.declared.living.ProcessEntry.{ProcessEntry}
@@ -40,18 +40,18 @@ with_process name at code t = added name at (rests_in at code) t
 -- Arrive: a message of a client comes for the process of a name. A call is open from then on; no two open calls have one
 -- number, whoever asked, and a number is an integer of Erlang.
 
-abbrev pub kind_of : ClientMessage → BodyKind
+abbrev pub kind_of : ClientMessage → MessageKind
 kind_of (body.Call number term) = kinds.Call number
 kind_of (body.Cast term) = kinds.Cast
 kind_of (body.Info term) = kinds.Info
 
-abbrev pub kind_refusal : BodyKind → Table → Option ProcError
+abbrev pub kind_refusal : MessageKind → Table → Option ProcError
 kind_refusal (kinds.Call number) t =
     if is_open number t then Some DuplicateCall else (if nat_lt number (2 ^ 63) then None else Some CounterEnd)
 kind_refusal kinds.Cast t = None
 kind_refusal kinds.Info t = None
 
-abbrev pub arrive_refusal : List ℕ → BodyKind → Table → Option ProcError
+abbrev pub arrive_refusal : List ℕ → MessageKind → Table → Option ProcError
 arrive_refusal name kind t = if is_some (pid_of name t) then kind_refusal kind t else Some NoProc
 
 abbrev pub call_of : ℕ → ClientMessage → Option Call

@@ -52,7 +52,7 @@ impl Duplicate for ClientMessage {
 
 /// What kind of message arrives: all that a refusal looks at.
 #[derive(Clone, Copy, Debug, Drop, PartialEq, Eq)]
-pub enum BodyKind {
+pub enum MessageKind {
     /// A call of this number.
     Call(u64),
     /// A cast.
@@ -63,13 +63,13 @@ pub enum BodyKind {
 
 impl ClientMessage {
     /// Its kind.
-    pub fn kind(&self) -> BodyKind
+    pub fn kind(&self) -> MessageKind
         ensures { result ≡ kind_of self.now }
     {
         match self {
-            ClientMessage::Call { number, .. } => BodyKind::Call(*number),
-            ClientMessage::Cast(_) => BodyKind::Cast,
-            ClientMessage::Info(_) => BodyKind::Info,
+            ClientMessage::Call { number, .. } => MessageKind::Call(*number),
+            ClientMessage::Cast(_) => MessageKind::Cast,
+            ClientMessage::Info(_) => MessageKind::Info,
         }
     }
 

@@ -66,7 +66,7 @@ mod states;
 mod taking;
 mod undo;
 
-pub use body::{BodyKind, ClientMessage};
+pub use body::{ClientMessage, MessageKind};
 pub use error::ProcError;
 pub use process_effects::{Closed, EndedProcess, Exited, Reply, ReplyBody, Rested};
 pub use process_store::{ProcessEntry, Ready};

@@ -9,7 +9,7 @@ mod batching;
 mod committing;
 mod states;
 
-use crate::body::{BodyKind, ClientMessage};
+use crate::body::{ClientMessage, MessageKind};
 use crate::error::ProcError;
 use crate::taking::{equal_values, job_for, next_of};
 use crate::undo::ProcessesUndo;
@@ -59,7 +59,7 @@ impl Model for Processes {
 impl Processes {
     ghost use Rattle.values.specs.Failure.{TellsFailure};
     ghost use Rattle.process_table.specs.Messages.{arrival_of, message_of};
-    ghost use Rattle.process_table.specs.declared.body.BodyKind.TheVariants as kinds;
+    ghost use Rattle.process_table.specs.declared.body.MessageKind.TheVariants as kinds;
     ghost use Rattle.process_table.specs.Steps.{IsNextRunnable, TakesMessage, after_arrival, arrive_refusal, kind_of, kind_refusal, retake_refusal, start_refusal, take_refusal, with_process};
     ghost use Rattle.process_store.specs.Table.{emptied, empty_table, is_open, is_taken, living, next_pid, pid_of};
     ghost use Rattle.process_effects.specs.Commits.{job_at};
@@ -189,12 +189,12 @@ impl Processes {
     }
 
     /// Why what arrives for a process would be refused by its kind.
-    fn kind_refusal(&self, kind: BodyKind) -> Option<ProcError>
+    fn kind_refusal(&self, kind: MessageKind) -> Option<ProcError>
         ensures { result ≡ kind_refusal kind self.now }
     {
         match kind {
-            BodyKind::Call(number) => self.call_refusal(number),
-            BodyKind::Cast | BodyKind::Info => None,
+            MessageKind::Call(number) => self.call_refusal(number),
+            MessageKind::Cast | MessageKind::Info => None,
         }
     }
 
@@ -213,7 +213,7 @@ impl Processes {
 
     /// Why the arrival of what is of this kind for the process of a name would be refused, but for lack of memory. Takes no
     /// memory.
-    pub fn arrive_refusal(&self, name: &str, kind: BodyKind) -> Option<ProcError>
+    pub fn arrive_refusal(&self, name: &str, kind: MessageKind) -> Option<ProcError>
         ensures { result ≡ arrive_refusal (chars name.now) kind self.now }
     {
         match self.pid_of(name) {

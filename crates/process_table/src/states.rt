@@ -64,8 +64,8 @@ pub(crate) fn resume_noting(store: &mut ProcessStore, resumed: &mut [Resumed])
 pub(crate) fn unresume(store: &mut ProcessStore, resumed: &[Resumed])
     ensures { store.new ≡ all_unresumed resumed.now store.old }
 {
-    for place in (0..resumed.len()).rev() {
-        let it = resumed[place];
+    for index in (0..resumed.len()).rev() {
+        let it = resumed[index];
         store.set_suspended(it.pid, it.was_suspended);
     }
 }

@@ -5,8 +5,8 @@
 //!
 //! # What is proved
 //!
-//! Of words that were read which is told not to be UTF-8: the first such. With which status a program ends whose words are no command
-//! line ([`WordsError::status`]). Which words are a good command line is clap's.
+//! Of words that were read which is told not to be UTF-8: the first such. With which status a program ends whose words are no
+//! command line ([`WordsError::status`]). Which words are a good command line is clap's.
 #![tactic(auto)]
 
 ghost use Rattle.std.specs.Prelude.{◌≡◌, not};
@@ -33,7 +33,7 @@ pub enum WordsError {
     /// A word is missing, is one too many or is no option.
     #[error("{0} (try --help)")]
     Words(String),
-    /// The word at this place is not UTF-8, and it is the first such; the program's name stands at place 0.
+    /// The word at this index is not UTF-8, and it is the first such; the program's name stands at index 0.
     #[error("word {0} of the command line is not UTF-8")]
     NotUtf8(usize),
     /// The system gave no words.
@@ -148,9 +148,9 @@ fn unread<R: Env + AllocGlobal>(rt: &R, error: io::Error) -> Result<WordsError, 
 fn raw_words<R: Env + AllocGlobal>(rt: &R) -> Result<Vec<Vec<u8>>, AllocError> {
     let mut room = vec![in rt.alloc(); 0u8; LONGEST_WORD]?;
     let mut words = Vec::new(rt.alloc());
-    for place in 0..usize::MAX {
+    for index in 0..usize::MAX {
         let mut word = Vec::new(rt.alloc());
-        match rt.arg(place, room.as_mut_slice()) {
+        match rt.arg(index, room.as_mut_slice()) {
             Ok(length) => word.extend_from_slice(&room[..length])?,
             Err(FillError::NotPresent) => break,
             Err(_) => {}
@@ -160,17 +160,17 @@ fn raw_words<R: Env + AllocGlobal>(rt: &R) -> Result<Vec<Vec<u8>>, AllocError> {
     Ok(words)
 }
 
-/// What is told of words, if one of them is not UTF-8: the place of the first such.
+/// What is told of words, if one of them is not UTF-8: the index of the first such.
 fn first_fault(words: &[Vec<u8>]) -> Option<WordsError>
     ensures { result ≡ option_map not_utf8 (position (λ word. not (is_utf8 word.items)) words.now) }
 {
     match first_not_text(words) {
-        Some(place) => Some(WordsError::NotUtf8(place)),
+        Some(index) => Some(WordsError::NotUtf8(index)),
         None => None,
     }
 }
 
-/// The place of the first word that is not UTF-8.
+/// The index of the first word that is not UTF-8.
 fn first_not_text(words: &[Vec<u8>]) -> Option<usize>
     ensures { result ≡ position (λ word. not (is_utf8 word.items)) words.now }
 {

@@ -24,23 +24,23 @@ pub record IsTree (marks : List Bool) : Type 0 where
   pub full : IsFull marks
   pub mended : (node : ℕ) → 0 < node → 2 * node + 1 < length marks → IsMended marks node
 
--- the leaf of a place
+-- the leaf of a number
 abbrev pub leaf_of : List Bool → ℕ → ℕ
-leaf_of marks place = length marks / 2 + place
+leaf_of marks number = length marks / 2 + number
 
--- whether a place is in the set
+-- whether a number is in the set
 abbrev pub is_leaf_marked : List Bool → ℕ → Bool
-is_leaf_marked marks place = is_marked marks (leaf_of marks place)
+is_leaf_marked marks number = is_marked marks (leaf_of marks number)
 
--- the marks of the first places
+-- the marks of the first numbers
 abbrev pub flags_of : List Bool → ℕ → List Bool
-flags_of marks places = take places (drop (length marks / 2) marks)
+flags_of marks capacity = take capacity (drop (length marks / 2) marks)
 
--- a tree with a leaf for each of so many places, and no marked leaf behind them
-pub record IsMarkTree (marks : List Bool) (places : ℕ) : Type 0 where
+-- a tree with a leaf for each of so many numbers, and no marked leaf behind them
+pub record IsMarkTree (marks : List Bool) (capacity : ℕ) : Type 0 where
   pub tree : IsTree marks
-  pub room : 2 * places ≤ length marks
-  pub rest : (place : ℕ) → places ≤ place → is_leaf_marked marks place ≡ false
+  pub room : 2 * capacity ≤ length marks
+  pub rest : (number : ℕ) → capacity ≤ number → is_leaf_marked marks number ≡ false
 
 -- a marked node, so many levels above the leaves, with no leaf below it before a given one; of the leaves from that one on, those
 -- before it are unmarked

@@ -1,4 +1,4 @@
-// A set of places, in order.
+// A set of numbers, in order.
 ghost use Rattle.std.specs.Prelude.{◌≡◌, ◌<◌, ◌-◌, ◌++◌, ◌∷◌, [], false, length, replicate, set, take, IfOk, OnErr, OnOk};
 ghost use Rattle.ready_set.specs.Flags.{IsNext, is_in};
 
@@ -6,16 +6,16 @@ use crate::tree::{first_from, make_room, put};
 use std::alloc::{AllocError, Global};
 use std::marker::Model;
 
-/// A set of places, which are counted from 0, in order.
+/// A set of numbers, which are counted from 0, in order.
 ///
-/// Contracts see it as the list of its flags: for each place, whether it is in the set. Memory hangs on how many places there
+/// Contracts see it as the list of its flags: for each number, whether it is in the set. Memory hangs on how many numbers there
 /// are, and is asked for by [`ReadySet::push`] and [`ReadySet::prepend`] alone.
 #[derive(Drop)]
 pub struct ReadySet {
-    /// A tree of marks: the leaves, which are its upper half, are the flags, and a node is marked where a place below it is.
+    /// A tree of marks: the leaves, which are its upper half, are the flags, and a node is marked where a number below it is.
     marks: Vec<bool>,
-    /// How many places there are. The leaves behind them are unmarked.
-    places: usize,
+    /// How many numbers there are. The leaves behind them are unmarked.
+    capacity: usize,
 }
 
 impl Model for ReadySet {
@@ -24,41 +24,41 @@ impl Model for ReadySet {
 
     ghost Value = { List Bool };
 
-    ghost view = { λ s. flags_of s.marks.items s.places };
+    ghost view = { λ s. flags_of s.marks.items s.capacity };
 
-    ghost invariant = { λ s. IsMarkTree s.marks.items s.places };
+    ghost invariant = { λ s. IsMarkTree s.marks.items s.capacity };
 }
 
 impl ReadySet {
-    /// No places. Takes no memory.
+    /// No numbers. Takes no memory.
     pub fn new(alloc: Global) -> ReadySet
         ensures { result ≡ [] }
     {
         ReadySet {
             marks: Vec::new(alloc),
-            places: 0,
+            capacity: 0,
         }
     }
 
-    /// How many places there are. Takes no memory.
-    pub fn places(&self) -> usize
+    /// How many numbers there are. Takes no memory.
+    pub fn capacity(&self) -> usize
         ensures { result ≡ length self.now }
     {
-        self.places
+        self.capacity
     }
 
-    /// Whether a place is in the set; one that is not there is not. Takes no memory.
-    pub fn contains(&self, place: usize) -> bool
-        ensures { result ≡ is_in self.now place }
+    /// Whether a number is in the set; one that is not there is not. Takes no memory.
+    pub fn contains(&self, number: usize) -> bool
+        ensures { result ≡ is_in self.now number }
     {
-        place < self.places && self.marks[self.marks.len() / 2 + place]
+        number < self.capacity && self.marks[self.marks.len() / 2 + number]
     }
 
-    /// The least place of the set from a place on, in logarithmic time. Takes no memory.
+    /// The least number of the set from a number on, in logarithmic time. Takes no memory.
     pub fn next(&self, from: usize) -> Option<usize>
         ensures { IsNext from self.now result }
     {
-        if self.places <= from {
+        if self.capacity <= from {
             return None;
         }
         let first = self.marks.len() / 2;
@@ -68,7 +68,7 @@ impl ReadySet {
         }
     }
 
-    /// One place more, behind the others, which is in the set or not, in logarithmic time. Where no memory is left over, it is
+    /// One number more, behind the others, which is in the set or not, in logarithmic time. Where no memory is left over, it is
     /// doubled first, in linear time.
     ///
     /// # Errors
@@ -78,31 +78,31 @@ impl ReadySet {
         ensures ok { OnOk result (self.new ≡ self.old ++ marked ∷ []) }
         ensures err { OnErr result (self.new ≡ self.old) }
     {
-        make_room(&mut self.marks, self.places)?;
-        put(&mut self.marks, self.places, marked);
-        self.places += 1;
+        make_room(&mut self.marks, self.capacity)?;
+        put(&mut self.marks, self.capacity, marked);
+        self.capacity += 1;
         Ok(())
     }
 
-    /// Takes the last place away, in logarithmic time. Takes no memory.
+    /// Takes the last number away, in logarithmic time. Takes no memory.
     pub fn pop(&mut self)
         requires { 0 < length self.old }
         ensures { self.new ≡ take (length self.old - 1) self.old }
     {
-        self.places -= 1;
-        put(&mut self.marks, self.places, false);
+        self.capacity -= 1;
+        put(&mut self.marks, self.capacity, false);
     }
 
-    /// Puts a place into the set, or takes it out, in logarithmic time. Takes no memory.
-    pub fn set(&mut self, place: usize, marked: bool)
-        requires { place < length self.old }
-        ensures { self.new ≡ set self.old place marked }
+    /// Puts a number into the set, or takes it out, in logarithmic time. Takes no memory.
+    pub fn set(&mut self, number: usize, marked: bool)
+        requires { number < length self.old }
+        ensures { self.new ≡ set self.old number marked }
     {
-        put(&mut self.marks, place, marked);
+        put(&mut self.marks, number, marked);
     }
 
-    /// So many places stand before the others then, none of them in the set, and the number of each of the others is greater by
-    /// as many. It takes the time of as many calls of [`ReadySet::push`] as there are places then.
+    /// So many numbers stand before the others then, none of them in the set, and the number of each of the others is greater by
+    /// as many. It takes the time of as many calls of [`ReadySet::push`] as there are numbers then.
     ///
     /// # Errors
     ///
@@ -118,7 +118,7 @@ impl ReadySet {
     }
 }
 
-// So many places, none of them in the set.
+// So many numbers, none of them in the set.
 fn none_of(alloc: Global, count: usize) -> Result<ReadySet, AllocError>
     ensures { IfOk result (λ set. set ≡ replicate count false) }
 {
@@ -129,12 +129,12 @@ fn none_of(alloc: Global, count: usize) -> Result<ReadySet, AllocError>
     Ok(set)
 }
 
-// The places of another set stand behind those of one.
+// The numbers of another set stand behind those of one.
 fn append(set: &mut ReadySet, other: &ReadySet) -> Result<(), AllocError>
     ensures { OnOk result (set.new ≡ set.old ++ other.now) }
 {
-    for place in 0..other.places() {
-        set.push(other.contains(place))?;
+    for number in 0..other.capacity() {
+        set.push(other.contains(number))?;
     }
     Ok(())
 }

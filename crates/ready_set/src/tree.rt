@@ -72,15 +72,15 @@ fn descend(marks: &[bool], from: usize, root: Root) -> usize
     node
 }
 
-// Marks or unmarks the leaf of a place, in logarithmic time.
-pub(crate) fn put(marks: &mut [bool], place: usize, marked: bool)
+// Marks or unmarks the leaf of a number, in logarithmic time.
+pub(crate) fn put(marks: &mut [bool], number: usize, marked: bool)
     requires tree { IsTree marks.old }
-    requires within { leaf_of marks.old place < length marks.old }
+    requires within { leaf_of marks.old number < length marks.old }
     ensures tree { IsTree marks.new }
-    ensures here { is_leaf_marked marks.new place ≡ marked }
-    ensures others { (k : ℕ) → (k ≡ place → ⊥) → is_leaf_marked marks.new k ≡ is_leaf_marked marks.old k }
+    ensures here { is_leaf_marked marks.new number ≡ marked }
+    ensures others { (k : ℕ) → (k ≡ number → ⊥) → is_leaf_marked marks.new k ≡ is_leaf_marked marks.old k }
 {
-    let leaf = marks.len() / 2 + place;
+    let leaf = marks.len() / 2 + number;
     marks[leaf] = marked;
     mend_above(marks, leaf);
 }
@@ -122,17 +122,17 @@ fn mend(marks: &mut [bool], node: usize)
     marks[node] = marks[2 * node] || marks[2 * node + 1];
 }
 
-// Room for one place more: where each leaf has one, twice as many leaves. All new memory is asked for before the first change.
-pub(crate) fn make_room(marks: &mut Vec<bool>, places: usize) -> Result<(), AllocError>
+// Room for one number more: where each leaf has one, twice as many leaves. All new memory is asked for before the first change.
+pub(crate) fn make_room(marks: &mut Vec<bool>, capacity: usize) -> Result<(), AllocError>
     requires tree { IsTree marks.old.items }
-    requires room { 2 * places ≤ length marks.old.items }
+    requires room { 2 * capacity ≤ length marks.old.items }
     ensures tree { OnOk result (IsTree marks.new.items) }
-    ensures room { OnOk result (2 * places + 2 ≤ length marks.new.items) }
+    ensures room { OnOk result (2 * capacity + 2 ≤ length marks.new.items) }
     ensures leaves { OnOk result
-        ((place : ℕ) → is_leaf_marked marks.new.items place ≡ is_leaf_marked marks.old.items place) }
+        ((number : ℕ) → is_leaf_marked marks.new.items number ≡ is_leaf_marked marks.old.items number) }
     ensures err { OnErr result (marks.new.items ≡ marks.old.items) }
 {
-    if places < marks.len() / 2 {
+    if capacity < marks.len() / 2 {
         Ok(())
     } else {
         grow(marks)
@@ -146,7 +146,7 @@ fn grow(marks: &mut Vec<bool>) -> Result<(), AllocError>
     ensures first { OnOk result (2 ≤ length marks.new.items) }
     ensures wider { OnOk result (2 * length marks.old.items ≤ length marks.new.items) }
     ensures leaves { OnOk result
-        ((place : ℕ) → is_leaf_marked marks.new.items place ≡ is_leaf_marked marks.old.items place) }
+        ((number : ℕ) → is_leaf_marked marks.new.items number ≡ is_leaf_marked marks.old.items number) }
     ensures err { OnErr result (marks.new.items ≡ marks.old.items) }
 {
     let len = marks.len();
@@ -156,7 +156,7 @@ fn grow(marks: &mut Vec<bool>) -> Result<(), AllocError>
     Ok(())
 }
 
-// The first places have the marks of what were their leaves, and all nodes above the leaves are mended.
+// The first numbers have the marks of what were their leaves, and all nodes above the leaves are mended.
 fn spread(marks: &mut [bool], count: usize)
     requires full { IsFull marks.old }
     requires fits { 2 * count ≤ length marks.old / 2 }
@@ -168,14 +168,14 @@ fn spread(marks: &mut [bool], count: usize)
     mend_all(marks);
 }
 
-// The first places have the marks of what were their leaves.
+// The first numbers have the marks of what were their leaves.
 fn move_leaves(marks: &mut [bool], count: usize)
     requires { 2 * count ≤ length marks.old / 2 }
     ensures moved { (k : ℕ) → k < count → is_leaf_marked marks.new k ≡ is_marked marks.old (count + k) }
     ensures others { (k : ℕ) → count ≤ k → is_leaf_marked marks.new k ≡ is_leaf_marked marks.old k }
 {
     let first = marks.len() / 2;
-    for place in 0..count {
-        marks[first + place] = marks[count + place];
+    for number in 0..count {
+        marks[first + number] = marks[count + number];
     }
 }

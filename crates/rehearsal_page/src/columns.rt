@@ -9,7 +9,7 @@ use std::alloc::{AllocError, Global};
 pub(crate) struct Column<'a> {
     /// The way that it is on.
     pub(crate) way: Direction,
-    /// Its place there, from 0.
+    /// Its index there, from 0.
     pub(crate) index: usize,
     /// The node before it.
     pub(crate) before: &'a NodeView,
@@ -34,7 +34,7 @@ impl Column<'_> {
     }
 }
 
-/// The number, from 1, of what has a place, from 0.
+/// The number, from 1, of what has an index, from 0.
 pub(crate) fn number_of(index: usize) -> u64 {
     (index as u64).saturating_add(1)
 }

@@ -1,9 +1,10 @@
 //! A rehearsal of an upgrade, told as a page of text.
 //!
 //! [`write_report`] writes the script, what is likely wrong, what was seen of each instruction, and last the verdict in a line.
-//! Terms are written as Erlang writes them, and characters that are hidden on a terminal are escaped, so that nothing in a file can
-//! begin a line of its own or turn the direction of one.
-//! What is told of a step, a process or a finding is public, so that another page of the same rehearsal tells it in the same words.
+//! Terms are written as Erlang writes them, and characters that are hidden on a terminal are escaped, so that nothing in a
+//! file can begin a line of its own or turn the direction of one.
+//! What is told of a step, a process or a finding is public, so that another page of the same rehearsal tells it in the same
+//! words.
 #![tactic(auto)]
 
 mod findings;

@@ -1,5 +1,5 @@
 // Scripts, as numbered lists.
-use crate::writing::{put, put_place, put_term};
+use crate::writing::{put, put_item_number, put_term};
 use low_instructions::{Low, low_term};
 use std::alloc::{AllocError, Global};
 
@@ -9,8 +9,8 @@ pub(crate) fn put_script(
     alloc: Global,
     out: &mut Vec<u8>,
 ) -> Result<(), AllocError> {
-    for (place, instruction) in script.iter().enumerate() {
-        put_place(place + 1, alloc, out)?;
+    for (index, instruction) in script.iter().enumerate() {
+        put_item_number(index + 1, alloc, out)?;
         put_instruction(instruction, alloc, out)?;
         put(b"\n", out)?;
     }

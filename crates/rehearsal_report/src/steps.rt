@@ -3,8 +3,8 @@ use crate::leaving::put_left;
 use crate::outcomes::{put_install_refusal, put_outcome};
 use crate::scripts::put_instruction;
 use crate::writing::{
-    Extent, INDENT, put, put_atom, put_cut, put_number, put_pid, put_place, put_process, put_shown,
-    put_whole,
+    Extent, INDENT, put, put_atom, put_cut, put_item_number, put_number, put_pid, put_process,
+    put_shown, put_whole,
 };
 use erl_semantics::Place;
 use erl_term::{Atom, print_atom, print_list};
@@ -46,7 +46,7 @@ fn put_station(
     out: &mut Vec<u8>,
 ) -> Result<(), AllocError> {
     let before = way.before(place);
-    put_place(place.saturating_add(1), alloc, out)?;
+    put_item_number(place.saturating_add(1), alloc, out)?;
     put_begin(station, alloc, out)?;
     put(b"\n", out)?;
     put_unless_ran(&station.outcome, alloc, out)?;
@@ -57,7 +57,8 @@ fn put_station(
     put_trial(station, is_behind_point, before, alloc, out)
 }
 
-/// Writes what a failure of the instruction would leave, unless it is the end, and whether the node was as before once it was undone.
+/// Writes what a failure of the instruction would leave, unless it is the end, and whether the node was as before once it was
+/// undone.
 fn put_trial(
     station: &Station,
     is_behind_point: bool,

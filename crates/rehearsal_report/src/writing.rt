@@ -32,7 +32,11 @@ pub(crate) fn put_number(number: u64, alloc: Global, out: &mut Vec<u8>) -> Resul
 }
 
 /// Appends a number, with blanks before it up to three places, and two blanks behind.
-pub(crate) fn put_place(number: usize, alloc: Global, out: &mut Vec<u8>) -> Result<(), AllocError> {
+pub(crate) fn put_item_number(
+    number: usize,
+    alloc: Global,
+    out: &mut Vec<u8>,
+) -> Result<(), AllocError> {
     let text = format!(in alloc; "{number:>4}  ")?;
     put(text.as_bytes(), out)
 }

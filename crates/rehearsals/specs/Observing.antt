@@ -18,7 +18,8 @@ use Rattle.rehearsals.specs.declared.way.Returned.{Returned}
 use Rattle.rehearsals.specs.declared.way.Returned.TheVariants.{Untried, Failed, Behind}
 use Rattle.rehearsals.specs.declared.way.Way.{Way}
 
--- The node before the instruction at an index: the one behind the traffic of the instruction before it, or where the script begins.
+-- The node before the instruction at an index: the one behind the traffic of the instruction before it, or where the script
+-- begins.
 
 abbrev pub view_of : Option Station → NodeView → NodeView
 view_of None begun = begun

@@ -1,5 +1,5 @@
 -- How ways end (release_handler(3)).
-use Rattle.std.specs.Prelude.{ℕ, ◌-◌, Bool, true, false, not, ◌&&◌, length, Option, None, Some, slice_get}
+use Rattle.std.specs.Prelude.{◌-◌, Bool, true, false, not, ◌&&◌, length, Option, None, Some, slice_get}
 use Rattle.rehearsals.specs.declared.station.Outcome.{Outcome}
 use Rattle.rehearsals.specs.declared.station.Outcome.TheVariants.{Ran, Finished, Recovered, Restarted, Refused}
 use Rattle.rehearsals.specs.declared.station.Station.{Station}
@@ -36,8 +36,8 @@ is_finished_by (Some s) = is_end s.outcome
 abbrev pub is_finished : Way → Bool
 is_finished w = is_finished_by (last_of w)
 
--- Whether there was a way down, and it has come to its end; whether one of the ways fails without traffic; and whether an upgrade would
--- go up and down, with traffic and without.
+-- Whether there was a way down, and it has come to its end; whether one of the ways fails without traffic; and whether an
+-- upgrade would go up and down, with traffic and without.
 
 abbrev pub is_down : Option Way → Bool
 is_down None = false

@@ -17,8 +17,8 @@ pub struct Way {
     pub begun: NodeView,
     /// What was seen of the instructions, in order, and last of the end.
     pub stations: Vec<Station>,
-    /// Each module with old code and each process that still uses it, when nothing more was made of the script; none where the install was
-    /// refused.
+    /// Each module with old code and each process that still uses it, when nothing more was made of the script; none where
+    /// the install was refused.
     pub lingering: Row<(Atom, u64)>,
 }
 

@@ -10,7 +10,8 @@ const MARKS: u64 = 40;
 /// For how many seconds a rehearsal goes on before a bar is shown.
 const PATIENCE: u64 = 1;
 
-/// A bar of progress on the standard error. It is shown where a rehearsal takes over a second; what can't be written of it is left out.
+/// A bar of progress on the standard error. It is shown where a rehearsal takes over a second; what can't be written of it is
+/// left out.
 #[derive(Drop)]
 pub struct Bar<'a, R: Runtime> {
     rt: &'a R,
@@ -34,8 +35,8 @@ struct Marks {
 impl fmt::Display for Marks {
     fn fmt<W: fmt::Write>(&self, f: &mut fmt::Formatter<W>) -> fmt::Result {
         f.write_str("\r[")?;
-        for place in 0..MARKS {
-            f.write_str(if place < self.filled { "#" } else { "." })?;
+        for index in 0..MARKS {
+            f.write_str(if index < self.filled { "#" } else { "." })?;
         }
         f.write_str("]")
     }

@@ -2,7 +2,7 @@
 use Rattle.std.proofs.Common.{◌≡◌, ℕ, true, All, List, [], ◌∷◌, map, inl, inr, Option, None, Some, refl, sym, ap, subst, ◌∙◌}
 use Rattle.std.proofs.lemmas.Bool.{true≢false}
 use Rattle.std.proofs.lemmas.List.Elements.{All-map}
-use Rattle.app_table.specs.Applications.{Application, loaded as app_loaded, place_of, started, started_at, with_children}
+use Rattle.app_table.specs.Applications.{Application, loaded as app_loaded, index_of, started, started_at, with_children}
 use Rattle.app_table.specs.declared.child.Child.{Child}
 use Rattle.code_loading.specs.Current.{current_code}
 use Rattle.code_server.specs.Modules.{Table as Loaded}
@@ -23,22 +23,22 @@ specs_in apps = map (λ (a : Application). a.spec) apps
 
 started_specs : (o : Option ℕ) (cs : List Child) (apps : List Application) → specs_in (started_at o cs apps) ≡ specs_in apps
 started_specs None cs apps = refl
-started_specs (Some place) cs apps = map-changed_at (λ (a : Application). a.spec) (with_children true cs) (λ a. refl) apps place
+started_specs (Some index) cs apps = map-changed_at (λ (a : Application). a.spec) (with_children true cs) (λ a. refl) apps index
 
 started_unstarted : (o : Option ℕ) (cs : List Child) (apps : List Application) → All IsLoadedUnlessStarted apps → All IsLoadedUnlessStarted (started_at o cs apps)
 started_unstarted None cs apps all = all
-started_unstarted (Some place) cs apps all =
-    All-changed_at IsLoadedUnlessStarted (with_children true cs) apps place all (λ a at not. absurd (true≢false not))
+started_unstarted (Some index) cs apps all =
+    All-changed_at IsLoadedUnlessStarted (with_children true cs) apps index all (λ a at not. absurd (true≢false not))
 
 -- or is passed over
 
 here_specs : (code : List Instance) (name : List ℕ) (apps one : List Application) (t after : Table) → StartsOrIsPassedOver code name apps t one after → specs_in one ≡ specs_in apps
-here_specs code name apps one t after (inl it) = ap specs_in it.starts ∙ started_specs (place_of name apps) it.children apps
+here_specs code name apps one t after (inl it) = ap specs_in it.starts ∙ started_specs (index_of name apps) it.children apps
 here_specs code name apps one t after (inr it) = ap specs_in it.2
 
 here_unstarted : (code : List Instance) (name : List ℕ) (apps one : List Application) (t after : Table) → StartsOrIsPassedOver code name apps t one after → All IsLoadedUnlessStarted apps → All IsLoadedUnlessStarted one
 here_unstarted code name apps one t after (inl it) all =
-    subst (λ (x : List Application). All IsLoadedUnlessStarted x) (sym it.starts) (started_unstarted (place_of name apps) it.children apps all)
+    subst (λ (x : List Application). All IsLoadedUnlessStarted x) (sym it.starts) (started_unstarted (index_of name apps) it.children apps all)
 here_unstarted code name apps one t after (inr it) all = subst (λ (x : List Application). All IsLoadedUnlessStarted x) (sym it.2) all
 
 -- one after the other

@@ -74,11 +74,11 @@ passed_on Q (Err y) e is why = subst Q (sym is.1) why
 
 -- one more of a list
 
-pub one_more : {A : Type 0} (xs : List A) (place : ℕ) (x : A) → place < length xs → x ≡ get_or xs place x → take (place + 1) xs ≡ take place xs ++ x ∷ []
-one_more xs place x within is = take_more xs place x within ∙ ap (λ y. take place xs ++ y ∷ []) (sym is)
+pub one_more : {A : Type 0} (xs : List A) (index : ℕ) (x : A) → index < length xs → x ≡ get_or xs index x → take (index + 1) xs ≡ take index xs ++ x ∷ []
+one_more xs index x within is = take_more xs index x within ∙ ap (λ y. take index xs ++ y ∷ []) (sym is)
 
-pub all_around : {A : Type 0} (xs : List A) (place : ℕ) (x : A) → place < length xs → x ≡ get_or xs place x → xs ≡ take place xs ++ (x ∷ drop (place + 1) xs)
-all_around xs place x within is = sym (take-append-drop place xs) ∙ ap (λ ys. take place xs ++ ys) (from_here xs place x within is)
+pub all_around : {A : Type 0} (xs : List A) (index : ℕ) (x : A) → index < length xs → x ≡ get_or xs index x → xs ≡ take index xs ++ (x ∷ drop (index + 1) xs)
+all_around xs index x within is = sym (take-append-drop index xs) ∙ ap (λ ys. take index xs ++ ys) (from_here xs index x within is)
 
 -- the same, of what is equal
 

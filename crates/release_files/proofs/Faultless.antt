@@ -23,11 +23,11 @@ fine : (P : Type 0) (IsWrong : ReleaseFault → Type 0) → P ⊎ Any IsWrong []
 fine P IsWrong told =
     elim told [
       | inl is ↦ is
-      | inr some ↦ absurd (no_place some.0 some.2)
+      | inr some ↦ absurd (no_index some.0 some.2)
     ]
   where
-    no_place : (k : ℕ) → k < 0 → ⊥
-    no_place k below = absurd (omega arith)
+    no_index : (k : ℕ) → k < 0 → ⊥
+    no_index k below = absurd (omega arith)
 
 -- Lists
 
@@ -67,8 +67,8 @@ name_is_new : (files : Contents) (sources front rest : List Source) (app : RelAp
 name_is_new files sources front rest app name are is stands =
     let one = of_name front app name stands in
     let split = contains_split front one.0 one.1.0 in
-    let place : sources ≡ split.0 ++ one.0 ∷ (split.1.0 ++ (app, name) ∷ rest) = is ∙ ap (λ fs. fs ++ (app, name) ∷ rest) split.1.1 ∙ append_assoc split.0 (one.0 ∷ split.1.0) ((app, name) ∷ rest) in
-    let new = are split.0 one.0.0 one.0.1 (split.1.0 ++ (app, name) ∷ rest) place in
+    let parted : sources ≡ split.0 ++ one.0 ∷ (split.1.0 ++ (app, name) ∷ rest) = is ∙ ap (λ fs. fs ++ (app, name) ∷ rest) split.1.1 ∙ append_assoc split.0 (one.0 ∷ split.1.0) ((app, name) ∷ rest) in
+    let new = are split.0 one.0.0 one.0.1 (split.1.0 ++ (app, name) ∷ rest) parted in
     (are front app name rest is).is_new (subst (IsKnown files front) one.1.1 (record { app = one.0.0; stands = one.1.0; forms = new.forms; read = new.read }))
 
 distinct_names : (files : Contents) (sources front rest : List Source) → AreModules files sources → sources ≡ front ++ rest → AreDistinct (source_names front) → AreDistinct (source_names sources)

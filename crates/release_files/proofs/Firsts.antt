@@ -83,10 +83,10 @@ taken paths vsn path (Some found) lesser named is first =
 
 -- no path at all
 pub none_yet : (vsn : List ℕ) → HasNoRel [] vsn
-none_yet vsn = λ path stands named. absurd (no_place stands.0 stands.1)
+none_yet vsn = λ path stands named. absurd (no_index stands.0 stands.1)
   where
-    no_place : (k : ℕ) → k < 0 → ⊥
-    no_place k below = absurd (omega arith)
+    no_index : (k : ℕ) → k < 0 → ⊥
+    no_index k below = absurd (omega arith)
 
 -- Paths as texts that a program holds
 

@@ -24,10 +24,10 @@ use Rattle.release_files.proofs.Sourced.{front_more, zip_more}
 -- Lists
 
 pub none_in : {A : Type 0} (x : A) → Contains {X = A} [] x → ⊥
-none_in x stands = no_place stands.0 stands.1
+none_in x stands = no_index stands.0 stands.1
   where
-    no_place : (k : ℕ) → k < 0 → ⊥
-    no_place k below = absurd (omega arith)
+    no_index : (k : ℕ) → k < 0 → ⊥
+    no_index k below = absurd (omega arith)
 
 pub no_split : {A : Type 0} (front : List A) (x : A) (rest : List A) → [] ≡ front ++ x ∷ rest → ⊥
 no_split [] x rest is = let impossible : ⊥ = cc in impossible

@@ -21,13 +21,13 @@ taken_back undo before now after placed back has same = record {
   back = back ∙ same;
 }
 
-pub Removed-back : (place : ℕ) (it : Listed) (before now after : List Listed) → slice_get before place ≡ Some it →
-    place < length before → after ≡ remove before place → HasPermanent before → before ≡ now →
-    TakesBack (Removed place it) now after
-Removed-back place it before now after at within is has same =
-    let back : insert after place it ≡ before = ap (λ xs. insert xs place it) is ∙ insert-remove before place it at in
-    let shorter = length-remove before place within in
-    taken_back (Removed place it) before now after (omega (arith, ap length is, shorter, within)) back has same
+pub Removed-back : (index : ℕ) (it : Listed) (before now after : List Listed) → slice_get before index ≡ Some it →
+    index < length before → after ≡ remove before index → HasPermanent before → before ≡ now →
+    TakesBack (Removed index it) now after
+Removed-back index it before now after at within is has same =
+    let back : insert after index it ≡ before = ap (λ xs. insert xs index it) is ∙ insert-remove before index it at in
+    let shorter = length-remove before index within in
+    taken_back (Removed index it) before now after (omega (arith, ap length is, shorter, within)) back has same
 
 -- releases that are the same get the statuses that they had
 with_statuses-back : (xs ys : List Listed) → releases_of ys ≡ releases_of xs → with_statuses (statuses_of xs) ys ≡ xs

@@ -1,4 +1,4 @@
--- The release of a version at its place, and what a change of statuses leaves of it.
+-- The release of a version at its index, and what a change of statuses leaves of it.
 use Rattle.std.proofs.Common.{◌≡◌, ℕ, ◌+◌, ◌<◌, Bool, true, false, not, cond, List, [], ◌∷◌, length, map, slice_get}
 use Rattle.std.proofs.Common.{Option, None, Some, IsSome, is_some, option_and_then, option_map, inl, inr, refl, sym, ap, ◌∙◌}
 use Rattle.std.proofs.Common.{arith}
@@ -14,13 +14,13 @@ use Rattle.release_statuses.specs.declared.listed.Listed.{Listed}
 use Rattle.release_statuses.specs.declared.status.Status.{Status}
 use Rattle.release_statuses.specs.declared.status.Status.TheVariants.{Current, Permanent, Old}
 use Rattle.release_statuses.specs.Statuses.{has_status, installed, is_permanent, made_permanent}
-use Rattle.release_statuses.specs.Statuses.{place_of, rebooted, restarted, set_at, set_status, status_of}
-use Rattle.release_statuses.specs.Statuses.{turned, vsn_of, with_status}
+use Rattle.release_statuses.specs.Statuses.{index_of, rebooted, restarted, set_at, set_status, status_of}
+use Rattle.release_statuses.specs.Statuses.{status_changed, vsn_of, with_status}
 use Rattle.release_statuses.proofs.Tests.{first-within}
 
--- one release, turned
-abbrev pub turned_one : Status → Status → Listed → Listed
-turned_one from to it = cond (has_status from it) (with_status to it) it
+-- one release, changed
+abbrev pub status_changed_one : Status → Status → Listed → Listed
+status_changed_one from to it = cond (has_status from it) (with_status to it) it
 
 abbrev pub releases_of : List Listed → List Release
 releases_of xs = map (λ (it : Listed). it.release) xs
@@ -32,18 +32,18 @@ pub none_unless : {A : Type 0} (o : Option A) → ((x : A) → o ≡ Some x → 
 none_unless None some = refl
 none_unless (Some x) some = absurd (some x refl)
 
--- A release stands at its place.
+-- A release stands at its index.
 
-pub record Stands (vsn : List ℕ) (xs : List Listed) (place : ℕ) : Type 0 where
+pub record Stands (vsn : List ℕ) (xs : List Listed) (index : ℕ) : Type 0 where
   pub it : Listed
-  pub there : slice_get xs place ≡ Some it
-  pub within : place < length xs
+  pub there : slice_get xs index ≡ Some it
+  pub within : index < length xs
   pub status : status_of vsn xs ≡ Some it.status
 
-pub Stands-place : (vsn : List ℕ) (xs : List Listed) (place : ℕ) → place_of vsn xs ≡ Some place → Stands vsn xs place
-Stands-place vsn xs place at =
-    let within = first-within (λ (it : Listed). bytes_eq vsn (vsn_of it)) xs place at in
-    elim (slice_get_cases xs place).1 [
+pub Stands-index : (vsn : List ℕ) (xs : List Listed) (index : ℕ) → index_of vsn xs ≡ Some index → Stands vsn xs index
+Stands-index vsn xs index at =
+    let within = first-within (λ (it : Listed). bytes_eq vsn (vsn_of it)) xs index at in
+    elim (slice_get_cases xs index).1 [
       | inl some ↦ record {
         it = some.0;
         there = some.2;
@@ -55,30 +55,30 @@ Stands-place vsn xs place at =
     ]
 
 -- a release that has a status stands somewhere
-pub place-status : (vsn : List ℕ) (xs : List Listed) → IsSome (status_of vsn xs) → (place : ℕ) × (place_of vsn xs ≡ Some place)
-place-status vsn xs some =
-    by (place_of vsn xs) refl
+pub index-status : (vsn : List ℕ) (xs : List Listed) → IsSome (status_of vsn xs) → (index : ℕ) × (index_of vsn xs ≡ Some index)
+index-status vsn xs some =
+    by (index_of vsn xs) refl
   where
-    by : (o : Option ℕ) → place_of vsn xs ≡ o → (place : ℕ) × (place_of vsn xs ≡ Some place)
+    by : (o : Option ℕ) → index_of vsn xs ≡ o → (index : ℕ) × (index_of vsn xs ≡ Some index)
     by None none =
         let nowhere = ap (λ o. option_map (λ (it : Listed). it.status) (option_and_then (slice_get xs) o)) none in
         absurd (false≢true (sym (ap is_some nowhere) ∙ some))
-    by (Some place) at = (place, at)
+    by (Some index) at = (index, at)
 
 -- No change of statuses touches the releases.
 
-release-turned_one : (b : Bool) (to : Status) (it : Listed) → (cond b (with_status to it) it).release ≡ it.release
-release-turned_one true to it = refl
-release-turned_one false to it = refl
+release-status_changed_one : (b : Bool) (to : Status) (it : Listed) → (cond b (with_status to it) it).release ≡ it.release
+release-status_changed_one true to it = refl
+release-status_changed_one false to it = refl
 
-pub releases-turned : (from to : Status) (xs : List Listed) → releases_of (turned from to xs) ≡ releases_of xs
-releases-turned from to [] = refl
-releases-turned from to (x ∷ xs) = λ i. release-turned_one (has_status from x) to x i ∷ releases-turned from to xs i
+pub releases-status_changed : (from to : Status) (xs : List Listed) → releases_of (status_changed from to xs) ≡ releases_of xs
+releases-status_changed from to [] = refl
+releases-status_changed from to (x ∷ xs) = λ i. release-status_changed_one (has_status from x) to x i ∷ releases-status_changed from to xs i
 
-pub releases-set_at : (status : Status) (place : Option ℕ) (xs : List Listed) →
-    releases_of (set_at status place xs) ≡ releases_of xs
+pub releases-set_at : (status : Status) (index : Option ℕ) (xs : List Listed) →
+    releases_of (set_at status index xs) ≡ releases_of xs
 releases-set_at status None xs = refl
-releases-set_at status (Some place) xs = map-changed_at (λ (it : Listed). it.release) (with_status status) (λ it. refl) xs place
+releases-set_at status (Some index) xs = map-changed_at (λ (it : Listed). it.release) (with_status status) (λ it. refl) xs index
 
 releases-cond : (b : Bool) (xs ys zs : List Listed) → releases_of xs ≡ releases_of zs → releases_of ys ≡ releases_of zs →
     releases_of (cond b xs ys) ≡ releases_of zs
@@ -87,38 +87,38 @@ releases-cond false xs ys zs one other = other
 
 pub releases-installed : (vsn : List ℕ) (xs : List Listed) → releases_of (installed vsn xs) ≡ releases_of xs
 releases-installed vsn xs =
-    let ts = turned Current Old xs in
-    let same = releases-turned Current Old xs in
+    let ts = status_changed Current Old xs in
+    let same = releases-status_changed Current Old xs in
     releases-cond (is_permanent (status_of vsn xs)) ts (set_status vsn Current ts) xs same
-    (releases-set_at Current (place_of vsn ts) ts ∙ same)
+    (releases-set_at Current (index_of vsn ts) ts ∙ same)
 
 pub releases-made_permanent : (vsn : List ℕ) (xs : List Listed) → releases_of (made_permanent vsn xs) ≡ releases_of xs
 releases-made_permanent vsn xs =
-    let ts = turned Permanent Old xs in
+    let ts = status_changed Permanent Old xs in
     releases-cond (is_permanent (status_of vsn xs)) xs (set_status vsn Permanent ts) xs refl
-    (releases-set_at Permanent (place_of vsn ts) ts ∙ releases-turned Permanent Old xs)
+    (releases-set_at Permanent (index_of vsn ts) ts ∙ releases-status_changed Permanent Old xs)
 
 pub releases-rebooted : (vsn : List ℕ) (xs : List Listed) → releases_of (rebooted vsn xs) ≡ releases_of xs
 releases-rebooted vsn xs =
     let rs = restarted xs in
-    let ts = turned Permanent Old rs in
-    releases-set_at Permanent (place_of vsn ts) ts ∙ releases-turned Permanent Old rs ∙ releases-turned Current Old xs
+    let ts = status_changed Permanent Old rs in
+    releases-set_at Permanent (index_of vsn ts) ts ∙ releases-status_changed Permanent Old rs ∙ releases-status_changed Current Old xs
 
 -- So each stands where it stood.
 
-place-releases : (q : Release → Bool) (xs : List Listed) →
+index-releases : (q : Release → Bool) (xs : List Listed) →
     position_or_len (λ (it : Listed). q it.release) xs ≡ position_or_len q (releases_of xs)
-place-releases q [] = refl
-place-releases q (x ∷ xs) = ap (λ n. cond (not (q x.release)) (1 + n) 0) (place-releases q xs)
+index-releases q [] = refl
+index-releases q (x ∷ xs) = ap (λ n. cond (not (q x.release)) (1 + n) 0) (index-releases q xs)
 
 position-releases : (q : Release → Bool) (xs : List Listed) →
     position (λ (it : Listed). q it.release) xs ≡ position q (releases_of xs)
 position-releases q xs =
-    let first = place-releases q xs in
+    let first = index-releases q xs in
     let long = length-map xs (λ (it : Listed). it.release) in
     λ i. cond (nat_lt (first i) (sym long i)) (Some (first i)) None
 
-pub place_of-same : (vsn : List ℕ) (xs ys : List Listed) → releases_of ys ≡ releases_of xs → place_of vsn ys ≡ place_of vsn xs
-place_of-same vsn xs ys same =
+pub index_of-same : (vsn : List ℕ) (xs ys : List Listed) → releases_of ys ≡ releases_of xs → index_of vsn ys ≡ index_of vsn xs
+index_of-same vsn xs ys same =
     let of_vsn = λ (r : Release). bytes_eq vsn r.rel.vsn in
     position-releases of_vsn ys ∙ ap (position of_vsn) same ∙ sym (position-releases of_vsn xs)

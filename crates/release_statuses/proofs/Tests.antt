@@ -44,7 +44,7 @@ module _ {A : Type 0} where
   list_any-changed_to p f (y ∷ ys) (suc i) x at passes =
       or_right (p y) (list_any p (changed_at f ys i)) (list_any-changed_to p f ys i x at passes)
 
-  -- the place of the first that passes
+  -- the index of the first that passes
 
   pub first-within : (p : A → Bool) (xs : List A) (i : ℕ) → position p xs ≡ Some i → i < length xs
   first-within p xs i at =

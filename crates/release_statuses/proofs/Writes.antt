@@ -1,4 +1,4 @@
--- A write at a place is a change there.
+-- A write at an index is a change there.
 use Rattle.std.proofs.Common.{◌≡◌, ℕ, zero, suc, ◌<◌, List, [], ◌∷◌, ◌++◌, length, take, drop, slice_set, get_or, refl, sym}
 use Rattle.std.proofs.Common.{ap, ◌∙◌, arith}
 use Rattle.std.proofs.Math.Seq.{take-append_seam}
@@ -9,14 +9,14 @@ use Rattle.release_statuses.specs.Statuses.{with_status}
 use Rattle.release_statuses.specs.Undo.{with_statuses}
 
 module _ {A : Type 0} where
-  pub changed_from_write : (f : A → A) (xs : List A) (place : ℕ) (old w : A) → place < length xs → old ≡ get_or xs place old →
-      w ≡ f old → slice_set xs place w ≡ changed_at f xs place
-  changed_from_write f [] place old w within is done = refl
+  pub changed_from_write : (f : A → A) (xs : List A) (index : ℕ) (old w : A) → index < length xs → old ≡ get_or xs index old →
+      w ≡ f old → slice_set xs index w ≡ changed_at f xs index
+  changed_from_write f [] index old w within is done = refl
   changed_from_write f (x ∷ xs) zero old w within is done = ap (λ y. y ∷ xs) (done ∙ ap f is)
-  changed_from_write f (x ∷ xs) (suc place) old w within is done =
-      ap (λ ys. x ∷ ys) (changed_from_write f xs place old w (omega (arith, within)) is done)
+  changed_from_write f (x ∷ xs) (suc index) old w within is done =
+      ap (λ ys. x ∷ ys) (changed_from_write f xs index old w (omega (arith, within)) is done)
 
--- the releases at the places before this one have their statuses, and so has the one at this place
+-- the releases at the indices before this one have their statuses, and so has the one at this index
 pub with_statuses-more : (ss : List Status) (xs : List Listed) (i : ℕ) (d : Status) (old w : Listed) → i < length ss →
     i < length xs → old ≡ get_or (with_statuses (take i ss) xs) i old → w ≡ with_status (get_or ss i d) old →
     slice_set (with_statuses (take i ss) xs) i w ≡ with_statuses (take (suc i) ss) xs

@@ -44,12 +44,12 @@ abbrev pub HasPermanent : List Listed → Type 0
 HasPermanent releases = IsTrue (list_any (has_status Permanent) releases)
 
 -- where the release of a version stands
-abbrev pub place_of : List ℕ → List Listed → Option ℕ
-place_of vsn releases = position (λ it. bytes_eq vsn (vsn_of it)) releases
+abbrev pub index_of : List ℕ → List Listed → Option ℕ
+index_of vsn releases = position (λ it. bytes_eq vsn (vsn_of it)) releases
 
 -- the release of a version, with its status
 abbrev pub listed : List ℕ → List Listed → Option Listed
-listed vsn releases = option_and_then (slice_get releases) (place_of vsn releases)
+listed vsn releases = option_and_then (slice_get releases) (index_of vsn releases)
 
 abbrev pub status_of : List ℕ → List Listed → Option Status
 status_of vsn releases = option_map (λ it. it.status) (listed vsn releases)
@@ -59,11 +59,11 @@ abbrev pub which_releases : List Listed → List Listed
 which_releases releases = reverse releases
 
 -- The release that runs: the first that is current, else the first that is permanent.
-abbrev pub place_with : Status → List Listed → Option ℕ
-place_with status releases = position (has_status status) releases
+abbrev pub index_with : Status → List Listed → Option ℕ
+index_with status releases = position (has_status status) releases
 
 abbrev pub first_with : Status → List Listed → Option Listed
-first_with status releases = option_and_then (slice_get releases) (place_with status releases)
+first_with status releases = option_and_then (slice_get releases) (index_with status releases)
 
 abbrev pub or_else : {A : Type 0} → Option A → Option A → Option A
 or_else None other = other
@@ -79,7 +79,7 @@ booted release = record { release = release; status = Permanent } ∷ []
 -- Set unpacked: a release whose version is not there goes last, unpacked.
 
 abbrev pub unpack_refusal : List ℕ → List Listed → Option RelError
-unpack_refusal vsn releases = if is_some (place_of vsn releases) then Some refused.Exists else None
+unpack_refusal vsn releases = if is_some (index_of vsn releases) then Some refused.Exists else None
 
 abbrev pub unpacked : Release → List Listed → List Listed
 unpacked release releases = releases ++ record { release = release; status = Unpacked } ∷ []
@@ -98,10 +98,10 @@ remove_refusal vsn releases = unless_permanent (status_of vsn releases)
 
 abbrev pub removed_at : Option ℕ → List Listed → List Listed
 removed_at None releases = releases
-removed_at (Some place) releases = remove releases place
+removed_at (Some index) releases = remove releases index
 
 abbrev pub removed : List ℕ → List Listed → List Listed
-removed vsn releases = removed_at (place_of vsn releases) releases
+removed vsn releases = removed_at (index_of vsn releases) releases
 
 -- Changes of statuses.
 
@@ -109,16 +109,16 @@ abbrev pub with_status : Status → Listed → Listed
 with_status status it = record { release = it.release; status = status }
 
 -- each release of the one status gets the other
-abbrev pub turned : Status → Status → List Listed → List Listed
-turned from to releases = map (λ it. if has_status from it then with_status to it else it) releases
+abbrev pub status_changed : Status → Status → List Listed → List Listed
+status_changed from to releases = map (λ it. if has_status from it then with_status to it else it) releases
 
 abbrev pub set_at : Status → Option ℕ → List Listed → List Listed
 set_at status None releases = releases
-set_at status (Some place) releases = changed_at (with_status status) releases place
+set_at status (Some index) releases = changed_at (with_status status) releases index
 
 -- the release of a version gets a status
 abbrev pub set_status : List ℕ → Status → List Listed → List Listed
-set_status vsn status releases = set_at status (place_of vsn releases) releases
+set_status vsn status releases = set_at status (index_of vsn releases) releases
 
 -- Installed: an install of it is finished. What was current is old, and the release is current; a permanent one stays permanent.
 
@@ -127,8 +127,8 @@ is_permanent None = false
 is_permanent (Some status) = is_status Permanent status
 
 abbrev pub installed : List ℕ → List Listed → List Listed
-installed vsn releases = if is_permanent (status_of vsn releases) then turned Current Old releases
-    else set_status vsn Current (turned Current Old releases)
+installed vsn releases = if is_permanent (status_of vsn releases) then status_changed Current Old releases
+    else set_status vsn Current (status_changed Current Old releases)
 
 -- An install of it is refused where there is no such release, and where it runs already.
 
@@ -137,7 +137,7 @@ is_running vsn None = false
 is_running vsn (Some it) = bytes_eq vsn (vsn_of it)
 
 abbrev pub install_refusal : List ℕ → List Listed → Option RelError
-install_refusal vsn releases = if is_some (place_of vsn releases)
+install_refusal vsn releases = if is_some (index_of vsn releases)
     then (if is_running vsn (running releases) then Some refused.AlreadyInstalled else None) else Some refused.NoSuchRelease
 
 -- Made permanent: a current release is, and what was permanent is old; of a permanent one nothing changes.
@@ -154,7 +154,7 @@ permanent_refusal vsn releases = unless_installed (status_of vsn releases)
 
 abbrev pub made_permanent : List ℕ → List Listed → List Listed
 made_permanent vsn releases = if is_permanent (status_of vsn releases) then releases
-    else set_status vsn Permanent (turned Permanent Old releases)
+    else set_status vsn Permanent (status_changed Permanent Old releases)
 
 -- Rebooted old: the node restarts with an old release. It is permanent, and what was permanent or current is old.
 
@@ -170,7 +170,7 @@ reboot_refusal vsn releases = unless_old (status_of vsn releases)
 
 -- at a restart what was current is old
 abbrev pub restarted : List Listed → List Listed
-restarted releases = turned Current Old releases
+restarted releases = status_changed Current Old releases
 
 abbrev pub rebooted : List ℕ → List Listed → List Listed
-rebooted vsn releases = set_status vsn Permanent (turned Permanent Old (restarted releases))
+rebooted vsn releases = set_status vsn Permanent (status_changed Permanent Old (restarted releases))

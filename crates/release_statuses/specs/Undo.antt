@@ -6,7 +6,7 @@ use Rattle.release_statuses.specs.declared.undo.ReleasesUndo.{ReleasesUndo}
 use Rattle.release_statuses.specs.declared.undo.ReleasesUndo.TheVariants.{Added, Removed, Statuses}
 use Rattle.release_statuses.specs.Statuses.{HasPermanent, with_status}
 
--- each release with the status of its place
+-- each release with the status of its index
 abbrev pub with_statuses : List Status → List Listed → List Listed
 with_statuses [] releases = releases
 with_statuses (s ∷ ss) [] = []
@@ -15,13 +15,13 @@ with_statuses (s ∷ ss) (it ∷ others) = with_status s it ∷ with_statuses ss
 -- the releases that an undo gives back
 abbrev pub undone : ReleasesUndo → List Listed → List Listed
 undone Added releases = take (length releases - 1) releases
-undone (Removed place it) releases = insert releases place it
+undone (Removed index it) releases = insert releases index it
 undone (Statuses former) releases = with_statuses former releases
 
--- an undo's place is in the list
+-- an undo's index is in the list
 abbrev pub IsPlaced : ReleasesUndo → List Listed → Type 0
 IsPlaced Added releases = 0 < length releases
-IsPlaced (Removed place it) releases = place ≤ length releases
+IsPlaced (Removed index it) releases = index ≤ length releases
 IsPlaced (Statuses former) releases = length former ≡ length releases
 
 -- what `revert` needs: these are releases that the undo's change led to
@@ -37,5 +37,5 @@ pub record TakesBack (undo : ReleasesUndo) (before after : List Listed) : Type 0
 -- the undo of a removal, the one that puts a release back into the list
 abbrev pub IsRemoval : ReleasesUndo → Type 0
 IsRemoval Added = ⊥
-IsRemoval (Removed place it) = Unit {0}
+IsRemoval (Removed index it) = Unit {0}
 IsRemoval (Statuses former) = ⊥

@@ -21,11 +21,11 @@
 #![tactic(auto)]
 
 mod error;
+mod indices;
 mod listed;
-mod places;
 mod releases;
 mod status;
-mod turns;
+mod status_changes;
 mod undo;
 mod vsn;
 

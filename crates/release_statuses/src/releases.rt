@@ -6,8 +6,8 @@ ghost use Rattle.std.specs.Option.{option_copied};
 ghost use Rattle.std.specs.Str.{chars};
 
 use crate::error::RelError;
+use crate::indices::{index_of, index_with, is_of, listed, status_of};
 use crate::listed::Listed;
-use crate::places::{is_of, listed, place_of, place_with, status_of};
 use crate::status::Status;
 use release_table::Release;
 use std::alloc::{AllocError, Global};
@@ -94,8 +94,8 @@ impl Releases {
     pub fn running(&self) -> &Listed
         ensures { running self.now ≡ Some result.now }
     {
-        match place_with(&self.list, Status::Current) {
-            Some(place) => &self.list[place],
+        match index_with(&self.list, Status::Current) {
+            Some(index) => &self.list[index],
             None => self.permanent(),
         }
     }
@@ -104,8 +104,8 @@ impl Releases {
     pub fn permanent(&self) -> &Listed
         ensures { first_with status.Permanent self.now ≡ Some result.now }
     {
-        match place_with(&self.list, Status::Permanent) {
-            Some(place) => &self.list[place],
+        match index_with(&self.list, Status::Permanent) {
+            Some(index) => &self.list[index],
             None => unreachable!(),
         }
     }
@@ -115,7 +115,7 @@ impl Releases {
     pub fn unpack_refusal(&self, vsn: &str) -> Option<RelError>
         ensures { result ≡ unpack_refusal (chars vsn.now) self.now }
     {
-        match place_of(&self.list, vsn) {
+        match index_of(&self.list, vsn) {
             Some(_) => Some(RelError::Exists),
             None => None,
         }
@@ -138,7 +138,7 @@ impl Releases {
     pub fn install_refusal(&self, vsn: &str) -> Option<RelError>
         ensures { result ≡ install_refusal (chars vsn.now) self.now }
     {
-        if place_of(&self.list, vsn).is_none() {
+        if index_of(&self.list, vsn).is_none() {
             return Some(RelError::NoSuchRelease);
         }
         if is_of(self.running(), vsn) {

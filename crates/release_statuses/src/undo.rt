@@ -8,7 +8,7 @@ use values::Row;
 pub enum ReleasesUndo {
     /// A release was set unpacked: the last one.
     Added,
-    /// This release stood at this place.
+    /// This release stood at this index.
     Removed(usize, Listed),
     /// The releases had these statuses, in their order.
     Statuses(Row<Status>),

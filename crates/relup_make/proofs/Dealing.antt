@@ -12,10 +12,10 @@ use Rattle.std.proofs.lemmas.List.{get_or-map, length-map, map-append}
 use Rattle.low_instructions.specs.declared.low.Low.{Low}
 use Rattle.high_instructions.specs.Forms.{Name, Names}
 use Rattle.relup_make.specs.Dealt.{IsDealt, IsPut, dealt, is_first, names_of_pairs}
-use Rattle.relup_make.specs.Indexes.{place_of}
+use Rattle.relup_make.specs.Indexes.{index_of}
 use Rattle.relup_make.specs.Scripts.{each_once, modules_of}
 use Rattle.relup_make.proofs.Linked.{number_tells}
-use Rattle.relup_make.proofs.Places.{left, left_all, left_first, left_other}
+use Rattle.relup_make.proofs.Indices.{left, left_all, left_first, left_other}
 
 -- Piles
 
@@ -44,32 +44,32 @@ undealt others names n piles are = record { many = are.many; each = λ k d low. 
 
 -- Object code in order
 
-placed_first : (b : Bool) (place : ℕ) (o : Option ℕ) → option_map_or (λ first. first == place) o false ≡ b → b ≡ true → o ≡ Some place
-placed_first b place None is holds = absurd (let never : false ≡ true = is ∙ holds in let contrary : ⊥ = cc in contrary)
-placed_first b place (Some f) is holds = ap (λ n. Some n) (eqb-true f place (is ∙ holds))
+placed_first : (b : Bool) (index : ℕ) (o : Option ℕ) → option_map_or (λ first. first == index) o false ≡ b → b ≡ true → o ≡ Some index
+placed_first b index None is holds = absurd (let never : false ≡ true = is ∙ holds in let contrary : ⊥ = cc in contrary)
+placed_first b index (Some f) is holds = ap (λ n. Some n) (eqb-true f index (is ∙ holds))
 
-not_placed : (place : ℕ) (o : Option ℕ) → option_map_or (λ first. first == place) o false ≡ false → o ≡ Some place → ⊥
-not_placed place o is e =
-    let holds : option_map_or (λ first. first == place) o false ≡ true = ap (λ u. option_map_or (λ first. first == place) u false) e ∙ eq-eqb place place refl in
+not_placed : (index : ℕ) (o : Option ℕ) → option_map_or (λ first. first == index) o false ≡ false → o ≡ Some index → ⊥
+not_placed index o is e =
+    let holds : option_map_or (λ first. first == index) o false ≡ true = ap (λ u. option_map_or (λ first. first == index) u false) e ∙ eq-eqb index index refl in
     cc
 
--- the pile of an application's first place
-pub pile_of : (names : Names) (k : ℕ) (app : Name) (pairs : List (Name × Name)) (pile : Names) → place_of 0 app names ≡ Some k → pile ≡ dealt names k pairs → each_once pile ≡ modules_of app pairs
+-- the pile of an application's first index
+pub pile_of : (names : Names) (k : ℕ) (app : Name) (pairs : List (Name × Name)) (pile : Names) → index_of 0 app names ≡ Some k → pile ≡ dealt names k pairs → each_once pile ≡ modules_of app pairs
 pile_of names k app pairs pile first is =
-    ap each_once (is ∙ ap (map (λ p. p.1)) (filter_agree (λ p. is_first names k p.0) (λ p. bytes_eq p.0 app) (λ p. number_tells names app p.0 k (place_of 0 p.0 names) first refl) pairs))
+    ap each_once (is ∙ ap (map (λ p. p.1)) (filter_agree (λ p. is_first names k p.0) (λ p. bytes_eq p.0 app) (λ p. number_tells names app p.0 k (index_of 0 p.0 names) first refl) pairs))
 
 regrouped : (xs : List Low) (y : Low) (zs : List Low) → (xs ++ y ∷ []) ++ zs ≡ xs ++ y ∷ zs
 regrouped [] y zs = refl
 regrouped (x ∷ xs) y zs = ap (λ us. x ∷ us) (regrouped xs y zs)
 
-pub code_more : (F : Name → Low) (names : Names) (i : ℕ) (x : Name) (y : Low) (old new whole : List Low) (b : Bool) → i < length names → x ≡ get_or names i x → is_first names i x ≡ b → (place_of 0 x names ≡ Some i → y ≡ F x) → new ≡ old ++ (if b then y ∷ [] else []) → old ++ map F (left i names) ≡ whole → new ++ map F (left (i + 1) names) ≡ whole
+pub code_more : (F : Name → Low) (names : Names) (i : ℕ) (x : Name) (y : Low) (old new whole : List Low) (b : Bool) → i < length names → x ≡ get_or names i x → is_first names i x ≡ b → (index_of 0 x names ≡ Some i → y ≡ F x) → new ≡ old ++ (if b then y ∷ [] else []) → old ++ map F (left i names) ≡ whole → new ++ map F (left (i + 1) names) ≡ whole
 code_more F names i x y old new whole true within is here made more so_far =
-    let first = placed_first true i (place_of 0 x names) here refl in
+    let first = placed_first true i (index_of 0 x names) here refl in
     ap (λ ls. ls ++ map F (left (i + 1) names)) (more ∙ ap (λ l. old ++ l ∷ []) (made first))
     ∙ regrouped old (F x) (map F (left (i + 1) names)) ∙ ap (λ ns. old ++ map F ns) (sym (left_first names i x within is first)) ∙ so_far
 code_more F names i x y old new whole false within is here made more so_far =
     ap (λ ls. ls ++ map F (left (i + 1) names)) (more ∙ append-nil old)
-    ∙ ap (λ ns. old ++ map F ns) (sym (left_other names i x within is (not_placed i (place_of 0 x names) here))) ∙ so_far
+    ∙ ap (λ ns. old ++ map F ns) (sym (left_other names i x within is (not_placed i (index_of 0 x names) here))) ∙ so_far
 
 pub code_begun : (F : Name → Low) (names : Names) (start : List Low) → start ++ map F (left 0 names) ≡ start ++ map F (each_once names)
 code_begun F names start = ap (λ ns. start ++ map F ns) (left_all names)
@@ -81,7 +81,7 @@ code_ended F names i so_far whole past is =
     nothing : (others ns : Names) → ns ≡ [] → filter (λ n. not (list_any (λ o. bytes_eq o n) others)) (each_once ns) ≡ []
     nothing others ns e = ap (λ ms. filter (λ n. not (list_any (λ o. bytes_eq o n) others)) (each_once ms)) e
 
--- the same of the pair at a place
+-- the same of the pair at an index
 pub code_here : (F : Name → Low) (names : Names) (pairs : List (Name × Name)) (i : ℕ) (p : Name × Name) (pile : Names) (version : List ℕ) (old new whole : List Low) (make : Name → List ℕ → Names → Low) → i < length pairs → p ≡ get_or pairs i p → names ≡ names_of_pairs pairs → make p.0 version (modules_of p.0 pairs) ≡ F p.0 → pile ≡ dealt names i pairs → new ≡ old ++ (if is_first names i p.0 then make p.0 version (each_once pile) ∷ [] else []) → old ++ map F (left i (names_of_pairs pairs)) ≡ whole → new ++ map F (left (i + 1) (names_of_pairs pairs)) ≡ whole
 code_here F names pairs i p pile version old new whole make low is named same heap more so_far =
     let within : i < length (names_of_pairs pairs) = omega (arith, length-map pairs (λ (q : Name × Name). q.0)) in

@@ -1,5 +1,5 @@
 pub mod OneScript
-pub mod Places
+pub mod Indices
 pub mod Lookups
 pub mod Bases
 pub mod Firsts

@@ -1,4 +1,4 @@
--- Instructions at places.
+-- Instructions at indices.
 use Rattle.std.proofs.Common.{◌≡◌, ℕ, ◌+◌, ◌<◌, List, [], ◌∷◌, ◌++◌, length, get_or, take, Option, Some, None, sym, ap, ◌∙◌, refl}
 use Rattle.std.specs.Prelude.{option_and_then}
 use Rattle.std.specs.List.{cons_option, filter_map, flat_map, slice_get}
@@ -10,13 +10,13 @@ use Rattle.relup_make.specs.Scripts.{at}
 use Rattle.relup_make.proofs.Lookups.{lent_at}
 use Rattle.relup_make.proofs.Turns.{chosen_more}
 
--- at a place where nothing stands nothing is added
-pub nothing_at : {A B : Type 0} (g : Option A → List B) (xs : List A) (place : ℕ) (ys : List B) → g None ≡ [] → IsItemAt xs place None → ys ≡ ys ++ g (slice_get xs place)
-nothing_at g xs place ys empty none =
-    sym (ap (λ o. ys ++ g o) (sym (lent_at xs place None none)) ∙ ap (λ zs. ys ++ zs) empty ∙ append-nil ys)
+-- at an index where nothing stands nothing is added
+pub nothing_at : {A B : Type 0} (g : Option A → List B) (xs : List A) (index : ℕ) (ys : List B) → g None ≡ [] → IsItemAt xs index None → ys ≡ ys ++ g (slice_get xs index)
+nothing_at g xs index ys empty none =
+    sym (ap (λ o. ys ++ g o) (sym (lent_at xs index None none)) ∙ ap (λ zs. ys ++ zs) empty ∙ append-nil ys)
 
-pub place_more : {B : Type 0} (h : ℕ → Option B) (order : List ℕ) (i : ℕ) (so_far next : List B) → i < length order → next ≡ so_far ++ option_to_list (h (get_or order i 0)) → so_far ≡ filter_map h (take i order) → next ≡ filter_map h (take (i + 1) order)
-place_more h order i so_far next within more sum =
+pub index_more : {B : Type 0} (h : ℕ → Option B) (order : List ℕ) (i : ℕ) (so_far next : List B) → i < length order → next ≡ so_far ++ option_to_list (h (get_or order i 0)) → so_far ≡ filter_map h (take i order) → next ≡ filter_map h (take (i + 1) order)
+index_more h order i so_far next within more sum =
     chosen_more h order i (get_or order i 0) so_far next within (get_or_default order i 0 (get_or order i 0) within) more sum
 
 pub picked : {B : Type 0} (h : Instruction → Option B) (is : List Instruction) (order : List ℕ) → filter_map (λ p. option_and_then h (slice_get is p)) order ≡ filter_map h (at is order)

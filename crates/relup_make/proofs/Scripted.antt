@@ -19,7 +19,7 @@ use Rattle.relup_make.specs.Parts.{Ordered, loading_order}
 use Rattle.relup_make.specs.Scripts.{AreArranged, IsArrangement, IsScript, at, loaded_in, object_code, own_object_code, placed}
 use Rattle.relup_make.specs.Work.{Way}
 
--- What groups load, by their places
+-- What groups load, by their indices
 
 pub groups_load : {B : Type 0} (f : Instruction → List B) (direction : Direction) (is : List Instruction) (groups : List Group) → flat_map (λ g. flat_map f (at is (order_of_loads direction g))) groups ≡ flat_map (λ g. flat_map f (loading_order direction g)) (map (placed is) groups)
 groups_load f Up is groups = sym (flat_map-map (λ (g : Ordered Instruction). flat_map f (loading_order Up g)) (placed is) groups)

@@ -35,7 +35,7 @@ use Rattle.relup_make.specs.Work.{Way}
 use Rattle.relup_make.proofs.Picked.{picked_all}
 use Rattle.relup_make.proofs.Shape.{object-code-alone, parts-alone}
 
--- At all places stand all instructions
+-- At all indices stand all instructions
 
 behind : (ys is : List Instruction) → filter_map (slice_get (ys ++ is)) (range_with_len (length ys) (length is)) ≡ is
 behind ys [] = refl
@@ -51,7 +51,7 @@ behind ys (i ∷ is) =
 all-at : (is : List Instruction) → at is (upto (length is)) ≡ is
 all-at is = behind [] is
 
--- in whatever order the places are
+-- in whatever order the indices are
 at-permuted : (f : Instruction → List Low) (is : List Instruction) (ps qs : List ℕ) → ((p : ℕ) → times p ps ≡ times p qs) → IsPermutation (flat_map f (at is ps)) (flat_map f (at is qs))
 at-permuted f is ps qs same =
     let To : List Low → Type 0 = λ ys. IsPermutation (flat_map (λ p. option_map_or f (slice_get is p) []) ps) ys in

@@ -1,10 +1,10 @@
--- What is loaded, application by application: the modules of one are dealt to the place where it stands first.
+-- What is loaded, application by application: the modules of one are dealt to the index where it stands first.
 use Rattle.std.specs.Prelude.{◌≡◌, ◌<◌, ◌==◌, ℕ, Bool, true, false, if◌then◌else◌, List, [], ◌∷◌, ◌++◌, length, map}
 use Rattle.std.specs.Prelude.{filter, slice_index_or}
 use Rattle.std.specs.Option.{option_map_or}
 use Rattle.std.specs.declared.vec.Vec.{Vec}
 use Rattle.high_instructions.specs.Forms.{Name, Names}
-use Rattle.relup_make.specs.Indexes.{place_of}
+use Rattle.relup_make.specs.Indexes.{index_of}
 use Rattle.relup_make.specs.Releases.{has_app}
 use Rattle.relup_make.specs.Work.{Way, target}
 
@@ -15,15 +15,15 @@ IsInTarget way p = has_app p.0 (target way) ≡ true
 abbrev pub names_of_pairs : List (Name × Name) → Names
 names_of_pairs pairs = map (λ p. p.0) pairs
 
--- a name stands first at a place
+-- a name stands first at an index
 abbrev pub is_first : Names → ℕ → Name → Bool
-is_first names place name = option_map_or (λ first. first == place) (place_of 0 name names) false
+is_first names index name = option_map_or (λ first. first == index) (index_of 0 name names) false
 
--- the modules of the application that stands first at a place
+-- the modules of the application that stands first at an index
 abbrev pub dealt : Names → ℕ → List (Name × Name) → Names
-dealt names place pairs = map (λ p. p.1) (filter (λ p. is_first names place p.0) pairs)
+dealt names index pairs = map (λ p. p.1) (filter (λ p. is_first names index p.0) pairs)
 
--- so many piles, each with the modules that are dealt to its place
+-- so many piles, each with the modules that are dealt to its index
 pub record IsDealt {Z : Type 0} (names : Names) (pairs : List (Name × Name)) (count : ℕ) (piles : List (Vec Name Z)) :
     Type 0 where
   pub many : length piles ≡ count

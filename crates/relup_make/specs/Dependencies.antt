@@ -1,4 +1,4 @@
--- What instructions depend on (appup(4), DepMods). They are told apart by their places in the entry, counted from 0, for two
+-- What instructions depend on (appup(4), DepMods). They are told apart by their indices in the entry, counted from 0, for two
 -- may be equal.
 use Rattle.std.specs.Prelude.{ℕ, Bool, false, List, [], slice_get, Option, Some, None}
 use Rattle.std.specs.List.{list_any}
@@ -25,6 +25,6 @@ dependencies_of (Low low) = []
 abbrev pub depends_on : Instruction → Instruction → Bool
 depends_on i j = option_map_or (λ m. list_any (λ name. bytes_eq name m) (dependencies_of i)) (module_of j) false
 
--- the same of the instructions at two places of an entry
+-- the same of the instructions at two indices of an entry
 abbrev pub depends : List Instruction → ℕ → ℕ → Bool
 depends is p q = option_map_or (λ i. option_map_or (λ j. depends_on i j) (slice_get is q) false) (slice_get is p) false

@@ -4,11 +4,11 @@ use Rattle.std.specs.BTreeMap.{BTreeMap, get_by_text}
 use Rattle.std.specs.Str.{IsUtf8, bytes_eq, chars}
 use Rattle.high_instructions.specs.Forms.{Name, Names}
 
--- the first place of a name, where the first of these stands at this place
-abbrev pub place_of : ℕ → Name → Names → Option ℕ
-place_of place name [] = None
-place_of place name (other ∷ others) = if bytes_eq other name then Some place else place_of (place + 1) name others
+-- the first index of a name, where the first of these stands at this index
+abbrev pub index_of : ℕ → Name → Names → Option ℕ
+index_of index name [] = None
+index_of index name (other ∷ others) = if bytes_eq other name then Some index else index_of (index + 1) name others
 
--- a map finds these places by the text of a name
+-- a map finds these indices by the text of a name
 abbrev pub FindsFrom : {A : Type 0} → ℕ → BTreeMap (String A) ℕ → Names → Type 0
-FindsFrom place places names = (text : List ℕ) → IsUtf8 text → get_by_text places text ≡ place_of place (chars text) names
+FindsFrom index indices names = (text : List ℕ) → IsUtf8 text → get_by_text indices text ≡ index_of index (chars text) names

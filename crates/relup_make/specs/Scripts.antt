@@ -21,9 +21,9 @@ use Rattle.relup_make.specs.Work.{Way, target}
 
 -- Entries in order
 
--- the instructions at places
+-- the instructions at indices
 abbrev pub at : List Instruction → List ℕ → List Instruction
-at is places = filter_map (slice_get is) places
+at is indices = filter_map (slice_get is) indices
 
 abbrev pub placed : List Instruction → Group → Ordered Instruction
 placed is o = record { dependencies_first = at is o.dependencies_first; dependants_first = at is o.dependants_first }

@@ -9,7 +9,7 @@ use otp_files::{Change, Direction, High, Instruction, Low, ModuleChange, ModuleT
 use std::alloc::{AllocError, Global};
 use values::{Duplicate, Row};
 
-/// The changes of state of the instructions at places, in order: of modules of one kind, or of both.
+/// The changes of state of the instructions at indices, in order: of modules of one kind, or of both.
 ///
 /// # Errors
 ///
@@ -23,24 +23,24 @@ pub(crate) fn changes(
     ensures { IfOk result (λ found. found.items ≡ filter_map (change_for kind) (at instructions.now order.now)) }
 {
     let mut found = Vec::new(alloc);
-    for place in order {
-        append_at(alloc, kind, instructions, *place, &mut found)?;
+    for index in order {
+        append_at(alloc, kind, instructions, *index, &mut found)?;
     }
     Ok(found)
 }
 
-/// Appends the change of the instruction at a place, if it is one of the kind.
+/// Appends the change of the instruction at an index, if it is one of the kind.
 fn append_at(
     alloc: Global,
     kind: Option<ModuleType>,
     instructions: &[Instruction],
-    place: usize,
+    index: usize,
     found: &mut Vec<ModuleChange>,
 ) -> Result<(), AllocError>
     ensures { OnOk result (found.new.items ≡ found.old.items ++
-        option_to_list (option_and_then (change_for kind) (slice_get instructions.now place))) }
+        option_to_list (option_and_then (change_for kind) (slice_get instructions.now index))) }
 {
-    match instructions.get(place) {
+    match instructions.get(index) {
         Some(instruction) => append(alloc, kind, instruction, found),
         None => Ok(()),
     }

@@ -108,8 +108,8 @@ fn append_removed(alloc: Global, way: &Way<'_>, jobs: &mut Vec<Job>) -> Result<(
     ensures { OnOk result (jobs.new.items ≡ jobs.old.items ++ map (λ name. lone name remove) (removed (way_of way.now))) }
 {
     let apps = way.source().whole.rel.apps.as_slice();
-    for place in (0..apps.len()).rev() {
-        append_if_removed(alloc, way, &apps[place].name, jobs)?;
+    for index in (0..apps.len()).rev() {
+        append_if_removed(alloc, way, &apps[index].name, jobs)?;
     }
     Ok(())
 }

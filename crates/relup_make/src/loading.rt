@@ -10,7 +10,7 @@ use otp_files::{ApplicationWork, High, Instruction, ModuleWork};
 use std::alloc::{AllocError, Global};
 use values::Duplicate;
 
-/// Appends what the instructions at places of an application's entry load, in order: each module with its application.
+/// Appends what the instructions at indices of an application's entry load, in order: each module with its application.
 ///
 /// # Errors
 ///
@@ -26,25 +26,25 @@ pub(crate) fn append_loaded(
     ensures { OnOk result (loaded.new.items ≡ loaded.old.items ++
         flat_map (loaded_by (way_of way.now) app.now) (at instructions.now order.now)) }
 {
-    for place in order {
-        append_at(alloc, way, app, instructions, *place, loaded)?;
+    for index in order {
+        append_at(alloc, way, app, instructions, *index, loaded)?;
     }
     Ok(())
 }
 
-/// Appends what the instruction at a place loads.
+/// Appends what the instruction at an index loads.
 fn append_at(
     alloc: Global,
     way: &Way<'_>,
     app: &Atom,
     instructions: &[Instruction],
-    place: usize,
+    index: usize,
     loaded: &mut Vec<(Atom, Atom)>,
 ) -> Result<(), AllocError>
     ensures { OnOk result (loaded.new.items ≡ loaded.old.items ++
-        option_map_or (loaded_by (way_of way.now) app.now) (slice_get instructions.now place) []) }
+        option_map_or (loaded_by (way_of way.now) app.now) (slice_get instructions.now index) []) }
 {
-    match instructions.get(place) {
+    match instructions.get(index) {
         Some(instruction) => append_by(alloc, way, app, instruction, loaded),
         None => Ok(()),
     }

@@ -17,7 +17,7 @@ use values::{Duplicate, Row};
 /// Makes the relup that leads from one release to another and back, of the appups of the other's applications (appup(4),
 /// relup(4)).
 ///
-/// The appup at a place belongs to the application at that place of `to.apps`. One that is missing is none, and those
+/// The appup at an index belongs to the application at that index of `to.apps`. One that is missing is none, and those
 /// behind the last application count for nothing. The work is in the order in which `from.rel` and `to.rel` name the
 /// applications, whatever that of `from.apps` and `to.apps`.
 ///

@@ -2,7 +2,7 @@
 ghost use Rattle.std.specs.Prelude.{◌≡◌, ◌↔◌, Some, IfOk, IsTrue};
 ghost use Rattle.std.specs.List.{list_any};
 ghost use Rattle.std.specs.Str.{bytes_eq};
-ghost use Rattle.relup_make.specs.Indexes.{FindsFrom, place_of};
+ghost use Rattle.relup_make.specs.Indexes.{FindsFrom, index_of};
 ghost use Rattle.relup_make.specs.Scripts.{each_once};
 
 use erl_term::Atom;
@@ -11,11 +11,11 @@ use std::collections::BTreeMap;
 use std::marker::Model;
 use values::{Duplicate, Row};
 
-/// A list of names whose places are found by key.
+/// A list of names whose indices are found by key.
 #[derive(Drop)]
 pub(crate) struct Names {
     items: Row<Atom>,
-    places: BTreeMap<String, usize>,
+    indices: BTreeMap<String, usize>,
 }
 
 impl Model for Names {
@@ -26,7 +26,7 @@ impl Model for Names {
 
     ghost view = { λ a. a.items };
 
-    ghost invariant = { λ a. FindsFrom 0 a.places a.items };
+    ghost invariant = { λ a. FindsFrom 0 a.indices a.items };
 }
 
 impl Names {
@@ -38,8 +38,8 @@ impl Names {
     pub(crate) fn new(alloc: Global, items: Row<Atom>) -> Result<Names, AllocError>
         ensures { IfOk result (λ names. names ≡ items) }
     {
-        let places = index(alloc, items.as_slice())?;
-        Ok(Names { items, places })
+        let indices = index(alloc, items.as_slice())?;
+        Ok(Names { items, indices })
     }
 
     /// The names, in order. Takes no memory.
@@ -49,19 +49,19 @@ impl Names {
         self.items.as_slice()
     }
 
-    /// The first place of a name. Takes no memory.
-    pub(crate) fn place(&self, name: &Atom) -> Option<usize>
-        ensures { result ≡ place_of 0 name.now self.now }
+    /// The first index of a name. Takes no memory.
+    pub(crate) fn index_of(&self, name: &Atom) -> Option<usize>
+        ensures { result ≡ index_of 0 name.now self.now }
     {
-        self.places.get(name.as_str()).copied()
+        self.indices.get(name.as_str()).copied()
     }
 
-    /// Whether a name stands first at a place. Takes no memory.
-    pub(crate) fn is_first_at(&self, name: &Atom, place: usize) -> bool
-        ensures { IsTrue result ↔ (place_of 0 name.now self.now ≡ Some place) }
+    /// Whether a name stands first at an index. Takes no memory.
+    pub(crate) fn is_first_at(&self, name: &Atom, index: usize) -> bool
+        ensures { IsTrue result ↔ (index_of 0 name.now self.now ≡ Some index) }
     {
-        match self.place(name) {
-            Some(first) => first == place,
+        match self.index_of(name) {
+            Some(first) => first == index,
             None => false,
         }
     }
@@ -70,21 +70,21 @@ impl Names {
     pub(crate) fn has(&self, name: &Atom) -> bool
         ensures { result ≡ list_any (λ other. bytes_eq other name.now) self.now }
     {
-        self.place(name).is_some()
+        self.index_of(name).is_some()
     }
 }
 
-/// The first place of each name. Names are told apart by their order: whoever picks them can make them collide under a
+/// The first index of each name. Names are told apart by their order: whoever picks them can make them collide under a
 /// hasher that everybody knows.
 fn index(alloc: Global, items: &[Atom]) -> Result<BTreeMap<String, usize>, AllocError>
-    ensures { IfOk result (λ places. FindsFrom 0 places items.now) }
+    ensures { IfOk result (λ indices. FindsFrom 0 indices items.now) }
 {
-    let mut places = BTreeMap::new(alloc);
-    for place in (0..items.len()).rev() {
-        let name = String::from_str(alloc, items[place].as_str())?;
-        places.insert(name, place)?;
+    let mut indices = BTreeMap::new(alloc);
+    for index in (0..items.len()).rev() {
+        let name = String::from_str(alloc, items[index].as_str())?;
+        indices.insert(name, index)?;
     }
-    Ok(places)
+    Ok(indices)
 }
 
 /// Each name once, where it stands first.

@@ -3,17 +3,17 @@ ghost use Rattle.std.specs.Prelude.{◌≡◌, ◌++◌, IfOk, OnOk, filter_map,
 ghost use Rattle.std.specs.Option.{option_copied, option_to_list};
 ghost use Rattle.dependency_order.specs.Orders.{AreOrderedGroups};
 ghost use Rattle.relup_make.specs.Dependencies.{dependencies_of, depends, module_of};
-ghost use Rattle.relup_make.specs.Indexes.{place_of};
+ghost use Rattle.relup_make.specs.Indexes.{index_of};
 ghost use Rattle.relup_make.specs.Numbers.{number, numbered};
 
 use crate::names::Names;
-use dependency_order::{Group, Place, groups};
+use dependency_order::{Group, Vertex, groups};
 use erl_term::Atom;
 use otp_files::{High, Instruction};
 use std::alloc::{AllocError, Global};
 use values::{Duplicate, Row};
 
-/// The groups of an entry's instructions, in order, each in its two orders, by their places.
+/// The groups of an entry's instructions, in order, each in its two orders, by their indices.
 ///
 /// # Errors
 ///
@@ -21,20 +21,20 @@ use values::{Duplicate, Row};
 pub(crate) fn ordered(alloc: Global, instructions: &[Instruction]) -> Result<Row<Group>, AllocError>
     ensures { IfOk result (λ groups. AreOrderedGroups (depends instructions.now) (length instructions.now) groups) }
 {
-    let places = places(alloc, instructions)?;
-    groups(alloc, places.as_slice())
+    let vertices = vertices(alloc, instructions)?;
+    groups(alloc, vertices.as_slice())
 }
 
-/// What stands at each place, in numbers.
-fn places(alloc: Global, instructions: &[Instruction]) -> Result<Vec<Place>, AllocError>
-    ensures { IfOk result (λ places. places.items ≡ map (numbered (filter_map module_of instructions.now)) instructions.now) }
+/// Each instruction as a vertex, in numbers.
+fn vertices(alloc: Global, instructions: &[Instruction]) -> Result<Vec<Vertex>, AllocError>
+    ensures { IfOk result (λ vertices. vertices.items ≡ map (numbered (filter_map module_of instructions.now)) instructions.now) }
 {
     let modules = Names::new(alloc, modules(alloc, instructions)?)?;
-    let mut places = Vec::with_capacity(alloc, instructions.len())?;
+    let mut vertices = Vec::with_capacity(alloc, instructions.len())?;
     for instruction in instructions {
-        places.push(place(alloc, &modules, instruction)?)?;
+        vertices.push(vertex(alloc, &modules, instruction)?)?;
     }
-    Ok(places)
+    Ok(vertices)
 }
 
 /// The modules that instructions are on, in order.
@@ -63,29 +63,29 @@ fn append_module(
     Ok(())
 }
 
-/// What stands at the place of an instruction: a module is numbered by its first place among those of the entry.
-fn place(alloc: Global, modules: &Names, instruction: &Instruction) -> Result<Place, AllocError>
-    ensures { IfOk result (λ place. place ≡ numbered modules.now instruction.now) }
+/// An instruction as a vertex: a module is numbered by its first index among those of the entry.
+fn vertex(alloc: Global, modules: &Names, instruction: &Instruction) -> Result<Vertex, AllocError>
+    ensures { IfOk result (λ vertex. vertex ≡ numbered modules.now instruction.now) }
 {
     let mut dependencies = Vec::new(alloc);
     let names = dependencies_of(instruction);
     for name in names {
-        append_place(modules, name, &mut dependencies)?;
+        append_index(modules, name, &mut dependencies)?;
     }
-    Ok(Place {
+    Ok(Vertex {
         module: number(modules, instruction),
         dependencies: Row::new(dependencies),
     })
 }
 
-/// Appends the place of a name, if it has one.
-fn append_place(modules: &Names, name: &Atom, numbers: &mut Vec<usize>) -> Result<(), AllocError>
-    ensures { OnOk result (numbers.new.items ≡ numbers.old.items ++ option_to_list (place_of 0 name.now modules.now)) }
+/// Appends the index of a name, if it has one.
+fn append_index(modules: &Names, name: &Atom, numbers: &mut Vec<usize>) -> Result<(), AllocError>
+    ensures { OnOk result (numbers.new.items ≡ numbers.old.items ++ option_to_list (index_of 0 name.now modules.now)) }
 {
-    let Some(place) = modules.place(name) else {
+    let Some(index) = modules.index_of(name) else {
         return Ok(());
     };
-    numbers.push(place)?;
+    numbers.push(index)?;
     Ok(())
 }
 
@@ -94,7 +94,7 @@ fn number(modules: &Names, instruction: &Instruction) -> usize
     ensures { result ≡ number modules.now instruction.now }
 {
     match module_of(instruction) {
-        Some(module) => modules.place(module).unwrap_or(modules.as_slice().len()),
+        Some(module) => modules.index_of(module).unwrap_or(modules.as_slice().len()),
         None => modules.as_slice().len(),
     }
 }

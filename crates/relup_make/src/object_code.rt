@@ -45,21 +45,21 @@ pub(crate) fn append_object_code(
     Ok(())
 }
 
-/// Appends the object code of an application, if it stands first at a place.
+/// Appends the object code of an application, if it stands first at an index.
 fn append_at(
     alloc: Global,
     way: &Way<'_>,
     names: &Names,
-    place: usize,
+    index: usize,
     app: &Atom,
     modules: &[Atom],
     script: &mut Vec<Low>,
 ) -> Result<(), AllocError>
     requires { has_app app.now (target (way_of way.now)) ≡ true }
-    ensures { OnOk result (script.new.items ≡ script.old.items ++ (if is_first names.now place app.now
+    ensures { OnOk result (script.new.items ≡ script.old.items ++ (if is_first names.now index app.now
         then load_object_code app.now (version_in app.now (target (way_of way.now))) (each_once_of modules.now) ∷ [] else [])) }
 {
-    if !names.is_first_at(app, place) {
+    if !names.is_first_at(app, index) {
         return Ok(());
     }
     let Some(spec) = way.target().spec(app) else {
@@ -87,7 +87,7 @@ fn names(alloc: Global, loaded: &[(Atom, Atom)]) -> Result<Row<Atom>, AllocError
     Ok(Row::new(names))
 }
 
-/// The modules that are loaded of each application, in order, at the application's first place; none at other places.
+/// The modules that are loaded of each application, in order, at the application's first index; none at other indices.
 fn deal(alloc: Global, names: &Names, loaded: &[(Atom, Atom)]) -> Result<Vec<Vec<Atom>>, AllocError>
     requires { names.now ≡ names_of_pairs loaded.now }
     ensures { IfOk result (λ piles. IsDealt names.now loaded.now (length loaded.now) piles.items) }
@@ -121,10 +121,10 @@ fn put(
     requires { length names.now ≤ vec_len piles.old }
     ensures { OnOk result (IsPut names.now (app.now, name.now) piles.old.items piles.new.items) }
 {
-    let Some(place) = names.place(app) else {
+    let Some(index) = names.index_of(app) else {
         return Ok(());
     };
     let name = name.copy(alloc)?;
-    piles[place].push(name)?;
+    piles[index].push(name)?;
     Ok(())
 }

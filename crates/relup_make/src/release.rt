@@ -1,7 +1,7 @@
 // A release whose applications are found by name.
 ghost use Rattle.std.specs.Prelude.{◌≡◌, IfOk};
 ghost use Rattle.std.specs.Option.{option_copied};
-ghost use Rattle.relup_make.specs.Indexes.{place_of};
+ghost use Rattle.relup_make.specs.Indexes.{index_of};
 ghost use Rattle.relup_make.specs.Releases.{has_app, modules_in, spec_named, start_type_in};
 ghost use Rattle.relup_make.specs.Work.{names_of};
 
@@ -34,19 +34,19 @@ impl<'a> Release<'a> {
         Ok(Release { whole, names })
     }
 
-    /// The place of an application, if it is there. Takes no memory.
-    pub(crate) fn place(&self, name: &Atom) -> Option<usize>
-        ensures { result ≡ place_of 0 name.now (names_of self.now.whole.now.apps) }
+    /// The index of an application, if it is there. Takes no memory.
+    pub(crate) fn index_of(&self, name: &Atom) -> Option<usize>
+        ensures { result ≡ index_of 0 name.now (names_of self.now.whole.now.apps) }
     {
-        self.names.place(name)
+        self.names.index_of(name)
     }
 
     /// An application, if it is there. Takes no memory.
     pub(crate) fn spec(&self, name: &Atom) -> Option<&'a AppSpec>
         ensures { option_copied result ≡ spec_named name.now self.now.whole.now.apps }
     {
-        match self.place(name) {
-            Some(place) => self.whole.apps.as_slice().get(place),
+        match self.index_of(name) {
+            Some(index) => self.whole.apps.as_slice().get(index),
             None => None,
         }
     }

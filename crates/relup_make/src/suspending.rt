@@ -9,7 +9,7 @@ use otp_files::{High, Instruction, Low, ModuleWork, Suspension};
 use std::alloc::{AllocError, Global};
 use values::{Duplicate, Row};
 
-/// The suspensions of the instructions at places, in order.
+/// The suspensions of the instructions at indices, in order.
 ///
 /// # Errors
 ///
@@ -22,23 +22,23 @@ pub(crate) fn suspensions(
     ensures { IfOk result (λ found. found.items ≡ suspensions (at instructions.now order.now)) }
 {
     let mut found = Vec::new(alloc);
-    for place in order {
-        append_at(alloc, instructions, *place, &mut found)?;
+    for index in order {
+        append_at(alloc, instructions, *index, &mut found)?;
     }
     Ok(found)
 }
 
-/// Appends the suspension of the instruction at a place, if it is suspended.
+/// Appends the suspension of the instruction at an index, if it is suspended.
 fn append_at(
     alloc: Global,
     instructions: &[Instruction],
-    place: usize,
+    index: usize,
     found: &mut Vec<Suspension>,
 ) -> Result<(), AllocError>
     ensures { OnOk result (found.new.items ≡ found.old.items ++
-        option_to_list (option_and_then suspension_of (slice_get instructions.now place))) }
+        option_to_list (option_and_then suspension_of (slice_get instructions.now index))) }
 {
-    match instructions.get(place) {
+    match instructions.get(index) {
         Some(instruction) => append(alloc, instruction, found),
         None => Ok(()),
     }
@@ -92,8 +92,8 @@ pub(crate) fn resumed(alloc: Global, suspended: &[Suspension]) -> Result<Vec<Ato
     ensures { IfOk result (λ names. names.items ≡ map (λ s. s.name) (reverse suspended.now)) }
 {
     let mut names = Vec::with_capacity(alloc, suspended.len())?;
-    for place in (0..suspended.len()).rev() {
-        names.push(suspended[place].name.copy(alloc)?)?;
+    for index in (0..suspended.len()).rev() {
+        names.push(suspended[index].name.copy(alloc)?)?;
     }
     Ok(names)
 }

@@ -83,17 +83,17 @@ impl<'a> Way<'a> {
     pub(crate) fn appup(&self, name: &Atom) -> Option<&'a Appup>
         ensures { option_copied result ≡ appup_of (way_of self.now) name.now }
     {
-        match self.new.place(name) {
-            Some(place) => self.appup_at(place),
+        match self.new.index_of(name) {
+            Some(index) => self.appup_at(index),
             None => None,
         }
     }
 
-    /// The appup at a place, if there is one. Takes no memory.
-    fn appup_at(&self, place: usize) -> Option<&'a Appup>
-        ensures { option_copied result ≡ option_and_then (λ appup. appup) (slice_get self.now.appups.now place) }
+    /// The appup at an index, if there is one. Takes no memory.
+    fn appup_at(&self, index: usize) -> Option<&'a Appup>
+        ensures { option_copied result ≡ option_and_then (λ appup. appup) (slice_get self.now.appups.now index) }
     {
-        match self.appups.get(place) {
+        match self.appups.get(index) {
             Some(appup) => appup.as_ref(),
             None => None,
         }

@@ -14,7 +14,7 @@ use otp_files::{ApplicationWork, High, Instruction, Low, ModuleWork, Purge};
 use std::alloc::{AllocError, Global};
 use values::{Duplicate, Row, copied_slice};
 
-/// Appends what the instructions at places load and remove, in order.
+/// Appends what the instructions at indices load and remove, in order.
 ///
 /// # Errors
 ///
@@ -29,24 +29,24 @@ pub(crate) fn append_works(
     ensures { OnOk result (parts.new.items ≡ parts.old.items ++
         flat_map (work_of (way_of way.now)) (at instructions.now order.now)) }
 {
-    for place in order {
-        append_at(alloc, way, instructions, *place, parts)?;
+    for index in order {
+        append_at(alloc, way, instructions, *index, parts)?;
     }
     Ok(())
 }
 
-/// Appends what the instruction at a place loads and removes.
+/// Appends what the instruction at an index loads and removes.
 fn append_at(
     alloc: Global,
     way: &Way<'_>,
     instructions: &[Instruction],
-    place: usize,
+    index: usize,
     parts: &mut Vec<Low>,
 ) -> Result<(), AllocError>
     ensures { OnOk result (parts.new.items ≡ parts.old.items ++
-        option_map_or (work_of (way_of way.now)) (slice_get instructions.now place) []) }
+        option_map_or (work_of (way_of way.now)) (slice_get instructions.now index) []) }
 {
-    match instructions.get(place) {
+    match instructions.get(index) {
         Some(instruction) => append_work(alloc, way, instruction, parts),
         None => Ok(()),
     }

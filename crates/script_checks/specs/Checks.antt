@@ -62,13 +62,13 @@ any_faulty before None = false
 any_faulty before (Some i) = is_faulty before i
 
 abbrev pub is_faulty_at : List Low → ℕ → Bool
-is_faulty_at script place = any_faulty (take place script) (slice_get script place)
+is_faulty_at script index = any_faulty (take index script) (slice_get script index)
 
--- The least place of a faulty instruction, counted from 0; where none is faulty but the point is missing, the length of the
+-- The least index of a faulty instruction, counted from 0; where none is faulty but the point is missing, the length of the
 -- script.
 
 abbrev pub or_missing : Option ℕ → List Low → Option ℕ
-or_missing (Some place) script = Some place
+or_missing (Some index) script = Some index
 or_missing None script = if has_point script then None else Some (length script)
 
 abbrev pub bad_script : List Low → Option ℕ

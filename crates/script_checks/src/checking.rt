@@ -78,16 +78,16 @@ fn is_passed(has_point: bool, instruction: &Low) -> bool
     has_point || is_point(instruction)
 }
 
-/// The least place of a faulty instruction of a script, counted from 0, or its length where none is faulty but the point of
+/// The least index of a faulty instruction of a script, counted from 0, or its length where none is faulty but the point of
 /// no return is missing; nothing where it can be installed. Takes no memory.
 pub fn check(script: &[Low]) -> Option<usize>
     ensures { result ≡ bad_script script.now }
 {
     let mut has_point = false;
-    for place in 0..script.len() {
-        let instruction = &script[place];
-        if is_faulty(&script[..place], has_point, instruction) {
-            return Some(place);
+    for index in 0..script.len() {
+        let instruction = &script[index];
+        if is_faulty(&script[..index], has_point, instruction) {
+            return Some(index);
         }
         has_point = is_passed(has_point, instruction);
     }

@@ -2,7 +2,7 @@
 //!
 //! # What is proved
 //!
-//! [`check`] tells the least place of a faulty instruction, or that the point of no return is missing, and nothing of a
+//! [`check`] tells the least index of a faulty instruction, or that the point of no return is missing, and nothing of a
 //! script that can be installed (`bad_script`): before the point of no return, which stands once, object code is read and
 //! functions are applied, but none of the module `application`; behind it no object code is read; and what is loaded was
 //! read. It takes no memory.

@@ -27,4 +27,4 @@ abbrev pub TakesBack : ChildrenUndo → Supervised → Supervised → Type 0
 TakesBack (Changed processes apps) before after =
     ProcessesBack processes before.processes after.processes × AppsBack apps before.apps after.apps
 TakesBack (Unloaded u) before after =
-    (after.processes ≡ before.processes) × (reloaded u after.apps ≡ before.apps) × (u.place ≤ length after.apps)
+    (after.processes ≡ before.processes) × (reloaded u after.apps ≡ before.apps) × (u.index ≤ length after.apps)

@@ -1,7 +1,7 @@
 // A script is finished.
 ghost use Rattle.std.specs.Prelude.{◌≡◌, IfErr, IfOk, IsSome, OnErr, OnOk, map};
 ghost use Rattle.process_table.specs.States.{all_unresumed};
-ghost use Rattle.release_statuses.specs.Statuses.{place_of};
+ghost use Rattle.release_statuses.specs.Statuses.{index_of};
 ghost use Rattle.release_statuses.specs.Undo.{Fits, IsRemoval, undone};
 ghost use Rattle.script_ends.specs.Ends.{FinishBack, processes_finished, releases_finished};
 ghost use Rattle.script_state.specs.Runner.{runner_of};
@@ -39,7 +39,7 @@ pub fn finish(
     alloc: Global,
     runner: Runner,
 ) -> Result<Finish, Runner>
-    requires { IsSome (place_of runner.target releases.old) }
+    requires { IsSome (index_of runner.target releases.old) }
     ensures processes { OnOk result (processes.new ≡ processes_finished (runner_of runner) processes.old) }
     ensures releases { OnOk result (releases.new ≡ releases_finished (runner_of runner) releases.old) }
     ensures back { IfOk result

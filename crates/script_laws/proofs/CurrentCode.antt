@@ -51,7 +51,7 @@ use Rattle.sys_protocol.specs.Stopping.{app_pids, to_start, to_stop}
 use Rattle.upgrade_calls.specs.Applying as functions
 use Rattle.upgrade_calls.specs.Changing as states
 use Rattle.upgrade_calls.specs.Changing.{AllChange, after_change, with_state}
-use Rattle.upgrade_calls.specs.declared.changing.Change.{Change}
+use Rattle.upgrade_calls.specs.declared.changing.CodeChangeCall.{CodeChangeCall}
 
 -- What is evaluated asks for what rests in the code in which it was evaluated: a start function, `init` of a callback module,
 -- `code_change/3`, and a function that is applied.
@@ -66,14 +66,14 @@ module _ (code : List Instance) where
       let w : World = record { code = map instance code; pid = 0; mode = plain } in
       steps_keep_code.evaluated w code s.name (codes "init") (more (tree s.arguments) none) o refl gives
 
-  change_begins_at : (c : Change) (at : Place) (o : Outcome) → states.GivesAt code c at o → All (StartsIn code) o.acts
+  change_begins_at : (c : CodeChangeCall) (at : Place) (o : Outcome) → states.GivesAt code c at o → All (StartsIn code) o.acts
   change_begins_at c (Server m s) o gives =
       let w : World = record { code = map instance code; pid = c.pid; mode = plain } in
       let args : Trees = more (tree c.vsn) (more (tree s) (more (tree c.extra) none)) in
       steps_keep_code.evaluated w code m (codes "code_change") args o refl gives
   change_begins_at c (Loop m serial f args) o gives = absurd gives
 
-  change_begins : (c : Change) (l : Option ProcessEntry) (o : Outcome) → states.Gives code c l o → All (StartsIn code) o.acts
+  change_begins : (c : CodeChangeCall) (l : Option ProcessEntry) (o : Outcome) → states.Gives code c l o → All (StartsIn code) o.acts
   change_begins c None o gives = absurd gives
   change_begins c (Some l) o gives = change_begins_at c l.process.place o gives
 
@@ -102,7 +102,7 @@ module _ (m : Loaded Forms) (code : List Instance) (stand : All (StandsIn m) (ma
       children_keep runs.specs (initialized code runs.outcome t) runs.all_run.0 after runs.others runs.all_run.1
       (steps_keep_code.starts None code runs.outcome.acts m t kept stand begins)
 
-  changes_keep : (cs : List Change) (t after : Table) (told : List Reply) → AllChange code cs t after told →
+  changes_keep : (cs : List CodeChangeCall) (t after : Table) (told : List Reply) → AllChange code cs t after told →
       IsConsistent m t → IsConsistent m after
   changes_keep [] t after told all kept = subst (λ (u : Table). IsConsistent m u) (sym all.0) kept
   changes_keep (c ∷ cs) t after told (o, state, others, changes, rest, tells) kept =

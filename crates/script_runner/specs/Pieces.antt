@@ -49,5 +49,5 @@ SpecsLost (Purged u) before after = replacing.held_of u.ended after ≡ []
 SpecsLost (Suspended count) before after = Unit {0}
 SpecsLost (Resumed u) before after = Unit {0}
 SpecsLost (Changed u) before after =
-    (place : ℕ) → AreSpecsLost (all_formers_at place u.renewals) (children_at place before) (children_at place after)
+    (index : ℕ) → AreSpecsLost (all_formers_at index u.renewals) (children_at index before) (children_at index after)
 SpecsLost (Children u count) before after = children.SpecsTaken (children.held_apps u after) before after

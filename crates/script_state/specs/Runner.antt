@@ -13,7 +13,7 @@ use Rattle.script_state.specs.declared.noted.NotedVersion.{NotedVersion}
 use Rattle.script_state.specs.declared.runner.Progress.{Progress}
 use Rattle.script_state.specs.declared.runner.Runner.{Runner}
 
--- How far a script has come: the place of the next instruction; the processes that were suspended and not resumed since; the
+-- How far a script has come: the index of the next instruction; the processes that were suspended and not resumed since; the
 -- children that were stopped; and what is noted of the modules whose object code is at hand.
 pub record ProgressState : Type 0 where
   pub next : ℕ

@@ -12,7 +12,7 @@ use release_words::Version;
 /// its lists without the room that they have.
 #[derive(Drop)]
 pub struct Progress {
-    /// The place of the next instruction, counted from 0.
+    /// The index of the next instruction, counted from 0.
     pub next: usize,
     /// The processes that were suspended and not resumed since, in order. Some may have ended.
     pub suspended: Vec<u64>,
@@ -40,8 +40,8 @@ pub struct Runner {
 }
 
 /// The next instruction of a script, if one is left. Takes no memory.
-pub fn instruction_at(script: &[Low], place: usize) -> Option<&Low>
-    ensures { option_copied result ≡ slice_get script.now place }
+pub fn instruction_at(script: &[Low], index: usize) -> Option<&Low>
+    ensures { option_copied result ≡ slice_get script.now index }
 {
-    script.get(place)
+    script.get(index)
 }

@@ -17,7 +17,7 @@ use Rattle.script_steps.specs.declared.stepping.NoStep.TheVariants.{AtEnd, Busy,
 use Rattle.values.specs.declared.failure.Failure.{Failure}
 use Rattle.values.specs.declared.failure.Failure.TheVariants.{Refused, Memory}
 
--- The parts of a node, the script, and the place of its next instruction.
+-- The parts of a node, the script, and the index of its next instruction.
 pub record ScriptState : Type 0 where
   pub parts : Parts
   pub script : List Low

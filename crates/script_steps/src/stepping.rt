@@ -49,33 +49,33 @@ pub enum NoStep {
     CounterEnd,
 }
 
-/// Whether the point of no return stands before a place of a script.
-fn is_behind(script: &[Low], place: usize) -> bool
-    ensures { result ≡ has_point (take place script.now) }
+/// Whether the point of no return stands before an index of a script.
+fn is_behind(script: &[Low], index: usize) -> bool
+    ensures { result ≡ has_point (take index script.now) }
 {
-    match script.get(..place) {
+    match script.get(..index) {
         Some(before) => has_point(before),
         None => has_point(script),
     }
 }
 
-/// On which side of the point of no return a place of a script is.
-fn side_of(script: &[Low], place: usize) -> Side
-    ensures { result ≡ side_by (has_point (take place script.now)) }
+/// On which side of the point of no return an index of a script is.
+fn side_of(script: &[Low], index: usize) -> Side
+    ensures { result ≡ side_by (has_point (take index script.now)) }
 {
-    if is_behind(script, place) {
+    if is_behind(script, index) {
         return Side::Behind;
     }
     Side::Before
 }
 
-/// Why an instruction at a place of a script was not carried out.
-fn no_step(script: &[Low], place: usize, halt: Halt) -> NoStep
-    ensures { result ≡ no_step_of (side_by (has_point (take place script.now))) halt }
+/// Why an instruction at an index of a script was not carried out.
+fn no_step(script: &[Low], index: usize, halt: Halt) -> NoStep
+    ensures { result ≡ no_step_of (side_by (has_point (take index script.now))) halt }
 {
     match halt {
         Halt::Busy(pid) => NoStep::Busy(pid),
-        Halt::Failed(reason) => NoStep::Failed(side_of(script, place), reason),
+        Halt::Failed(reason) => NoStep::Failed(side_of(script, index), reason),
         Halt::CounterEnd => NoStep::CounterEnd,
     }
 }
@@ -111,8 +111,8 @@ pub fn step(
           next = progress.new.next;
         }) result }
 {
-    let place = progress.next;
-    let Some(next) = instruction_at(script, place) else {
+    let index = progress.next;
+    let Some(next) = instruction_at(script, index) else {
         return Err(Failure::Refused(NoStep::AtEnd));
     };
     match carry_out(
@@ -120,10 +120,10 @@ pub fn step(
     ) {
         Ok(carried) => {
             let Carried { told, undo } = carried;
-            progress.next = place + 1;
+            progress.next = index + 1;
             Ok(Stepped { told, undo })
         }
-        Err(Failure::Refused(halt)) => Err(Failure::Refused(no_step(script, place, halt))),
+        Err(Failure::Refused(halt)) => Err(Failure::Refused(no_step(script, index, halt))),
         Err(Failure::Memory) => Err(Failure::Memory),
     }
 }

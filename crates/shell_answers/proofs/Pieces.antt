@@ -163,20 +163,20 @@ pub element : (is_first : Bool) (t : Tree) (ts : Trees) (old out mid new whole :
 element is_first t ts old out mid new whole so_far sep wrote =
     so_far ∙ ap (λ l. out ++ l) (listed-more is_first t ts) ∙ sym (append_assoc out (separator is_first) (bytes t ++ utf8 (listed false ts))) ∙ ap (λ l. l ++ (bytes t ++ utf8 (listed false ts))) (sym sep) ∙ sym (append_assoc mid (bytes t) (utf8 (listed false ts))) ∙ ap (λ l. l ++ utf8 (listed false ts)) (sym wrote)
 
--- Places in a list
+-- Indices in a list
 
--- the element at a place, and those behind it
-pub at_place : {A : Type 0} (xs : List A) (place : ℕ) (x : A) → place < length xs → Some x ≡ slice_get xs place → drop place xs ≡ x ∷ drop (place + 1) xs
-at_place xs place x within is = from_here xs place x within (ap (λ o. unwrap_or o x) is ∙ unwrap_or-slice_get xs place x)
+-- the element at an index, and those behind it
+pub at_index : {A : Type 0} (xs : List A) (index : ℕ) (x : A) → index < length xs → Some x ≡ slice_get xs index → drop index xs ≡ x ∷ drop (index + 1) xs
+at_index xs index x within is = from_here xs index x within (ap (λ o. unwrap_or o x) is ∙ unwrap_or-slice_get xs index x)
 
 -- behind an element none is the first
-pub not_first : (place : ℕ) → eqb (place + 1) 0 ≡ false
-not_first place = ne_eqb (place + 1) 0 (λ e. absurd (omega (arith, e)))
+pub not_first : (index : ℕ) → eqb (index + 1) 0 ≡ false
+not_first index = ne_eqb (index + 1) 0 (λ e. absurd (omega (arith, e)))
 
--- the elements from the end: the one at a place, and those before it
-pub at_end : {A : Type 0} (xs : List A) (place k : ℕ) (x : A) → place + (k + 1) ≡ length xs → x ≡ get_or xs k x → reverse (take (length xs - place) xs) ≡ x ∷ reverse (take (length xs - (place + 1)) xs)
-at_end xs place k x is e =
-    let here : length xs - place ≡ k + 1 = omega (arith, is) in
-    let behind : length xs - (place + 1) ≡ k = omega (arith, is) in
+-- the elements from the end: the one at an index, and those before it
+pub at_end : {A : Type 0} (xs : List A) (index k : ℕ) (x : A) → index + (k + 1) ≡ length xs → x ≡ get_or xs k x → reverse (take (length xs - index) xs) ≡ x ∷ reverse (take (length xs - (index + 1)) xs)
+at_end xs index k x is e =
+    let here : length xs - index ≡ k + 1 = omega (arith, is) in
+    let behind : length xs - (index + 1) ≡ k = omega (arith, is) in
     let within : k < length xs = omega (arith, is) in
     ap (λ n. reverse (take n xs)) here ∙ ap reverse (take_more xs k x within) ∙ reverse-append (take k xs) (get_or xs k x ∷ []) ∙ ap (λ y. y ∷ reverse (take k xs)) (sym e) ∙ ap (λ n. x ∷ reverse (take n xs)) (sym behind)

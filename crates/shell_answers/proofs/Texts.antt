@@ -62,17 +62,17 @@ unfolding utf8 is_quoted_word encode
 called-line n =
     sym (tuple-bytes (atom (codes "call")) (more (int (pos n)) none) (10 ∷ []))
 
-pub job-line : (place n : ℕ) → codes "{job," ++ (bytes (int (pos place)) ++ (44 ∷ [] ++ (bytes (pid n) ++ codes "}\n"))) ≡ line_of (job_of place n)
+pub job-line : (index n : ℕ) → codes "{job," ++ (bytes (int (pos index)) ++ (44 ∷ [] ++ (bytes (pid n) ++ codes "}\n"))) ≡ line_of (job_of index n)
 unfolding utf8 is_quoted_word encode
-job-line place n =
-    sym (tuple-bytes (atom (codes "job")) (more (int (pos place)) (more (pid n) none)) (10 ∷ []))
+job-line index n =
+    sym (tuple-bytes (atom (codes "job")) (more (int (pos index)) (more (pid n) none)) (10 ∷ []))
 
 -- and where the pid stands in pieces
-pub job-pieces : (place n : ℕ) → codes "{job," ++ (bytes (int (pos place)) ++ (codes ",<0." ++ (bytes (int (pos n)) ++ codes ".0>}\n"))) ≡ line_of (job_of place n)
-job-pieces place n =
+pub job-pieces : (index n : ℕ) → codes "{job," ++ (bytes (int (pos index)) ++ (codes ",<0." ++ (bytes (int (pos n)) ++ codes ".0>}\n"))) ≡ line_of (job_of index n)
+job-pieces index n =
     let number = bytes (int (pos n)) in
     let apart : (codes "<0." ++ (number ++ codes ".0>")) ++ codes "}\n" ≡ codes "<0." ++ (number ++ codes ".0>}\n") = append_assoc (codes "<0.") (number ++ codes ".0>") (codes "}\n") ∙ ap (λ l. codes "<0." ++ l) (append_assoc number (codes ".0>") (codes "}\n")) in
-    ap (λ l. codes "{job," ++ (bytes (int (pos place)) ++ 44 ∷ l)) (sym apart ∙ ap (λ l. l ++ codes "}\n") (pid-pieces n)) ∙ job-line place n
+    ap (λ l. codes "{job," ++ (bytes (int (pos index)) ++ 44 ∷ l)) (sym apart ∙ ap (λ l. l ++ codes "}\n") (pid-pieces n)) ∙ job-line index n
 
 pub revived-line : (n : ℕ) → codes "{revived," ++ (bytes (pid n) ++ codes "}\n") ≡ line_of (revived n)
 unfolding utf8 is_quoted_word encode
@@ -90,7 +90,7 @@ unfolding utf8 is_quoted_word encode
 down-pieces client number t =
     sym (tuple-alone (atom (codes "down")) (more (int (pos client)) (more (int (pos number)) (more (tree t) none))))
 
--- Places
+-- Indices
 
 pub server-pieces : (m : List ℕ) (state : Tree) → codes "{server," ++ (bytes (atom m) ++ (44 ∷ [] ++ (bytes state ++ 125 ∷ []))) ≡ bytes (triple (atom (codes "server")) (atom m) state)
 unfolding utf8 is_quoted_word encode
@@ -414,10 +414,10 @@ bad_script-word : bytes (atom (codes "bad_script")) ≡ codes "bad_script"
 unfolding utf8 is_quoted_word encode
 bad_script-word = refl
 
-pub bad_script-line : (place : ℕ) → codes "{error," ++ ((123 ∷ (codes "bad_script" ++ 44 ∷ (bytes (int (pos place)) ++ 125 ∷ []))) ++ codes "}\n") ≡ line_of (bad_script place)
+pub bad_script-line : (index : ℕ) → codes "{error," ++ ((123 ∷ (codes "bad_script" ++ 44 ∷ (bytes (int (pos index)) ++ 125 ∷ []))) ++ codes "}\n") ≡ line_of (bad_script index)
 unfolding utf8 is_quoted_word encode
-bad_script-line place =
-    ap (λ l. codes "{error," ++ (l ++ codes "}\n")) (placed-pieces (codes "bad_script") place bad_script-word) ∙ sym (tuple-bytes (atom (codes "error")) (more (placed (codes "bad_script") place) none) (10 ∷ []))
+bad_script-line index =
+    ap (λ l. codes "{error," ++ (l ++ codes "}\n")) (placed-pieces (codes "bad_script") index bad_script-word) ∙ sym (tuple-bytes (atom (codes "error")) (more (placed (codes "bad_script") index) none) (10 ∷ []))
 
 pub old_processes-line : (name : List ℕ) → codes "{error,{old_processes," ++ (bytes (atom name) ++ codes "}}\n") ≡ line_of (old_processes (Some name))
 unfolding utf8 is_quoted_word encode
@@ -466,7 +466,7 @@ dashed name vsn first mid whole valid also p q r =
     let front : chars mid ≡ chars name ++ 45 ∷ [] = ap chars (q ∙ ap (λ l. l ++ encode_utf8 45) p) ∙ chars-append name (encode_utf8 45) valid ∙ ap (λ cs. chars name ++ cs) one in
     ap chars r ∙ chars-append mid vsn also ∙ ap (λ cs. cs ++ chars vsn) front ∙ append_assoc (chars name) (45 ∷ []) (chars vsn)
 
--- the names of the release at a place
+-- the names of the release at an index
 pub names_at : (names : List (Vec (String Global) Global)) (releases : List Listed) (k : ℕ) (row : Vec (String Global) Global) (it : Listed) → AreNames names releases → k < length releases → row ≡ get_or names k row → it ≡ get_or releases k it → characters_of row ≡ named_versions it
 names_at names releases k row it are within is_row is =
     let long : length names ≡ length releases = sym (length-map names characters_of) ∙ ap length are ∙ length-map releases named_versions in

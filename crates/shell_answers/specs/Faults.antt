@@ -55,9 +55,9 @@ error_of file.NoTerm = atom (codes "no_term")
 error_of file.ManyTerms = atom (codes "many_terms")
 error_of (file.Shape element) = placed (codes "shape") element
 error_of file.DuplicateKey = atom (codes "duplicate_key")
-error_of (file.BadInstruction place) = placed (codes "bad_instruction") place
+error_of (file.BadInstruction index) = placed (codes "bad_instruction") index
 error_of file.PatternVersion = atom (codes "pattern_version")
-error_of (file.OutOfProfile place) = placed (codes "out_of_profile") place
+error_of (file.OutOfProfile index) = placed (codes "out_of_profile") index
 error_of file.Memory = atom (codes "memory")
 
 -- of any file

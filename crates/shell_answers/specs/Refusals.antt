@@ -89,7 +89,7 @@ no_matching_relup vsn running =
     pair (atom (codes "error")) (triple (atom (codes "no_matching_relup")) (string_tree vsn) (string_tree running))
 
 abbrev pub bad_script : ℕ → Tree
-bad_script place = pair (atom (codes "error")) (placed (codes "bad_script") place)
+bad_script index = pair (atom (codes "error")) (placed (codes "bad_script") index)
 
 abbrev pub old_processes : Option (List ℕ) → Tree
 old_processes None = error (codes "old_processes")
@@ -98,8 +98,8 @@ old_processes (Some name) = pair (atom (codes "error")) (pair (atom (codes "old_
 abbrev pub install_refusal : Subject → InstallError → Tree
 install_refusal about (install.OfReleases why) = release_refusal about.vsn why
 install_refusal about install.NoMatchingRelup = no_matching_relup about.vsn about.running
-install_refusal about (install.BadScript place) = bad_script place
-install_refusal about (install.OldProcesses place) = old_processes (module_at about.script place)
+install_refusal about (install.BadScript index) = bad_script index
+install_refusal about (install.OldProcesses index) = old_processes (module_at about.script index)
 
 -- a process runs that is to be suspended: `{error,{busy,Pid}}`
 abbrev pub busy : ℕ → Tree

@@ -22,11 +22,11 @@ pub fn write_apps(apps: &AppTable, out: &mut Vec<u8>) -> Result<(), AllocError>
 fn put_apps(apps: &AppTable, out: &mut Vec<u8>) -> Result<(), AllocError>
     ensures { OnOk result (out.new.items ≡ out.old.items ++ utf8 (elements_text (apps_of apps.now))) }
 {
-    for place in 0..apps.len() {
-        let Some(app) = apps.app(place) else {
+    for index in 0..apps.len() {
+        let Some(app) = apps.app(index) else {
             unreachable!()
         };
-        put_separator(place == 0, out)?;
+        put_separator(index == 0, out)?;
         put_app(app, out)?;
     }
     Ok(())

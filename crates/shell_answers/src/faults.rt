@@ -67,9 +67,9 @@ fn put_error(error: FileError, out: &mut Vec<u8>) -> Result<(), AllocError>
         FileError::ManyTerms => put(b"many_terms", out),
         FileError::Shape(element) => put_placed(b"shape", u64::from(element), out),
         FileError::DuplicateKey => put(b"duplicate_key", out),
-        FileError::BadInstruction(place) => put_placed(b"bad_instruction", place, out),
+        FileError::BadInstruction(index) => put_placed(b"bad_instruction", index, out),
         FileError::PatternVersion => put(b"pattern_version", out),
-        FileError::OutOfProfile(place) => put_placed(b"out_of_profile", place, out),
+        FileError::OutOfProfile(index) => put_placed(b"out_of_profile", index, out),
         FileError::Memory => put(b"memory", out),
     }
 }

@@ -43,11 +43,11 @@ pub fn write_called(number: u64, out: &mut Vec<u8>) -> Result<(), AllocError>
 }
 
 /// Appends `{job,J,Pid}`.
-pub fn write_job(place: u64, pid: u64, out: &mut Vec<u8>) -> Result<(), AllocError>
-    ensures { OnOk result (out.new.items ≡ out.old.items ++ line_of (job_of place pid)) }
+pub fn write_job(number: u64, pid: u64, out: &mut Vec<u8>) -> Result<(), AllocError>
+    ensures { OnOk result (out.new.items ≡ out.old.items ++ line_of (job_of number pid)) }
 {
     put(b"{job,", out)?;
-    put_number(place, out)?;
+    put_number(number, out)?;
     put(b",<0.", out)?;
     put_number(pid, out)?;
     put(b".0>}\n", out)

@@ -23,11 +23,11 @@ pub fn write_modules(modules: &Modules<Module>, out: &mut Vec<u8>) -> Result<(),
 fn put_entries(modules: &Modules<Module>, out: &mut Vec<u8>) -> Result<(), AllocError>
     ensures { OnOk result (out.new.items ≡ out.old.items ++ utf8 (elements_text (modules_of modules.now.entries))) }
 {
-    for place in 0..modules.len() {
-        let Some((name, slots)) = modules.entry(place) else {
+    for index in 0..modules.len() {
+        let Some((name, slots)) = modules.entry(index) else {
             unreachable!()
         };
-        put_separator(place == 0, out)?;
+        put_separator(index == 0, out)?;
         put_module(name, slots, out)?;
     }
     Ok(())

@@ -134,11 +134,11 @@ fn write_no_matching_relup(vsn: &str, running: &str, out: &mut Vec<u8>) -> Resul
 }
 
 /// Appends `{error,{bad_script,I}}`.
-fn write_bad_script(place: u64, out: &mut Vec<u8>) -> Result<(), AllocError>
-    ensures { OnOk result (out.new.items ≡ out.old.items ++ line_of (bad_script place)) }
+fn write_bad_script(index: u64, out: &mut Vec<u8>) -> Result<(), AllocError>
+    ensures { OnOk result (out.new.items ≡ out.old.items ++ line_of (bad_script index)) }
 {
     put(b"{error,", out)?;
-    put_placed(b"bad_script", place, out)?;
+    put_placed(b"bad_script", index, out)?;
     put(b"}\n", out)
 }
 
@@ -172,9 +172,9 @@ fn write_install_refusal(
     match why {
         InstallError::OfReleases(why) => write_release_refusal(about.vsn, why, out),
         InstallError::NoMatchingRelup => write_no_matching_relup(about.vsn, about.running, out),
-        InstallError::BadScript(place) => write_bad_script(place as u64, out),
-        InstallError::OldProcesses(place) => {
-            write_old_processes(module_at(about.script, place), out)
+        InstallError::BadScript(index) => write_bad_script(index as u64, out),
+        InstallError::OldProcesses(index) => {
+            write_old_processes(module_at(about.script, index), out)
         }
     }
 }

@@ -76,9 +76,9 @@ pub fn names_in_releases(alloc: Global, releases: &[Listed]) -> Result<Vec<Vec<S
 fn put_strings(texts: &[String], out: &mut Vec<u8>) -> Result<(), AllocError>
     ensures { OnOk result (out.new.items ≡ out.old.items ++ utf8 (elements_text (rows string_tree (map characters texts.now)))) }
 {
-    for place in 0..texts.len() {
-        put_separator(place == 0, out)?;
-        print_string(texts[place].as_str(), out)?;
+    for index in 0..texts.len() {
+        put_separator(index == 0, out)?;
+        print_string(texts[index].as_str(), out)?;
     }
     Ok(())
 }
@@ -109,9 +109,9 @@ fn put_releases(
     ensures { OnOk result (out.new.items ≡ out.old.items ++ utf8 (elements_text (releases_in (which_releases releases.now)))) }
 {
     let last = releases.len();
-    for place in 0..last {
-        put_separator(place == 0, out)?;
-        let from_end = last - 1 - place;
+    for index in 0..last {
+        put_separator(index == 0, out)?;
+        let from_end = last - 1 - index;
         put_release(&releases[from_end], names[from_end].as_slice(), out)?;
     }
     Ok(())

@@ -67,9 +67,9 @@ pub fn write_restarted(reason: &Term, out: &mut Vec<u8>) -> Result<(), AllocErro
 fn put_names(names: &[Atom], out: &mut Vec<u8>) -> Result<(), AllocError>
     ensures { OnOk result (out.new.items ≡ out.old.items ++ utf8 (elements_text (rows atom names.now))) }
 {
-    for place in 0..names.len() {
-        put_separator(place == 0, out)?;
-        print_atom(&names[place], out)?;
+    for index in 0..names.len() {
+        put_separator(index == 0, out)?;
+        print_atom(&names[index], out)?;
     }
     Ok(())
 }

@@ -14,8 +14,8 @@ use Rattle.erl_term.specs.Tree.{Tree, atom, int, list, pid, tuple}
 use Rattle.erl_term.specs.declared.term.Term.TheVariants as term
 use Rattle.std.specs.Prelude.{option_and_then, option_map, position, slice_get}
 use Rattle.erl_term.specs.declared.term.Term.{Term}
-use Rattle.process.proofs.Places.{position_at, position_nowhere}
-use Rattle.app_table.specs.Applications.{Application, app_of, child_at, child_of, has_id, has_name, place_of, spot_in}
+use Rattle.process.proofs.Indices.{position_at, position_nowhere}
+use Rattle.app_table.specs.Applications.{Application, app_of, child_at, child_of, has_id, has_name, index_of, spot_in}
 use Rattle.shell_exec.specs.Done.{child_called, is_id}
 
 -- Names.
@@ -73,7 +73,7 @@ module _ {A : Type 0} where
   within (y ∷ ys) (suc k) x at = let rest = within ys k x at in (omega (arith, rest.0), rest.1)
 
   module _ (test : A → Bool) where
-    -- of those before a place none passes
+    -- of those before an index none passes
     abbrev pub NonePasses : ℕ → List A → Type 0
     NonePasses n xs = (k : ℕ) (x : A) → k < n → slice_get xs k ≡ Some x → test x ≡ false
 
@@ -90,15 +90,15 @@ module _ {A : Type 0} where
 pub no_app : (name : List ℕ) (apps : List Application) → NonePasses (has_name name) (length apps) apps → app_of name apps ≡ None
 no_app name apps none = ap (λ o. option_and_then (slice_get apps) o) (nowhere (has_name name) apps none)
 
-pub app_found : (name : List ℕ) (apps : List Application) (place : ℕ) (a : Application) → NonePasses (has_name name) place apps → slice_get apps place ≡ Some a → has_name name a ≡ true → app_of name apps ≡ Some a
-app_found name apps place a none at passes =
-    ap (λ o. option_and_then (slice_get apps) o) (first (has_name name) apps place a none at passes) ∙ at
+pub app_found : (name : List ℕ) (apps : List Application) (index : ℕ) (a : Application) → NonePasses (has_name name) index apps → slice_get apps index ≡ Some a → has_name name a ≡ true → app_of name apps ≡ Some a
+app_found name apps index a none at passes =
+    ap (λ o. option_and_then (slice_get apps) o) (first (has_name name) apps index a none at passes) ∙ at
 
 -- Children.
 
 module _ (id : Term) (apps : List Application) where
-  by_place : (a : Application) (p : ℕ) → slice_get apps p ≡ Some a → option_and_then (λ spot. child_at spot apps) (spot_in (has_id id) p apps) ≡ child_called id a.children
-  by_place a p at =
+  by_index : (a : Application) (p : ℕ) → slice_get apps p ≡ Some a → option_and_then (λ spot. child_at spot apps) (spot_in (has_id id) p apps) ≡ child_called id a.children
+  by_index a p at =
       go (option_and_then (λ (b : Application). position (has_id id) b.children) (slice_get apps p)) ∙ ap (λ o. option_and_then (slice_get a.children) (option_and_then (λ (b : Application). position (has_id id) b.children) o)) at
     where
       go : (o : Option ℕ) → option_and_then (λ spot. child_at spot apps) (option_map (λ child. record { app = p; child = child }) o) ≡ option_and_then (slice_get a.children) o
@@ -107,7 +107,7 @@ module _ (id : Term) (apps : List Application) where
 
   in_app : (a : Application) (o : Option ℕ) → option_and_then (slice_get apps) o ≡ Some a → option_and_then (λ spot. child_at spot apps) (option_and_then (λ app. spot_in (has_id id) app apps) o) ≡ child_called id a.children
   in_app a None is = absurd (let never : ⊥ = cc in never)
-  in_app a (Some p) is = by_place a p is
+  in_app a (Some p) is = by_index a p is
 
   in_none : (o : Option ℕ) → option_and_then (slice_get apps) o ≡ None → option_and_then (λ spot. child_at spot apps) (option_and_then (λ app. spot_in (has_id id) app apps) o) ≡ None
   in_none None is = refl
@@ -115,7 +115,7 @@ module _ (id : Term) (apps : List Application) where
       ap (λ o. option_and_then (λ spot. child_at spot apps) (option_map (λ child. record { app = p; child = child }) (option_and_then (λ (b : Application). position (has_id id) b.children) o))) is
 
 pub child_in : (name : List ℕ) (id : Term) (apps : List Application) (a : Application) → app_of name apps ≡ Some a → child_of name id apps ≡ child_called id a.children
-child_in name id apps a is = in_app id apps a (place_of name apps) is
+child_in name id apps a is = in_app id apps a (index_of name apps) is
 
 pub no_child : (name : List ℕ) (id : Term) (apps : List Application) → app_of name apps ≡ None → child_of name id apps ≡ None
-no_child name id apps is = in_none id apps (place_of name apps) is
+no_child name id apps is = in_none id apps (index_of name apps) is

@@ -17,10 +17,10 @@ use Rattle.node_types.specs.declared.event.Event.{Event}
 use Rattle.node_types.specs.declared.event.Event.TheVariants as event
 use Rattle.node_types.specs.Note.{Note}
 use Rattle.shell_requests.specs.Request.{Request, Spoken, ask, change, load, undo, forget, commit, arrive, serve, revive, unpack, release, relup, advance, sweep, too_long, silent, unknown, asks}
-use Rattle.shell_requests.specs.declared.request.Arrival.{Arrival}
-use Rattle.shell_requests.specs.declared.request.Arrival.TheVariants as arrivals
-use Rattle.shell_requests.specs.declared.request.Change.{Change}
-use Rattle.shell_requests.specs.declared.request.Change.TheVariants as changes
+use Rattle.shell_requests.specs.declared.request.ArrivalKind.{ArrivalKind}
+use Rattle.shell_requests.specs.declared.request.ArrivalKind.TheVariants as arrivals
+use Rattle.shell_requests.specs.declared.request.CodeOperation.{CodeOperation}
+use Rattle.shell_requests.specs.declared.request.CodeOperation.TheVariants as changes
 use Rattle.std.specs.Str.{chars}
 use Rattle.shell_requests.specs.declared.request.Question.{Question}
 use Rattle.shell_requests.specs.declared.request.ReleaseChange.{ReleaseChange}
@@ -62,7 +62,7 @@ module _ (s : ShellState) where
   took pid a answer (tells.Job job) rule = carried (event.Take pid) a rule
   took pid a answer _ rule = carried (event.Take pid) a rule
 
-  changed : (kind : Change) (name : List ℕ) (a : Accepted NodeState Answer Note) → Step (node_of s) (effects.change_event kind name) (Ok a) → IsLed s (performing.done_by s (effects.change_event kind name) a)
+  changed : (kind : CodeOperation) (name : List ℕ) (a : Accepted NodeState Answer Note) → Step (node_of s) (effects.change_event kind name) (Ok a) → IsLed s (performing.done_by s (effects.change_event kind name) a)
   changed changes.Delete name a rule = carried (event.Delete name) a rule
   changed changes.Purge name a rule = carried (event.Purge name) a rule
   changed changes.SoftPurge name a rule = carried (event.SoftPurge name) a rule
@@ -75,17 +75,17 @@ module _ (s : ShellState) where
       performs s (event.Load m) naming_nothing _ fate d refl (carried (event.Load m)) does
   loads name path _ _ (effects.unread bytes fate d found does) = misses naming_nothing event.Load fate d does
 
-  tried_same : (kind : Arrival) → (effects.tried kind s).timeline ≡ s.timeline
+  tried_same : (kind : ArrivalKind) → (effects.tried kind s).timeline ≡ s.timeline
   tried_same arrivals.Call = refl
   tried_same arrivals.Cast = refl
   tried_same arrivals.Info = refl
 
-  arrived : (kind : Arrival) (number : ℕ) (name : List ℕ) (t : Term) (a : Accepted NodeState Answer Note) → Step (node_of s) (effects.event_of_arrival kind number name t) (Ok a) → IsLed s (performing.done_by (effects.tried kind s) (effects.event_of_arrival kind number name t) a)
+  arrived : (kind : ArrivalKind) (number : ℕ) (name : List ℕ) (t : Term) (a : Accepted NodeState Answer Note) → Step (node_of s) (effects.event_of_arrival kind number name t) (Ok a) → IsLed s (performing.done_by (effects.tried kind s) (effects.event_of_arrival kind number name t) a)
   arrived arrivals.Call number name t a rule = carried (effects.event_of_arrival arrivals.Call number name t) a rule
   arrived arrivals.Cast number name t a rule = carried (effects.event_of_arrival arrivals.Cast number name t) a rule
   arrived arrivals.Info number name t a rule = carried (effects.event_of_arrival arrivals.Info number name t) a rule
 
-  arrives : (kind : Arrival) (name text : List ℕ) (fate : Option Fate) (d : Effect) → effects.Arrives s kind name text fate d → IsLed s d
+  arrives : (kind : ArrivalKind) (name text : List ℕ) (fate : Option Fate) (d : Effect) → effects.Arrives s kind name text fate d → IsLed s d
   arrives kind name text _ _ (effects.no_text fault at is) = refl
   arrives kind name text _ _ (effects.several is) = refl
   arrives kind name text _ _ (effects.read t fate d is does) =
@@ -155,7 +155,7 @@ module _ (s : ShellState) where
   executes fate (load name path) d does = loads name path fate d does
   executes fate (undo mark) d does = undoes mark fate d does
   executes fate (forget mark) d does = forgets mark fate d does
-  executes fate (commit place) d does = commits (serving.kept_job place s.jobs) fate d does
+  executes fate (commit job) d does = commits (serving.kept_job job s.jobs) fate d does
   executes fate (arrive kind name text) d does = arrives kind name text fate d does
   executes fate (serve service who) d does = serves service (effects.pid_meant who (node_of s)) fate d does
   executes fate (revive app id) d does = performs s (event.Revive app (term.Atom id)) naming_nothing _ fate d refl (carried (event.Revive app (term.Atom id))) does

@@ -16,9 +16,9 @@ use Rattle.shell_upgrades.specs.Node.{NodeState}
 use Rattle.shell_upgrades.specs.Step.{soft_purge_refusal}
 use Rattle.release_files.specs.Files.{Contents, file_of}
 use Rattle.release_files.specs.declared.fault.FileFault.TheVariants as file
-use Rattle.shell_requests.specs.declared.request.Arrival.{Arrival}
-use Rattle.shell_requests.specs.declared.request.Change.{Change}
-use Rattle.shell_requests.specs.declared.request.Change.TheVariants as changes
+use Rattle.shell_requests.specs.declared.request.ArrivalKind.{ArrivalKind}
+use Rattle.shell_requests.specs.declared.request.CodeOperation.{CodeOperation}
+use Rattle.shell_requests.specs.declared.request.CodeOperation.TheVariants as changes
 use Rattle.shell_upgrades.specs.State.{ShellState}
 use Rattle.shell_upgrades.specs.Halt.{Halt}
 use Rattle.shell_upgrades.specs.Halt.TheVariants.{Full, Refused, Memory}
@@ -32,7 +32,7 @@ use Rattle.values.specs.declared.failure.Failure.{Failure}
 use Rattle.values.specs.declared.failure.Failure.TheVariants as failures
 
 -- why a change of a module is refused where no script runs
-abbrev pub refusal_of_change : Change → List ℕ → NodeState → Option CodeError
+abbrev pub refusal_of_change : CodeOperation → List ℕ → NodeState → Option CodeError
 refusal_of_change changes.Delete name n = delete_refusal name n.modules
 refusal_of_change changes.Purge name n = None
 refusal_of_change changes.SoftPurge name n = soft_purge_refusal name n
@@ -69,7 +69,7 @@ not_loaded (failures.Refused why) = Faulted (file.Lang why)
 not_loaded failures.Memory = Unread
 
 -- what is told of an arrival that was not performed: a call is counted, unless memory was refused
-abbrev pub after_missed : Halt → Arrival → ShellState → ShellState
+abbrev pub after_missed : Halt → ArrivalKind → ShellState → ShellState
 after_missed Full kind s = tried kind s
 after_missed (Refused why) kind s = tried kind s
 after_missed Memory kind s = s

@@ -23,10 +23,10 @@ use Rattle.shell_answers.specs.Faults.{file_fault, term_fault}
 use Rattle.shell_answers.specs.Refusals.{naming_nothing}
 use Rattle.shell_answers.specs.declared.fixed.Fixed.TheVariants as words
 use Rattle.shell_requests.specs.Request.{Request, Spoken, Who, ask, change, load, undo, forget, commit, arrive, serve, revive, unpack, release, relup, advance, sweep, numbered, named, too_long, silent, unknown, asks}
-use Rattle.shell_requests.specs.declared.request.Arrival.{Arrival}
-use Rattle.shell_requests.specs.declared.request.Arrival.TheVariants as arrivals
-use Rattle.shell_requests.specs.declared.request.Change.{Change}
-use Rattle.shell_requests.specs.declared.request.Change.TheVariants as changes
+use Rattle.shell_requests.specs.declared.request.ArrivalKind.{ArrivalKind}
+use Rattle.shell_requests.specs.declared.request.ArrivalKind.TheVariants as arrivals
+use Rattle.shell_requests.specs.declared.request.CodeOperation.{CodeOperation}
+use Rattle.shell_requests.specs.declared.request.CodeOperation.TheVariants as changes
 use Rattle.shell_upgrades.specs.Performing.{Misses, Performs, done_by}
 use Rattle.shell_upgrades.specs.Serving.{Asks, CommitsKept, Forgets, ServesAs, Undoes, kept_job}
 use Rattle.shell_upgrades.specs.State.{Effect, ShellState, answered, next_number, node_of, with_call}
@@ -37,12 +37,12 @@ use Rattle.shell_exec.specs.Terms.{IsRead, one, not_one, faulty}
 
 -- `delete`, `purge`, `soft_purge MOD`
 
-abbrev pub change_event : Change → List ℕ → Event
+abbrev pub change_event : CodeOperation → List ℕ → Event
 change_event changes.Delete name = event.Delete name
 change_event changes.Purge name = event.Purge name
 change_event changes.SoftPurge name = event.SoftPurge name
 
-abbrev pub Changes : ShellState → Change → List ℕ → Option Fate → Effect → Type 0
+abbrev pub Changes : ShellState → CodeOperation → List ℕ → Option Fate → Effect → Type 0
 Changes s kind name fate d =
     Performs s s (change_event kind name) naming_nothing (done_by s (change_event kind name)) fate d
 
@@ -62,28 +62,28 @@ pub data Loads (s : ShellState) (name path : List ℕ) : Option Fate → Effect 
 -- `call`, `cast`, `send NAME TERM`: what stands against the term is told first. A call is counted where its arrival is
 -- tried: its term was read, and memory was not refused.
 
-abbrev pub body_of : Arrival → ℕ → Term → ClientMessage
+abbrev pub body_of : ArrivalKind → ℕ → Term → ClientMessage
 body_of arrivals.Call number t = body.Call number t
 body_of arrivals.Cast number t = body.Cast t
 body_of arrivals.Info number t = body.Info t
 
-abbrev pub event_of_arrival : Arrival → ℕ → List ℕ → Term → Event
+abbrev pub event_of_arrival : ArrivalKind → ℕ → List ℕ → Term → Event
 event_of_arrival kind number name t = event.Arrive 0 name (body_of kind number t)
 
-abbrev pub arrival_event : ShellState → Arrival → List ℕ → Term → Event
+abbrev pub arrival_event : ShellState → ArrivalKind → List ℕ → Term → Event
 arrival_event s kind name t = event_of_arrival kind (next_number s) name t
 
-abbrev pub tried : Arrival → ShellState → ShellState
+abbrev pub tried : ArrivalKind → ShellState → ShellState
 tried arrivals.Call s = with_call s
 tried arrivals.Cast s = s
 tried arrivals.Info s = s
 
-abbrev pub arrival_answer : Arrival → ℕ → Tree
+abbrev pub arrival_answer : ArrivalKind → ℕ → Tree
 arrival_answer arrivals.Call number = called number
 arrival_answer arrivals.Cast number = fixed words.Done
 arrival_answer arrivals.Info number = fixed words.Done
 
-pub data Arrives (s : ShellState) (kind : Arrival) (name text : List ℕ) : Option Fate → Effect → Type 0 where
+pub data Arrives (s : ShellState) (kind : ArrivalKind) (name text : List ℕ) : Option Fate → Effect → Type 0 where
   no_text : (fault : Fault) (at : ℕ) → IsRead text (faulty fault at) →
       Arrives s kind name text None (answered s (term_fault fault at))
   several : IsRead text not_one → Arrives s kind name text None (answered s (fixed words.BadCommand))
@@ -114,7 +114,7 @@ Executes fate s (change kind name) d = Changes s kind name fate d
 Executes fate s (load name path) d = Loads s name path fate d
 Executes fate s (undo mark) d = Undoes s mark fate d
 Executes fate s (forget mark) d = Forgets s mark fate d
-Executes fate s (commit place) d = CommitsKept s (kept_job place s.jobs) fate d
+Executes fate s (commit job) d = CommitsKept s (kept_job job s.jobs) fate d
 Executes fate s (arrive kind name text) d = Arrives s kind name text fate d
 Executes fate s (serve service who) d = ServesAs s service (pid_meant who (node_of s)) fate d
 Executes fate s (revive app id) d = RevivesChild s app id fate d

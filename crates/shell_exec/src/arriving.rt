@@ -18,15 +18,15 @@ ghost use Rattle.shell_exec.specs.Terms.{IsRead, one};
 use crate::reading::{Misread, term_of};
 use erl_term::{Atom, Term};
 use node_types::{Event, Refusal};
-use process_table::{BodyKind, ClientMessage, ProcError};
+use process_table::{ClientMessage, MessageKind, ProcError};
 use shell_answers::{Fixed, write_called};
-use shell_requests::{Arrival, Name};
+use shell_requests::{ArrivalKind, Name};
 use shell_upgrades::{Halt, Said, Shell, say, say_term_fault, tell_halt, tell_missed};
 
 /// Has the term of a text arrive for the process of a name.
 pub(crate) fn arrive(
     held: &mut Shell,
-    kind: Arrival,
+    kind: ArrivalKind,
     name: Name<'_>,
     text: &str,
     out: &mut Vec<u8>,
@@ -43,7 +43,7 @@ pub(crate) fn arrive(
 }
 
 /// Tells what stands against an arrival whatever its term is, which was not read, or else lack of memory.
-fn tell_unread(held: &Shell, kind: Arrival, name: Name<'_>, out: &mut Vec<u8>) -> Said
+fn tell_unread(held: &Shell, kind: ArrivalKind, name: Name<'_>, out: &mut Vec<u8>) -> Said
     ensures { IfOk result (λ fate. (halt : Halt)
         × HaltsBy (RefusesAll held.now (arrival_event held.now kind (chars name.entry.text.now)))
         (MayAllRunOut held.now (arrival_event held.now kind (chars name.entry.text.now))) halt held.now
@@ -55,7 +55,7 @@ fn tell_unread(held: &Shell, kind: Arrival, name: Name<'_>, out: &mut Vec<u8>) -
 /// Has a term arrive.
 fn arrive_term(
     held: &mut Shell,
-    kind: Arrival,
+    kind: ArrivalKind,
     name: Name<'_>,
     term: Term,
     out: &mut Vec<u8>,
@@ -70,7 +70,13 @@ fn arrive_term(
 }
 
 /// Has a term arrive for a name.
-fn arrive_named(held: &mut Shell, kind: Arrival, name: Atom, term: Term, out: &mut Vec<u8>) -> Said
+fn arrive_named(
+    held: &mut Shell,
+    kind: ArrivalKind,
+    name: Atom,
+    term: Term,
+    out: &mut Vec<u8>,
+) -> Said
     ensures { IfOk result (λ fate. IsDone (Performs held.old (tried kind held.old)
         (event_of_arrival kind (next_number held.old) name term) naming_nothing
         (done_by (tried kind held.old) (event_of_arrival kind (next_number held.old) name term)) fate) held.new out.old.items
@@ -84,33 +90,33 @@ fn arrive_named(held: &mut Shell, kind: Arrival, name: Atom, term: Term, out: &m
 }
 
 /// One call more was tried, if it is a call.
-fn count(held: &mut Shell, kind: Arrival)
+fn count(held: &mut Shell, kind: ArrivalKind)
     ensures { held.new ≡ tried kind held.old }
 {
     match kind {
-        Arrival::Call => held.count_call(),
-        Arrival::Cast | Arrival::Info => (),
+        ArrivalKind::Call => held.count_call(),
+        ArrivalKind::Cast | ArrivalKind::Info => (),
     }
 }
 
 /// Tells that it has arrived, and counts it.
-fn tell_arrived(held: &mut Shell, kind: Arrival, number: u64, out: &mut Vec<u8>) -> Said
+fn tell_arrived(held: &mut Shell, kind: ArrivalKind, number: u64, out: &mut Vec<u8>) -> Said
     ensures { IfOk result (λ fate. (fate ≡ None) × (held.new ≡ tried kind held.old) ×
         (out.new.items ≡ out.old.items ++ line_of (arrival_answer kind number))) }
 {
     count(held, kind);
     match kind {
-        Arrival::Call => {
+        ArrivalKind::Call => {
             write_called(number, out)?;
             Ok(None)
         }
-        Arrival::Cast | Arrival::Info => say(Fixed::Done, out),
+        ArrivalKind::Cast | ArrivalKind::Info => say(Fixed::Done, out),
     }
 }
 
 /// Tells what stands against an arrival whatever its term is, or else lack of memory. A call is counted, unless memory was
 /// refused.
-fn tell_unnamed(held: &mut Shell, kind: Arrival, name: Name<'_>, out: &mut Vec<u8>) -> Said
+fn tell_unnamed(held: &mut Shell, kind: ArrivalKind, name: Name<'_>, out: &mut Vec<u8>) -> Said
     ensures { IfOk result (λ fate. (halt : Halt)
         × HaltsBy (RefusesAll held.old (arrival_event held.old kind (chars name.entry.text.now)))
         (MayAllRunOut held.old (arrival_event held.old kind (chars name.entry.text.now))) halt held.old
@@ -122,7 +128,7 @@ fn tell_unnamed(held: &mut Shell, kind: Arrival, name: Name<'_>, out: &mut Vec<u
 }
 
 /// Tells why it has not arrived. A call is counted, unless memory was refused.
-fn tell_kept_out(held: &mut Shell, halt: Halt, kind: Arrival, out: &mut Vec<u8>) -> Said
+fn tell_kept_out(held: &mut Shell, halt: Halt, kind: ArrivalKind, out: &mut Vec<u8>) -> Said
     ensures { IfOk result (λ fate. (fate ≡ halt_fate halt) × (held.new ≡ after_missed halt kind held.old) ×
         (out.new.items ≡ out.old.items ++ line_of (halt_answer naming_nothing halt))) }
 {
@@ -131,7 +137,7 @@ fn tell_kept_out(held: &mut Shell, halt: Halt, kind: Arrival, out: &mut Vec<u8>)
 }
 
 /// One call more was tried, if it is a call, unless memory was refused.
-fn count_unless_refused(held: &mut Shell, halt: &Halt, kind: Arrival)
+fn count_unless_refused(held: &mut Shell, halt: &Halt, kind: ArrivalKind)
     ensures { held.new ≡ after_missed halt.now kind held.old }
 {
     match halt {
@@ -141,7 +147,7 @@ fn count_unless_refused(held: &mut Shell, halt: &Halt, kind: Arrival)
 }
 
 /// What stands against an arrival whatever its term is, or else lack of memory.
-fn halt_of_arrival(held: &Shell, kind: Arrival, name: Name<'_>) -> Halt
+fn halt_of_arrival(held: &Shell, kind: ArrivalKind, name: Name<'_>) -> Halt
     ensures { HaltsBy (RefusesAll held.now (arrival_event held.now kind (chars name.entry.text.now)))
         (MayAllRunOut held.now (arrival_event held.now kind (chars name.entry.text.now))) result held.now }
 {
@@ -155,7 +161,7 @@ fn halt_of_arrival(held: &Shell, kind: Arrival, name: Name<'_>) -> Halt
 }
 
 /// Why an arrival is refused whatever its term is.
-fn arrival_refusal(held: &Shell, kind: Arrival, name: Name<'_>) -> Option<ProcError>
+fn arrival_refusal(held: &Shell, kind: ArrivalKind, name: Name<'_>) -> Option<ProcError>
     ensures { (t : Term) → result ≡ arrive_refusal (chars name.entry.text.now)
         (kind_of (body_of kind (next_number held.now) t)) (node_of held.now).processes }
 {
@@ -164,24 +170,24 @@ fn arrival_refusal(held: &Shell, kind: Arrival, name: Name<'_>) -> Option<ProcEr
 }
 
 /// The kind of what arrives.
-fn body_kind(kind: Arrival, number: u64) -> BodyKind
+fn body_kind(kind: ArrivalKind, number: u64) -> MessageKind
     ensures { (t : Term) → kind_of (body_of kind number t) ≡ result }
 {
     match kind {
-        Arrival::Call => BodyKind::Call(number),
-        Arrival::Cast => BodyKind::Cast,
-        Arrival::Info => BodyKind::Info,
+        ArrivalKind::Call => MessageKind::Call(number),
+        ArrivalKind::Cast => MessageKind::Cast,
+        ArrivalKind::Info => MessageKind::Info,
     }
 }
 
 /// The event of an arrival. The client is 0.
-fn arrival_event(kind: Arrival, number: u64, name: Atom, term: Term) -> Event
+fn arrival_event(kind: ArrivalKind, number: u64, name: Atom, term: Term) -> Event
     ensures { result ≡ event_of_arrival kind number name term }
 {
     let body = match kind {
-        Arrival::Call => ClientMessage::Call { number, term },
-        Arrival::Cast => ClientMessage::Cast(term),
-        Arrival::Info => ClientMessage::Info(term),
+        ArrivalKind::Call => ClientMessage::Call { number, term },
+        ArrivalKind::Cast => ClientMessage::Cast(term),
+        ArrivalKind::Info => ClientMessage::Info(term),
     };
     Event::Arrive {
         client: 0,

@@ -13,11 +13,16 @@ use code_server::CodeError;
 use erl_term::Atom;
 use node_types::{Answer, Event, Refusal};
 use shell_answers::Fixed;
-use shell_requests::{Change, Name};
+use shell_requests::{CodeOperation, Name};
 use shell_upgrades::{Halt, Node, Said, Shell, say, tell_halt};
 
 /// Deletes or purges a module's code.
-pub(crate) fn change(held: &mut Shell, kind: Change, name: Name<'_>, out: &mut Vec<u8>) -> Said
+pub(crate) fn change(
+    held: &mut Shell,
+    kind: CodeOperation,
+    name: Name<'_>,
+    out: &mut Vec<u8>,
+) -> Said
     ensures { IfOk result (λ fate. IsDone (Changes held.old kind (chars name.entry.text.now) fate) held.new out.old.items
         out.new.items) }
 {
@@ -31,7 +36,7 @@ pub(crate) fn change(held: &mut Shell, kind: Change, name: Name<'_>, out: &mut V
 }
 
 /// What stands against a change for whose name there was no memory, or else want of it.
-fn halt_of_change(held: &Shell, kind: Change, name: Name<'_>) -> Halt
+fn halt_of_change(held: &Shell, kind: CodeOperation, name: Name<'_>) -> Halt
     ensures { Halts result held.now (change_event kind (chars name.entry.text.now)) }
 {
     if held.is_full() {
@@ -47,28 +52,28 @@ fn halt_of_change(held: &Shell, kind: Change, name: Name<'_>) -> Halt
 }
 
 /// The event of a change.
-pub fn change_event(kind: Change, name: Atom) -> Event
+pub fn change_event(kind: CodeOperation, name: Atom) -> Event
     ensures { result ≡ change_event kind name }
 {
     match kind {
-        Change::Delete => Event::Delete(name),
-        Change::Purge => Event::Purge(name),
-        Change::SoftPurge => Event::SoftPurge(name),
+        CodeOperation::Delete => Event::Delete(name),
+        CodeOperation::Purge => Event::Purge(name),
+        CodeOperation::SoftPurge => Event::SoftPurge(name),
     }
 }
 
 /// Why a change would be refused where no script runs. Takes no memory: it walks over the modules.
-fn change_refusal(node: &Node, kind: Change, name: Name<'_>) -> Option<CodeError>
+fn change_refusal(node: &Node, kind: CodeOperation, name: Name<'_>) -> Option<CodeError>
     ensures { result ≡ refusal_of_change kind (chars name.entry.text.now) node.now }
 {
     let known = node.modules().find(name.as_str());
     match kind {
-        Change::Delete => match known {
+        CodeOperation::Delete => match known {
             Some(name) => node.modules().delete_refusal(name),
             None => Some(CodeError::NotLoaded),
         },
-        Change::Purge => None,
-        Change::SoftPurge => match known {
+        CodeOperation::Purge => None,
+        CodeOperation::SoftPurge => match known {
             Some(name) if is_lingered_in(node.modules(), node.processes(), name) => {
                 Some(CodeError::OldInUse)
             }

@@ -54,7 +54,7 @@ fn execute_request(held: &mut Shell, request: Request<'_>, out: &mut Vec<u8>) ->
         Request::Load(name, path) => load(held, name, path, out),
         Request::Undo(mark) => held.undo(mark, out),
         Request::Forget(mark) => held.forget(mark, out),
-        Request::Commit(place) => held.commit(place, out),
+        Request::Commit(job) => held.commit(job, out),
         Request::Arrive(kind, name, text) => arrive(held, kind, name, text, out),
         Request::Serve(service, process) => serve(held, service, process, out),
         Request::Revive(app, id) => revive(held, app, id, out),

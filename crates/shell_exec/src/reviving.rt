@@ -93,8 +93,8 @@ fn revive_refusal(apps: &AppTable, app: Name<'_>, id: Name<'_>) -> Option<SysErr
 fn find_app<'a>(apps: &'a AppTable, text: &str) -> Option<&'a App>
     ensures { option_copied result ≡ app_of (chars text.now) apps.now }
 {
-    for place in 0..apps.len() {
-        let app = apps.app(place)?;
+    for index in 0..apps.len() {
+        let app = apps.app(index)?;
         if spells(&app.spec().name, text) {
             return Some(app);
         }
@@ -106,12 +106,12 @@ fn find_app<'a>(apps: &'a AppTable, text: &str) -> Option<&'a App>
 fn find_child<'a>(children: &'a [Child], text: &str) -> Option<&'a Child>
     ensures { option_copied result ≡ child_called (term.Atom (chars text.now)) children.now }
 {
-    let place = place_of(children, text)?;
-    children.get(place)
+    let index = index_of(children, text)?;
+    children.get(index)
 }
 
 /// Where the child stands whose Id is the atom that a text spells.
-fn place_of(children: &[Child], text: &str) -> Option<usize>
+fn index_of(children: &[Child], text: &str) -> Option<usize>
     ensures { result ≡ position (has_id (term.Atom (chars text.now))) children.now }
 {
     children

@@ -1,12 +1,12 @@
--- What lines ask for: the commands, each with its word and the shape of what follows, and how a line is read as one.
+-- What lines ask for: the commands, each with its word and its operands, and how a line is read as one.
 use Rattle.std.specs.Prelude.{ℕ, nat_lt, Bool, true, false, if◌then◌else◌, List, [], ◌∷◌, length, codes, Option, None, Some, option_and_then}
 use Rattle.std.specs.Map.{lookup}
 use Rattle.std.specs.Option.{option_map}
 use Rattle.std.specs.Str.{all_ascii_digits, bytes_eq, chars, is_utf8}
-use Rattle.shell_requests.specs.declared.request.Arrival.{Arrival}
-use Rattle.shell_requests.specs.declared.request.Arrival.TheVariants.{Call, Cast, Info}
-use Rattle.shell_requests.specs.declared.request.Change.{Change}
-use Rattle.shell_requests.specs.declared.request.Change.TheVariants.{Delete, Purge, SoftPurge}
+use Rattle.shell_requests.specs.declared.request.ArrivalKind.{ArrivalKind}
+use Rattle.shell_requests.specs.declared.request.ArrivalKind.TheVariants.{Call, Cast, Info}
+use Rattle.shell_requests.specs.declared.request.CodeOperation.{CodeOperation}
+use Rattle.shell_requests.specs.declared.request.CodeOperation.TheVariants.{Delete, Purge, SoftPurge}
 use Rattle.shell_requests.specs.declared.request.MarkUse.{MarkUse}
 use Rattle.shell_requests.specs.declared.request.MarkUse.TheVariants.{Undo, Forget}
 use Rattle.shell_requests.specs.declared.request.Question.{Question}
@@ -15,8 +15,8 @@ use Rattle.shell_requests.specs.declared.request.ReleaseChange.{ReleaseChange}
 use Rattle.shell_requests.specs.declared.request.ReleaseChange.TheVariants.{Remove, Install, MakePermanent, RebootOld}
 use Rattle.shell_requests.specs.declared.request.Service.{Service}
 use Rattle.shell_requests.specs.declared.request.Service.TheVariants.{Take, Retake, Show}
-use Rattle.shell_requests.specs.declared.request.Shape.{Shape}
-use Rattle.shell_requests.specs.declared.request.Shape.TheVariants.{Nothing, Module, ModuleAndPath, Mark, Result, NameAndTerm, Process, AppAndChild, Unpack, Version, TwoVersions, Step, Sweep}
+use Rattle.shell_requests.specs.declared.request.CommandOperands.{CommandOperands}
+use Rattle.shell_requests.specs.declared.request.CommandOperands.TheVariants.{Nothing, Module, ModuleAndPath, Mark, Result, NameAndTerm, Process, AppAndChild, Unpack, Version, TwoVersions, Step, Sweep}
 use Rattle.shell_requests.specs.Words.{behind_word, is_silent, number_of, only_word, two_words, with_rest, words_of}
 
 -- A process, by its pid or by the characters of its name.
@@ -28,12 +28,12 @@ pub data Who : Type 0 where
 -- bytes; a term stands as its text's bytes.
 pub data Request : Type 0 where
   ask : Question → Request
-  change : Change → List ℕ → Request
+  change : CodeOperation → List ℕ → Request
   load : List ℕ → List ℕ → Request
   undo : ℕ → Request
   forget : ℕ → Request
   commit : ℕ → Request
-  arrive : Arrival → List ℕ → List ℕ → Request
+  arrive : ArrivalKind → List ℕ → List ℕ → Request
   serve : Service → Who → Request
   revive : List ℕ → List ℕ → Request
   unpack : List ℕ → Request
@@ -45,7 +45,7 @@ pub data Request : Type 0 where
   sweep : Request
 
 -- the commands
-abbrev pub commands : List (List ℕ × Shape)
+abbrev pub commands : List (List ℕ × CommandOperands)
 commands =
     (codes "modules", Nothing Modules) ∷ (codes "apps", Nothing Apps) ∷ (codes "replies", Nothing Replies)
     ∷ (codes "mark", Nothing MarkNow) ∷ (codes "delete", Module Delete) ∷ (codes "purge", Module Purge)
@@ -58,8 +58,8 @@ commands =
     ∷ (codes "step", Step) ∷ (codes "permanent", Version MakePermanent) ∷ (codes "reboot", Version RebootOld)
     ∷ (codes "sweep", Sweep) ∷ (codes "relup", TwoVersions) ∷ []
 
-abbrev pub shape_of : List ℕ → Option Shape
-shape_of verb = lookup (bytes_eq verb) commands
+abbrev pub operands_of : List ℕ → Option CommandOperands
+operands_of verb = lookup (bytes_eq verb) commands
 
 -- the name that a word is: its characters, of which there are at most 255
 abbrev pub name_of : List ℕ → Option (List ℕ)
@@ -69,13 +69,13 @@ name_of word = if nat_lt 255 (length (chars word)) then None else Some (chars wo
 abbrev pub process_of : List ℕ → Option Who
 process_of word = if all_ascii_digits word then option_map numbered (number_of word) else option_map named (name_of word)
 
--- What a text asks for, behind a command of such a shape.
+-- What a text asks for, behind a command with these operands.
 
 abbrev pub alone : Question → List (List ℕ) → Option Request
 alone question [] = Some (ask question)
 alone question (w ∷ ws) = None
 
-abbrev pub of_module : Change → List ℕ → Option Request
+abbrev pub of_module : CodeOperation → List ℕ → Option Request
 of_module kind word = option_map (change kind) (name_of word)
 
 abbrev pub of_file : List ℕ × List ℕ → Option Request
@@ -91,7 +91,7 @@ to_mark kind word = option_map (mark_for kind) (number_of word)
 abbrev pub of_result : List ℕ → Option Request
 of_result word = option_map commit (number_of word)
 
-abbrev pub of_arrival : Arrival → List ℕ × List ℕ → Option Request
+abbrev pub of_arrival : ArrivalKind → List ℕ × List ℕ → Option Request
 of_arrival kind it = option_map (λ name. arrive kind name it.1) (name_of it.0)
 
 abbrev pub of_process : Service → List ℕ → Option Request
@@ -113,7 +113,7 @@ abbrev pub to_sweep : List (List ℕ) → Option Request
 to_sweep [] = Some sweep
 to_sweep (word ∷ words) = None
 
-abbrev pub request_by : Shape → List ℕ → Option Request
+abbrev pub request_by : CommandOperands → List ℕ → Option Request
 request_by (Nothing question) rest = alone question (words_of rest)
 request_by (Module kind) rest = option_and_then (of_module kind) (only_word (words_of rest))
 request_by ModuleAndPath rest = option_and_then of_file (two_words (words_of rest))
@@ -128,10 +128,10 @@ request_by TwoVersions rest = option_map of_two_releases (two_words (words_of re
 request_by Step rest = to_advance (words_of rest)
 request_by Sweep rest = to_sweep (words_of rest)
 
--- what a text asks for, if it does: its first word is a command's, and what stands behind that has its shape
+-- what a text asks for, if it does: its first word is a command's, and its operands stand behind it
 abbrev pub request_behind : List (List ℕ) → List ℕ → Option Request
 request_behind [] rest = None
-request_behind (verb ∷ words) rest = option_and_then (λ shape. request_by shape rest) (shape_of verb)
+request_behind (verb ∷ words) rest = option_and_then (λ operands. request_by operands rest) (operands_of verb)
 
 abbrev pub request_of : List ℕ → Option Request
 request_of text = request_behind (words_of text) (behind_word text)

@@ -1,7 +1,7 @@
 //! The commands of the shell, as lines ask for them.
 //!
 //! [`read_line`] reads a line as a [`Line`]: nothing, no command, or a [`Request`]. It takes no memory: what a request
-//! names stands in the line. The commands are one table, `commands` in `specs/Request`, with the shape of what follows the
+//! names stands in the line. The commands are one table, `commands` in `specs/Request`, with what follows the
 //! word of each.
 //!
 //! # What is proved
@@ -17,5 +17,6 @@ mod words;
 pub use name::Name;
 pub use reading::{read_line, runs_code};
 pub use request::{
-    Arrival, Change, Line, MarkUse, Proc, Question, ReleaseChange, Request, Service, Shape,
+    ArrivalKind, CodeOperation, CommandOperands, Line, MarkUse, Proc, Question, ReleaseChange,
+    Request, Service,
 };

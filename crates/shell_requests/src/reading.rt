@@ -2,59 +2,60 @@
 ghost use Rattle.std.specs.Prelude.{◌≡◌, Some};
 ghost use Rattle.std.specs.Option.{option_map};
 ghost use Rattle.shell_requests.specs.Reading.{meant, said, who_is};
-ghost use Rattle.shell_requests.specs.Request.{process_of, request_by, request_of, shape_of, spoken};
+ghost use Rattle.shell_requests.specs.Request.{process_of, request_by, request_of, operands_of, spoken};
 
 use crate::name::Name;
 use crate::request::{
-    Arrival, Change, Line, MarkUse, Proc, Question, ReleaseChange, Request, Service, Shape,
+    ArrivalKind, CodeOperation, CommandOperands, Line, MarkUse, Proc, Question, ReleaseChange,
+    Request, Service,
 };
 use crate::words::{
     has_digits_alone, has_no_word, is_silent, next_word, number, one_word, pair_of_words,
     word_and_rest,
 };
 
-/// The shape of the first of these words that a word is, or none: a table, a command a line.
+/// The operands of the command that a word is, or none: a table, a command a line.
 macro_rules! shape_in {
-    ($word:expr; $($command:literal => $shape:expr,)*) => {{
+    ($word:expr; $($command:literal => $operands:expr,)*) => {{
         $(if $word == $command {
-            return Some($shape);
+            return Some($operands);
         })*
         None
     }};
 }
 
 /// What follows the word of a command.
-fn shape_of(verb: &str) -> Option<Shape>
-    ensures { result ≡ shape_of verb.now }
+fn operands_of(verb: &str) -> Option<CommandOperands>
+    ensures { result ≡ operands_of verb.now }
 {
     shape_in!(verb;
-        "modules" => Shape::Nothing(Question::Modules),
-        "apps" => Shape::Nothing(Question::Apps),
-        "replies" => Shape::Nothing(Question::Replies),
-        "mark" => Shape::Nothing(Question::Mark),
-        "delete" => Shape::Module(Change::Delete),
-        "purge" => Shape::Module(Change::Purge),
-        "soft_purge" => Shape::Module(Change::SoftPurge),
-        "load" => Shape::ModuleAndPath,
-        "undo" => Shape::Mark(MarkUse::Undo),
-        "forget" => Shape::Mark(MarkUse::Forget),
-        "commit" => Shape::Result,
-        "call" => Shape::NameAndTerm(Arrival::Call),
-        "cast" => Shape::NameAndTerm(Arrival::Cast),
-        "send" => Shape::NameAndTerm(Arrival::Info),
-        "take" => Shape::Process(Service::Take),
-        "retake" => Shape::Process(Service::Retake),
-        "proc" => Shape::Process(Service::Show),
-        "revive" => Shape::AppAndChild,
-        "which" => Shape::Nothing(Question::Which),
-        "unpack" => Shape::Unpack,
-        "remove" => Shape::Version(ReleaseChange::Remove),
-        "install" => Shape::Version(ReleaseChange::Install),
-        "step" => Shape::Step,
-        "permanent" => Shape::Version(ReleaseChange::MakePermanent),
-        "reboot" => Shape::Version(ReleaseChange::RebootOld),
-        "sweep" => Shape::Sweep,
-        "relup" => Shape::TwoVersions,
+        "modules" => CommandOperands::Nothing(Question::Modules),
+        "apps" => CommandOperands::Nothing(Question::Apps),
+        "replies" => CommandOperands::Nothing(Question::Replies),
+        "mark" => CommandOperands::Nothing(Question::Mark),
+        "delete" => CommandOperands::Module(CodeOperation::Delete),
+        "purge" => CommandOperands::Module(CodeOperation::Purge),
+        "soft_purge" => CommandOperands::Module(CodeOperation::SoftPurge),
+        "load" => CommandOperands::ModuleAndPath,
+        "undo" => CommandOperands::Mark(MarkUse::Undo),
+        "forget" => CommandOperands::Mark(MarkUse::Forget),
+        "commit" => CommandOperands::Result,
+        "call" => CommandOperands::NameAndTerm(ArrivalKind::Call),
+        "cast" => CommandOperands::NameAndTerm(ArrivalKind::Cast),
+        "send" => CommandOperands::NameAndTerm(ArrivalKind::Info),
+        "take" => CommandOperands::Process(Service::Take),
+        "retake" => CommandOperands::Process(Service::Retake),
+        "proc" => CommandOperands::Process(Service::Show),
+        "revive" => CommandOperands::AppAndChild,
+        "which" => CommandOperands::Nothing(Question::Which),
+        "unpack" => CommandOperands::Unpack,
+        "remove" => CommandOperands::Version(ReleaseChange::Remove),
+        "install" => CommandOperands::Version(ReleaseChange::Install),
+        "step" => CommandOperands::Step,
+        "permanent" => CommandOperands::Version(ReleaseChange::MakePermanent),
+        "reboot" => CommandOperands::Version(ReleaseChange::RebootOld),
+        "sweep" => CommandOperands::Sweep,
+        "relup" => CommandOperands::TwoVersions,
     )
 }
 
@@ -89,34 +90,34 @@ fn read_request(text: &str) -> Option<Request<'_>>
     ensures { option_map meant result ≡ request_of text.now }
 {
     let (verb, rest) = next_word(text)?;
-    let shape = shape_of(verb)?;
-    read_words(shape, rest)
+    let operands = operands_of(verb)?;
+    read_words(operands, rest)
 }
 
-/// What the text behind a command of such a shape asks for, if it does.
-fn read_words(shape: Shape, rest: &str) -> Option<Request<'_>>
-    ensures { option_map meant result ≡ request_by shape rest.now }
+/// What the text behind a command with these operands asks for, if it does.
+fn read_words(operands: CommandOperands, rest: &str) -> Option<Request<'_>>
+    ensures { option_map meant result ≡ request_by operands rest.now }
 {
-    match shape {
-        Shape::Nothing(question) => alone(question, rest),
-        Shape::Module(change) => of_module(change, rest),
-        Shape::ModuleAndPath => of_file(rest),
-        Shape::Mark(kind) => to_mark(kind, rest),
-        Shape::Result => of_result(rest),
-        Shape::NameAndTerm(arrival) => of_arrival(arrival, rest),
-        Shape::Process(service) => of_process(service, rest),
-        Shape::AppAndChild => of_child(rest),
-        Shape::Unpack => of_unpacking(rest),
-        Shape::Version(change) => of_release(change, rest),
-        Shape::TwoVersions => of_two_releases(rest),
-        Shape::Step => of_step(rest),
-        Shape::Sweep => of_sweep(rest),
+    match operands {
+        CommandOperands::Nothing(question) => alone(question, rest),
+        CommandOperands::Module(change) => of_module(change, rest),
+        CommandOperands::ModuleAndPath => of_file(rest),
+        CommandOperands::Mark(kind) => to_mark(kind, rest),
+        CommandOperands::Result => of_result(rest),
+        CommandOperands::NameAndTerm(arrival) => of_arrival(arrival, rest),
+        CommandOperands::Process(service) => of_process(service, rest),
+        CommandOperands::AppAndChild => of_child(rest),
+        CommandOperands::Unpack => of_unpacking(rest),
+        CommandOperands::Version(change) => of_release(change, rest),
+        CommandOperands::TwoVersions => of_two_releases(rest),
+        CommandOperands::Step => of_step(rest),
+        CommandOperands::Sweep => of_sweep(rest),
     }
 }
 
 /// No word.
 fn alone(question: Question, rest: &str) -> Option<Request<'_>>
-    ensures { option_map meant result ≡ request_by (Shape.Nothing question) rest.now }
+    ensures { option_map meant result ≡ request_by (CommandOperands.Nothing question) rest.now }
 {
     if has_no_word(rest) {
         return Some(Request::Ask(question));
@@ -125,8 +126,8 @@ fn alone(question: Question, rest: &str) -> Option<Request<'_>>
 }
 
 /// `MOD`
-fn of_module(change: Change, rest: &str) -> Option<Request<'_>>
-    ensures { option_map meant result ≡ request_by (Shape.Module change) rest.now }
+fn of_module(change: CodeOperation, rest: &str) -> Option<Request<'_>>
+    ensures { option_map meant result ≡ request_by (CommandOperands.Module change) rest.now }
 {
     let word = one_word(rest)?;
     let name = Name::new(word)?;
@@ -135,7 +136,7 @@ fn of_module(change: Change, rest: &str) -> Option<Request<'_>>
 
 /// `MOD PATH`
 fn of_file(rest: &str) -> Option<Request<'_>>
-    ensures { option_map meant result ≡ request_by Shape.ModuleAndPath rest.now }
+    ensures { option_map meant result ≡ request_by CommandOperands.ModuleAndPath rest.now }
 {
     let (word, path) = pair_of_words(rest)?;
     let name = Name::new(word)?;
@@ -144,7 +145,7 @@ fn of_file(rest: &str) -> Option<Request<'_>>
 
 /// `K`
 fn to_mark(kind: MarkUse, rest: &str) -> Option<Request<'_>>
-    ensures { option_map meant result ≡ request_by (Shape.Mark kind) rest.now }
+    ensures { option_map meant result ≡ request_by (CommandOperands.Mark kind) rest.now }
 {
     let word = one_word(rest)?;
     let mark = number(word)?;
@@ -156,16 +157,16 @@ fn to_mark(kind: MarkUse, rest: &str) -> Option<Request<'_>>
 
 /// `J`
 fn of_result(rest: &str) -> Option<Request<'_>>
-    ensures { option_map meant result ≡ request_by Shape.Result rest.now }
+    ensures { option_map meant result ≡ request_by CommandOperands.Result rest.now }
 {
     let word = one_word(rest)?;
-    let place = number(word)?;
-    Some(Request::Commit(place))
+    let job = number(word)?;
+    Some(Request::Commit(job))
 }
 
 /// `NAME TERM`
-fn of_arrival(arrival: Arrival, rest: &str) -> Option<Request<'_>>
-    ensures { option_map meant result ≡ request_by (Shape.NameAndTerm arrival) rest.now }
+fn of_arrival(arrival: ArrivalKind, rest: &str) -> Option<Request<'_>>
+    ensures { option_map meant result ≡ request_by (CommandOperands.NameAndTerm arrival) rest.now }
 {
     let (word, term) = word_and_rest(rest)?;
     let name = Name::new(word)?;
@@ -174,7 +175,7 @@ fn of_arrival(arrival: Arrival, rest: &str) -> Option<Request<'_>>
 
 /// `PROC`
 fn of_process(service: Service, rest: &str) -> Option<Request<'_>>
-    ensures { option_map meant result ≡ request_by (Shape.Process service) rest.now }
+    ensures { option_map meant result ≡ request_by (CommandOperands.Process service) rest.now }
 {
     let word = one_word(rest)?;
     let process = process_of(word)?;
@@ -195,7 +196,7 @@ fn process_of(word: &str) -> Option<Proc<'_>>
 
 /// `APP ID`
 fn of_child(rest: &str) -> Option<Request<'_>>
-    ensures { option_map meant result ≡ request_by Shape.AppAndChild rest.now }
+    ensures { option_map meant result ≡ request_by CommandOperands.AppAndChild rest.now }
 {
     let (app, id) = pair_of_words(rest)?;
     let app = Name::new(app)?;
@@ -205,7 +206,7 @@ fn of_child(rest: &str) -> Option<Request<'_>>
 
 /// `VSN`
 fn of_unpacking(rest: &str) -> Option<Request<'_>>
-    ensures { option_map meant result ≡ request_by Shape.Unpack rest.now }
+    ensures { option_map meant result ≡ request_by CommandOperands.Unpack rest.now }
 {
     let vsn = one_word(rest)?;
     Some(Request::Unpack(vsn))
@@ -213,7 +214,7 @@ fn of_unpacking(rest: &str) -> Option<Request<'_>>
 
 /// `VSN`
 fn of_release(change: ReleaseChange, rest: &str) -> Option<Request<'_>>
-    ensures { option_map meant result ≡ request_by (Shape.Version change) rest.now }
+    ensures { option_map meant result ≡ request_by (CommandOperands.Version change) rest.now }
 {
     let vsn = one_word(rest)?;
     Some(Request::Release(change, vsn))
@@ -221,7 +222,7 @@ fn of_release(change: ReleaseChange, rest: &str) -> Option<Request<'_>>
 
 /// `FROM TO`
 fn of_two_releases(rest: &str) -> Option<Request<'_>>
-    ensures { option_map meant result ≡ request_by Shape.TwoVersions rest.now }
+    ensures { option_map meant result ≡ request_by CommandOperands.TwoVersions rest.now }
 {
     let (from, to) = pair_of_words(rest)?;
     Some(Request::Relup(from, to))
@@ -229,7 +230,7 @@ fn of_two_releases(rest: &str) -> Option<Request<'_>>
 
 /// No word, or `give_up`.
 fn of_step(rest: &str) -> Option<Request<'_>>
-    ensures { option_map meant result ≡ request_by Shape.Step rest.now }
+    ensures { option_map meant result ≡ request_by CommandOperands.Step rest.now }
 {
     if has_no_word(rest) {
         return Some(Request::Advance { give_up: false });
@@ -242,7 +243,7 @@ fn of_step(rest: &str) -> Option<Request<'_>>
 
 /// No word.
 fn of_sweep(rest: &str) -> Option<Request<'_>>
-    ensures { option_map meant result ≡ request_by Shape.Sweep rest.now }
+    ensures { option_map meant result ≡ request_by CommandOperands.Sweep rest.now }
 {
     if has_no_word(rest) {
         return Some(Request::Sweep);

@@ -32,7 +32,7 @@ pub enum ReleaseChange {
 
 /// A change of a module that needs nothing but its name.
 #[derive(Clone, Copy)]
-pub enum Change {
+pub enum CodeOperation {
     /// `delete`
     Delete,
     /// `purge`
@@ -52,7 +52,7 @@ pub enum MarkUse {
 
 /// What arrives.
 #[derive(Clone, Copy)]
-pub enum Arrival {
+pub enum ArrivalKind {
     /// `call`
     Call,
     /// `cast`
@@ -74,11 +74,11 @@ pub enum Service {
 
 /// What follows the word of a command.
 #[derive(Clone, Copy)]
-pub enum Shape {
+pub enum CommandOperands {
     /// No word: the command asks this.
     Nothing(Question),
     /// `MOD`: the command makes this change of a module.
-    Module(Change),
+    Module(CodeOperation),
     /// `MOD PATH`: the command loads a module.
     ModuleAndPath,
     /// `K`: the command names a mark for this.
@@ -86,7 +86,7 @@ pub enum Shape {
     /// `J`: the command commits a result.
     Result,
     /// `NAME TERM`: the command has this arrive.
-    NameAndTerm(Arrival),
+    NameAndTerm(ArrivalKind),
     /// `PROC`: the command asks this of a process.
     Process(Service),
     /// `APP ID`: the command revives a child.
@@ -118,7 +118,7 @@ pub enum Request<'a> {
     /// To tell something.
     Ask(Question),
     /// To change a module.
-    Alter(Change, Name<'a>),
+    Alter(CodeOperation, Name<'a>),
     /// To load a module of the file at a path.
     Load(Name<'a>, &'a str),
     /// To undo every step after a mark.
@@ -128,7 +128,7 @@ pub enum Request<'a> {
     /// To commit the result of so many a job, counted from 1.
     Commit(u64),
     /// To have something arrive for a name. The text is that of its term, without the dot.
-    Arrive(Arrival, Name<'a>, &'a str),
+    Arrive(ArrivalKind, Name<'a>, &'a str),
     /// To ask something of a process.
     Serve(Service, Proc<'a>),
     /// To revive a child of an application, by its Id.

@@ -1,5 +1,5 @@
 -- What the shell may do where an event is asked for: by what lack of memory makes of it, one clause a way.
-use Rattle.std.specs.Prelude.{◌≡◌, ℕ, ◌+◌, length, true, false, Option, None, Some, Ok, Err}
+use Rattle.std.specs.Prelude.{◌+◌, length, true, false, Option, None, Some, Ok, Err}
 use Rattle.erl_term.specs.Tree.{Tree}
 use Rattle.low_instructions.specs.Forms.{low_tree}
 use Rattle.process_table.specs.declared.body.ClientMessage.{ClientMessage}

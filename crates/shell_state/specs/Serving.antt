@@ -49,7 +49,7 @@ ServesAs s services.Show (Some pid) fate d = (fate ≡ None) × (d ≡ answered 
 
 abbrev pub kept_job : ℕ → List Job → Option Job
 kept_job zero jobs = None
-kept_job (suc place) jobs = slice_get jobs place
+kept_job (suc index) jobs = slice_get jobs index
 
 pub data Commits (s : ShellState) (job : Job) : Option Fate → Effect → Type 0 where
   ran : (done : Done) (fate : Option Fate) (d : Effect) → done.job ≡ job →

@@ -32,8 +32,8 @@ impl Shell {
     fn kept_job(&self, number: u64) -> Option<&Job>
         ensures { option_copied result ≡ kept_job number self.now.jobs }
     {
-        let place = number.checked_sub(1)?;
-        self.jobs.get(usize::try_from(place).ok()?)
+        let index = number.checked_sub(1)?;
+        self.jobs.get(usize::try_from(index).ok()?)
     }
 
     /// Commits the result of a job, and tells the replies.

@@ -42,11 +42,11 @@ impl Shell {
     fn keep_again(&mut self, pid: u64, job: Job, out: &mut Vec<u8>) -> Said
         ensures { IfOk result (λ fate. KeepsJob pid job fate self.old self.new out.old.items out.new.items) }
     {
-        let place = self.next_place();
+        let number = self.next_job_number();
         if self.keep(job).is_err() {
             return refuse(out);
         }
-        write_job(place, pid, out)?;
+        write_job(number, pid, out)?;
         Ok(None)
     }
 

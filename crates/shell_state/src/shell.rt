@@ -134,7 +134,7 @@ impl Shell {
     }
 
     /// The number of the job that is kept next, counted from 1.
-    pub(crate) fn next_place(&self) -> u64
+    pub(crate) fn next_job_number(&self) -> u64
         ensures { result ≡ length self.now.jobs + 1 }
     {
         self.jobs.len() as u64 + 1

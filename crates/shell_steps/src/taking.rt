@@ -65,8 +65,8 @@ pub fn tell_taken(jobs: &mut Vec<Job>, pid: u64, answer: Answer, out: &mut Vec<u
         × (jobs.new.items ≡ jobs.old.items ++ job ∷ []) ×
         (out.new.items ≡ out.old.items ++ line_of (job_of (length jobs.old.items + 1) pid))) }
 {
-    let place = jobs.len() as u64 + 1;
+    let number = jobs.len() as u64 + 1;
     keep_told(jobs, answer);
-    write_job(place, pid, out)?;
+    write_job(number, pid, out)?;
     Ok(None)
 }

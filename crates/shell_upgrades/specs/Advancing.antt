@@ -2,7 +2,6 @@
 use Rattle.std.specs.Prelude.{Option, None, Some, option_and_then}
 use Rattle.erl_term.specs.Tree.{Tree}
 use Rattle.low_instructions.specs.declared.low.Low.{Low}
-use Rattle.script_state.specs.Runner.{RunnerState}
 use Rattle.shell_state.specs.Node.{NodeState}
 use Rattle.shell_state.specs.Scripts.{next_in}
 use Rattle.node_types.specs.declared.event.Answer.{Answer}

@@ -316,8 +316,8 @@ module _ (w : World) (sound : (i : Instance) → Contains w.code i → IsSound i
         (d : Eval w a tail e s r x) →
         EvalIsRegular w d × Leaves m r x
     eval_regular code scoped.literal formed at (literal g) = (tt, stays g at)
-    eval_regular code (scoped.variable {n = n} {place = place} below) formed at (variable {s = s} g) =
-        (within s.bindings n place at below, stays g at)
+    eval_regular code (scoped.variable {n = n} {index = index} below) formed at (variable {s = s} g) =
+        (within s.bindings n index at below, stays g at)
     eval_regular code (scoped.apply {m = m} {es = es} ds) formed at (apply d f) =
         let o = operands_regular code ds formed.2 at d in
         let p = applied_regular m (expr_count es) code formed.0 formed.1 o.1 f in ((o.0, p.0), p.1)

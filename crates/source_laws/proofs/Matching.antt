@@ -20,12 +20,12 @@ use Rattle.erl_semantics.specs.Matching.{matched, matched_each, matched_front, m
 use Rattle.erl_semantics.specs.Operators.{is_equal}
 use Rattle.erl_semantics.proofs.Options.{some_none, some_injective}
 use Rattle.source_laws.specs.Formed.{IsTest, AreTests, AreGuards, AreFormed, AreFormedClauses}
-use Rattle.source_laws.specs.Places.{IsBound, MayMatch, MayMatchEach, MayMatchFront, MayMatchAll, MayTest, MayTestEach, MayGuard, MayTry}
+use Rattle.source_laws.specs.Points.{IsBound, MayMatch, MayMatchEach, MayMatchFront, MayMatchAll, MayTest, MayTestEach, MayGuard, MayTry}
 
--- a place below the number of those that are bound is bound
-pub within : (env : List Tree) (n place : ℕ) → length env ≡ n → place < n → IsBound env place
-within env n place at below =
-    (slice_index_or env place (term.atom []), slice_get-get_or env place (term.atom []) (subst (λ k. place < k) (sym at) below))
+-- an index below the number of those that are bound is bound
+pub within : (env : List Tree) (n index : ℕ) → length env ≡ n → index < n → IsBound env index
+within env n index at below =
+    (slice_index_or env index (term.atom []), slice_get-get_or env index (term.atom []) (subst (λ k. index < k) (sym at) below))
 
 inverts : (o : Option (List Tree)) (f : List Tree → Option (List Tree)) (y : List Tree) → option_and_then f o ≡ Some y →
     (x : List Tree) × (o ≡ Some x) × (f x ≡ Some y)
@@ -40,11 +40,11 @@ same_leaves : (b : Bool) (n : ℕ) (env behind : List Tree) → length env ≡ n
 same_leaves true n env behind at is = same_length at is
 same_leaves false n env behind at is = absurd (some_none (sym is))
 
-known_leaves : (o : Option Tree) (place : ℕ) (t : Tree) (n : ℕ) (env behind : List Tree) → length env ≡ n → place < n →
-    slice_get env place ≡ o → matched_variable o place t env ≡ Some behind → length behind ≡ n
-known_leaves None place t n env behind at below nothing is =
-    absurd (some_none (sym (within env n place at below).1 ∙ nothing))
-known_leaves (Some u) place t n env behind at below known is = same_leaves (is_equal (tree_cmp t u)) n env behind at is
+known_leaves : (o : Option Tree) (index : ℕ) (t : Tree) (n : ℕ) (env behind : List Tree) → length env ≡ n → index < n →
+    slice_get env index ≡ o → matched_variable o index t env ≡ Some behind → length behind ≡ n
+known_leaves None index t n env behind at below nothing is =
+    absurd (some_none (sym (within env n index at below).1 ∙ nothing))
+known_leaves (Some u) index t n env behind at below known is = same_leaves (is_equal (tree_cmp t u)) n env behind at is
 
 added_leaves : (b : Bool) (t : Tree) (n : ℕ) (env behind : List Tree) → length env ≡ n →
     (if b then Some (env ++ t ∷ []) else None) ≡ Some behind → length behind ≡ n + 1
@@ -52,19 +52,19 @@ added_leaves true t n env behind at is =
     ap (λ x. length x) (sym (some_injective is)) ∙ length-append env (t ∷ []) ∙ ap (λ k. k + 1) at
 added_leaves false t n env behind at is = absurd (some_none (sym is))
 
-fresh_leaves : (o : Option Tree) (place : ℕ) (t : Tree) (env behind : List Tree) → length env ≡ place →
-    slice_get env place ≡ o →
-    matched_variable o place t env ≡ Some behind → length behind ≡ place + 1
-fresh_leaves None place t env behind at nothing is = added_leaves (length env == place) t place env behind at is
-fresh_leaves (Some u) place t env behind at known is =
-    absurd (some_none (sym known ∙ slice_get_past env place (omega (arith, at))))
+fresh_leaves : (o : Option Tree) (index : ℕ) (t : Tree) (env behind : List Tree) → length env ≡ index →
+    slice_get env index ≡ o →
+    matched_variable o index t env ≡ Some behind → length behind ≡ index + 1
+fresh_leaves None index t env behind at nothing is = added_leaves (length env == index) t index env behind at is
+fresh_leaves (Some u) index t env behind at known is =
+    absurd (some_none (sym known ∙ slice_get_past env index (omega (arith, at))))
 
 mutual
   pub leaves : {n m : ℕ} {p : Pat} → PatternBinds n p m → (t : Tree) (env behind : List Tree) → length env ≡ n →
       matched p t env ≡ Some behind → length behind ≡ m
   leaves (scoped.constant {n = n} {t = u}) t env behind at is = same_leaves (is_equal (tree_cmp t u)) n env behind at is
-  leaves (scoped.compared {n = n} {place = place} below) t env behind at is =
-      known_leaves (slice_get env place) place t n env behind at below refl is
+  leaves (scoped.compared {n = n} {index = index} below) t env behind at is =
+      known_leaves (slice_get env index) index t n env behind at below refl is
   leaves (scoped.fresh {n = n}) t env behind at is = fresh_leaves (slice_get env n) n t env behind at refl is
   leaves scoped.anything t env behind at is = same_length at is
   leaves (scoped.tuple d) (term.tuple ts) env behind at is = each_leaves d ts env behind at is
@@ -100,7 +100,7 @@ mutual
       let first = inverts (matched p t env) (λ x. matched_all ps t x) behind is in
       all_leaves ds t first.0 behind (leaves d t env first.0 at first.1) first.2
 
-below_length : {n place : ℕ} (env : List Tree) → length env ≡ n → place < n → place ≤ length env
+below_length : {n index : ℕ} (env : List Tree) → length env ≡ n → index < n → index ≤ length env
 below_length env at below = omega (arith, at, below)
 
 mutual
@@ -145,7 +145,7 @@ mutual
   may_test : {n m : ℕ} {e : Expr} → ExprBinds n e m → (env : List Tree) → IsTest e → length env ≡ n →
       MayTest env e × (length env ≡ m)
   may_test scoped.literal env test at = (tt, at)
-  may_test (scoped.variable {n = n} {place = place} below) env test at = (within env n place at below, at)
+  may_test (scoped.variable {n = n} {index = index} below) env test at = (within env n index at below, at)
   may_test (scoped.apply d) env test at =
       let each = may_test_each d env test.2 at in ((test.0, test.1, each.0), each.1)
   may_test (scoped.match d p) env test at = absurd test

@@ -59,7 +59,7 @@ is_defined m _ n = true
 abbrev mutual
   pub IsTest : Expr → Type 0
   IsTest (form.literal t) = Unit {0}
-  IsTest (form.variable place) = Unit {0}
+  IsTest (form.variable index) = Unit {0}
   IsTest (form.apply op es) = IsTrue (is_guard_operation op) × IsTrue (is_of op (expr_count es)) × AreTests es
   IsTest (form.match p body) = ⊥
   IsTest (form.block body) = ⊥
@@ -77,7 +77,7 @@ AreGuards (form.guard tests gs) = AreTests tests × AreGuards gs
 abbrev mutual
   pub IsFormed : Forms → Expr → Type 0
   IsFormed m (form.literal t) = Unit {0}
-  IsFormed m (form.variable place) = Unit {0}
+  IsFormed m (form.variable index) = Unit {0}
   IsFormed m (form.apply op es) =
       IsTrue (is_of op (expr_count es)) × IsTrue (is_defined m op (expr_count es)) × AreFormed m es
   IsFormed m (form.match p body) = (1 ≤ expr_count body) × AreFormed m body

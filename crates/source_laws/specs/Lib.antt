@@ -1,5 +1,5 @@
 pub mod Formed
 pub mod Laws
-pub mod Places
+pub mod Points
 pub mod Regular
 pub mod Rules

@@ -1,4 +1,4 @@
--- Evaluation that is regular: at each place that it comes to stands what a source can say there.
+-- Evaluation that is regular: at each point that it comes to stands what a source can say there.
 --
 -- The rules of evaluation are total: they say something also of what no source says. Of that are a variable that is not bound
 -- (`bound_to` nothing), a body without expressions (`Body.empty`), an operator (`no_operator`), a list with a tail
@@ -33,7 +33,7 @@ use Rattle.erl_semantics.specs.Jobs.{FromOutside, Job, world_of, Callback, Handl
 use Rattle.erl_semantics.specs.Jobs.{GivesAt, Outcome}
 use Rattle.erl_semantics.specs.Jobs as jobs
 use Rattle.source_laws.specs.Formed.{operands_of, takes}
-use Rattle.source_laws.specs.Places.{IsBound, MayMatch, MayMatchEach, MayTry}
+use Rattle.source_laws.specs.Points.{IsBound, MayMatch, MayMatchEach, MayTry}
 
 -- a match, where its right side gives a value
 abbrev pub MatchIsRegular : {p : Pat} {q : Result} {s : State} {r : Result} {x : State} → Bound p q s r x → Type 0
@@ -46,7 +46,7 @@ module _ (w : World) where
     pub EvalIsRegular : {a : Activation} {tail : Bool} {e : Expr} {s : State} {r : Result} {x : State} →
         Eval w a tail e s r x → Type 0
     EvalIsRegular (literal g) = Unit {0}
-    EvalIsRegular (variable {place = place} {s = s} g) = IsBound s.bindings place
+    EvalIsRegular (variable {index = index} {s = s} g) = IsBound s.bindings index
     EvalIsRegular (apply d f) = OperandsAreRegular d × ApplicationIsRegular f
     EvalIsRegular (match d f) = BodyIsRegular d × MatchIsRegular f
     EvalIsRegular (block d) = BodyIsRegular d

@@ -2,7 +2,7 @@
 //!
 //! The crate has no code. `erl_parse` says which module a source means, `erl_lower` that variables are numbered as they are
 //! bound, and `erl_semantics` what comes of expressions. Each defines what it needs of scopes and numbers by a recursion of its
-//! own. Here it is proved that these fit: evaluation of code that comes of sources finds at each place what the rules expect
+//! own. Here it is proved that these fit: evaluation of code that comes of sources finds at each point what the rules expect
 //! there.
 //!
 //! # What is proved

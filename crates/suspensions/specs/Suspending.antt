@@ -18,7 +18,7 @@ use Rattle.process_store.specs.declared.living.ProcessEntry.{ProcessEntry}
 use Rattle.suspensions.specs.Versions.{old_vsn}
 use Rattle.script_state.specs.declared.noted.NotedVersion.{NotedVersion}
 use Rattle.suspensions.specs.declared.busy.Busy.{Busy}
-use Rattle.upgrade_calls.specs.declared.changing.Change.{Change}
+use Rattle.upgrade_calls.specs.declared.changing.CodeChangeCall.{CodeChangeCall}
 
 -- A gen_server process lives, and runs; or it rests, and isn't suspended.
 
@@ -100,7 +100,7 @@ still_suspended modules suspended apps t = filter (λ p. not (is_resumed modules
 abbrev pub is_changed : List ℕ → List Application → Table → ℕ → Bool
 is_changed m apps t p = is_server (living p t) && runs_with m p apps
 
-abbrev pub changes_for : Direction → List NotedVersion → List ℕ → List Application → Table → ModuleChange → List Change
+abbrev pub changes_for : Direction → List NotedVersion → List ℕ → List Application → Table → ModuleChange → List CodeChangeCall
 changes_for direction versions suspended apps t m =
     map (λ p. record { pid = p; vsn = old_vsn direction m.name versions; extra = m.extra })
     (filter (is_changed m.name apps t) suspended)

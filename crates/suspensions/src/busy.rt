@@ -42,8 +42,8 @@ fn busy_in(children: &[Child], processes: &Processes, name: &Atom) -> Option<u64
 fn busy_of(apps: &AppTable, processes: &Processes, name: &Atom) -> Option<u64>
     ensures { result ≡ find (λ p. is_busy (living p processes.now)) (pids_of name.now apps.now) }
 {
-    for place in 0..apps.len() {
-        if let Some(pid) = busy_in(apps.app_at(place).children(), processes, name) {
+    for index in 0..apps.len() {
+        if let Some(pid) = busy_in(apps.app_at(index).children(), processes, name) {
             return Some(pid);
         }
     }

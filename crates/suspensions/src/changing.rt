@@ -12,12 +12,12 @@ use low_instructions::{Direction, ModuleChange};
 use process_table::Processes;
 use script_state::NotedVersion;
 use std::alloc::{AllocError, Global};
-use upgrade_calls::Change;
+use upgrade_calls::CodeChangeCall;
 use values::Duplicate;
 
 /// Puts the change of a process behind others.
 fn push_change(
-    changes: &mut Vec<Change>,
+    changes: &mut Vec<CodeChangeCall>,
     alloc: Global,
     pid: u64,
     vsn: &Term,
@@ -25,7 +25,7 @@ fn push_change(
 ) -> Result<(), AllocError>
     ensures { OnOk result (changes.new.items ≡ changes.old.items ++ record { pid = pid; vsn = vsn.now; extra = extra.now } ∷ []) }
 {
-    changes.push(Change {
+    changes.push(CodeChangeCall {
         pid,
         vsn: vsn.copy(alloc)?,
         extra: extra.copy(alloc)?,
@@ -55,7 +55,7 @@ pub fn changes_for(
     versions: &[NotedVersion],
     suspended: &[u64],
     change: &ModuleChange,
-) -> Result<Vec<Change>, AllocError>
+) -> Result<Vec<CodeChangeCall>, AllocError>
     ensures changes { IfOk result (λ it. it.items ≡ changes_for direction versions.now suspended.now apps.now processes.now
         change.now) }
     ensures servers { IfOk result (λ it. All (λ c. IsServer (living c.pid processes.now)) it.items) }

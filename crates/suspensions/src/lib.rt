@@ -33,4 +33,4 @@ pub use busy::{Busy, suspend_refusal};
 pub use changing::changes_for;
 pub use script_state::NotedVersion;
 pub use suspending::{ResumeUndo, resume, suspend, unresume, unsuspend};
-pub use upgrade_calls::Change;
+pub use upgrade_calls::CodeChangeCall;

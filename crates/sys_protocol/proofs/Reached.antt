@@ -23,7 +23,7 @@ use Rattle.values.specs.Failure.{Fails as FailsBy}
 use Rattle.values.specs.declared.failure.Failure.{Failure}
 use Rattle.values.specs.declared.failure.Failure.TheVariants.{Refused, Memory}
 use Rattle.process_effects.specs.Begins.{IsUnderWay, acts_begun, begun_told}
-use Rattle.process_effects.specs.declared.change.Change.{Change}
+use Rattle.process_effects.specs.declared.change.Addition.{Addition}
 
 -- What comes of a child with replies that are left to give comes of it once they are given.
 module _ (answers : List Answer) (now t : Table) (makes : t ≡ all_answered answers now) (code : List Instance) (c : ChildSpec) (o : Outcome) (pid : ℕ) (is : pid ≡ next_pid now) (gives : Evaluates (record { code = map instance code; pid = pid; mode = start_mode }) c.name c.function c.arguments (outcome_of o)) where
@@ -46,7 +46,7 @@ module _ (answers : List Answer) (now t : Table) (makes : t ≡ all_answered ans
   fails_there Memory tells = tt
 
 -- what has started is under way
-pub begun_there : (code : List Instance) (acts : List Act) (name : Option (List ℕ)) (changes : List Change) (answers : List Answer) (before now t : Table) (told : List Reply) → name ≡ option_map (λ (asked : List ℕ × Bool). asked.0) (name_in acts) → IsUnderWay changes answers before now (acts_begun name code acts t) (told ++ begun_told name code acts t) → IsUnderWay changes answers before now (acts_begun (option_map (λ (asked : List ℕ × Bool). asked.0) (name_in acts)) code acts t) (told ++ begun_told (option_map (λ (asked : List ℕ × Bool). asked.0) (name_in acts)) code acts t)
+pub begun_there : (code : List Instance) (acts : List Act) (name : Option (List ℕ)) (changes : List Addition) (answers : List Answer) (before now t : Table) (told : List Reply) → name ≡ option_map (λ (asked : List ℕ × Bool). asked.0) (name_in acts) → IsUnderWay changes answers before now (acts_begun name code acts t) (told ++ begun_told name code acts t) → IsUnderWay changes answers before now (acts_begun (option_map (λ (asked : List ℕ × Bool). asked.0) (name_in acts)) code acts t) (told ++ begun_told (option_map (λ (asked : List ℕ × Bool). asked.0) (name_in acts)) code acts t)
 begun_there code acts name changes answers before now t told is way =
     subst (λ (n : Option (List ℕ)). IsUnderWay changes answers before now (acts_begun n code acts t) (told ++ begun_told n code acts t)) is way
 

@@ -2,7 +2,7 @@
 -- unloaded (application(3), stop/1, unload/1).
 use Rattle.std.specs.Prelude.{◌≡◌, ℕ, if◌then◌else◌, List, [], codes, map, Option, None, Some, option_map}
 use Rattle.std.specs.List.{filter_map}
-use Rattle.app_table.specs.Applications.{Application, app_of, child_at, place_of}
+use Rattle.app_table.specs.Applications.{Application, app_of, child_at, index_of}
 use Rattle.app_table.specs.Changes.{all_run, app_stopped, at_spots, ending_order, unloaded}
 use Rattle.app_table.specs.Modules.{running_with, startable}
 use Rattle.app_table.specs.declared.name.ChildName.{ChildName}
@@ -60,17 +60,17 @@ stop_refusal name apps = stop_refusal_of (app_of name apps)
 
 abbrev pub app_pids_at : Option ℕ → List Application → List ℕ
 app_pids_at None apps = []
-app_pids_at (Some place) apps = ending_order place apps
+app_pids_at (Some index) apps = ending_order index apps
 
 abbrev pub app_pids : List ℕ → List Application → List ℕ
-app_pids name apps = app_pids_at (place_of name apps) apps
+app_pids name apps = app_pids_at (index_of name apps) apps
 
 abbrev pub app_stopped_at : Option ℕ → List Application → List Application
 app_stopped_at None apps = apps
-app_stopped_at (Some place) apps = app_stopped place apps
+app_stopped_at (Some index) apps = app_stopped index apps
 
 abbrev pub stopped_app : List ℕ → List Application → List Application
-stopped_app name apps = app_stopped_at (place_of name apps) apps
+stopped_app name apps = app_stopped_at (index_of name apps) apps
 
 -- Why an application isn't unloaded, in order: it is not loaded; it is started.
 
@@ -85,7 +85,7 @@ unload_refusal name apps = unload_refusal_of (app_of name apps)
 
 abbrev pub unloaded_at : Option ℕ → List Application → List Application
 unloaded_at None apps = apps
-unloaded_at (Some place) apps = unloaded place apps
+unloaded_at (Some index) apps = unloaded index apps
 
 abbrev pub unloaded_app : List ℕ → List Application → List Application
-unloaded_app name apps = unloaded_at (place_of name apps) apps
+unloaded_app name apps = unloaded_at (index_of name apps) apps

@@ -1,6 +1,6 @@
 // Applications and children start.
 ghost use Rattle.std.specs.Prelude.{◌≡◌, [], IfErr, IfOk, IfSome, List, MatchOption, None, OnErr, OnOk, Some, replicate, true};
-ghost use Rattle.app_table.specs.Applications.{app_of, child_of, place_of, revived, started};
+ghost use Rattle.app_table.specs.Applications.{app_of, child_of, index_of, revived, started};
 ghost use Rattle.app_table.specs.Children.{is_due};
 ghost use Rattle.app_table.specs.Pieces.{child_pieces, held as held_apps};
 ghost use Rattle.app_table.specs.Undo.{undone};
@@ -49,19 +49,19 @@ pub struct Revival {
     pub undo: AppsUndo,
 }
 
-/// The place of an application that can be started, or why it can't, whatever its start would come to. Takes no memory.
-fn place_to_start(apps: &AppTable, name: &Atom) -> Result<usize, AppError>
-    ensures place { IfOk result (λ place. place_of name.now apps.now ≡ Some place) }
+/// The index of an application that can be started, or why it can't, whatever its start would come to. Takes no memory.
+fn index_to_start(apps: &AppTable, name: &Atom) -> Result<usize, AppError>
+    ensures index { IfOk result (λ index. index_of name.now apps.now ≡ Some index) }
     ensures ok { OnOk result (start_refusal name.now apps.now ≡ None) }
     ensures refused { IfErr result (λ e. start_refusal name.now apps.now ≡ Some e) }
 {
-    let Some(place) = apps.place_of(name) else {
+    let Some(index) = apps.index_of(name) else {
         return Err(AppError::NotLoaded);
     };
-    if apps.app_at(place).is_started() {
+    if apps.app_at(index).is_started() {
         return Err(AppError::AlreadyStarted);
     }
-    Ok(place)
+    Ok(index)
 }
 
 /// An application starts: `init` of its callback module is evaluated in this code, which is every module's current code, and the
@@ -92,11 +92,11 @@ pub fn start_app(
         (start_refusal name.now apps.old ≡ None)) }
     ensures err { OnErr result ((apps.new ≡ apps.old) × (processes.new ≡ processes.old)) }
 {
-    let place = match place_to_start(apps, name) {
-        Ok(place) => place,
+    let index = match index_to_start(apps, name) {
+        Ok(index) => index,
         Err(refusal) => return Err(Failure::Refused(refusal)),
     };
-    let module = apps.app_at(place).spec().start.as_ref();
+    let module = apps.app_at(index).spec().start.as_ref();
     let Running {
         children,
         told,
@@ -105,7 +105,7 @@ pub fn start_app(
     Ok(AppStart {
         told,
         processes: undo,
-        undo: apps.start(place, children),
+        undo: apps.start(index, children),
     })
 }
 

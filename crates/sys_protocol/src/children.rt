@@ -19,7 +19,7 @@ fn push_running(children: &mut Vec<Child>, spec: ChildSpec, pid: u64) -> Result<
     Ok(())
 }
 
-/// These children, each of which runs as the process of the pid at its place.
+/// These children, each of which runs as the process of the pid at its index.
 pub(crate) fn all_running(
     alloc: Global,
     specs: Row<ChildSpec>,

@@ -1,7 +1,7 @@
 // Children stop, and applications.
 ghost use Rattle.std.specs.Prelude.{◌≡◌, ◌-◌, ◌≤◌, ◌+◌, ◌++◌, IfErr, IfOk, None, OnErr, OnOk, Some, length, map, replicate, take, vec_capacity, vec_len};
 ghost use Rattle.std.specs.Prelude.{[], IsPermutation};
-ghost use Rattle.app_table.specs.Applications.{place_of};
+ghost use Rattle.app_table.specs.Applications.{index_of};
 ghost use Rattle.app_table.specs.Changes.{all_stopped};
 ghost use Rattle.app_table.specs.Modules.{names_at, running_with};
 ghost use Rattle.app_table.specs.Pieces.{held as held_apps, held_unloaded, pieces};
@@ -125,17 +125,17 @@ pub fn unnote(noted: &mut Vec<ChildName>, count: usize)
     noted.truncate(left);
 }
 
-/// The place of an application that can be stopped, or why it can't. Takes no memory.
-fn place_to_stop(apps: &AppTable, name: &Atom) -> Result<usize, AppError>
-    ensures place { IfOk result (λ place. place_of name.now apps.now ≡ Some place) }
+/// The index of an application that can be stopped, or why it can't. Takes no memory.
+fn index_to_stop(apps: &AppTable, name: &Atom) -> Result<usize, AppError>
+    ensures index { IfOk result (λ index. index_of name.now apps.now ≡ Some index) }
     ensures ok { OnOk result (stop_refusal name.now apps.now ≡ None) }
     ensures refused { IfErr result (λ e. stop_refusal name.now apps.now ≡ Some e) }
 {
-    let Some(place) = apps.place_of(name) else {
+    let Some(index) = apps.index_of(name) else {
         return Err(AppError::NotStarted);
     };
-    if apps.app_at(place).is_started() {
-        return Ok(place);
+    if apps.app_at(index).is_started() {
+        return Ok(index);
     }
     Err(AppError::NotStarted)
 }
@@ -165,34 +165,34 @@ pub fn stop_app(
     ensures refused { IfErr result (λ failure. TellsFailure failure (stop_refusal name.now apps.old)) }
     ensures err { OnErr result ((apps.new ≡ apps.old) × (processes.new ≡ processes.old)) }
 {
-    let place = match place_to_stop(apps, name) {
-        Ok(place) => place,
+    let index = match index_to_stop(apps, name) {
+        Ok(index) => index,
         Err(refusal) => return Err(Failure::Refused(refusal)),
     };
-    let pids = apps.ending_order(alloc, place)?;
-    let states = apps.states(alloc, place)?;
+    let pids = apps.ending_order(alloc, index)?;
+    let states = apps.states(alloc, index)?;
     let told = processes.downs_of_each(pids.as_slice(), &shutdown(alloc)?, n)?;
     let ended = processes.end_all(pids.as_slice())?;
     Ok(AppStop {
         told,
         processes: ended,
-        undo: apps.stop_app(place, states),
+        undo: apps.stop_app(index, states),
     })
 }
 
-/// The place of an application that can be unloaded, or why it can't. Takes no memory.
-fn place_to_unload(apps: &AppTable, name: &Atom) -> Result<usize, AppError>
-    ensures place { IfOk result (λ place. place_of name.now apps.now ≡ Some place) }
+/// The index of an application that can be unloaded, or why it can't. Takes no memory.
+fn index_to_unload(apps: &AppTable, name: &Atom) -> Result<usize, AppError>
+    ensures index { IfOk result (λ index. index_of name.now apps.now ≡ Some index) }
     ensures ok { OnOk result (unload_refusal name.now apps.now ≡ None) }
     ensures refused { IfErr result (λ e. unload_refusal name.now apps.now ≡ Some e) }
 {
-    let Some(place) = apps.place_of(name) else {
+    let Some(index) = apps.index_of(name) else {
         return Err(AppError::NotLoaded);
     };
-    if apps.app_at(place).is_started() {
+    if apps.app_at(index).is_started() {
         return Err(AppError::Running);
     }
-    Ok(place)
+    Ok(index)
 }
 
 /// An application is unloaded: it leaves, with its children, and is handed out. Takes no memory; [`AppTable::reload`] takes
@@ -204,11 +204,11 @@ fn place_to_unload(apps: &AppTable, name: &Atom) -> Result<usize, AppError>
 pub fn unload_app(apps: &mut AppTable, name: &Atom) -> Result<Unloaded, AppError>
     ensures ok { OnOk result (unload_refusal name.now apps.old ≡ None) }
     ensures unloaded { OnOk result (apps.new ≡ unloaded_app name.now apps.old) }
-    ensures inverse { IfOk result (λ it. (reloaded it apps.new ≡ apps.old) × (it.place ≤ length apps.new)) }
+    ensures inverse { IfOk result (λ it. (reloaded it apps.new ≡ apps.old) × (it.index ≤ length apps.new)) }
     ensures app_pieces { IfOk result (λ it. IsPermutation (held_unloaded it ++ pieces apps.new) (pieces apps.old)) }
     ensures refused { IfErr result (λ e. unload_refusal name.now apps.old ≡ Some e) }
     ensures err { OnErr result (apps.new ≡ apps.old) }
 {
-    let place = place_to_unload(apps, name)?;
-    Ok(apps.unload(place))
+    let index = index_to_unload(apps, name)?;
+    Ok(apps.unload(index))
 }

@@ -32,15 +32,15 @@ module _ {S R N : Type 0} (undoes : R → S → S → Type 0) where
   state_of-timeline floor node note past last state h =
       state_of-Chained record { serial = floor; node = node; note = note } past state h
 
-  -- the record of a place takes back the step to its station
-  record_behind : (s : Station S N) (ps : List (Entry S R N)) (state : S) (place : ℕ) (e : Entry S R N) → Chained undoes s.node ps state → slice_get ps place ≡ Some e →
-      IfSome (slice_get (s ∷ stations ps) place) (λ before. IfSome (slice_get (stations ps) place) (λ after. undoes e.trace before.node after.node))
-  record_behind s [] state place e h at = let never : ⊥ = cc in absurd never
+  -- the record of an index takes back the step to its station
+  record_behind : (s : Station S N) (ps : List (Entry S R N)) (state : S) (index : ℕ) (e : Entry S R N) → Chained undoes s.node ps state → slice_get ps index ≡ Some e →
+      IfSome (slice_get (s ∷ stations ps) index) (λ before. IfSome (slice_get (stations ps) index) (λ after. undoes e.trace before.node after.node))
+  record_behind s [] state index e h at = let never : ⊥ = cc in absurd never
   record_behind s (p ∷ ps) state zero e h at =
       subst (λ (x : Entry S R N). undoes x.trace s.node p.node.value) (same_Some p e at) h.0
-  record_behind s (p ∷ ps) state (suc place) e h at = record_behind (station_of p) ps state place e h.1 at
+  record_behind s (p ∷ ps) state (suc index) e h at = record_behind (station_of p) ps state index e h.1 at
 
-  pub record_at : (floor : ℕ) (node : S) (note : Option N) (past : List (Entry S R N)) (last : ℕ) (state : S) (place : ℕ) (e : Entry S R N) → Chained undoes node past state → slice_get past place ≡ Some e →
-      IsRecordAt undoes place (timeline_of floor node note past last) e.trace
-  record_at floor node note past last state place e h at =
-      record_behind record { serial = floor; node = node; note = note } past state place e h at
+  pub record_at : (floor : ℕ) (node : S) (note : Option N) (past : List (Entry S R N)) (last : ℕ) (state : S) (index : ℕ) (e : Entry S R N) → Chained undoes node past state → slice_get past index ≡ Some e →
+      IsRecordAt undoes index (timeline_of floor node note past last) e.trace
+  record_at floor node note past last state index e h at =
+      record_behind record { serial = floor; node = node; note = note } past state index e h at

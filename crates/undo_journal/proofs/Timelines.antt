@@ -73,8 +73,8 @@ shortened-report_of {S} {R} {N} keep k past order within =
     let more = notes_of-stations (drop keep past) in
     let fewer = notes_of-stations (drop k past) in
     let count : length (map note (drop keep past)) - (length past - k) ≡ k - keep = simp (length-map, length-drop) (omega arith) in
-    let place : keep + (k - keep) ≡ k = omega arith in
-    let behind = drop-map note (k - keep) (drop keep past) ∙ ap (λ ps. map note ps) (drop-drop (k - keep) keep past ∙ ap (λ i. drop i past) place) in
+    let index : keep + (k - keep) ≡ k = omega arith in
+    let behind = drop-map note (k - keep) (drop keep past) ∙ ap (λ ps. map note ps) (drop-drop (k - keep) keep past ∙ ap (λ i. drop i past) index) in
     let notes : drop (length (notes_of (stations (drop keep past))) - (length past - k)) (notes_of (stations (drop keep past))) ≡ notes_of (stations (drop k past)) = rw (more, fewer, count) behind in
     let cut : length past - k ≡ length (stations (drop k past)) = simp (length-map, length-drop) refl in
     ap (λ ns. record { cut = length past - k; notes = ns }) notes ∙ ap (λ c. record { cut = c; notes = notes_of (stations (drop k past)) }) cut

@@ -24,11 +24,11 @@ abbrev pub Chained : {S R N : Type 0} → (R → S → S → Type 0) → S → L
 Chained undoes before [] state = state ≡ before
 Chained undoes before (p ∷ ps) state = undoes p.trace before p.node.value × Chained undoes p.node.value ps state
 
--- A record takes back the step to the station at a place behind the first, counted from 0, from the station before it.
+-- A record takes back the step to the station at an index behind the first, counted from 0, from the station before it.
 abbrev pub IsRecordAt : {S R N : Type 0} → (R → S → S → Type 0) → ℕ → Timeline S N → R → Type 0
-IsRecordAt undoes place t it =
-    IfSome (slice_get (t.first ∷ t.later) place) (λ before.
-    IfSome (slice_get t.later place) (λ after. undoes it before.node after.node))
+IsRecordAt undoes index t it =
+    IfSome (slice_get (t.first ∷ t.later) index) (λ before.
+    IfSome (slice_get t.later index) (λ after. undoes it before.node after.node))
 
 -- a report of the newest `cut` stations, made from one of as many or more
 abbrev pub shortened : {N : Type 0} → ℕ → Report N → Report N

@@ -32,7 +32,8 @@ pub struct Journal<S: Reversible> {
     last: u64,
 }
 
-/// It is taken apart here. Who drops one above proves what its state, its records and its notes hold, for their types are parameters.
+/// It is taken apart here. Who drops one above proves what its state, its records and its notes hold, for their types are
+/// parameters.
 impl<S: Reversible> Drop for Journal<S> {
     fn drop(self) {
         let Journal {
@@ -102,13 +103,13 @@ impl<S: Reversible> Journal<S> {
         &self.state
     }
 
-    /// The record that takes back the step to the station at a place behind the first, counted from 0; none past the last
+    /// The record that takes back the step to the station at an index behind the first, counted from 0; none past the last
     /// station. Takes no memory.
-    pub fn record(&self, place: usize) -> Option<&S::Record>
-        ensures kept { IsTrue (is_some result) ↔ (place < length self.now.later) }
-        ensures takes_back { IfSome result (λ it. IsRecordAt S.undoes place self.now it.now) }
+    pub fn record(&self, index: usize) -> Option<&S::Record>
+        ensures kept { IsTrue (is_some result) ↔ (index < length self.now.later) }
+        ensures takes_back { IfSome result (λ it. IsRecordAt S.undoes index self.now it.now) }
     {
-        let entry = self.past.get(place)?;
+        let entry = self.past.get(index)?;
         Some(&entry.trace)
     }
 

@@ -6,9 +6,9 @@ use Rattle.std.proofs.lemmas.Bool.{eq-eqb, cond-true}
 use Rattle.std.proofs.lemmas.Option.{none-some, same_Some}
 use Rattle.values.proofs.Edits.{slice_get-changed_at}
 use Rattle.code_server.proofs.Changes.{purged-kept}
-use Rattle.code_server.proofs.Reloads.{place_of-with_slots}
-use Rattle.code_server.proofs.Standing.{Stands-place, absent_from_place}
-use Rattle.code_server.specs.Modules.{Entry, Table as Loaded, current_of, deleted, deleted_at, loaded, loaded_at, old_of, place_of, purged, purged_slots, removed, retired, slots_of, stacked, with_slots}
+use Rattle.code_server.proofs.Reloads.{index_of-with_slots}
+use Rattle.code_server.proofs.Standing.{Stands-index, absent_from_index}
+use Rattle.code_server.specs.Modules.{Entry, Table as Loaded, current_of, deleted, deleted_at, loaded, loaded_at, old_of, index_of, purged, purged_slots, removed, retired, slots_of, stacked, with_slots}
 use Rattle.code_server.specs.declared.modules.Instance.{Instance}
 use Rattle.code_server.specs.declared.modules.Slots.{Slots}
 use Rattle.erl_ir.specs.Module.{Forms}
@@ -18,13 +18,13 @@ use Rattle.script_state.proofs.Firsts.{behind}
 use Rattle.unpurged_code.specs.Unpurged.{IsNoted, note_in, note_on, with_note}
 
 -- a module's instances change where it stands
-changed : (f : Slots Forms → Slots Forms) (m : List ℕ) (t : Loaded Forms) (next place : ℕ) → place_of m t.entries ≡ Some place → slots_of m (record { entries = with_slots f t.entries place; next = next }) ≡ option_map f (slots_of m t)
-changed f m t next place at =
-    let now : Loaded Forms = record { entries = with_slots f t.entries place; next = next } in
-    let here = Stands-place m t.entries place at in
-    let there = Stands-place m now.entries place (place_of-with_slots f m t.entries place at) in
+changed : (f : Slots Forms → Slots Forms) (m : List ℕ) (t : Loaded Forms) (next index : ℕ) → index_of m t.entries ≡ Some index → slots_of m (record { entries = with_slots f t.entries index; next = next }) ≡ option_map f (slots_of m t)
+changed f m t next index at =
+    let now : Loaded Forms = record { entries = with_slots f t.entries index; next = next } in
+    let here = Stands-index m t.entries index at in
+    let there = Stands-index m now.entries index (index_of-with_slots f m t.entries index at) in
     let is : (m, there.slots) ≡ (m, f here.slots) =
-    same_Some (m, there.slots) (m, f here.slots) (sym there.entry ∙ slice_get-changed_at (λ (e : Entry Forms). (e.0, f e.1)) t.entries place (m, here.slots) here.entry) in
+    same_Some (m, there.slots) (m, f here.slots) (sym there.entry ∙ slice_get-changed_at (λ (e : Entry Forms). (e.0, f e.1)) t.entries index (m, here.slots) here.entry) in
     there.value ∙ ap (λ (e : Entry Forms). Some e.1) is ∙ ap (option_map f) (sym here.value)
 
 -- what was current is old
@@ -32,32 +32,32 @@ aged : (g : Slots Forms → Slots Forms) → ((s : Slots Forms) → (g s).former
 aged g old None = refl
 aged g old (Some s) = old (purged_slots s)
 
-aged_at : (g : Slots Forms → Slots Forms) → ((s : Slots Forms) → (g s).former ≡ s.current) → (m : List ℕ) (t : Loaded Forms) (next place : ℕ) → place_of m t.entries ≡ Some place → old_of m (record { entries = with_slots g (with_slots purged_slots t.entries place) place; next = next }) ≡ current_of m t
-aged_at g old m t next place at =
-    let kept : Loaded Forms = record { entries = with_slots purged_slots t.entries place; next = t.next } in
+aged_at : (g : Slots Forms → Slots Forms) → ((s : Slots Forms) → (g s).former ≡ s.current) → (m : List ℕ) (t : Loaded Forms) (next index : ℕ) → index_of m t.entries ≡ Some index → old_of m (record { entries = with_slots g (with_slots purged_slots t.entries index) index; next = next }) ≡ current_of m t
+aged_at g old m t next index at =
+    let kept : Loaded Forms = record { entries = with_slots purged_slots t.entries index; next = t.next } in
     ap (option_and_then (λ (s : Slots Forms). s.former))
-    (changed g m kept next place (place_of-with_slots purged_slots m t.entries place at)
-    ∙ ap (option_map g) (changed purged_slots m t t.next place at))
+    (changed g m kept next index (index_of-with_slots purged_slots m t.entries index at)
+    ∙ ap (option_map g) (changed purged_slots m t t.next index at))
     ∙ aged g old (slots_of m t)
 
-loaded_by : (m : List ℕ) (code : Forms) (i : Instance Forms) (t : Loaded Forms) (o : Option ℕ) → place_of m t.entries ≡ o → current_of m t ≡ Some i → old_of m (loaded m code (purged m t)) ≡ Some i
+loaded_by : (m : List ℕ) (code : Forms) (i : Instance Forms) (t : Loaded Forms) (o : Option ℕ) → index_of m t.entries ≡ o → current_of m t ≡ Some i → old_of m (loaded m code (purged m t)) ≡ Some i
 loaded_by m code i t None at is =
-    absurd (none-some i (sym (ap (option_and_then (λ (s : Slots Forms). s.current)) (absent_from_place m t.entries at)) ∙ is))
-loaded_by m code i t (Some place) at is =
-    let kept : Loaded Forms = record { entries = with_slots purged_slots t.entries place; next = t.next } in
+    absurd (none-some i (sym (ap (option_and_then (λ (s : Slots Forms). s.current)) (absent_from_index m t.entries at)) ∙ is))
+loaded_by m code i t (Some index) at is =
+    let kept : Loaded Forms = record { entries = with_slots purged_slots t.entries index; next = t.next } in
     let new : Instance Forms = record { serial = t.next; code = code } in
-    ap (λ x. old_of m (loaded m code x)) (purged-kept m t place at (ap is_some is))
-    ∙ ap (λ o. old_of m (record { entries = loaded_at o m new kept.entries; next = t.next + 1 })) (place_of-with_slots purged_slots m t.entries place at)
-    ∙ aged_at (stacked new) (λ s. refl) m t (t.next + 1) place at ∙ is
+    ap (λ x. old_of m (loaded m code x)) (purged-kept m t index at (ap is_some is))
+    ∙ ap (λ o. old_of m (record { entries = loaded_at o m new kept.entries; next = t.next + 1 })) (index_of-with_slots purged_slots m t.entries index at)
+    ∙ aged_at (stacked new) (λ s. refl) m t (t.next + 1) index at ∙ is
 
-removed_by : (m : List ℕ) (i : Instance Forms) (t : Loaded Forms) (o : Option ℕ) → place_of m t.entries ≡ o → current_of m t ≡ Some i → old_of m (removed m t) ≡ Some i
+removed_by : (m : List ℕ) (i : Instance Forms) (t : Loaded Forms) (o : Option ℕ) → index_of m t.entries ≡ o → current_of m t ≡ Some i → old_of m (removed m t) ≡ Some i
 removed_by m i t None at is =
-    absurd (none-some i (sym (ap (option_and_then (λ (s : Slots Forms). s.current)) (absent_from_place m t.entries at)) ∙ is))
-removed_by m i t (Some place) at is =
-    let kept : Loaded Forms = record { entries = with_slots purged_slots t.entries place; next = t.next } in
-    ap (λ x. old_of m (deleted m x)) (purged-kept m t place at (ap is_some is))
-    ∙ ap (λ o. old_of m (record { entries = deleted_at o kept.entries; next = t.next })) (place_of-with_slots purged_slots m t.entries place at)
-    ∙ aged_at retired (λ s. refl) m t t.next place at ∙ is
+    absurd (none-some i (sym (ap (option_and_then (λ (s : Slots Forms). s.current)) (absent_from_index m t.entries at)) ∙ is))
+removed_by m i t (Some index) at is =
+    let kept : Loaded Forms = record { entries = with_slots purged_slots t.entries index; next = t.next } in
+    ap (λ x. old_of m (deleted m x)) (purged-kept m t index at (ap is_some is))
+    ∙ ap (λ o. old_of m (record { entries = deleted_at o kept.entries; next = t.next })) (index_of-with_slots purged_slots m t.entries index at)
+    ∙ aged_at retired (λ s. refl) m t t.next index at ∙ is
 
 -- a note behind the others is the first of a serial that has none
 
@@ -77,10 +77,10 @@ noted_last serial kind unpurged none =
 
 pub loads_note : (m : List ℕ) (code : Forms) (i : Instance Forms) (kind : Purge) (modules : Loaded Forms) (unpurged : List Unpurged) → current_of m modules ≡ Some i → note_in i.serial unpurged ≡ None → IsNoted kind (loaded m code (purged m modules)) (with_note i.serial kind unpurged) m
 loads_note m code i kind modules unpurged is none =
-    ap (λ old. note_on old (with_note i.serial kind unpurged)) (loaded_by m code i modules (place_of m modules.entries) refl is)
+    ap (λ old. note_on old (with_note i.serial kind unpurged)) (loaded_by m code i modules (index_of m modules.entries) refl is)
     ∙ noted_last i.serial kind unpurged none
 
 pub removes_note : (m : List ℕ) (i : Instance Forms) (kind : Purge) (modules : Loaded Forms) (unpurged : List Unpurged) → current_of m modules ≡ Some i → note_in i.serial unpurged ≡ None → IsNoted kind (removed m modules) (with_note i.serial kind unpurged) m
 removes_note m i kind modules unpurged is none =
-    ap (λ old. note_on old (with_note i.serial kind unpurged)) (removed_by m i modules (place_of m modules.entries) refl is)
+    ap (λ old. note_on old (with_note i.serial kind unpurged)) (removed_by m i modules (index_of m modules.entries) refl is)
     ∙ noted_last i.serial kind unpurged none

@@ -20,7 +20,7 @@ use Rattle.unpurged_code.proofs.Rising.{among_with, both_true, one_rising, rises
 use Rattle.unpurged_code.specs.Names.{ByName, is_among, with_name}
 use Rattle.unpurged_code.specs.Unpurged.{AreNoted, AreSwept, is_kind, is_left_alone, is_noted, note_of, note_on, with_entry}
 
--- The entries up to a place.
+-- The entries up to an index.
 
 any_at : {X : Type 0} → (X → Bool) → Option X → Bool
 any_at test None = false
@@ -34,14 +34,14 @@ or_false : (a : Bool) → a ≡ (a || false)
 or_false true = refl
 or_false false = refl
 
-any_next : {X : Type 0} (test : X → Bool) (es : List X) (place : ℕ) → list_any test (take (suc place) es) ≡ (list_any test (take place es) || any_at test (slice_get es place))
+any_next : {X : Type 0} (test : X → Bool) (es : List X) (index : ℕ) → list_any test (take (suc index) es) ≡ (list_any test (take index es) || any_at test (slice_get es index))
 unfolding any_at
 any_next test [] zero = refl
-any_next test [] (suc place) = refl
+any_next test [] (suc index) = refl
 any_next test (e ∷ es) zero = sym (or_false (test e))
-any_next test (e ∷ es) (suc place) =
-    ap (λ b. test e || b) (any_next test es place)
-    ∙ or_over (test e) (list_any test (take place es)) (any_at test (slice_get es place))
+any_next test (e ∷ es) (suc index) =
+    ap (λ b. test e || b) (any_next test es index)
+    ∙ or_over (test e) (list_any test (take index es)) (any_at test (slice_get es index))
 
 -- Notes of a kind.
 
@@ -106,11 +106,11 @@ module _ (kind : Purge) (unpurged : List Unpurged) where
         ∙ ap (λ b. b || is_so k e) (gathered.same k) ∙ sym (next k);
   }
 
-  pub gathered_next : (es : List (Entry Forms)) (place : ℕ) (names more : List (List ℕ)) → more ≡ with_entry kind unpurged (slice_get es place) names → Gathered (take place es) names → Gathered (take (place + 1) es) more
-  gathered_next es place names more is gathered =
-      let one : suc place ≡ place + 1 = omega arith in
-      let next = entry_gathered (slice_get es place) (take place es) (take (suc place) es) names (λ k. any_next (is_so k) es place) gathered in
-      subst (λ n. Gathered (take n es) more) one (subst (Gathered (take (suc place) es)) (sym is) next)
+  pub gathered_next : (es : List (Entry Forms)) (index : ℕ) (names more : List (List ℕ)) → more ≡ with_entry kind unpurged (slice_get es index) names → Gathered (take index es) names → Gathered (take (index + 1) es) more
+  gathered_next es index names more is gathered =
+      let one : suc index ≡ index + 1 = omega arith in
+      let next = entry_gathered (slice_get es index) (take index es) (take (suc index) es) names (λ k. any_next (is_so k) es index) gathered in
+      subst (λ n. Gathered (take n es) more) one (subst (Gathered (take (suc index) es)) (sym is) next)
 
   -- All entries: no module has two.
 

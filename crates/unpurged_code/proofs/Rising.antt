@@ -1,4 +1,4 @@
--- Names that rise: what is among them, one more at its place, and that no others with the same among them rise.
+-- Names that rise: what is among them, one more at its index, and that no others with the same among them rise.
 use Rattle.std.proofs.Common.{◌≡◌, ◌+◌, ◌≤◌, ℕ, zero, suc, Bool, true, false, not, cond, List, [], ◌∷◌, insert, length, ltb, Option, None, Some, refl, sym, ap, subst, ◌∙◌, arith}
 use Rattle.std.specs.Prelude.{◌||◌, position}
 use Rattle.std.specs.Cmp.{Equal-is}
@@ -12,7 +12,7 @@ use Rattle.std.proofs.lemmas.Bool.{ltb-false, or_parts, true≢false}
 use Rattle.std.proofs.lemmas.Cmp.{nat_list_cmp_total, tied_itself}
 use Rattle.std.proofs.lemmas.Option.{none-some}
 use Rattle.std.proofs.lemmas.Slice.Eq.{bytes_eq-Decides}
-use Rattle.unpurged_code.specs.Names.{ByName, is_among, place_among, stands_before, with_name}
+use Rattle.unpurged_code.specs.Names.{ByName, is_among, index_among, stands_before, with_name}
 
 -- The order of names.
 
@@ -55,7 +55,7 @@ among_behind n k (m ∷ names) behind is =
       | false ↦ λ same is. among_behind n k names behind.1 is
     ] refl is
 
--- One more at its place.
+-- One more at its index.
 
 or_swap : (a b c : Bool) → (a || (b || c)) ≡ (b || (a || c))
 or_swap true true c = refl
@@ -63,16 +63,16 @@ or_swap true false c = refl
 or_swap false true c = refl
 or_swap false false c = refl
 
-among_insert : (k m : List ℕ) (names : List (List ℕ)) (place : ℕ) → is_among k (insert names place m) ≡ (bytes_eq k m || is_among k names)
+among_insert : (k m : List ℕ) (names : List (List ℕ)) (index : ℕ) → is_among k (insert names index m) ≡ (bytes_eq k m || is_among k names)
 among_insert k m names zero = refl
-among_insert k m [] (suc place) = refl
-among_insert k m (n ∷ names) (suc place) =
-    ap (λ b. bytes_eq k n || b) (among_insert k m names place) ∙ or_swap (bytes_eq k n) (bytes_eq k m) (is_among k names)
+among_insert k m [] (suc index) = refl
+among_insert k m (n ∷ names) (suc index) =
+    ap (λ b. bytes_eq k n || b) (among_insert k m names index) ∙ or_swap (bytes_eq k n) (bytes_eq k m) (is_among k names)
 
-all_insert : (P : List ℕ → Type 0) (names : List (List ℕ)) (place : ℕ) (m : List ℕ) → AllByRecursion P names → P m → AllByRecursion P (insert names place m)
+all_insert : (P : List ℕ → Type 0) (names : List (List ℕ)) (index : ℕ) (m : List ℕ) → AllByRecursion P names → P m → AllByRecursion P (insert names index m)
 all_insert P names zero m all one = (one, all)
-all_insert P [] (suc place) m all one = (one, tt)
-all_insert P (n ∷ names) (suc place) m all one = (all.0, all_insert P names place m all.1 one)
+all_insert P [] (suc index) m all one = (one, tt)
+all_insert P (n ∷ names) (suc index) m all one = (all.0, all_insert P names index m all.1 one)
 
 all_later : (m n : List ℕ) (names : List (List ℕ)) → stands_before m n ≡ true → AllByRecursion (λ k. stands_before n k ≡ true) names → AllByRecursion (λ k. stands_before m k ≡ true) names
 all_later m n [] before all = tt
@@ -81,20 +81,20 @@ all_later m n (k ∷ names) before all = (later m n k before all.0, all_later m 
 differ_back : (a b : List ℕ) → bytes_eq a b ≡ false → bytes_eq b a ≡ false
 differ_back a b differ = nat_list_eq_equiv.symm b a ∙ differ
 
-rises_at : (m n : List ℕ) (names : List (List ℕ)) (b : Bool) → stands_before m n ≡ b → ByName (n ∷ names) → bytes_eq m n ≡ false → ByName (insert names (place_among m names) m) → ByName (insert (n ∷ names) (cond (not b) (1 + place_among m names) 0) m)
+rises_at : (m n : List ℕ) (names : List (List ℕ)) (b : Bool) → stands_before m n ≡ b → ByName (n ∷ names) → bytes_eq m n ≡ false → ByName (insert names (index_among m names) m) → ByName (insert (n ∷ names) (cond (not b) (1 + index_among m names) 0) m)
 rises_at m n names true before rises differ others = ((before, all_later m n names before rises.0), rises)
 rises_at m n names false before rises differ others =
-    let next : suc (place_among m names) ≡ 1 + place_among m names = omega arith in
-    let behind = all_insert (λ k. stands_before n k ≡ true) names (place_among m names) m rises.0 (other_way m n before differ) in
-    subst (λ place. ByName (insert (n ∷ names) place m)) next (behind, others)
+    let next : suc (index_among m names) ≡ 1 + index_among m names = omega arith in
+    let behind = all_insert (λ k. stands_before n k ≡ true) names (index_among m names) m rises.0 (other_way m n before differ) in
+    subst (λ index. ByName (insert (n ∷ names) index m)) next (behind, others)
 
-rises_insert : (m : List ℕ) (names : List (List ℕ)) → ByName names → is_among m names ≡ false → ByName (insert names (place_among m names) m)
+rises_insert : (m : List ℕ) (names : List (List ℕ)) → ByName names → is_among m names ≡ false → ByName (insert names (index_among m names) m)
 rises_insert m [] rises new = (tt, tt)
 rises_insert m (n ∷ names) rises new =
     let differ = or_parts (bytes_eq m n) (is_among m names) new in
     rises_at m n names (stands_before m n) refl rises differ.0 (rises_insert m names rises.1 differ.1)
 
-rises_by : (m : List ℕ) (names : List (List ℕ)) (b : Bool) → is_among m names ≡ b → ByName names → ByName (cond b names (insert names (place_among m names) m))
+rises_by : (m : List ℕ) (names : List (List ℕ)) (b : Bool) → is_among m names ≡ b → ByName names → ByName (cond b names (insert names (index_among m names) m))
 rises_by m names true is rises = rises
 rises_by m names false is rises = rises_insert m names rises is
 
@@ -105,9 +105,9 @@ there : (k m : List ℕ) (names : List (List ℕ)) (b : Bool) → bytes_eq k m �
 there k m names true same is = subst (λ n. is_among n names ≡ true) (sym (same_name k m same)) is
 there k m names false same is = refl
 
-among_by : (k m : List ℕ) (names : List (List ℕ)) (b : Bool) → is_among m names ≡ b → is_among k (cond b names (insert names (place_among m names) m)) ≡ (bytes_eq k m || is_among k names)
+among_by : (k m : List ℕ) (names : List (List ℕ)) (b : Bool) → is_among m names ≡ b → is_among k (cond b names (insert names (index_among m names) m)) ≡ (bytes_eq k m || is_among k names)
 among_by k m names true is = there k m names (bytes_eq k m) refl is
-among_by k m names false is = among_insert k m names (place_among m names)
+among_by k m names false is = among_insert k m names (index_among m names)
 
 pub among_with : (k m : List ℕ) (names : List (List ℕ)) → is_among k (with_name m names) ≡ (bytes_eq k m || is_among k names)
 among_with k m names = among_by k m names (is_among m names) refl
@@ -170,7 +170,7 @@ one_rising (x ∷ xs) (y ∷ ys) one other same =
     (same k ∙ ap (λ n. bytes_eq k n || is_among k ys) (sym first))) in
     λ j. first j ∷ others j
 
--- The place that a look gives.
+-- The index that a look gives.
 
 fits : (test : List ℕ → Bool) (names : List (List ℕ)) → position_or_len test names ≤ length names
 fits test [] = omega arith

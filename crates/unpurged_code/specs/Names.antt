@@ -18,10 +18,10 @@ ByName (m ∷ names) = AllByRecursion (λ n. stands_before m n ≡ true) names �
 abbrev pub is_among : List ℕ → List (List ℕ) → Bool
 is_among m names = list_any (bytes_eq m) names
 
--- The place of a name among names that rise: that of the first that stands behind it, and past all where none does.
-abbrev pub place_among : List ℕ → List (List ℕ) → ℕ
-place_among m names = position_or_len (stands_before m) names
+-- The index of a name among names that rise: that of the first that stands behind it, and past all where none does.
+abbrev pub index_among : List ℕ → List (List ℕ) → ℕ
+index_among m names = position_or_len (stands_before m) names
 
--- The names with one more at its place, where it isn't one of them.
+-- The names with one more at its index, where it isn't one of them.
 abbrev pub with_name : List ℕ → List (List ℕ) → List (List ℕ)
-with_name m names = if is_among m names then names else insert names (place_among m names) m
+with_name m names = if is_among m names then names else insert names (index_among m names) m

@@ -15,19 +15,19 @@ use script_state::Unpurged;
 use std::alloc::{AllocError, Global};
 use values::Duplicate;
 
-/// Puts the name of the module at a place among names that rise, if there is one, and its old code is noted so.
+/// Puts the name of the module at an index among names that rise, if there is one, and its old code is noted so.
 fn put_entry(
     names: &mut Vec<Atom>,
     modules: &Modules<Module>,
     unpurged: &[Unpurged],
     alloc: Global,
     kind: Purge,
-    place: usize,
+    index: usize,
 ) -> Result<(), AllocError>
     ensures { OnOk result (names.new.items ≡
-        with_entry kind unpurged.now (slice_get modules.now.entries place) names.old.items) }
+        with_entry kind unpurged.now (slice_get modules.now.entries index) names.old.items) }
 {
-    let Some((name, slots)) = modules.entry(place) else {
+    let Some((name, slots)) = modules.entry(index) else {
         return Ok(());
     };
     if is_noted(slots.former.as_ref(), unpurged, kind) {
@@ -51,8 +51,8 @@ pub fn noted(
 {
     let count = modules.len();
     let mut names = Vec::new(alloc);
-    for place in 0..count {
-        put_entry(&mut names, modules, unpurged, alloc, kind, place)?;
+    for index in 0..count {
+        put_entry(&mut names, modules, unpurged, alloc, kind, index)?;
     }
     Ok(names)
 }

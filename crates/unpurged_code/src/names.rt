@@ -2,7 +2,7 @@
 ghost use Rattle.std.specs.Prelude.{◌≡◌, ◌≤◌, OnOk, length, position};
 ghost use Rattle.std.specs.Cmp.Lexicographic.{slice_cmp};
 ghost use Rattle.std.specs.Ordering.{nat_cmp};
-ghost use Rattle.unpurged_code.specs.Names.{is_among, place_among, stands_before, with_name};
+ghost use Rattle.unpurged_code.specs.Names.{is_among, index_among, stands_before, with_name};
 
 use erl_term::Atom;
 use std::alloc::AllocError;
@@ -29,20 +29,20 @@ fn is_among(names: &[Atom], name: &Atom) -> bool
     names.iter().any(|each| *name == *each)
 }
 
-/// The place of the first name that stands behind this one.
+/// The index of the first name that stands behind this one.
 fn first_behind(names: &[Atom], name: &Atom) -> Option<usize>
     ensures { result ≡ position (stands_before name.now) names.now }
 {
     names.iter().position(|each| stands_before(name, each))
 }
 
-/// The place of a name among names that rise: that of the first that stands behind it.
-fn place_among(names: &[Atom], name: &Atom) -> usize
-    ensures place { result ≡ place_among name.now names.now }
+/// The index of a name among names that rise: that of the first that stands behind it.
+fn index_among(names: &[Atom], name: &Atom) -> usize
+    ensures index { result ≡ index_among name.now names.now }
     ensures within { result ≤ length names.now }
 {
     match first_behind(names, name) {
-        Some(place) => place,
+        Some(index) => index,
         None => names.len(),
     }
 }
@@ -54,7 +54,7 @@ pub(crate) fn put_by_name(names: &mut Vec<Atom>, name: Atom) -> Result<(), Alloc
     if is_among(names.as_slice(), &name) {
         return Ok(());
     }
-    let place = place_among(names.as_slice(), &name);
-    names.insert(place, name)?;
+    let index = index_among(names.as_slice(), &name);
+    names.insert(index, name)?;
     Ok(())
 }

@@ -16,7 +16,7 @@ use Rattle.process_store.specs.Table.{Table, living}
 use Rattle.process_store.specs.declared.living.ProcessEntry.{ProcessEntry}
 use Rattle.upgrade_calls.specs.Changing.{AllChange, Changes, FailsToChange, FirstUnchanged, Gives, GivesAt, after_change, change_told, return_of}
 use Rattle.upgrade_calls.specs.Laws.{ChangesOneWay}
-use Rattle.upgrade_calls.specs.declared.changing.Change.{Change}
+use Rattle.upgrade_calls.specs.declared.changing.CodeChangeCall.{CodeChangeCall}
 use Rattle.upgrade_calls.specs.declared.changing.ChangeFailed.{ChangeFailed}
 
 same_tree : (a b : Term) → tree a ≡ tree b → a ≡ b
@@ -24,12 +24,12 @@ same_tree a b same = sym (term_of-tree a) ∙ ap term_of same ∙ term_of-tree b
 
 -- one process
 
-gives_at-once : (code : List Instance) (c : Change) (at : Place) (o p : Outcome) → GivesAt code c at o → GivesAt code c at p → o ≡ p
+gives_at-once : (code : List Instance) (c : CodeChangeCall) (at : Place) (o p : Outcome) → GivesAt code c at o → GivesAt code c at p → o ≡ p
 gives_at-once code c (Server m s) o p first second =
     evaluates-once (record { code = map instance code; pid = c.pid; mode = plain }) m (codes "code_change") (more (tree c.vsn) (more (tree s) (more (tree c.extra) none))) o p first second
 gives_at-once code c (Loop m serial f args) o p first second = absurd first
 
-gives-once : (code : List Instance) (c : Change) (l : Option ProcessEntry) (o p : Outcome) → Gives code c l o → Gives code c l p → o ≡ p
+gives-once : (code : List Instance) (c : CodeChangeCall) (l : Option ProcessEntry) (o p : Outcome) → Gives code c l o → Gives code c l p → o ≡ p
 gives-once code c None o p first second = absurd first
 gives-once code c (Some l) o p first second = gives_at-once code c l.process.place o p first second
 
@@ -50,7 +50,7 @@ no_reason r a b first second =
     let both : new_state (tree a) ≡ unchanged (tree b) = sym first ∙ second in
     cc
 
-module _ (code : List Instance) (c : Change) (t : Table) where
+module _ (code : List Instance) (c : CodeChangeCall) (t : Table) where
   one_outcome : (o p : Outcome) (state other : Term) → Changes code c t o state → Changes code c t p other → (o ≡ p) × (state ≡ other)
   one_outcome o p state other first second =
       let same = gives-once code c (living c.pid t) o p first.gives second.gives in
@@ -68,7 +68,7 @@ module _ (code : List Instance) (c : Change) (t : Table) where
 
 -- several
 
-changes-once : (code : List Instance) (cs : List Change) (t after last : Table) (told said : List Reply) → AllChange code cs t after told → AllChange code cs t last said → (after ≡ last) × (told ≡ said)
+changes-once : (code : List Instance) (cs : List CodeChangeCall) (t after last : Table) (told said : List Reply) → AllChange code cs t after told → AllChange code cs t last said → (after ≡ last) × (told ≡ said)
 changes-once code [] t after last told said first second = (first.0 ∙ sym second.0, first.1 ∙ sym second.1)
 changes-once code (c ∷ cs) t after last told said (o, state, others, changes, rest, tells) (p, other, fewer, changes_too, rest_too, says) =
     let same = one_outcome code c t o p state other changes changes_too in
@@ -79,7 +79,7 @@ changes-once code (c ∷ cs) t after last told said (o, state, others, changes, 
 same_failed : (one other : ChangeFailed) → one.pid ≡ other.pid → one.reason ≡ other.reason → one ≡ other
 same_failed one other pid reason = λ i. record { pid = pid i; reason = reason i }
 
-fails-once : (code : List Instance) (cs : List Change) (t : Table) (one other : ChangeFailed) → FirstUnchanged code cs t one → FirstUnchanged code cs t other → one ≡ other
+fails-once : (code : List Instance) (cs : List CodeChangeCall) (t : Table) (one other : ChangeFailed) → FirstUnchanged code cs t one → FirstUnchanged code cs t other → one ≡ other
 fails-once code [] t one other first second = absurd first
 fails-once code (c ∷ cs) t one other (inl first) (inl second) =
     same_failed one other (first.0 ∙ sym second.0) (one_failure code c t one.reason other.reason first.1 second.1)
@@ -90,7 +90,7 @@ fails-once code (c ∷ cs) t one other (inr (o, state, changes, later)) (inr (p,
     let there : FirstUnchanged code cs (after_change code c p next t) one = subst (λ (x : Outcome). FirstUnchanged code cs (after_change code c x next t) one) same.0 (subst (λ (s : Term). FirstUnchanged code cs (after_change code c o s t) one) same.1 later) in
     fails-once code cs (after_change code c p next t) one other there later_too
 
-changes_or_fails : (code : List Instance) (cs : List Change) (t after : Table) (told : List Reply) (failed : ChangeFailed) → AllChange code cs t after told → FirstUnchanged code cs t failed → ⊥
+changes_or_fails : (code : List Instance) (cs : List CodeChangeCall) (t after : Table) (told : List Reply) (failed : ChangeFailed) → AllChange code cs t after told → FirstUnchanged code cs t failed → ⊥
 changes_or_fails code [] t after told failed all fails = fails
 changes_or_fails code (c ∷ cs) t after told failed (o, state, others, changes, rest, tells) (inl first) = not_both code c t o state failed.reason changes first.1
 changes_or_fails code (c ∷ cs) t after told failed (o, state, others, changes, rest, tells) (inr (p, next, changes_too, later)) =

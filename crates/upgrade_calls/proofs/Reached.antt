@@ -28,7 +28,7 @@ use Rattle.upgrade_calls.proofs.StatesFirst.{MessagesOnly, acts_begun-append, be
 use Rattle.upgrade_calls.specs.Changing.{AllChange, AreCounted, Changes, FailsToChange, FirstUnchanged, Gives, GivesAt, HasTurnLeft, IsServer, after_change, change_told, with_state}
 use Rattle.upgrade_calls.specs.Evaluated.{AreEvaluated, AreMessages, Evaluated, HasChanged, IsChange, asked, nothing_evaluated, processes_after, told_after}
 use Rattle.upgrade_calls.specs.NewStates.{AreRising, AreWithin, change_to, with_new}
-use Rattle.upgrade_calls.specs.declared.changing.Change.{Change}
+use Rattle.upgrade_calls.specs.declared.changing.CodeChangeCall.{CodeChangeCall}
 use Rattle.upgrade_calls.specs.declared.changing.ChangeFailed.{ChangeFailed}
 use Rattle.values.specs.Failure.{Fails}
 use Rattle.values.specs.declared.failure.Failure.{Failure}
@@ -40,12 +40,12 @@ messages_in : (acts : List Act) → AllByRecursion IsMessage (map act_of acts) �
 messages_in [] all = tt
 messages_in (a ∷ acts) all = (all.0, messages_in acts all.1)
 
-messages_at : (code : List Instance) (c : Change) (at : Place) (o : Outcome) → GivesAt code c at o → MessagesOnly o.acts
+messages_at : (code : List Instance) (c : CodeChangeCall) (at : Place) (o : Outcome) → GivesAt code c at o → MessagesOnly o.acts
 messages_at code c (Server m s) o gives =
     messages_in o.acts (recursion_from_All IsMessage (map act_of o.acts) ((evaluates_keeps _ _ _ _ _ gives).messages refl))
 messages_at code c (Loop m serial f args) o gives = absurd gives
 
-messages_of : (code : List Instance) (c : Change) (l : Option ProcessEntry) (o : Outcome) → Gives code c l o → MessagesOnly o.acts
+messages_of : (code : List Instance) (c : CodeChangeCall) (l : Option ProcessEntry) (o : Outcome) → Gives code c l o → MessagesOnly o.acts
 messages_of code c None o gives = absurd gives
 messages_of code c (Some l) o gives = messages_at code c l.process.place o gives
 
@@ -86,16 +86,16 @@ changes_put t pid state (c ∷ cs) server all =
 
 -- Turns of some changes, and of others behind them.
 
-counted_behind : (u : Table) (cs : List Change) (c : Change) → AreCounted cs u → HasTurnLeft (living c.pid u) → AreCounted (cs ++ c ∷ []) u
+counted_behind : (u : Table) (cs : List CodeChangeCall) (c : CodeChangeCall) → AreCounted cs u → HasTurnLeft (living c.pid u) → AreCounted (cs ++ c ∷ []) u
 counted_behind u [] c counted left = (left, tt)
 counted_behind u (first ∷ cs) c counted left = (counted.0, counted_behind u cs c counted.1 left)
 
-counted_before : (u : Table) (cs : List Change) (c : Change) → AreCounted (cs ++ c ∷ []) u → AreCounted cs u × HasTurnLeft (living c.pid u)
+counted_before : (u : Table) (cs : List CodeChangeCall) (c : CodeChangeCall) → AreCounted (cs ++ c ∷ []) u → AreCounted cs u × HasTurnLeft (living c.pid u)
 counted_before u [] c counted = (tt, counted.0)
 counted_before u (first ∷ cs) c counted = let rest = counted_before u cs c counted.1 in ((counted.0, rest.0), rest.1)
 
 -- One more: its state is given behind the others, and its acts are done behind the others.
-module _ (code : List Instance) (t : Table) (c : Change) (states : List StateChange) (acts : List Act) (rising : AreRising states) (only : MessagesOnly acts) where
+module _ (code : List Instance) (t : Table) (c : CodeChangeCall) (states : List StateChange) (acts : List Act) (rising : AreRising states) (only : MessagesOnly acts) where
   abbrev now : Table
   now = acts_begun None code acts (all_restated states t)
 
@@ -118,10 +118,10 @@ module _ (code : List Instance) (t : Table) (c : Change) (states : List StateCha
         ∙ (λ i. before i ++ begun_told None code o.acts (given_first state i))
 
 -- What is evaluated once one more has changed.
-abbrev pub with_change : Change → Term → List Act → Evaluated → Evaluated
+abbrev pub with_change : CodeChangeCall → Term → List Act → Evaluated → Evaluated
 with_change c state acts e = record { changes = e.changes ++ c ∷ []; states = with_new c.pid state e.states; acts = e.acts ++ acts }
 
-pub one_changed : (code : List Instance) (t : Table) (c : Change) (e : Evaluated) (o : Outcome) (state : Term) → AreEvaluated t e → IsServer (living c.pid t) → Changes code c (all_restated e.states t) o state → HasChanged code c t e (with_change c state o.acts e)
+pub one_changed : (code : List Instance) (t : Table) (c : CodeChangeCall) (e : Evaluated) (o : Outcome) (state : Term) → AreEvaluated t e → IsServer (living c.pid t) → Changes code c (all_restated e.states t) o state → HasChanged code c t e (with_change c state o.acts e)
 one_changed code t c e o state it server changes =
     let only = recursion_from_All (λ (a : Act). IsMessage (act_of a)) e.acts it.messages in
     let now = processes_after code e t in
@@ -151,12 +151,12 @@ one_changed code t c e o state it server changes =
     }
 
 -- it fails, of the processes as they are by then
-pub one_fails : (code : List Instance) (t : Table) (c : Change) (e : Evaluated) (reason : Term) → AreEvaluated t e → FailsToChange code c (all_restated e.states t) reason → FailsToChange code c (processes_after code e t) reason
+pub one_fails : (code : List Instance) (t : Table) (c : CodeChangeCall) (e : Evaluated) (reason : Term) → AreEvaluated t e → FailsToChange code c (all_restated e.states t) reason → FailsToChange code c (processes_after code e t) reason
 one_fails code t c e reason it fails =
     let only = recursion_from_All (λ (a : Act). IsMessage (act_of a)) e.acts it.messages in
     fails_there code c (all_restated e.states t) (processes_after code e t) reason (seen_now code t c e.states e.acts it.rising only) fails
 
-pub fails_after : (x : Failure ChangeFailed) (code : List Instance) (t : Table) (c : Change) (e : Evaluated) → AreEvaluated t e → Fails (λ (failed : ChangeFailed). (failed.pid ≡ c.pid) × FailsToChange code c (all_restated e.states t) failed.reason) (Unit {0}) x → Fails (λ (failed : ChangeFailed). (failed.pid ≡ c.pid) × FailsToChange code c (processes_after code e t) failed.reason) (Unit {0}) x
+pub fails_after : (x : Failure ChangeFailed) (code : List Instance) (t : Table) (c : CodeChangeCall) (e : Evaluated) → AreEvaluated t e → Fails (λ (failed : ChangeFailed). (failed.pid ≡ c.pid) × FailsToChange code c (all_restated e.states t) failed.reason) (Unit {0}) x → Fails (λ (failed : ChangeFailed). (failed.pid ≡ c.pid) × FailsToChange code c (processes_after code e t) failed.reason) (Unit {0}) x
 fails_after (Refused failed) code t c e it fails = (fails.0, one_fails code t c e failed.reason it fails.1)
 fails_after Memory code t c e it fails = tt
 
@@ -193,7 +193,7 @@ asked_after code t acts e it =
     (acts_begun-append code e.acts acts (all_restated e.states t) only, begun_told-append code e.acts acts (all_restated e.states t) only)
 
 -- How far it has come: what comes of the rest comes, behind what was told so far, of all.
-pub record Reached (code : List Instance) (cs : List Change) (t : Table) (from : Evaluated) (rest : List Change) (e : Evaluated) : Type 0 where
+pub record Reached (code : List Instance) (cs : List CodeChangeCall) (t : Table) (from : Evaluated) (rest : List CodeChangeCall) (e : Evaluated) : Type 0 where
   pub since : List Reply
   pub tells : told_after code e t ≡ told_after code from t ++ since
   pub all : (after : Table) (others : List Reply) → AllChange code rest (processes_after code e t) after others →
@@ -201,7 +201,7 @@ pub record Reached (code : List Instance) (cs : List Change) (t : Table) (from :
   pub fails : (failed : ChangeFailed) → FirstUnchanged code rest (processes_after code e t) failed →
       FirstUnchanged code cs (processes_after code from t) failed
 
-pub none_reached : (code : List Instance) (cs : List Change) (t : Table) (e : Evaluated) → Reached code cs t e cs e
+pub none_reached : (code : List Instance) (cs : List CodeChangeCall) (t : Table) (e : Evaluated) → Reached code cs t e cs e
 none_reached code cs t e = record {
   since = [];
   tells = sym (append-nil (told_after code e t));
@@ -209,7 +209,7 @@ none_reached code cs t e = record {
   fails = λ failed x. x;
 }
 
-pub more_reached : (code : List Instance) (cs : List Change) (t : Table) (from e f : Evaluated) (c : Change) (rest : List Change) → Reached code cs t from (c ∷ rest) e → HasChanged code c t e f → Reached code cs t from rest f
+pub more_reached : (code : List Instance) (cs : List CodeChangeCall) (t : Table) (from e f : Evaluated) (c : CodeChangeCall) (rest : List CodeChangeCall) → Reached code cs t from (c ∷ rest) e → HasChanged code c t e f → Reached code cs t from rest f
 more_reached code cs t from e f c rest reached has =
     let now = processes_after code e t in
     let said = change_told code c has.outcome has.state now in
@@ -227,12 +227,12 @@ more_reached code cs t from e f c rest reached has =
 
 -- All have changed, or the first has failed.
 
-pub all_reached : (code : List Instance) (cs : List Change) (t : Table) (from e : Evaluated) → Reached code cs t from [] e → (told : List Reply) × AllChange code cs (processes_after code from t) (processes_after code e t) told × (told_after code e t ≡ told_after code from t ++ told)
+pub all_reached : (code : List Instance) (cs : List CodeChangeCall) (t : Table) (from e : Evaluated) → Reached code cs t from [] e → (told : List Reply) × AllChange code cs (processes_after code from t) (processes_after code e t) told × (told_after code e t ≡ told_after code from t ++ told)
 all_reached code cs t from e reached =
     let now = processes_after code e t in
     let all = subst (AllChange code cs (processes_after code from t) now) (append-nil reached.since) (reached.all now [] (refl, refl)) in
     (reached.since, all, reached.tells)
 
-pub first_fails : (x : Failure ChangeFailed) (code : List Instance) (cs : List Change) (t : Table) (from e : Evaluated) (c : Change) (rest : List Change) → Reached code cs t from (c ∷ rest) e → Fails (λ (failed : ChangeFailed). (failed.pid ≡ c.pid) × FailsToChange code c (processes_after code e t) failed.reason) (Unit {0}) x → Fails (FirstUnchanged code cs (processes_after code from t)) (Unit {0}) x
+pub first_fails : (x : Failure ChangeFailed) (code : List Instance) (cs : List CodeChangeCall) (t : Table) (from e : Evaluated) (c : CodeChangeCall) (rest : List CodeChangeCall) → Reached code cs t from (c ∷ rest) e → Fails (λ (failed : ChangeFailed). (failed.pid ≡ c.pid) × FailsToChange code c (processes_after code e t) failed.reason) (Unit {0}) x → Fails (FirstUnchanged code cs (processes_after code from t)) (Unit {0}) x
 first_fails (Refused failed) code cs t from e c rest reached fails = reached.fails failed (inl (fails.0, fails.1))
 first_fails Memory code cs t from e c rest reached fails = tt

@@ -18,7 +18,7 @@ use Rattle.upgrade_calls.proofs.StatesFirst.{MessagesOnly, read_begun}
 use Rattle.upgrade_calls.specs.Changing.{Changes, FailsToChange, Gives, GivesAt, HasTurnLeft, IsServer}
 use Rattle.upgrade_calls.specs.Evaluated.{CanCount, IsChange}
 use Rattle.upgrade_calls.specs.NewStates.{AreRising, change_of, place_by, state_of}
-use Rattle.upgrade_calls.specs.declared.changing.Change.{Change}
+use Rattle.upgrade_calls.specs.declared.changing.CodeChangeCall.{CodeChangeCall}
 
 abbrev pub seen : Option ProcessEntry → Option (Place × ℕ)
 seen l = option_map (λ (it : ProcessEntry). (it.process.place, it.process.turn)) l
@@ -28,19 +28,19 @@ seen_begun code p acts t only = read_begun seen (λ m l. refl) (λ c l. refl) co
 
 -- what is read alike
 
-gives_there : (code : List Instance) (c : Change) (l m : Option ProcessEntry) (o : Outcome) → seen l ≡ seen m → Gives code c l o → Gives code c m o
+gives_there : (code : List Instance) (c : CodeChangeCall) (l m : Option ProcessEntry) (o : Outcome) → seen l ≡ seen m → Gives code c l o → Gives code c m o
 gives_there code c None m o same gives = absurd gives
 gives_there code c (Some l) None o same gives = absurd (none-some (l.process.place, l.process.turn) (sym same))
 gives_there code c (Some l) (Some m) o same gives =
     subst (λ (at : Place). GivesAt code c at o) (ap (λ (x : Place × ℕ). x.0) (same_Some (l.process.place, l.process.turn) (m.process.place, m.process.turn) same)) gives
 
-pub changes_there : (code : List Instance) (c : Change) (t u : Table) (o : Outcome) (state : Term) → seen (living c.pid t) ≡ seen (living c.pid u) → Changes code c t o state → Changes code c u o state
+pub changes_there : (code : List Instance) (c : CodeChangeCall) (t u : Table) (o : Outcome) (state : Term) → seen (living c.pid t) ≡ seen (living c.pid u) → Changes code c t o state → Changes code c u o state
 changes_there code c t u o state same changes = record {
   gives = gives_there code c (living c.pid t) (living c.pid u) o same changes.gives;
   returns = changes.returns;
 }
 
-pub fails_there : (code : List Instance) (c : Change) (t u : Table) (reason : Term) → seen (living c.pid t) ≡ seen (living c.pid u) → FailsToChange code c t reason → FailsToChange code c u reason
+pub fails_there : (code : List Instance) (c : CodeChangeCall) (t u : Table) (reason : Term) → seen (living c.pid t) ≡ seen (living c.pid u) → FailsToChange code c t reason → FailsToChange code c u reason
 fails_there code c t u reason same fails = record {
   outcome = fails.outcome;
   gives = gives_there code c (living c.pid t) (living c.pid u) fails.outcome same fails.gives;
@@ -99,10 +99,10 @@ place_given None (Some l) = refl
 place_given (Some d) None = refl
 place_given (Some d) (Some l) = refl
 
-gives_at : (code : List Instance) (c : Change) (l : Option ProcessEntry) (at : Place) (o : Outcome) → place_at l ≡ Some at → GivesAt code c at o → Gives code c l o
+gives_at : (code : List Instance) (c : CodeChangeCall) (l : Option ProcessEntry) (at : Place) (o : Outcome) → place_at l ≡ Some at → GivesAt code c at o → Gives code c l o
 gives_at code c None at o is gives = absurd (none-some at is)
 gives_at code c (Some l) at o is gives = subst (λ (p : Place). GivesAt code c p o) (sym (same_Some l.process.place at is)) gives
 
-pub gives_given : (code : List Instance) (c : Change) (cs : List StateChange) (t : Table) (at : Place) (o : Outcome) → AreRising cs → place_by (state_of c.pid cs) (living c.pid t) ≡ Some at → GivesAt code c at o → Gives code c (living c.pid (all_restated cs t)) o
+pub gives_given : (code : List Instance) (c : CodeChangeCall) (cs : List StateChange) (t : Table) (at : Place) (o : Outcome) → AreRising cs → place_by (state_of c.pid cs) (living c.pid t) ≡ Some at → GivesAt code c at o → Gives code c (living c.pid (all_restated cs t)) o
 gives_given code c cs t at o rising is gives =
     gives_at code c (living c.pid (all_restated cs t)) at o (ap place_at (restated c.pid cs t rising) ∙ place_given (change_of c.pid cs) (living c.pid t) ∙ is) gives

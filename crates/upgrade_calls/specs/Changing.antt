@@ -21,20 +21,20 @@ use Rattle.process_store.specs.declared.living.ProcessEntry.{ProcessEntry}
 use Rattle.process_store.specs.Pieces.{Piece}
 use Rattle.process_table.specs.States.{CanUnrestateAll, all_unrestated, held_places}
 use Rattle.process_table.specs.Undo.{Fits, held, undone}
-use Rattle.upgrade_calls.specs.declared.changing.Change.{Change}
+use Rattle.upgrade_calls.specs.declared.changing.CodeChangeCall.{CodeChangeCall}
 use Rattle.upgrade_calls.specs.declared.changing.ChangeFailed.{ChangeFailed}
 use Rattle.upgrade_calls.specs.declared.changing.ChangeUndo.{ChangeUndo}
 
 -- What `code_change(OldVsn,State,Extra)` gives in this code, for a process at a place: that of its callback module. A loop
 -- function has none, and where nobody lives nothing is called.
 
-abbrev pub GivesAt : List Instance → Change → Place → Outcome → Type 0
+abbrev pub GivesAt : List Instance → CodeChangeCall → Place → Outcome → Type 0
 GivesAt code c (Server m s) o =
     Evaluates (record { code = map instance code; pid = c.pid; mode = plain }) m (codes "code_change")
     (more (tree c.vsn) (more (tree s) (more (tree c.extra) none))) (outcome_of o)
 GivesAt code c (Loop m serial f args) o = ⊥
 
-abbrev pub Gives : List Instance → Change → Option ProcessEntry → Outcome → Type 0
+abbrev pub Gives : List Instance → CodeChangeCall → Option ProcessEntry → Outcome → Type 0
 Gives code c None o = ⊥
 Gives code c (Some l) o = GivesAt code c l.process.place o
 
@@ -43,34 +43,34 @@ return_of o = change_return ((outcome_of o).ended)
 
 -- One process changes: it gets a new state; or it fails to, for a reason.
 
-pub record Changes (code : List Instance) (c : Change) (t : Table) (o : Outcome) (state : Term) : Type 0 where
+pub record Changes (code : List Instance) (c : CodeChangeCall) (t : Table) (o : Outcome) (state : Term) : Type 0 where
   pub gives : Gives code c (living c.pid t) o
   pub returns : return_of o ≡ new_state (tree state)
 
-pub record FailsToChange (code : List Instance) (c : Change) (t : Table) (reason : Term) : Type 0 where
+pub record FailsToChange (code : List Instance) (c : CodeChangeCall) (t : Table) (reason : Term) : Type 0 where
   pub outcome : Outcome
   pub gives : Gives code c (living c.pid t) outcome
   pub returns : return_of outcome ≡ unchanged (tree reason)
 
 -- The processes once it has the new state, one turn on; then what `code_change` asked for is done, in order.
 
-abbrev pub with_state : Change → Term → Table → Table
+abbrev pub with_state : CodeChangeCall → Term → Table → Table
 with_state c state t = changed (restate_living state 1) c.pid t
 
-abbrev pub after_change : List Instance → Change → Outcome → Term → Table → Table
+abbrev pub after_change : List Instance → CodeChangeCall → Outcome → Term → Table → Table
 after_change code c o state t = acts_begun None code o.acts (with_state c state t)
 
-abbrev pub change_told : List Instance → Change → Outcome → Term → Table → List Reply
+abbrev pub change_told : List Instance → CodeChangeCall → Outcome → Term → Table → List Reply
 change_told code c o state t = begun_told None code o.acts (with_state c state t)
 
 -- All change, in order: the processes after it, and what clients are told.
-abbrev pub AllChange : List Instance → List Change → Table → Table → List Reply → Type 0
+abbrev pub AllChange : List Instance → List CodeChangeCall → Table → Table → List Reply → Type 0
 AllChange code [] t after told = (after ≡ t) × (told ≡ [])
 AllChange code (c ∷ cs) t after told = (o : Outcome) × (state : Term) × (others : List Reply) × Changes code c t o state ×
     AllChange code cs (after_change code c o state t) after others × (told ≡ change_told code c o state t ++ others)
 
 -- The first process that fails to, and why.
-abbrev pub FirstUnchanged : List Instance → List Change → Table → ChangeFailed → Type 0
+abbrev pub FirstUnchanged : List Instance → List CodeChangeCall → Table → ChangeFailed → Type 0
 FirstUnchanged code [] t failed = ⊥
 FirstUnchanged code (c ∷ cs) t failed = ((failed.pid ≡ c.pid) × FailsToChange code c t failed.reason) ⊎
     ((o : Outcome) × (state : Term) × Changes code c t o state × FirstUnchanged code cs (after_change code c o state t) failed)
@@ -81,7 +81,7 @@ abbrev pub HasTurnLeft : Option ProcessEntry → Type 0
 HasTurnLeft None = Unit {0}
 HasTurnLeft (Some l) = l.process.turn < 2 ^ 64
 
-abbrev pub AreCounted : List Change → Table → Type 0
+abbrev pub AreCounted : List CodeChangeCall → Table → Type 0
 AreCounted [] t = Unit {0}
 AreCounted (c ∷ cs) t = HasTurnLeft (living c.pid t) × AreCounted cs t
 

@@ -15,7 +15,7 @@ use Rattle.process_table.specs.States.{AreApart, all_restated}
 use Rattle.process_table.specs.declared.states.StateChange.{StateChange}
 use Rattle.upgrade_calls.specs.Changing.{AreCounted, Changes, HasTurnLeft, IsServer, after_change, change_told}
 use Rattle.upgrade_calls.specs.NewStates.{AreRising, AreWithin}
-use Rattle.upgrade_calls.specs.declared.changing.Change.{Change}
+use Rattle.upgrade_calls.specs.declared.changing.CodeChangeCall.{CodeChangeCall}
 
 -- it can be counted on by so many turns
 
@@ -32,7 +32,7 @@ abbrev pub AreMessages : List Act → Type 0
 AreMessages acts = All (λ a. IsMessage (act_of a)) acts
 
 pub record Evaluated : Type 0 where
-  pub changes : List Change
+  pub changes : List CodeChangeCall
   pub states : List StateChange
   pub acts : List Act
 
@@ -64,7 +64,7 @@ pub record AreEvaluated (t : Table) (e : Evaluated) : Type 0 where
   pub counted : (u : Table) → AreCounted e.changes u → All (λ c. HasTurnLeft (living c.pid u)) e.states
 
 -- One process more has changed: it gets its state behind the others, and then what its `code_change` asks for is done.
-pub record HasChanged (code : List Instance) (c : Change) (t : Table) (before after : Evaluated) : Type 0 where
+pub record HasChanged (code : List Instance) (c : CodeChangeCall) (t : Table) (before after : Evaluated) : Type 0 where
   pub outcome : Outcome
   pub state : Term
   pub changes : Changes code c (processes_after code before t) outcome state

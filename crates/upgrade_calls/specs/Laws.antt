@@ -7,17 +7,17 @@ use Rattle.process_effects.specs.declared.told.Reply.{Reply}
 use Rattle.process_store.specs.Table.{Table}
 use Rattle.upgrade_calls.specs.Applying.{Applies, FailsToApply}
 use Rattle.upgrade_calls.specs.Changing.{AllChange, FirstUnchanged}
-use Rattle.upgrade_calls.specs.declared.changing.Change.{Change}
+use Rattle.upgrade_calls.specs.declared.changing.CodeChangeCall.{CodeChangeCall}
 use Rattle.upgrade_calls.specs.declared.changing.ChangeFailed.{ChangeFailed}
 
 -- Processes that all change leave one table of processes, and clients are told one thing; where they don't, one of them is the
 -- first that fails, for one reason; and never both.
 pub record ChangesOneWay : Type 0 where
-  pub changes : (code : List Instance) (cs : List Change) (t after last : Table) (told said : List Reply) →
+  pub changes : (code : List Instance) (cs : List CodeChangeCall) (t after last : Table) (told said : List Reply) →
       AllChange code cs t after told → AllChange code cs t last said → (after ≡ last) × (told ≡ said)
-  pub fails : (code : List Instance) (cs : List Change) (t : Table) (one other : ChangeFailed) →
+  pub fails : (code : List Instance) (cs : List CodeChangeCall) (t : Table) (one other : ChangeFailed) →
       FirstUnchanged code cs t one → FirstUnchanged code cs t other → one ≡ other
-  pub never_both : (code : List Instance) (cs : List Change) (t after : Table) (told : List Reply) (failed : ChangeFailed) →
+  pub never_both : (code : List Instance) (cs : List CodeChangeCall) (t after : Table) (told : List Reply) (failed : ChangeFailed) →
       AllChange code cs t after told → FirstUnchanged code cs t failed → ⊥
 
 -- A function that is applied does one thing and tells one thing, or fails for one reason, and never both.

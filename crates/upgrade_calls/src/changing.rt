@@ -21,7 +21,7 @@ use values::{Failure, Row};
 
 /// A process that is to change its state, and what its `code_change` is given beside the state (gen_server(3), code_change/3).
 #[derive(Drop)]
-pub struct Change {
+pub struct CodeChangeCall {
     /// The process.
     pub pid: u64,
     /// `OldVsn`.

@@ -13,7 +13,7 @@ ghost use Rattle.upgrade_calls.specs.NewStates.{AreRising, place_by, state_of};
 ghost use Rattle.upgrade_calls.specs.Evaluated.{AreEvaluated, AreMessages, CanCount, HasChanged, asked, nothing_evaluated};
 ghost use Rattle.upgrade_calls.specs.Evaluated.{processes_after, told_after};
 
-use crate::changing::{Change, ChangeFailed};
+use crate::changing::{ChangeFailed, CodeChangeCall};
 use crate::new_states::NewStates;
 use crate::results::new_state;
 use callback_lang::evaluate;
@@ -25,7 +25,11 @@ use std::marker::Model;
 use values::{Duplicate, Failure, Row};
 
 /// The arguments of `code_change/3`.
-fn arguments_of(alloc: Global, change: &Change, state: &Term) -> Result<Vec<Term>, AllocError>
+fn arguments_of(
+    alloc: Global,
+    change: &CodeChangeCall,
+    state: &Term,
+) -> Result<Vec<Term>, AllocError>
     ensures { IfOk result (λ it. trees it.items ≡
         more (tree change.now.vsn) (more (tree state.now) (more (tree change.now.extra) none))) }
 {
@@ -40,7 +44,7 @@ fn arguments_of(alloc: Global, change: &Change, state: &Term) -> Result<Vec<Term
 fn outcome_of(
     alloc: Global,
     code: &[Instance],
-    change: &Change,
+    change: &CodeChangeCall,
     module: &Atom,
     state: &Term,
 ) -> Result<Outcome, AllocError>
@@ -90,7 +94,7 @@ fn change_one(
     alloc: Global,
     code: &[Instance],
     states: &NewStates,
-    change: &Change,
+    change: &CodeChangeCall,
 ) -> Result<(Term, Row<Act>), Failure<ChangeFailed>>
     requires server { IsServer (living change.now.pid processes.now) }
     requires rising { AreRising states.now }
@@ -115,7 +119,7 @@ fn change_one(
 /// new states, and what was asked for, in order.
 #[derive(Drop)]
 pub struct Evaluation {
-    changes: Vec<Change>,
+    changes: Vec<CodeChangeCall>,
     states: NewStates,
     acts: Vec<Act>,
 }
@@ -142,7 +146,7 @@ fn append(acts: &mut Vec<Act>, others: Row<Act>) -> Result<(), AllocError>
 }
 
 /// Puts a change behind others.
-fn push(changes: &mut Vec<Change>, change: Change) -> Result<(), AllocError>
+fn push(changes: &mut Vec<CodeChangeCall>, change: CodeChangeCall) -> Result<(), AllocError>
     ensures { OnOk result (changes.new.items ≡ changes.old.items ++ change ∷ []) }
 {
     changes.push(change)?;
@@ -190,7 +194,7 @@ impl Evaluation {
         processes: &Processes,
         alloc: Global,
         code: &[Instance],
-        change: Change,
+        change: CodeChangeCall,
     ) -> Result<Evaluation, Failure<ChangeFailed>>
         requires evaluated { AreEvaluated processes.now self }
         requires server { IsServer (living change.pid processes.now) }
@@ -228,7 +232,7 @@ impl Evaluation {
         processes: &Processes,
         alloc: Global,
         code: &[Instance],
-        changes: Vec<Change>,
+        changes: Vec<CodeChangeCall>,
     ) -> Result<Evaluation, Failure<ChangeFailed>>
         requires evaluated { AreEvaluated processes.now self }
         requires servers { All (λ c. IsServer (living c.pid processes.now)) changes.items }

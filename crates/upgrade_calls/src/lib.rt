@@ -39,6 +39,8 @@ mod new_states;
 mod results;
 
 pub use applying::{Applied, apply};
-pub use changing::{Change, ChangeFailed, ChangeUndo, Changed, CounterEnd, make, revert_change};
+pub use changing::{
+    ChangeFailed, ChangeUndo, Changed, CodeChangeCall, CounterEnd, make, revert_change,
+};
 pub use evaluating::Evaluation;
 pub use laws::{applications_of_functions_one_way, changes_one_way};

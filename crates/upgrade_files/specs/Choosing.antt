@@ -14,10 +14,10 @@ use Rattle.relup_make.specs.declared.error.MakeError.TheVariants.{Memory}
 use Rattle.script_state.specs.Finding.{script_for}
 use Rattle.upgrade_files.specs.declared.choosing.Chosen.{Chosen}
 
--- The release that is installed has the entry for the one that is left, and stays as it is; or it has none, and has instead of its relup
--- the one that is made of the appups.
+-- The release that is installed has the entry for the one that is left, and stays as it is; or it has none, and has instead
+-- of its relup the one that is made of the appups.
 
-pub record IsKept (from to : Release) (chosen : Chosen) : Type 0 where
+pub record IsAsRead (from to : Release) (chosen : Chosen) : Type 0 where
   pub left : chosen.from ≡ from
   pub installed : chosen.to ≡ to
   pub unmade : chosen.is_made ≡ false
@@ -30,7 +30,7 @@ pub record IsMade (from to : Release) (chosen : Chosen) : Type 0 where
   pub made : chosen.is_made ≡ true
 
 abbrev pub IsChosenBy : Option (Entry Term Low) → Release → Release → Chosen → Type 0
-IsChosenBy (Some entry) from to chosen = IsKept from to chosen
+IsChosenBy (Some entry) from to chosen = IsAsRead from to chosen
 IsChosenBy None from to chosen = IsMade from to chosen
 
 abbrev pub IsChosen : Release → Release → Chosen → Type 0

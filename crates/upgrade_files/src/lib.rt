@@ -2,8 +2,8 @@
 //!
 //! # What is proved
 //!
-//! - [`read_both`] gives the two releases that the files say; where they are none, it tells every fault of the first in the order of
-//!   its files, and then every fault of the second so, but for the files that both have, and nothing else (`AreFaults`).
+//! - [`read_both`] gives the two releases that the files say; where they are none, it tells every fault of the first in the
+//!   order of its files, and then every fault of the second so, but for the files that both have, and nothing else (`AreFaults`).
 //! - [`choose`] takes the relup of the second release where that has an entry for the first, and else the one that is made
 //!   of the appups (`IsChosen`); where none can be made, it tells why ([`relup_make::MakeError`]).
 //! - [`Chosen::up`] and [`Chosen::down`] are the instructions up, and those down, if there are any.

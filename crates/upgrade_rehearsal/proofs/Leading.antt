@@ -5,11 +5,11 @@ use Rattle.node_core.specs.Node.{NodeState}
 use Rattle.process_effects.specs.declared.told.Reply.{Reply}
 use Rattle.undo_journal.specs.Timeline.{cut_to, here}
 use Rattle.upgrade_rehearsal.proofs.Going.{back_both, back_to, goes_both, goes_from, here_again, mark_again, stays}
-use Rattle.upgrade_rehearsal.proofs.Turns.{once_more}
+use Rattle.upgrade_rehearsal.proofs.Sequences.{once_more}
 use Rattle.upgrade_rehearsal.specs.Going.{Extends}
 use Rattle.upgrade_rehearsal.specs.Players.{IsBackAt, IsBookmark, Leads, stage_of}
 use Rattle.upgrade_rehearsal.specs.Stages.{Scene, Stage}
-use Rattle.upgrade_rehearsal.specs.Turns.{InTurn, Then}
+use Rattle.upgrade_rehearsal.specs.Sequences.{InTurn, Then}
 use Rattle.upgrade_rehearsal.specs.declared.player.Bookmark.{Bookmark}
 use Rattle.upgrade_rehearsal.specs.declared.player.Player.{Player}
 

@@ -1,7 +1,7 @@
 pub mod Going
 pub mod Leading
 pub mod Performing
-pub mod Turns
+pub mod Sequences
 pub mod Waiting
 pub mod Ways
 pub mod Whole

@@ -24,7 +24,7 @@ use Rattle.upgrade_rehearsal.specs.Going.{Extends}
 use Rattle.upgrade_rehearsal.specs.Players.{Leads, Performed, stage_of}
 use Rattle.upgrade_rehearsal.specs.Seen.{ComesTo, advance_outcome}
 use Rattle.upgrade_rehearsal.specs.Stages.{Comes, Happens, IsNext, IsServed, Occurs, Undergoes, Runs, Scene, event_of, job_by, job_in}
-use Rattle.upgrade_rehearsal.specs.Turns.{Then}
+use Rattle.upgrade_rehearsal.specs.Sequences.{Then}
 use Rattle.upgrade_rehearsal.specs.declared.arrival.Arrival.{Arrival}
 use Rattle.upgrade_rehearsal.specs.declared.player.Player.{Player}
 

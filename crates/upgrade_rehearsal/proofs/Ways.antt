@@ -20,7 +20,7 @@ use Rattle.upgrade_rehearsal.specs.Parts.{Begins, HasCome, IsAhead, IsRefusedWay
 use Rattle.upgrade_rehearsal.specs.Players.{Leads, Performed, stage_of}
 use Rattle.upgrade_rehearsal.specs.Seen.{AreSeen, ComesTo, GoesWithJobs, IsGoneThrough, IsSeen, IsTried, IsWay, node_view}
 use Rattle.upgrade_rehearsal.specs.Stages.{AllCome, AllTake, Occurs, Plays, Stage}
-use Rattle.upgrade_rehearsal.specs.Turns.{Then}
+use Rattle.upgrade_rehearsal.specs.Sequences.{Then}
 use Rattle.upgrade_rehearsal.specs.declared.player.Player.{Player}
 use Rattle.upgrade_rehearsal.specs.declared.arrival.Arrival.{Arrival}
 

@@ -3,4 +3,4 @@ pub mod Parts
 pub mod Players
 pub mod Seen
 pub mod Stages
-pub mod Turns
+pub mod Sequences

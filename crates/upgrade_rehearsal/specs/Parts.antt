@@ -16,16 +16,16 @@ use Rattle.upgrade_rehearsal.specs.Seen.{AreSeen, ComesTo, IsGoneThrough, IsTrie
 use Rattle.upgrade_rehearsal.specs.Stages.{Occurs, Plays, Scene, Stage}
 
 -- what is known of an instruction before it is carried out
-pub record IsAhead (traffic : List Arrival) (s : Stage) (instruction : Option Low) (nobody : List (List ℕ)) (jobs : Option JobsRun)
-    (is_as_before : Bool) : Type 0 where
+pub record IsAhead (traffic : List Arrival) (s : Stage) (instruction : Option Low) (nobody : List (List ℕ))
+    (jobs : Option JobsRun) (is_as_before : Bool) : Type 0 where
   pub next : instruction ≡ next_of s.node
   pub unsuspended : nobody ≡ nobody_of s.node.apps (next_of s.node)
   pub tried : IsTried traffic s jobs
   pub undone : is_as_before ≡ true
 
 -- what has come of it
-pub record HasCome (traffic : List Arrival) (old : Stage) (told : Outcome) (seen_behind seen_after : NodeView) (replies : List (List Reply))
-    (new : Stage) : Type 0 where
+pub record HasCome (traffic : List Arrival) (old : Stage) (told : Outcome) (seen_behind seen_after : NodeView)
+    (replies : List (List Reply)) (new : Stage) : Type 0 where
   pub behind : Stage
   pub with_it : List (List Reply)
   pub step : ComesTo (Advance false) told old with_it behind

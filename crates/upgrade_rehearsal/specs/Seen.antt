@@ -28,7 +28,7 @@ use Rattle.release_boot.specs.Boot.{BootFails, Boots}
 use Rattle.release_statuses.specs.Statuses.{booted}
 use Rattle.release_table.specs.declared.table.Release.{Release}
 use Rattle.upgrade_rehearsal.specs.Stages.{AllCome, AllTake, Occurs, Undergoes, Plays, Stage}
-use Rattle.upgrade_rehearsal.specs.Turns.{Then}
+use Rattle.upgrade_rehearsal.specs.Sequences.{Then}
 use Rattle.upgrade_rehearsal.specs.declared.halting.Fault.{Fault}
 use Rattle.upgrade_rehearsal.specs.declared.halting.Fault.TheVariants as fault
 use Rattle.upgrade_rehearsal.specs.declared.halting.Halt.{Halt}
@@ -91,8 +91,8 @@ waiting_for (outcome.Refused why) = busy_in why
 abbrev pub EndsAs : Event → Outcome → Stage → Type 0
 EndsAs e told s = (sent : List (List Reply)) × (new : Stage) × ComesTo e told s sent new
 
--- An instruction while jobs run: it waits for nobody, and comes to this; or it waits for a process that runs, and comes to this where it
--- is told to wait for none.
+-- An instruction while jobs run: it waits for nobody, and comes to this; or it waits for a process that runs, and comes to
+-- this where it is told to wait for none.
 abbrev pub GoesWithJobs : Option ℕ → Outcome → Stage → Type 0
 GoesWithJobs None told s = (waiting_for told ≡ None) × EndsAs (Advance false) told s
 GoesWithJobs (Some pid) told s = EndsAs (Advance false) (outcome.Refused (refusal.Busy pid)) s × EndsAs (Advance true) told s
@@ -104,9 +104,10 @@ IsTried traffic s None = (sent : List (List Reply)) × (new : Stage) × Then (Al
 IsTried traffic s (Some run) = (sent : List (List Reply)) × (new : Stage) × Then (AllCome traffic) (AllTake run.jobs) s sent new
     × (0 < run.jobs) × GoesWithJobs run.waits_for run.outcome new
 
--- What was seen of an instruction: it is the next one of the node before, with the modules that nobody is suspended for, and how it goes
--- while jobs run; the written rule makes of it what is told; behind it the traffic is played; the node is seen directly behind it and behind
--- the traffic, and the replies of both are told; and it is told that where it was undone the node was as before.
+-- What was seen of an instruction: it is the next one of the node before, with the modules that nobody is suspended for, and
+-- how it goes while jobs run; the written rule makes of it what is told; behind it the traffic is played; the node is seen
+-- directly behind it and behind the traffic, and the replies of both are told; and it is told that where it was undone the
+-- node was as before.
 pub record IsSeen (traffic : List Arrival) (before : Stage) (s : Seen) (after : Stage) : Type 0 where
   pub instruction : s.instruction ≡ next_of before.node
   pub nobody : s.nobody ≡ nobody_of before.node.apps (next_of before.node)
@@ -126,8 +127,8 @@ abbrev pub AreSeen : List Arrival → Stage → List Seen → Stage → Type 0
 AreSeen traffic old [] new = new ≡ old
 AreSeen traffic old (s ∷ ss) new = (between : Stage) × IsSeen traffic old s between × AreSeen traffic between ss new
 
--- A script is gone through to its end: each instruction was carried out but the last, with which the script is finished or given up, or the
--- node restarts, or which the node refuses.
+-- A script is gone through to its end: each instruction was carried out but the last, with which the script is finished or
+-- given up, or the node restarts, or which the node refuses.
 pub record IsGoneThrough (seen : List Seen) : Type 0 where
   pub before : List Seen
   pub last : Seen
@@ -165,7 +166,8 @@ pub record AreWays (traffic : List Arrival) (begin : Stage) (up_to down_to : Lis
   pub goes_up : IsWay traffic begin up_to up top
   pub goes_down : IsWayDown (is_finished up) traffic top down_to down end
 
--- Where the way down was finished, both ways are gone once more, without traffic: the node is seen behind them if they are finished then too.
+-- Where the way down was finished, both ways are gone once more, without traffic: the node is seen behind them if they are
+-- finished then too.
 
 abbrev pub returned_by : Bool → NodeState → Returned
 returned_by true n = quiet.Behind (node_view n)
@@ -189,8 +191,8 @@ pub record HasBooted (r : Release) (n : NodeState) : Type 0 where
   pub unpurged : n.unpurged ≡ []
   pub runner : n.runner ≡ None
 
--- What was seen of an upgrade from where the release that is left has booted, which has this version: the node is told of the other
--- one, and the traffic is played; then come both ways, and when they are undone the node is as it was seen before.
+-- What was seen of an upgrade from where the release that is left has booted, which has this version: the node is told of the
+-- other one, and the traffic is played; then come both ways, and when they are undone the node is as it was seen before.
 pub record IsShown (start : Stage) (down_to : List ℕ) (to : Release) (traffic : List Arrival) (r : Rehearsal) : Type 0 where
   pub known : Stage
   pub with_release : List (List Reply)
@@ -210,7 +212,8 @@ pub record IsRehearsal (from to : Release) (traffic : List Arrival) (r : Rehears
   pub booted : HasBooted from node
   pub shown : IsShown (record { node = node; arrivals = 0 }) from.rel.vsn to traffic r
 
--- Why there is no rehearsal: of a release that doesn't boot it is told why. Another has booted, where it isn't memory that was refused.
+-- Why there is no rehearsal: of a release that doesn't boot it is told why. Another has booted, where it isn't memory that
+-- was refused.
 
 abbrev pub HaltsOn : Release → Halt → Type 0
 HaltsOn from (halt.Endless count) = (n : NodeState) × HasBooted from n

@@ -15,11 +15,11 @@ use Rattle.process_effects.specs.declared.told.Reply.{Reply}
 use Rattle.process_table.specs.Steps.{IsNextRunnable}
 use Rattle.process_table.specs.declared.body.ClientMessage.{ClientMessage}
 use Rattle.process_table.specs.declared.body.ClientMessage.TheVariants.{Call, Cast, Info}
-use Rattle.shell_requests.specs.declared.request.Arrival.{Arrival as Kind}
-use Rattle.shell_requests.specs.declared.request.Arrival.TheVariants as kind
+use Rattle.shell_requests.specs.declared.request.ArrivalKind.{ArrivalKind}
+use Rattle.shell_requests.specs.declared.request.ArrivalKind.TheVariants as kind
 use Rattle.erl_term.specs.declared.term.Term.{Term}
 use Rattle.undo_journal.specs.Reversible.{Accepted}
-use Rattle.upgrade_rehearsal.specs.Turns.{Goes, InTurn, Then}
+use Rattle.upgrade_rehearsal.specs.Sequences.{Goes, InTurn, Then}
 use Rattle.upgrade_rehearsal.specs.declared.arrival.Arrival.{Arrival}
 
 -- Where a rehearsal stands: its node, and how many messages clients have sent.
@@ -46,10 +46,10 @@ pub record Occurs (e : Event) (told : Result Answer Refusal) (old : Stage) (sent
 abbrev pub Undergoes : Event → Scene
 Undergoes e old sent new = (told : Result Answer Refusal) × Occurs e told old sent new
 
--- A client sends a message: the first has the number 1, and each the next one, which is that of the call if it is one. Where nobody has
--- the name nothing comes of it.
+-- A client sends a message: the first has the number 1, and each the next one, which is that of the call if it is one. Where
+-- nobody has the name nothing comes of it.
 
-abbrev pub message_by : Kind → ℕ → Term → ClientMessage
+abbrev pub message_by : ArrivalKind → ℕ → Term → ClientMessage
 message_by kind.Call number term = Call number term
 message_by kind.Cast number term = Cast term
 message_by kind.Info number term = Info term
@@ -111,8 +111,8 @@ ServesAll old sent new = (pids : List ℕ) × InTurn ServesNext pids old sent ne
 abbrev pub AllTake : ℕ → Scene
 AllTake count old sent new = (pids : List ℕ) × InTurn TakesNext pids old sent new × (count ≡ length pids) × NobodyIsNext new
 
--- The traffic is played: processes serve what waits, and then each message comes, and they serve again. Or all of it comes, and nobody
--- serves it.
+-- The traffic is played: processes serve what waits, and then each message comes, and they serve again. Or all of it comes,
+-- and nobody serves it.
 
 abbrev pub PlaysEach : List Arrival → Scene
 PlaysEach traffic = InTurn (λ a. Then (Comes a) ServesAll) traffic

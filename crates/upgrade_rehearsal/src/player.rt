@@ -6,7 +6,7 @@ ghost use Rattle.process_store.specs.Living.{is_runnable};
 ghost use Rattle.process_store.specs.Table.{living};
 ghost use Rattle.upgrade_rehearsal.specs.Players.{IsAlike, IsBookmark, Leads, Performed, stage_of};
 ghost use Rattle.upgrade_rehearsal.specs.Seen.{node_view};
-ghost use Rattle.upgrade_rehearsal.specs.Turns.{Then};
+ghost use Rattle.upgrade_rehearsal.specs.Sequences.{Then};
 ghost use Rattle.upgrade_rehearsal.specs.Stages.{AllCome, AllTake, Comes, IsServed, Undergoes, Plays, PlaysEach, Runs, ServesAll, job_in};
 
 use crate::arrival::Arrival;
@@ -220,8 +220,8 @@ impl Player {
         self.serve()
     }
 
-    /// Plays the traffic: the messages that wait are served, and then each of it arrives, and all that wait are served again. Without
-    /// any, what processes send to one another is served all the same.
+    /// Plays the traffic: the messages that wait are served, and then each of it arrives, and all that wait are served again.
+    /// Without any, what processes send to one another is served all the same.
     pub(crate) fn play(&mut self, traffic: &[Arrival]) -> Result<(), Halt>
         ensures { OnOk result (Leads (Plays traffic.now) self.old self.new) }
     {

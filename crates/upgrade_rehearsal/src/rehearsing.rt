@@ -21,8 +21,8 @@ use values::{Duplicate, Same};
 ///
 /// # Errors
 ///
-/// `Boot` where the release that is left doesn't boot, or memory is refused while it does; `Halted` where processes never come to rest,
-/// something can't be counted further, or memory is refused.
+/// `Boot` where the release that is left doesn't boot, or memory is refused while it does; `Halted` where processes never
+/// come to rest, something can't be counted further, or memory is refused.
 pub fn rehearse<W: Watch>(
     alloc: Global,
     hashing: RandomState,

@@ -5,7 +5,7 @@ ghost use Rattle.upgrade_rehearsal.specs.Stages.{event_of};
 use crate::arrival::Arrival;
 use node_types::Event;
 use process_table::ClientMessage;
-use shell_requests::Arrival as Kind;
+use shell_requests::ArrivalKind;
 use std::alloc::{AllocError, Global};
 use values::Duplicate;
 
@@ -15,9 +15,9 @@ pub(crate) fn event_of(alloc: Global, arrival: &Arrival, number: u64) -> Result<
 {
     let term = arrival.term.copy(alloc)?;
     let body = match arrival.kind {
-        Kind::Call => ClientMessage::Call { number, term },
-        Kind::Cast => ClientMessage::Cast(term),
-        Kind::Info => ClientMessage::Info(term),
+        ArrivalKind::Call => ClientMessage::Call { number, term },
+        ArrivalKind::Cast => ClientMessage::Cast(term),
+        ArrivalKind::Info => ClientMessage::Info(term),
     };
     Ok(Event::Arrive {
         client: 0,

@@ -93,7 +93,8 @@ fn go_on(player: &mut Player, traffic: &[Arrival], before: &NodeView) -> Result<
 /// Looks at the next instruction, tries it while jobs run, and carries it out and undoes it; it stands where it stood then.
 fn look_ahead(player: &mut Player, traffic: &[Arrival], before: &NodeView) -> Result<Ahead, Halt>
     requires { before.now ≡ node_view (here player.old.journal).node }
-    ensures ahead { IfOk result (λ it. IsAhead traffic.now (stage_of player.old) it.instruction it.nobody it.jobs it.is_as_before) }
+    ensures ahead { IfOk result (λ it. IsAhead traffic.now (stage_of player.old) it.instruction it.nobody it.jobs
+        it.is_as_before) }
     ensures back { OnOk result (IsBackAt player.old player.new) }
 {
     let (instruction, nobody) = ask(player)?;

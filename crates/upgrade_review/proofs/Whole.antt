@@ -16,18 +16,18 @@ use Rattle.upgrade_review.specs.Scripts.{started_by, stopped_by}
 use Rattle.upgrade_review.specs.declared.finding.Finding.{Finding}
 use Rattle.upgrade_review.specs.declared.finding.Finding.TheVariants.{NoWayDown}
 
--- an item of a list, and the same at its place
-at_place : {X : Type 0} (xs : List X) (k : ℕ) (x : X) → slice_get xs k ≡ Some x → Contains xs x
-at_place xs k x is = (k, slice_get_within xs k x is, get_or_from_slice_get xs k x x is)
+-- an item of a list, and the same at its index
+at_index : {X : Type 0} (xs : List X) (k : ℕ) (x : X) → slice_get xs k ≡ Some x → Contains xs x
+at_index xs k x is = (k, slice_get_within xs k x is, get_or_from_slice_get xs k x x is)
 
-place_of : {X : Type 0} (xs : List X) (x : X) (there : Contains xs x) → slice_get xs there.0 ≡ Some x
-place_of xs x there = slice_get_read xs (length xs) there.0 x refl there.1 (sym there.2)
+index_of : {X : Type 0} (xs : List X) (x : X) (there : Contains xs x) → slice_get xs there.0 ≡ Some x
+index_of xs x there = slice_get_read xs (length xs) there.0 x refl there.1 (sym there.2)
 
 module _ (left installed : Release) (script : List Low) (f : Finding) where
   of_modules : IsNotLoadedIn left installed script f → IsFound left installed script f
   of_modules w =
       let one = w.3.3 in
-      not_loaded w.1 w.3.1 (at_place installed.apps w.0 w.1 w.2) (at_place w.1.modules w.3.0 w.3.1 w.3.2) one.0 one.1 one.2
+      not_loaded w.1 w.3.1 (at_index installed.apps w.0 w.1 w.2) (at_index w.1.modules w.3.0 w.3.1 w.3.2) one.0 one.1 one.2
 
   of_start : (i : ℕ) (low : Low) (app : List ℕ) → slice_get script i ≡ Some low → started_by low ≡ Some app →
       IsStart script i app f → IsFound left installed script f
@@ -53,7 +53,7 @@ module _ (left installed : Release) (script : List Low) (f : Finding) where
   of_instruction i (Suspend modules) is w = absurd w
   of_instruction i (Resume modules) is w = absurd w
   of_instruction i (CodeChange way changes) is w =
-      no_code_change i way changes w.1 w.3.1.0 is (at_place changes w.0 w.1 w.2) w.3.0 w.3.1.1 w.3.1.2 w.3.2
+      no_code_change i way changes w.1 w.3.1.0 is (at_index changes w.0 w.1 w.2) w.3.0 w.3.1.1 w.3.1.2 w.3.2
   of_instruction i (Stop modules) is w = absurd w
   of_instruction i (Start modules) is w = absurd w
   of_instruction i (Apply name function arguments) is w = of_apply i (Apply name function arguments) is w
@@ -91,11 +91,11 @@ module _ (left installed : Release) (script : List Low) (f : Finding) where
 
   in_parts : IsFound left installed script f → IsNotLoadedIn left installed script f ⊎ IsFoundIn left installed script f
   in_parts (not_loaded a c in_apps in_modules other unloaded is) =
-      let one : IsNotLoadedOf left script a f = (in_modules.0, c, place_of a.modules c in_modules, (other, unloaded, is)) in
-      inl (in_apps.0, a, place_of installed.apps a in_apps, one)
+      let one : IsNotLoadedOf left script a f = (in_modules.0, c, index_of a.modules c in_modules, (other, unloaded, is)) in
+      inl (in_apps.0, a, index_of installed.apps a in_apps, one)
   in_parts (loaded_again i m pre post c at before after kept is) = inr (i, Load m pre post, at, ((c, before, after), kept, is))
   in_parts (no_code_change i way changes change c at among plain code lacks is) =
-      inr (i, CodeChange way changes, at, (among.0, change, place_of changes change among, (plain, (c, code, lacks), is)))
+      inr (i, CodeChange way changes, at, (among.0, change, index_of changes change among, (plain, (c, code, lacks), is)))
   in_parts (starts i low app at by before is) = inr (i, low, at, start_at i low app by (inl (before, is)))
   in_parts (restarts i low app at by before is) = inr (i, low, at, start_at i low app by (inr (before, is)))
   in_parts (stops i low app at by behind is) = inr (i, low, at, stop_at i low app by (behind, is))

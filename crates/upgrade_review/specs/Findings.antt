@@ -48,6 +48,6 @@ pub data IsAmiss (up : List Low) (down : Option (List Low)) (f : Finding) : Type
       slice_get up i ≡ Some (Load m pre post) → is_loaded m script ≡ false → is_removed m script ≡ false → f ≡ NotUndone i m →
       IsAmiss up down f
 
--- No finding stands at two places.
+-- No finding stands at two indices.
 abbrev pub AreDifferent : {F : Type 0} → List F → Type 0
 AreDifferent found = AllPairs (λ one another. one ≢ another) found

@@ -21,7 +21,7 @@ pub record Adds {F : Type 0} (P : F → Type 0) (old new : List F) : Type 0 wher
   pub all : (f : F) → Contains new f ↔ (Contains old f ⊎ P f)
   pub once : AreDifferent old → AreDifferent new
 
--- A finding about an item of a list, at its place.
+-- A finding about an item of a list, at its index.
 abbrev pub FromEach : {X F : Type 0} → (ℕ → X → F → Type 0) → List X → F → Type 0
 FromEach {X} {F} R xs f = (i : ℕ) × (x : X) × (slice_get xs i ≡ Some x) × R i x f
 
@@ -39,19 +39,19 @@ abbrev pub IsNotLoadedIn : Release → Release → List Low → Finding → Type
 IsNotLoadedIn left installed script f = FromEach (λ i files. IsNotLoadedOf left script files) installed.apps f
 
 -- Both releases have a module, and have it alike.
-abbrev pub IsKept : List ℕ → Release → Release → Type 0
-IsKept m left installed = (c : Forms) × (code_in m left ≡ Some c) × (code_in m installed ≡ Some c)
+abbrev pub IsSameInBoth : List ℕ → Release → Release → Type 0
+IsSameInBoth m left installed = (c : Forms) × (code_in m left ≡ Some c) × (code_in m installed ≡ Some c)
 
--- A module that is loaded at a place is the same in both releases, and no application that has it is started.
+-- A module that is loaded at an index is the same in both releases, and no application that has it is started.
 abbrev pub IsLoadedAgain : Release → Release → List Low → ℕ → List ℕ → Finding → Type 0
 IsLoadedAgain left installed script i m f =
-    IsKept m left installed × (is_started_with m installed script ≡ false) × (f ≡ LoadedAgain i m)
+    IsSameInBoth m left installed × (is_started_with m installed script ≡ false) × (f ≡ LoadedAgain i m)
 
 -- The code of a module exports no `code_change/3`, if it has any.
 abbrev pub LacksCodeChange : Option Forms → Type 0
 LacksCodeChange code = (c : Forms) × (code ≡ Some c) × (exported_of (codes "code_change") 3 c ≡ None)
 
--- The processes of a module are to change their state at a place, and it lacks the function for it; of each of some modules.
+-- The processes of a module are to change their state at an index, and it lacks the function for it; of each of some modules.
 
 abbrev pub IsUnchanged : Release → Release → List Low → ℕ → List ℕ → Finding → Type 0
 IsUnchanged left installed script i m f = (is_callback_module m installed ≡ false) ×
@@ -61,12 +61,12 @@ abbrev pub IsUnchangedOf : Release → Release → List Low → ℕ → List Mod
 IsUnchangedOf left installed script i changes f =
     FromEach (λ j change. IsUnchanged left installed script i change.name) changes f
 
--- An application is started at a place, and was stopped before or not.
+-- An application is started at an index, and was stopped before or not.
 abbrev pub IsStart : List Low → ℕ → List ℕ → Finding → Type 0
 IsStart script i app f = ((is_stopped app (take i script) ≡ false) × (f ≡ Starts i app)) ⊎
     ((is_stopped app (take i script) ≡ true) × (f ≡ Restarts i app))
 
--- An application is stopped at a place, and isn't started behind it.
+-- An application is stopped at an index, and isn't started behind it.
 abbrev pub IsStop : List Low → ℕ → List ℕ → Finding → Type 0
 IsStop script i app f = (is_started app (drop (i + 1) script) ≡ false) × (f ≡ Stops i app)
 
@@ -74,7 +74,7 @@ IsStop script i app f = (is_started app (drop (i + 1) script) ≡ false) × (f �
 abbrev pub OfApp : (List ℕ → Finding → Type 0) → Option (List ℕ) → Finding → Type 0
 OfApp R app f = (name : List ℕ) × (app ≡ Some name) × R name f
 
--- A finding about the instruction at a place.
+-- A finding about the instruction at an index.
 abbrev pub IsFoundAt : Release → Release → List Low → ℕ → Low → Finding → Type 0
 IsFoundAt left installed script i (LoadObjectCode application version modules) f = ⊥
 IsFoundAt left installed script i PointOfNoReturn f = ⊥
@@ -94,11 +94,11 @@ IsFoundAt left installed script i (Apply name function arguments) f =
 abbrev pub IsFoundIn : Release → Release → List Low → Finding → Type 0
 IsFoundIn left installed script f = FromEach (IsFoundAt left installed script) script f
 
--- A module that is loaded at a place is neither loaded nor removed on the way down.
+-- A module that is loaded at an index is neither loaded nor removed on the way down.
 abbrev pub IsNotUndone : List Low → ℕ → List ℕ → Finding → Type 0
 IsNotUndone down i m f = (is_loaded m down ≡ false) × (is_removed m down ≡ false) × (f ≡ NotUndone i m)
 
--- A finding about the instruction at a place, on the way down.
+-- A finding about the instruction at an index, on the way down.
 abbrev pub IsNotUndoneAt : List Low → ℕ → Low → Finding → Type 0
 IsNotUndoneAt down i (LoadObjectCode application version modules) f = ⊥
 IsNotUndoneAt down i PointOfNoReturn f = ⊥

@@ -5,7 +5,7 @@ ghost use Rattle.erl_ir.specs.Module.{exported_of};
 ghost use Rattle.script_state.specs.ObjectCode.{source_in};
 ghost use Rattle.upgrade_review.specs.Codes.{code_behind, code_in, has_module};
 ghost use Rattle.upgrade_review.specs.Codes.{is_callback_module, is_start_module, is_started_with};
-ghost use Rattle.upgrade_review.specs.Gathering.{IsKept, LacksCodeChange};
+ghost use Rattle.upgrade_review.specs.Gathering.{IsSameInBoth, LacksCodeChange};
 
 use crate::scripts::{is_loaded, is_started};
 use erl_ir::Module;
@@ -46,8 +46,8 @@ pub(crate) fn is_code(found: Option<&Module>, code: &Module) -> bool
 }
 
 /// Whether both releases have a module, and have it alike.
-pub(crate) fn is_kept(left: &Release, installed: &Release, name: &Atom) -> bool
-    ensures { IsTrue result ↔ IsKept name.now left.now installed.now }
+pub(crate) fn is_same_in_both(left: &Release, installed: &Release, name: &Atom) -> bool
+    ensures { IsTrue result ↔ IsSameInBoth name.now left.now installed.now }
 {
     match code_in(installed, name) {
         Some(code) => is_code(code_in(left, name), code),

@@ -6,7 +6,7 @@
 //! [`look_back`] reads the script beside the one that leads down again, and tells what that leaves as it is. A [`Finding`] says
 //! where, and what it means; none of them keeps a script from running.
 //!
-//! Sources stand for object code, and equal sources for equal code: blanks, comments and places of a source are no part of it.
+//! Sources stand for object code, and equal sources for equal code: blanks, comments and offsets in a source are no part of it.
 //! The applications of a release are those that have files.
 //!
 //! # What is proved

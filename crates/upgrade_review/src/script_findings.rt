@@ -4,7 +4,7 @@ ghost use Rattle.std.specs.Option.{option_copied};
 ghost use Rattle.upgrade_review.specs.Gathering.{Adds, FromEach, IsFoundAt, IsFoundIn, IsLoadedAgain, IsNotUndone, IsNotUndoneAt};
 ghost use Rattle.upgrade_review.specs.Gathering.{IsStart, IsStop, IsUnchanged, IsUnchangedOf, OfApp};
 
-use crate::codes::{is_callback_module, is_kept, is_started_with, lacks_behind};
+use crate::codes::{is_callback_module, is_same_in_both, is_started_with, lacks_behind};
 use crate::finding::Finding;
 use crate::gathering::note;
 use crate::scripts::{is_loaded, is_removed, is_started, is_stopped, started_by, stopped_by};
@@ -27,7 +27,7 @@ fn note_load(
     ensures { OnOk result
         (Adds (IsLoadedAgain left.now installed.now script.now index name.now) found.old.items found.new.items) }
 {
-    if !is_kept(left, installed, name) || is_started_with(installed, script, name) {
+    if !is_same_in_both(left, installed, name) || is_started_with(installed, script, name) {
         return Ok(());
     }
     let module = name.copy(alloc)?;
@@ -148,7 +148,7 @@ fn note_stopped(
     }
 }
 
-/// Notes what is found of the instruction at a place.
+/// Notes what is found of the instruction at an index.
 fn note_instruction(
     alloc: Global,
     left: &Release,
@@ -193,7 +193,7 @@ pub(crate) fn note_instructions(
     Ok(())
 }
 
-/// Notes that a module is loaded at a place, unless it is loaded or removed on the way down.
+/// Notes that a module is loaded at an index, unless it is loaded or removed on the way down.
 fn note_load_up(
     alloc: Global,
     down: &[Low],
@@ -210,7 +210,7 @@ fn note_load_up(
     note(found, Finding::NotUndone { index, module })
 }
 
-/// Notes what the way down doesn't undo of the instruction at a place.
+/// Notes what the way down doesn't undo of the instruction at an index.
 fn note_instruction_up(
     alloc: Global,
     down: &[Low],

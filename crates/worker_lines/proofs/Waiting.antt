@@ -22,8 +22,8 @@ use Rattle.release_statuses.specs.declared.listed.Listed.{Listed}
 use Rattle.shell_answers.specs.Answers.{fixed, line_of, replied}
 use Rattle.shell_answers.specs.Refusals.{Subject, naming, naming_nothing}
 use Rattle.shell_answers.specs.declared.fixed.Fixed.TheVariants as words
-use Rattle.shell_requests.specs.declared.request.Arrival.{Arrival}
-use Rattle.shell_requests.specs.declared.request.Arrival.TheVariants as arrivals
+use Rattle.shell_requests.specs.declared.request.ArrivalKind.{ArrivalKind}
+use Rattle.shell_requests.specs.declared.request.ArrivalKind.TheVariants as arrivals
 use Rattle.shell_requests.specs.declared.request.ReleaseChange.{ReleaseChange}
 use Rattle.shell_requests.specs.declared.request.ReleaseChange.TheVariants as releases
 use Rattle.shell_exec.specs.Fate.{Fate}
@@ -39,7 +39,7 @@ use Rattle.workers.proofs.Growth.{grown_by_call, grown_by_install}
 use Rattle.workers.proofs.Halted.{grown_halted}
 use Rattle.workers.proofs.Unanswered.{grown_unanswered}
 use Rattle.worker_lines.specs.Asking.{IsAnswered, done, event_told}
-use Rattle.worker_lines.specs.Execution.{Alters, Installs, Sends, Uninstalled, Waits, call_turns, came, end_told, ended, never, no_memory_to_call, no_memory_to_install, patience, releases_unread, releases_unwritten, told_by_releases, told_by_vsn, wants_releases}
+use Rattle.worker_lines.specs.Execution.{Alters, Installs, Sends, Uninstalled, Waits, call_waits, came, end_told, ended, never, no_memory_to_call, no_memory_to_install, patience, releases_unread, releases_unwritten, told_by_releases, told_by_vsn, wants_releases}
 use Rattle.worker_lines.specs.Telling.{error_fate, error_told, work_fate, work_told}
 use Rattle.worker_lines.proofs.Heard.{memory-told, told-alone}
 
@@ -67,11 +67,11 @@ module _ (name : Atom) (t : Term) (seat after : SeatState) (text appended : List
       subst (λ f. IsAnswered (Waits seat name t f) seat after text appended) (sym said.0)
       (grown-told (Waits seat name t None) seat after text appended (line_of (replied reply)) grown (came grown.0 reply (subst (λ (s : SeatState). Calls name t seat s reply) grown.1 calls)) said.1)
 
-  pub uncalled-told : (why : WorkError) → CallFails name t call_turns seat after why → (fate ≡ work_fate why) × (appended ≡ text ++ line_of (work_told naming_nothing why)) → IsAnswered (Waits seat name t fate) seat after text appended
+  pub uncalled-told : (why : WorkError) → CallFails name t call_waits seat after why → (fate ≡ work_fate why) × (appended ≡ text ++ line_of (work_told naming_nothing why)) → IsAnswered (Waits seat name t fate) seat after text appended
   uncalled-told why fails said =
-      let grown = grown_unanswered name t call_turns why seat after fails in
+      let grown = grown_unanswered name t call_waits why seat after fails in
       subst (λ f. IsAnswered (Waits seat name t f) seat after text appended) (sym said.0)
-      (grown-told (Waits seat name t (work_fate why)) seat after text appended (line_of (work_told naming_nothing why)) grown (never grown.0 why (subst (λ (s : SeatState). CallFails name t call_turns seat s why) grown.1 fails)) said.1)
+      (grown-told (Waits seat name t (work_fate why)) seat after text appended (line_of (work_told naming_nothing why)) grown (never grown.0 why (subst (λ (s : SeatState). CallFails name t call_waits seat s why) grown.1 fails)) said.1)
 
 module _ (vsn : List ℕ) (seat after : SeatState) (text appended : List ℕ) (fate : Option Fate) where
   pub install-told : (end : InstallEnd) → Drives vsn patience seat after end → (fate ≡ None) × (appended ≡ text ++ line_of (end_told end)) → IsAnswered (Installs seat vsn fate) seat after text appended
@@ -120,7 +120,7 @@ module _ (vsn : List ℕ) (start mid after : SeatState) (why : WorkError) (text 
       subst (λ f. IsAnswered (Installs start vsn f) start after text appended) (sym told.0) (grown-told (Installs start vsn (Some Refused)) start after text appended (line_of (fixed words.Memory)) (grown.0, lists ∙ grown.1) (releases_unread grown.0 why fails-by) told.1)
 
 -- memory was refused before anything arrived
-pub unsent-told : (kind : Arrival) (name : Atom) (t : Term) (seat : SeatState) (text appended : List ℕ) (fate : Option Fate) → (fate ≡ Some Refused) × (appended ≡ text ++ line_of (fixed words.Memory)) → IsAnswered (Sends seat kind name t fate) seat seat text appended
+pub unsent-told : (kind : ArrivalKind) (name : Atom) (t : Term) (seat : SeatState) (text appended : List ℕ) (fate : Option Fate) → (fate ≡ Some Refused) × (appended ≡ text ++ line_of (fixed words.Memory)) → IsAnswered (Sends seat kind name t fate) seat seat text appended
 unsent-told arrivals.Call name t seat text appended fate said =
     subst (λ f. IsAnswered (Waits seat name t f) seat seat text appended) (sym said.0) (told-alone (Waits seat name t (Some Refused)) seat text appended _ no_memory_to_call said.1)
 unsent-told arrivals.Cast name t seat text appended fate said =

@@ -40,8 +40,8 @@ use Rattle.shell_exec.specs.Terms.{IsRead, one, not_one, faulty}
 use Rattle.shell_exec.specs.Performing.{revived_in, swept_in, truth_in}
 use Rattle.shell_exec.specs.Relups.{RelupTold}
 use Rattle.shell_requests.specs.Request.{Request, Spoken, ask, change, load, undo, forget, commit, arrive, serve, revive, unpack, release, relup, advance, sweep, too_long, silent, unknown, asks}
-use Rattle.shell_requests.specs.declared.request.Arrival.{Arrival}
-use Rattle.shell_requests.specs.declared.request.Arrival.TheVariants as arrivals
+use Rattle.shell_requests.specs.declared.request.ArrivalKind.{ArrivalKind}
+use Rattle.shell_requests.specs.declared.request.ArrivalKind.TheVariants as arrivals
 use Rattle.shell_requests.specs.declared.request.Question.{Question}
 use Rattle.shell_requests.specs.declared.request.Question.TheVariants as questions
 use Rattle.shell_requests.specs.declared.request.ReleaseChange.{ReleaseChange}
@@ -90,20 +90,20 @@ pub data Loads (files : Contents) (name path : List ℕ) : Option Fate → List 
       Loads files name path fate lines text
   no_memory_to_load : Loads files name path (Some Refused) [] (line_of (fixed words.Memory))
 
--- how many turns a call waits for its reply
-abbrev pub call_turns : ℕ
-call_turns = 1000000
+-- how many waits a call waits for its reply
+abbrev pub call_waits : ℕ
+call_waits = 1000000
 
 -- `call NAME TERM`, by the term: its reply is told; or why there is none.
 pub data Waits (seat : SeatState) (name : List ℕ) (t : Term) : Option Fate → List Line → List ℕ → Type 0 where
   came : (lines : List Line) (reply : Reply) → Calls name t seat (with_lines seat lines) reply →
       Waits seat name t None lines (line_of (replied reply))
-  never : (lines : List Line) (why : WorkError) → CallFails name t call_turns seat (with_lines seat lines) why →
+  never : (lines : List Line) (why : WorkError) → CallFails name t call_waits seat (with_lines seat lines) why →
       Waits seat name t (work_fate why) lines (line_of (work_told naming_nothing why))
   no_memory_to_call : Waits seat name t (Some Refused) [] (line_of (fixed words.Memory))
 
 -- `call`, `cast`, `send NAME TERM`, by the term
-abbrev pub Sends : SeatState → Arrival → List ℕ → Term → Option Fate → List Line → List ℕ → Type 0
+abbrev pub Sends : SeatState → ArrivalKind → List ℕ → Term → Option Fate → List Line → List ℕ → Type 0
 Sends seat arrivals.Call name t fate lines text = Waits seat name t fate lines text
 Sends seat arrivals.Cast name t fate lines text = Performs (event.Arrive seat.number name (body.Cast t)) naming_nothing done
     fate lines text
@@ -111,7 +111,7 @@ Sends seat arrivals.Info name t fate lines text = Performs (event.Arrive seat.nu
     fate lines text
 
 -- and by its text: what stands against that is told first
-pub data Arrives (seat : SeatState) (kind : Arrival) (name term : List ℕ) : Option Fate → List Line → List ℕ → Type 0 where
+pub data Arrives (seat : SeatState) (kind : ArrivalKind) (name term : List ℕ) : Option Fate → List Line → List ℕ → Type 0 where
   no_text : (fault : TextFault) (at : ℕ) → IsRead term (faulty fault at) →
       Arrives seat kind name term None [] (line_of (term_fault fault at))
   several : IsRead term not_one → Arrives seat kind name term None [] (line_of (fixed words.BadCommand))
@@ -142,7 +142,7 @@ patience = 1000
 
 abbrev pub is_by_releases : Refusal → Bool
 is_by_releases (refusal.OfInstall install.NoMatchingRelup) = true
-is_by_releases (refusal.OfInstall (install.OldProcesses places)) = true
+is_by_releases (refusal.OfInstall (install.OldProcesses index)) = true
 is_by_releases _ = false
 
 abbrev pub wants_releases : WorkError → Bool
@@ -189,7 +189,7 @@ Executes files seat (change kind name) fate lines text = Performs (change_event 
 Executes files seat (load name path) fate lines text = Loads files name path fate lines text
 Executes files seat (undo mark) fate lines text = Holds (command.Undo mark) naming_nothing undone_told fate lines text
 Executes files seat (forget mark) fate lines text = Holds (command.Forget mark) naming_nothing (floor_told mark) fate lines text
-Executes files seat (commit place) fate lines text = SteppedOnly fate lines text
+Executes files seat (commit job) fate lines text = SteppedOnly fate lines text
 Executes files seat (arrive kind name term) fate lines text = Arrives seat kind name term fate lines text
 Executes files seat (serve service who) fate lines text = SteppedOnly fate lines text
 Executes files seat (revive app id) fate lines text =

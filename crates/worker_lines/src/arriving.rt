@@ -15,19 +15,19 @@ use process_effects::Reply;
 use process_table::ClientMessage;
 use shell_answers::{Fixed, Subject, write_reply};
 use shell_exec::{Misread, Said, refuse, say, say_term_fault, term_of};
-use shell_requests::{Arrival, Name};
+use shell_requests::{ArrivalKind, Name};
 use std::sync::Wait;
 use std::time::Clock;
 use workers::{Naming, Seat, call};
 
-/// How many turns a call waits for its reply.
+/// How many waits a call waits for its reply.
 const TURNS: u64 = 1_000_000;
 
 /// Has the term of a text arrive for the process of a name; of a call the reply is waited for, and told.
 pub(crate) fn arrive<N: Naming, R: Wait + Clock>(
     office: &Office<'_, '_, '_, N, R>,
     seat: &mut Seat<N>,
-    kind: Arrival,
+    kind: ArrivalKind,
     name: Name<'_>,
     text: &str,
     out: &mut Vec<u8>,
@@ -47,7 +47,7 @@ pub(crate) fn arrive<N: Naming, R: Wait + Clock>(
 fn arrive_term<N: Naming, R: Wait + Clock>(
     office: &Office<'_, '_, '_, N, R>,
     seat: &mut Seat<N>,
-    kind: Arrival,
+    kind: ArrivalKind,
     name: Name<'_>,
     term: Term,
     out: &mut Vec<u8>,
@@ -59,9 +59,9 @@ fn arrive_term<N: Naming, R: Wait + Clock>(
         return refuse(out);
     };
     match kind {
-        Arrival::Call => tell_call(office, seat, name, term, out),
-        Arrival::Cast => send(office, seat, name, ClientMessage::Cast(term), out),
-        Arrival::Info => send(office, seat, name, ClientMessage::Info(term), out),
+        ArrivalKind::Call => tell_call(office, seat, name, term, out),
+        ArrivalKind::Cast => send(office, seat, name, ClientMessage::Cast(term), out),
+        ArrivalKind::Info => send(office, seat, name, ClientMessage::Info(term), out),
     }
 }
 

@@ -18,7 +18,7 @@ use shell_exec::{
     Said, Unloaded, change_event, refuse, revive_event, say_file_fault, source_in, tell_loaded,
     tell_revived, tell_swept, tell_truth,
 };
-use shell_requests::{Change, Name};
+use shell_requests::{CodeOperation, Name};
 use std::sync::Wait;
 use values::Duplicate;
 use workers::{Naming, Seat};
@@ -27,7 +27,7 @@ use workers::{Naming, Seat};
 pub(crate) fn change<N: Naming, R: Wait>(
     office: &Office<'_, '_, '_, N, R>,
     seat: &mut Seat<N>,
-    kind: Change,
+    kind: CodeOperation,
     name: Name<'_>,
     out: &mut Vec<u8>,
 ) -> Said

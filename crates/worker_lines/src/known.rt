@@ -3,7 +3,7 @@ ghost use Rattle.std.specs.Prelude.{◌≡◌, Some};
 ghost use Rattle.std.specs.Option.{option_copied};
 ghost use Rattle.std.specs.Str.{bytes_eq, chars};
 ghost use Rattle.install_checks.specs.Installing.{script_to};
-ghost use Rattle.release_statuses.specs.Statuses.{first_with, has_status, is_status, listed, place_of, place_with};
+ghost use Rattle.release_statuses.specs.Statuses.{first_with, has_status, is_status, listed, index_of, index_with};
 ghost use Rattle.release_statuses.specs.Statuses.{running, vsn_of};
 ghost use Rattle.shell_answers.specs.Refusals.{subject_of};
 ghost use Rattle.shell_exec.specs.Upgrades.{script_in, subject_in};
@@ -35,15 +35,15 @@ fn is_of(it: &Listed, vsn: &str) -> bool
 }
 
 /// Where the release of a version stands.
-fn place_of(releases: &[Listed], vsn: &str) -> Option<usize>
-    ensures { result ≡ place_of (chars vsn.now) releases.now }
+fn index_of(releases: &[Listed], vsn: &str) -> Option<usize>
+    ensures { result ≡ index_of (chars vsn.now) releases.now }
 {
     releases.iter().position(|it| is_of(it, vsn))
 }
 
 /// Where the first release with a status stands.
-fn place_with(releases: &[Listed], status: Status) -> Option<usize>
-    ensures { result ≡ place_with status releases.now }
+fn index_with(releases: &[Listed], status: Status) -> Option<usize>
+    ensures { result ≡ index_with status releases.now }
 {
     releases.iter().position(|it| has_status(it, status))
 }
@@ -52,16 +52,16 @@ fn place_with(releases: &[Listed], status: Status) -> Option<usize>
 fn listed<'a>(releases: &'a [Listed], vsn: &str) -> Option<&'a Listed>
     ensures { option_copied result ≡ listed (chars vsn.now) releases.now }
 {
-    let place = place_of(releases, vsn)?;
-    releases.get(place)
+    let index = index_of(releases, vsn)?;
+    releases.get(index)
 }
 
 /// The first release with a status.
 fn first_with(releases: &[Listed], status: Status) -> Option<&Listed>
     ensures { option_copied result ≡ first_with status releases.now }
 {
-    let place = place_with(releases, status)?;
-    releases.get(place)
+    let index = index_with(releases, status)?;
+    releases.get(index)
 }
 
 /// The release that runs: the current one, or else the permanent one.

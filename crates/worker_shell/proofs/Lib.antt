@@ -1,4 +1,4 @@
 mod Attended
 mod Opened
 mod Settled
-mod Turns
+mod Exchanges

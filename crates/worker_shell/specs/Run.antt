@@ -16,7 +16,7 @@ use Rattle.workers.specs.OpenError.{OpenError}
 use Rattle.workers.specs.OpenError.TheVariants as open_error
 use Rattle.node_shell.specs.Run.{StartFails}
 use Rattle.node_shell.specs.declared.fault.StartFault.TheVariants as start
-use Rattle.worker_shell.specs.Desk.{DeskState, desk_turn}
+use Rattle.worker_shell.specs.Desk.{DeskState, desk_exchange}
 use Rattle.worker_shell.specs.declared.fault.WorkersFault.{WorkersFault}
 use Rattle.worker_shell.specs.declared.fault.WorkersFault.TheVariants as fault
 
@@ -32,9 +32,9 @@ not_opened open_error.Memory = fault.NotStarted start.NoMemory
 pub record HasServed (files : Contents) (seat : SeatState) (end : DeskState) (left rest held holds : Option (List ℕ))
     (ended : ServeEnd)
     : Type 0 where
-  pub serves : Serves desk_turn (record { files = files; seat = seat }) end left rest held holds ended
+  pub serves : Serves desk_exchange (record { files = files; seat = seat }) end left rest held holds ended
   pub whole : (input before : List ℕ) → left ≡ Some input → held ≡ Some before → ended.fault ≡ None → ended.is_refused ≡ false →
-      ServesWhole desk_turn (record { files = files; seat = seat }) end input before holds
+      ServesWhole desk_exchange (record { files = files; seat = seat }) end input before holds
 
 -- The node of a release is closed with so many seats. One of them is this: so its list has the history's entries of it, in order.
 pub record IsSettled (release : Release) (count : ℕ) (seat : SeatState) : Type 0 where

@@ -1,6 +1,6 @@
 // The session of seat 1.
 ghost use Rattle.std.specs.Prelude.{◌≡◌, IfOk, OnErr};
-ghost use Rattle.worker_shell.specs.Desk.{desk_turn};
+ghost use Rattle.worker_shell.specs.Desk.{desk_exchange};
 
 use crate::bell::Bell;
 use line_server::Session;
@@ -45,12 +45,12 @@ fn waits(line: Option<&[u8]>) -> bool {
 impl<'r, 'f, 'n, N: Naming, R: Wait + Clock> Desk<'r, 'f, 'n, N, R> {
     ghost use Rattle.std.specs.Prelude.{◌≡◌, IfOk, OnErr};
     ghost use Rattle.std.specs.Option.{option_copied};
-    ghost use Rattle.line_server.specs.Session.{IsTurn};
-    ghost use Rattle.worker_shell.specs.Desk.{desk_turn};
+    ghost use Rattle.line_server.specs.Session.{IsExchange};
+    ghost use Rattle.worker_shell.specs.Desk.{desk_exchange};
 
     /// Answers a line. While it waits for others, workers look for work by themselves.
     fn hear(&mut self, line: Option<&[u8]>, out: &mut Vec<u8>) -> Said
-        ensures answered { IfOk result (λ fate. IsTurn (desk_turn fate self.old (option_copied line.entry)) self.new
+        ensures answered { IfOk result (λ fate. IsExchange (desk_exchange fate self.old (option_copied line.entry)) self.new
             out.old.items out.new.items) }
         ensures err { OnErr result (out.new.items ≡ out.old.items) }
     {
@@ -80,7 +80,7 @@ impl<'r, 'f, 'n, N: Naming, R: Wait + Clock> Desk<'r, 'f, 'n, N, R> {
 impl<'r, 'f, 'n, N: Naming, R: Wait + Clock> Session for Desk<'r, 'f, 'n, N, R> {
     type Fate = Fate;
 
-    ghost turn = { desk_turn };
+    ghost exchange = { desk_exchange };
 
     fn may_take_long(&self, start: &[u8]) -> bool {
         may_wait(start)

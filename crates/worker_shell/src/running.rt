@@ -192,14 +192,14 @@ fn meet<
     ensures { (end : DeskState) × HasServed files.now first end (I.remaining reader.old) (I.remaining reader.new)
         (W.contents writer.old) (W.contents writer.new) result.0 × IfOk result.1 (λ seats. Contains seats.items end.seat) }
 {
-    let mut place = Some((first, answer));
+    let mut room = Some((first, answer));
     let mut hired = Some(others);
     core_is_send::<N>();
     seat_is_send::<N>();
     workshop_is_sync::<N>();
     is_send::<Option<Vec<Seat<N>>>>();
     let mut sits = || -> Option<(ServeEnd, Seat<N>)>
-        ensures { IfSome place.entry (λ it. IsSomeAnd result (λ back. (end : DeskState) × (back.1 ≡ end.seat)
+        ensures { IfSome room.entry (λ it. IsSomeAnd result (λ back. (end : DeskState) × (back.1 ≡ end.seat)
             × HasServed files.entry.now it.0 end (I.remaining reader.entry.now) (I.remaining reader.exit.now)
             (W.contents writer.entry.now) (W.contents writer.exit.now) back.0)) }
     {
@@ -209,7 +209,7 @@ fn meet<
             hashing,
             files,
             workshop,
-            place.take(),
+            room.take(),
             reader,
             writer,
         )
@@ -242,15 +242,15 @@ fn sit<N: Naming, R: Wait + Clock, I: Read, W: Write>(
     hashing: RandomState,
     files: &Files,
     workshop: &Workshop<N>,
-    place: Option<(Seat<N>, Vec<u8>)>,
+    room: Option<(Seat<N>, Vec<u8>)>,
     reader: &mut I,
     writer: &mut W,
 ) -> Option<(ServeEnd, Seat<N>)>
-    ensures { IfSome place (λ it. IsSomeAnd result (λ back. (end : DeskState) × (back.1 ≡ end.seat)
+    ensures { IfSome room (λ it. IsSomeAnd result (λ back. (end : DeskState) × (back.1 ≡ end.seat)
         × HasServed files.now it.0 end (I.remaining reader.old) (I.remaining reader.new)
         (W.contents writer.old) (W.contents writer.new) back.0)) }
 {
-    let (seat, answer) = place?;
+    let (seat, answer) = room?;
     let office = Office {
         rt,
         alloc,

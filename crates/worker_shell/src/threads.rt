@@ -18,7 +18,7 @@ pub(crate) struct Workshop<N: Naming> {
     pub(crate) bell: Bell,
 }
 
-/// How many turns a worker serves before it looks whether the session is over.
+/// How many rounds a worker serves before it looks whether the session is over.
 const TURNS: u64 = 8;
 
 /// Serves with a seat until the session is over, and hands the seat back. A worker that got no job, or that memory was refused

@@ -3,6 +3,6 @@ pub mod Growth
 pub mod Halted
 mod MoreAdvances
 mod MoreReads
-mod MoreTurns
+mod MoreRounds
 pub mod Passed
 pub mod Unanswered

@@ -56,20 +56,20 @@ reads_reply number first from next often reply old mid new has looks = record {
   lines = last_line number first from often looks.0 old mid new has looks.2;
 }
 
--- One more turn, which a read follows or not.
+-- One more wait, which a read follows or not.
 
-reads-next : (turn : ℕ) → reads_of (turn + 1) ≡ cond (is_followed (turn + 1)) (reads_of turn + 1) (reads_of turn)
-reads-next turn =
-    let e : suc turn ≡ turn + 1 = omega arith in
-    subst (λ n. reads_of n ≡ cond (is_followed n) (reads_of turn + 1) (reads_of turn)) e refl
+reads-next : (wait : ℕ) → reads_of (wait + 1) ≡ cond (is_followed (wait + 1)) (reads_of wait + 1) (reads_of wait)
+reads-next wait =
+    let e : suc wait ≡ wait + 1 = omega arith in
+    subst (λ n. reads_of n ≡ cond (is_followed n) (reads_of wait + 1) (reads_of wait)) e refl
 
-pub reads_passed : (number first from turn : ℕ) (old now : SeatState) → HasRead number first from (reads_of turn) old now → is_followed (turn + 1) ≡ false → HasRead number first from (reads_of (turn + 1)) old now
-reads_passed number first from turn old now has not =
-    subst (λ often. HasRead number first from often old now) (sym (reads-next turn ∙ ap (λ b. cond b (reads_of turn + 1) (reads_of turn)) not)) has
+pub reads_passed : (number first from wait : ℕ) (old now : SeatState) → HasRead number first from (reads_of wait) old now → is_followed (wait + 1) ≡ false → HasRead number first from (reads_of (wait + 1)) old now
+reads_passed number first from wait old now has not =
+    subst (λ often. HasRead number first from often old now) (sym (reads-next wait ∙ ap (λ b. cond b (reads_of wait + 1) (reads_of wait)) not)) has
 
-pub reads_made : (number first from next turn : ℕ) (old mid new : SeatState) → HasRead number first from (reads_of turn) old mid → Looks number from next None mid new → is_followed (turn + 1) ≡ true → HasRead number first next (reads_of (turn + 1)) old new
-reads_made number first from next turn old mid new has looks is =
-    subst (λ often. HasRead number first next often old new) (sym (reads-next turn ∙ ap (λ b. cond b (reads_of turn + 1) (reads_of turn)) is)) (reads_more number first from next (reads_of turn) old mid new has looks)
+pub reads_made : (number first from next wait : ℕ) (old mid new : SeatState) → HasRead number first from (reads_of wait) old mid → Looks number from next None mid new → is_followed (wait + 1) ≡ true → HasRead number first next (reads_of (wait + 1)) old new
+reads_made number first from next wait old mid new has looks is =
+    subst (λ often. HasRead number first next often old new) (sym (reads-next wait ∙ ap (λ b. cond b (reads_of wait + 1) (reads_of wait)) is)) (reads_more number first from next (reads_of wait) old mid new has looks)
 
 -- a call that is accepted, and the reply that is waited for
 pub calls : (name : Atom) (term : Term) (number from : ℕ) (old called new : SeatState) (reply : Reply) → Lists (command.Call name term) (Ok (said.Called number)) old called → Awaits number from called new reply → Calls name term old new reply

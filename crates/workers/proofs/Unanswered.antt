@@ -48,42 +48,42 @@ pub look_uncopied : (number from next : ℕ) (reply : Reply) (e : WorkError) (ol
 look_uncopied number from next reply e old new is looks = subst (λ w. LookFails number from old new w) (sym is) (not_copied next reply looks)
 
 -- no read had the reply, or it was lost
-pub waits_unread : (number first from often turns : ℕ) (e : WorkError) (old mid new : SeatState) → HasRead number first from often old mid → LookFails number from mid new e → WaitFails number first turns old new e
-waits_unread number first from often turns e old mid new has (not_read same) =
+pub waits_unread : (number first from often waits : ℕ) (e : WorkError) (old mid new : SeatState) → HasRead number first from often old mid → LookFails number from mid new e → WaitFails number first waits old new e
+waits_unread number first from often waits e old mid new has (not_read same) =
     cut_short from often (subst (λ (s : SeatState). HasRead number first from often old s) (sym same) has)
-waits_unread number first from often turns e old mid new has (not_counted next looks) =
+waits_unread number first from often waits e old mid new has (not_counted next looks) =
     cut_short next (often + 1) (reads_more number first from next often old mid new has looks)
-waits_unread number first from often turns e old mid new has (not_copied next reply looks) =
+waits_unread number first from often waits e old mid new has (not_copied next reply looks) =
     lost reply (reads_reply number first from next often reply old mid new has looks)
 
-pub waits_in_vain : (number first from turns : ℕ) (old now : SeatState) → HasRead number first from (reads_of turns) old now → WaitFails number first turns old now work.NoReply
-waits_in_vain number first from turns old now has = in_vain from has
+pub waits_in_vain : (number first from waits : ℕ) (old now : SeatState) → HasRead number first from (reads_of waits) old now → WaitFails number first waits old now work.NoReply
+waits_in_vain number first from waits old now has = in_vain from has
 
 -- the call is refused, or has no reply
-refused-call : (name : Atom) (term : Term) (turns : ℕ) (why : LockError) (old new : SeatState) → Lists (command.Call name term) (Err why) old new → CallFails name term turns old new (error_of why)
-refused-call name term turns (lock.Journal e) old new lists = refused e lists
-refused-call name term turns lock.Memory old new lists = not_called lists
+refused-call : (name : Atom) (term : Term) (waits : ℕ) (why : LockError) (old new : SeatState) → Lists (command.Call name term) (Err why) old new → CallFails name term waits old new (error_of why)
+refused-call name term waits (lock.Journal e) old new lists = refused e lists
+refused-call name term waits lock.Memory old new lists = not_called lists
 
-pub call_refused : (name : Atom) (term : Term) (turns : ℕ) (why : LockError) (e : WorkError) (old new : SeatState) → e ≡ error_of why → Lists (command.Call name term) (Err why) old new → CallFails name term turns old new e
-call_refused name term turns why e old new is lists =
-    subst (λ w. CallFails name term turns old new w) (sym is) (refused-call name term turns why old new lists)
+pub call_refused : (name : Atom) (term : Term) (waits : ℕ) (why : LockError) (e : WorkError) (old new : SeatState) → e ≡ error_of why → Lists (command.Call name term) (Err why) old new → CallFails name term waits old new e
+call_refused name term waits why e old new is lists =
+    subst (λ w. CallFails name term waits old new w) (sym is) (refused-call name term waits why old new lists)
 
-pub call_unanswered : (name : Atom) (term : Term) (number from turns : ℕ) (e : WorkError) (old called new : SeatState) → Lists (command.Call name term) (Ok (said.Called number)) old called → WaitFails number from turns called new e → CallFails name term turns old new e
-call_unanswered name term number from turns e old called new lists (in_vain next has) = unanswered number from next called lists.1 has
-call_unanswered name term number from turns e old called new lists (cut_short next often has) =
+pub call_unanswered : (name : Atom) (term : Term) (number from waits : ℕ) (e : WorkError) (old called new : SeatState) → Lists (command.Call name term) (Ok (said.Called number)) old called → WaitFails number from waits called new e → CallFails name term waits old new e
+call_unanswered name term number from waits e old called new lists (in_vain next has) = unanswered number from next called lists.1 has
+call_unanswered name term number from waits e old called new lists (cut_short next often has) =
     unread number from next often called lists.1 has
-call_unanswered name term number from turns e old called new lists (lost reply awaits) =
+call_unanswered name term number from waits e old called new lists (lost reply awaits) =
     uncopied reply (calls name term number from old called new reply lists awaits)
 
 -- in each case the seat's list only grows
-pub grown_unanswered : (name : Atom) (term : Term) (turns : ℕ) (e : WorkError) (old new : SeatState) → CallFails name term turns old new e → HasGrown old new
-grown_unanswered name term turns e old new (refused it lists) = grown_by_error (command.Call name term) (lock.Journal it) old new lists
-grown_unanswered name term turns e old new (unanswered number from next called is has) =
-    grown_further old called new (_, is) (grown_by_reads number from next (reads_of turns) called new has)
-grown_unanswered name term turns e old new (unread number from next often called is has) =
+pub grown_unanswered : (name : Atom) (term : Term) (waits : ℕ) (e : WorkError) (old new : SeatState) → CallFails name term waits old new e → HasGrown old new
+grown_unanswered name term waits e old new (refused it lists) = grown_by_error (command.Call name term) (lock.Journal it) old new lists
+grown_unanswered name term waits e old new (unanswered number from next called is has) =
+    grown_further old called new (_, is) (grown_by_reads number from next (reads_of waits) called new has)
+grown_unanswered name term waits e old new (unread number from next often called is has) =
     grown_further old called new (_, is) (grown_by_reads number from next often called new has)
-grown_unanswered name term turns e old new (uncopied reply does) = grown_by_call name term old new reply does
-grown_unanswered name term turns e old new (not_called same) = grown_not old new same
+grown_unanswered name term waits e old new (uncopied reply does) = grown_by_call name term old new reply does
+grown_unanswered name term waits e old new (not_called same) = grown_not old new same
 
 pub ruleset look_fails = (look_refused, look_uncounted, look_uncopied)
 

@@ -21,16 +21,16 @@ use Rattle.workers.specs.declared.error.WorkError.TheVariants as work
 abbrev pub reply_to : ℕ → List Reply → Option Reply
 reply_to number replies = find (λ reply. nat_eq reply.number number) replies
 
--- Which turns, counted from 1, are followed by a read: the first 32, and then each whose number is a multiple of 64.
+-- Which waits, counted from 1, are followed by a read: the first 32, and then each whose number is a multiple of 64.
 abbrev pub is_followed : ℕ → Bool
-is_followed turn = nat_le turn 32 || nat_eq (turn % 64) 0
+is_followed wait = nat_le wait 32 || nat_eq (wait % 64) 0
 
--- how many reads follow so many turns
+-- how many reads follow so many waits
 abbrev pub reads_of : ℕ → ℕ
 reads_of zero = 0
-reads_of (suc turn) = if is_followed (suc turn) then reads_of turn + 1 else reads_of turn
+reads_of (suc wait) = if is_followed (suc wait) then reads_of wait + 1 else reads_of wait
 
--- a read of replies from a place on
+-- a read of replies from an index on
 abbrev pub line_of_read : ℕ → List Reply → Line
 line_of_read from replies = line (Replies from) (Ok (Replied replies))
 
@@ -64,14 +64,14 @@ pub record Calls (name : Atom) (term : Term) (old new : SeatState) (reply : Repl
   pub from : ℕ
   pub awaits : Awaits number from called new reply
 
--- One read from a place on: the reply to the call of a number is there, or the next read begins where this one ends.
+-- One read from an index on: the reply to the call of a number is there, or the next read begins where this one ends.
 abbrev pub Looks : ℕ → ℕ → ℕ → Option Reply → SeatState → SeatState → Type 0
 Looks number from next None old new = (rs : List Reply) × (reply_to number rs ≡ None) × (next ≡ from + length rs) ×
     (new ≡ with_lines old (line_of_read from rs ∷ []))
 Looks number from next (Some reply) old new = (rs : List Reply) × (reply_to number rs ≡ Some reply) ×
     (new ≡ with_lines old (line_of_read from rs ∷ []))
 
--- Replies were read so often, from one place to another, and none to the call of a number was there.
+-- Replies were read so often, from one index to another, and none to the call of a number was there.
 pub record HasRead (number from next often : ℕ) (old now : SeatState) : Type 0 where
   pub before : List (List Reply)
   pub count : length before ≡ often
@@ -79,7 +79,7 @@ pub record HasRead (number from next often : ℕ) (old now : SeatState) : Type 0
   pub ends : next ≡ end_of_reads from before
   pub lines : now ≡ with_lines old (lines_of_reads from before)
 
--- One read from a place on fails for lack of memory: nothing is listed; or no reply to the call of a number is there, and where
+-- One read from an index on fails for lack of memory: nothing is listed; or no reply to the call of a number is there, and where
 -- the read ends can't be counted; or the reply is there, and can't be copied.
 pub data LookFails (number from : ℕ) (old new : SeatState) : WorkError → Type 0 where
   not_read : new ≡ old → LookFails number from old new work.Memory
@@ -87,22 +87,22 @@ pub data LookFails (number from : ℕ) (old new : SeatState) : WorkError → Typ
   not_copied : (next : ℕ) (reply : Reply) → Looks number from next (Some reply) old new →
       LookFails number from old new work.Memory
 
--- Why the reply to the call of a number is not told: no read has had it, be it that all turns are over or that memory was
+-- Why the reply to the call of a number is not told: no read has had it, be it that all waits are over or that memory was
 -- refused; or the last one has, and memory to copy it was refused.
-pub data WaitFails (number from turns : ℕ) (old new : SeatState) : WorkError → Type 0 where
-  in_vain : (next : ℕ) → HasRead number from next (reads_of turns) old new → WaitFails number from turns old new work.NoReply
-  cut_short : (next often : ℕ) → HasRead number from next often old new → WaitFails number from turns old new work.Memory
-  lost : (reply : Reply) → Awaits number from old new reply → WaitFails number from turns old new work.Memory
+pub data WaitFails (number from waits : ℕ) (old new : SeatState) : WorkError → Type 0 where
+  in_vain : (next : ℕ) → HasRead number from next (reads_of waits) old new → WaitFails number from waits old new work.NoReply
+  cut_short : (next often : ℕ) → HasRead number from next often old new → WaitFails number from waits old new work.Memory
+  lost : (reply : Reply) → Awaits number from old new reply → WaitFails number from waits old new work.Memory
 
--- Why a call is not answered in so many turns, and what the list has more. It's refused; or it was accepted, and no read has
--- had its reply, be it that all turns are over or that memory was refused; or the last one has, and memory to copy it was
+-- Why a call is not answered in so many waits, and what the list has more. It's refused; or it was accepted, and no read has
+-- had its reply, be it that all waits are over or that memory was refused; or the last one has, and memory to copy it was
 -- refused; or memory was refused before it arrived.
-pub data CallFails (name : Atom) (term : Term) (turns : ℕ) (old new : SeatState) : WorkError → Type 0 where
+pub data CallFails (name : Atom) (term : Term) (waits : ℕ) (old new : SeatState) : WorkError → Type 0 where
   refused : (e : JournalError Refusal Note) → Lists (Call name term) (Err (lock.Journal e)) old new →
-      CallFails name term turns old new (work.Lock (lock.Journal e))
+      CallFails name term waits old new (work.Lock (lock.Journal e))
   unanswered : (number from next : ℕ) (called : SeatState) → IsCalled name term number old called →
-      HasRead number from next (reads_of turns) called new → CallFails name term turns old new work.NoReply
+      HasRead number from next (reads_of waits) called new → CallFails name term waits old new work.NoReply
   unread : (number from next often : ℕ) (called : SeatState) → IsCalled name term number old called →
-      HasRead number from next often called new → CallFails name term turns old new work.Memory
-  uncopied : (reply : Reply) → Calls name term old new reply → CallFails name term turns old new work.Memory
-  not_called : new ≡ old → CallFails name term turns old new work.Memory
+      HasRead number from next often called new → CallFails name term waits old new work.Memory
+  uncopied : (reply : Reply) → Calls name term old new reply → CallFails name term waits old new work.Memory
+  not_called : new ≡ old → CallFails name term waits old new work.Memory

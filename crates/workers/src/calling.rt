@@ -13,32 +13,32 @@ use std::thread;
 use std::time::{Clock, Duration};
 use values::Duplicate;
 
-/// So many turns pause but for a moment, and are followed by a read each.
-const QUICK_TURNS: u64 = 32;
+/// So many waits pause but for a moment, and are followed by a read each.
+const QUICK_WAITS: u64 = 32;
 
-/// Behind those each turn whose number is a multiple of this one is followed by a read.
-const TURNS_A_READ: u64 = 64;
+/// Behind those each wait whose number is a multiple of this one is followed by a read.
+const WAITS_A_READ: u64 = 64;
 
-/// How long each turn behind the quick ones pauses, in microseconds.
+/// How long each wait behind the quick ones pauses, in microseconds.
 const PAUSE: u64 = 50;
 
-/// The pause of a turn, counted from 1.
-fn pause<R: Clock>(rt: &R, turn: u64) {
-    if turn <= QUICK_TURNS {
+/// The pause of a wait, counted from 1.
+fn pause<R: Clock>(rt: &R, wait: u64) {
+    if wait <= QUICK_WAITS {
         thread::yield_now();
     } else {
         thread::sleep(rt, Duration::from_micros(PAUSE));
     }
 }
 
-/// Whether a turn, counted from 1, is followed by a read.
-fn reads(turn: u64) -> bool
-    ensures { result ≡ is_followed turn }
+/// Whether a wait, counted from 1, is followed by a read.
+fn reads(wait: u64) -> bool
+    ensures { result ≡ is_followed wait }
 {
-    turn <= QUICK_TURNS || turn % TURNS_A_READ == 0
+    wait <= QUICK_WAITS || wait % WAITS_A_READ == 0
 }
 
-/// Reads the replies from a place on, and looks for the reply to the call of a number. Where it isn't there, the place
+/// Reads the replies from an index on, and looks for the reply to the call of a number. Where it isn't there, the index
 /// is then that where the read ended.
 ///
 /// # Errors
@@ -65,7 +65,7 @@ fn look<N: Naming, R: Wait>(
     Ok(None)
 }
 
-/// Waits for the reply to the call of a number, and reads from a place on.
+/// Waits for the reply to the call of a number, and reads from an index on.
 ///
 /// # Errors
 ///
@@ -78,15 +78,15 @@ fn wait_for<N: Naming, R: Wait + Clock>(
     seat: &mut Seat<N>,
     number: u64,
     first: usize,
-    turns: u64,
+    waits: u64,
 ) -> Result<Reply, WorkError>
     ensures came { IfOk result (λ reply. Awaits number first seat.old seat.new reply) }
-    ensures fails { IfErr result (λ why. WaitFails number first turns seat.old seat.new why) }
+    ensures fails { IfErr result (λ why. WaitFails number first waits seat.old seat.new why) }
 {
     let mut from = first;
-    for turn in 0..turns {
-        pause(rt, turn + 1);
-        if !reads(turn + 1) {
+    for wait in 0..waits {
+        pause(rt, wait + 1);
+        if !reads(wait + 1) {
             continue;
         }
         if let Some(reply) = look(rt, alloc, shared, seat, number, &mut from)? {
@@ -96,15 +96,15 @@ fn wait_for<N: Naming, R: Wait + Clock>(
     Err(WorkError::NoReply)
 }
 
-/// Calls the process of a name, and waits for the reply, for so many turns.
+/// Calls the process of a name, and waits for the reply, for so many waits.
 ///
-/// A turn is a pause, of a moment at first, then of 50 microseconds. The replies are read after each of the first 32
-/// turns, and then after every 64th, from where the seat's last read ended that brought some. No contract says that a
+/// A wait is a pause, of a moment at first, then of 50 microseconds. The replies are read after each of the first 32
+/// waits, and then after every 64th, from where the seat's last read ended that brought some. No contract says that a
 /// reply comes.
 ///
 /// # Errors
 ///
-/// `Lock` where the node refuses the call. `NoReply` where no reply has come in all turns, also where another seat has
+/// `Lock` where the node refuses the call. `NoReply` where no reply has come in all waits, also where another seat has
 /// undone the call's arrival. `Memory` where memory is refused, or replies can't be counted further; the call stands.
 #[tactic(auto, using(crate::proofs::MoreReads::calls, crate::proofs::Unanswered::call_fails))]
 pub fn call<N: Naming, R: Wait + Clock>(
@@ -114,12 +114,12 @@ pub fn call<N: Naming, R: Wait + Clock>(
     seat: &mut Seat<N>,
     name: Atom,
     term: Term,
-    turns: u64,
+    waits: u64,
 ) -> Result<Reply, WorkError>
     ensures called { IfOk result (λ reply. Calls name term seat.old seat.new reply) }
-    ensures fails { IfErr result (λ why. CallFails name term turns seat.old seat.new why) }
+    ensures fails { IfErr result (λ why. CallFails name term waits seat.old seat.new why) }
 {
     let from = end_of_reads(seat.lines());
     let number = shared.call(rt, alloc, seat, name, term)?;
-    wait_for(rt, alloc, shared, seat, number, from, turns)
+    wait_for(rt, alloc, shared, seat, number, from, waits)
 }

@@ -17,7 +17,7 @@ pub enum WorkError {
     /// The gate doesn't let a job pass. It stays with its process, which runs it, for a retake.
     #[error("the gate doesn't let the job pass")]
     GateClosed,
-    /// In all turns no reply has come.
+    /// In all rounds no reply has come.
     #[error("no reply has come")]
     NoReply,
     /// Memory was refused. A job that was got stays with its process, which runs it, for a retake.

@@ -27,7 +27,7 @@ fn end_of_read(line: &Line) -> Option<usize> {
     }
 }
 
-/// Where the last read of replies has ended that brought some; the first place where there is none.
+/// Where the last read of replies has ended that brought some; the first index where there is none.
 pub(crate) fn end_of_reads(lines: &[Run<Line>]) -> usize {
     lines
         .iter()

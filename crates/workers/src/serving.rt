@@ -4,7 +4,7 @@ ghost use Rattle.node_lock.specs.declared.error.LockError.TheVariants.{Journal};
 ghost use Rattle.node_types.specs.declared.event.Refusal.TheVariants.{OfProcesses};
 ghost use Rattle.process_table.specs.declared.error.ProcError.TheVariants.{Stale};
 ghost use Rattle.undo_journal.specs.declared.error.JournalError.TheVariants.{Step};
-ghost use Rattle.workers.specs.Serving.{Commits, IsTurn, Serves, Works, above_turned, counted, total};
+ghost use Rattle.workers.specs.Serving.{Commits, IsRound, Serves, Works, above_round_end, counted, total};
 
 use crate::error::WorkError;
 use crate::gate::Gate;
@@ -17,7 +17,7 @@ use std::alloc::Global;
 use std::sync::Wait;
 use undo_journal::JournalError;
 
-/// What turns of a worker came to: how many of each kind there were.
+/// What rounds of a worker came to: how many of each kind there were.
 #[derive(Clone, Copy, Debug, PartialEq, Eq)]
 pub struct Served {
     /// A job was taken, and its result was committed.
@@ -28,9 +28,9 @@ pub struct Served {
     pub idle: u64,
 }
 
-/// What one turn came to.
+/// What one round came to.
 #[derive(Drop)]
-enum Turned {
+enum RoundEnd {
     /// Nobody could take a message.
     Idle,
     /// The process of this pid took a message, and the result of its job was committed.
@@ -39,20 +39,20 @@ enum Turned {
     Late(u64),
 }
 
-impl Turned {
-    /// The pid above which the next turn looks, after one that looked above `above`.
+impl RoundEnd {
+    /// The pid above which the next round looks, after one that looked above `above`.
     fn next_above(&self, above: u64) -> u64
-        ensures { result ≡ above_turned above self.now }
+        ensures { result ≡ above_round_end above self.now }
     {
         match self {
-            Turned::Idle => above,
-            Turned::Committed(pid) | Turned::Late(pid) => *pid,
+            RoundEnd::Idle => above,
+            RoundEnd::Committed(pid) | RoundEnd::Late(pid) => *pid,
         }
     }
 }
 
 impl Served {
-    /// No turns.
+    /// No rounds.
     fn nothing() -> Served
         ensures { result ≡ record { committed = 0; stale = 0; idle = 0 } }
     {
@@ -63,28 +63,28 @@ impl Served {
         }
     }
 
-    /// These turns and one more.
-    fn and(self, turned: &Turned) -> Served
+    /// These rounds and one more.
+    fn and(self, round_end: &RoundEnd) -> Served
         requires { total self < 2 ^ 64 - 1 }
-        ensures { result ≡ counted turned.now self }
+        ensures { result ≡ counted round_end.now self }
     {
         let Served {
             committed,
             stale,
             idle,
         } = self;
-        match turned {
-            Turned::Idle => Served {
+        match round_end {
+            RoundEnd::Idle => Served {
                 committed,
                 stale,
                 idle: idle + 1,
             },
-            Turned::Committed(_) => Served {
+            RoundEnd::Committed(_) => Served {
                 committed: committed + 1,
                 stale,
                 idle,
             },
-            Turned::Late(_) => Served {
+            RoundEnd::Late(_) => Served {
                 committed,
                 stale: stale + 1,
                 idle,
@@ -151,73 +151,73 @@ fn work<N: Naming, G: Gate, R: Wait>(
     seat: &mut Seat<N>,
     gate: &G,
     job: &Job,
-) -> Result<Turned, WorkError>
-    ensures { IfOk result (λ turned. Works job.now turned seat.old seat.new) }
+) -> Result<RoundEnd, WorkError>
+    ensures { IfOk result (λ round_end. Works job.now round_end seat.old seat.new) }
 {
     if !gate.before_run(job) {
         return Err(WorkError::GateClosed);
     }
     let done = run(alloc, job)?;
     if !commit(rt, alloc, shared, seat, done)? {
-        return Ok(Turned::Late(job.pid));
+        return Ok(RoundEnd::Late(job.pid));
     }
     gate.after_commit(job);
-    Ok(Turned::Committed(job.pid))
+    Ok(RoundEnd::Committed(job.pid))
 }
 
-/// One turn of a worker: the next process above a pid takes its next message, the job is run without the lock, and its
+/// One round of a worker: the next process above a pid takes its next message, the job is run without the lock, and its
 /// result is committed.
 ///
 /// # Errors
 ///
 /// `GateClosed` where the gate doesn't let the job pass; `Lock` where the node refuses the take or the commit; `Memory`.
-#[tactic(auto, using(crate::proofs::MoreTurns::turns_idle, crate::proofs::MoreTurns::turns_worked))]
-fn one_turn<N: Naming, G: Gate, R: Wait>(
+#[tactic(auto, using(crate::proofs::MoreRounds::rounds_idle, crate::proofs::MoreRounds::rounds_worked))]
+fn one_round<N: Naming, G: Gate, R: Wait>(
     rt: &R,
     alloc: Global,
     shared: &SharedNode<N>,
     seat: &mut Seat<N>,
     gate: &G,
     above: u64,
-) -> Result<Turned, WorkError>
-    ensures { IfOk result (λ turned. IsTurn above turned seat.old seat.new) }
+) -> Result<RoundEnd, WorkError>
+    ensures { IfOk result (λ round_end. IsRound above round_end seat.old seat.new) }
 {
     let Some(job) = shared.take_any(rt, seat, above)? else {
-        return Ok(Turned::Idle);
+        return Ok(RoundEnd::Idle);
     };
-    let turned = work(rt, alloc, shared, seat, gate, job.get());
+    let round_end = work(rt, alloc, shared, seat, gate, job.get());
     drop(job);
-    turned
+    round_end
 }
 
-/// Has a seat serve a node for so many turns.
+/// Has a seat serve a node for so many rounds.
 ///
-/// In a turn the process that is next takes its next message: of those that could take one that with the least pid above
+/// In a round the process that is next takes its next message: of those that could take one that with the least pid above
 /// the last that the worker got, else that with the least of all. Its job is run without the lock, and the result is
-/// committed; it may come too late. A turn in which nobody could take a message is idle.
+/// committed; it may come too late. A round in which nobody could take a message is idle.
 ///
 /// # Errors
 ///
 /// `GateClosed` where the gate doesn't let a job pass, `Lock` where the node refuses a take, or a commit otherwise than
 /// as too late, and `Memory` where memory is refused. A job that was got then stays with its process, which runs it, for
 /// a retake.
-#[tactic(auto, using(crate::proofs::MoreTurns::serves_nothing, crate::proofs::MoreTurns::serves_more))]
+#[tactic(auto, using(crate::proofs::MoreRounds::serves_nothing, crate::proofs::MoreRounds::serves_more))]
 pub fn serve<N: Naming, G: Gate, R: Wait>(
     rt: &R,
     alloc: Global,
     shared: &SharedNode<N>,
     seat: &mut Seat<N>,
     gate: &G,
-    turns: u64,
+    rounds: u64,
 ) -> Result<Served, WorkError>
-    ensures { IfOk result (λ served. Serves turns seat.old seat.new served) }
+    ensures { IfOk result (λ served. Serves rounds seat.old seat.new served) }
 {
     let mut served = Served::nothing();
     let mut above = 0;
-    for _ in 0..turns {
-        let turned = one_turn(rt, alloc, shared, seat, gate, above)?;
-        served = served.and(&turned);
-        above = turned.next_above(above);
+    for _ in 0..rounds {
+        let round_end = one_round(rt, alloc, shared, seat, gate, above)?;
+        served = served.and(&round_end);
+        above = round_end.next_above(above);
     }
     Ok(served)
 }

@@ -90,102 +90,102 @@ impl AppTable {
     pub(super) fn unrun(&mut self, reruns: &[Rerun])
         ensures { self.new ≡ all_unrun reruns.now self.old }
     {
-        for place in (0..reruns.len()).rev() {
-            let each = reruns[place];
+        for index in (0..reruns.len()).rev() {
+            let each = reruns[index];
             self.set_child(each.spot, state_before(each.was_due));
         }
     }
 
-    /// The processes of the children of the application at a place, counted from 0, in the order in which they end: from the
+    /// The processes of the children of the application at an index, counted from 0, in the order in which they end: from the
     /// last to the first.
     ///
     /// # Errors
     ///
     /// `AllocError` where memory is refused.
-    pub fn ending_order(&self, alloc: Global, place: usize) -> Result<Vec<u64>, AllocError>
-        ensures { IfOk result (λ it. it.items ≡ ending_order place self.now) }
+    pub fn ending_order(&self, alloc: Global, index: usize) -> Result<Vec<u64>, AllocError>
+        ensures { IfOk result (λ it. it.items ≡ ending_order index self.now) }
     {
-        match self.list.get(place) {
+        match self.list.get(index) {
             Some(app) => pids_back(alloc, app.children()),
             None => Ok(Vec::new(alloc)),
         }
     }
 
-    /// The states of the children of the application at a place, counted from 0, in order; none where there is none.
+    /// The states of the children of the application at an index, counted from 0, in order; none where there is none.
     ///
     /// # Errors
     ///
     /// `AllocError` where memory is refused.
-    pub fn states(&self, alloc: Global, place: usize) -> Result<Row<ChildState>, AllocError>
-        ensures { IfOk result (λ it. it ≡ map (λ c. c.state) (children_of (slice_get self.now place))) }
+    pub fn states(&self, alloc: Global, index: usize) -> Result<Row<ChildState>, AllocError>
+        ensures { IfOk result (λ it. it ≡ map (λ c. c.state) (children_of (slice_get self.now index))) }
     {
-        match self.list.get(place) {
+        match self.list.get(index) {
             Some(app) => Ok(Row::new(states_of(alloc, app.children())?)),
             None => Ok(Row::new(Vec::new(alloc))),
         }
     }
 
-    /// The application at a place, counted from 0, is stopped. It keeps its children: none has a process or is due. Takes no
+    /// The application at an index, counted from 0, is stopped. It keeps its children: none has a process or is due. Takes no
     /// memory.
-    pub fn stop_app(&mut self, place: usize, states: Row<ChildState>) -> AppsUndo
-        requires { (a : Application) × (slice_get self.old place ≡ Some a) × (a.is_started ≡ true) ×
+    pub fn stop_app(&mut self, index: usize, states: Row<ChildState>) -> AppsUndo
+        requires { (a : Application) × (slice_get self.old index ≡ Some a) × (a.is_started ≡ true) ×
             (states ≡ map (λ c. c.state) a.children) }
-        ensures stopped { self.new ≡ app_stopped place self.old }
+        ensures stopped { self.new ≡ app_stopped index self.old }
         ensures inverse { undone result self.new ≡ self.old }
         ensures pieces { held result self.new ≡ [] }
     {
-        self.stop_at(place);
-        AppsUndo::AppStopped(place, states)
+        self.stop_at(index);
+        AppsUndo::AppStopped(index, states)
     }
 
-    /// The application at a place, if there is one, is stopped.
+    /// The application at an index, if there is one, is stopped.
     #[tactic(auto, using(crate::proofs::Writes::changed_from_write, crate::proofs::Writes::changed_past))]
-    fn stop_at(&mut self, place: usize)
-        ensures { self.new ≡ app_stopped place self.old }
+    fn stop_at(&mut self, index: usize)
+        ensures { self.new ≡ app_stopped index self.old }
     {
-        if place < self.list.len() {
-            self.list[place].stop();
+        if index < self.list.len() {
+            self.list[index].stop();
         }
     }
 
-    /// The application at a place, if there is one, is started, and its children are in these states.
+    /// The application at an index, if there is one, is started, and its children are in these states.
     #[tactic(auto, using(crate::proofs::Writes::changed_from_write, crate::proofs::Writes::changed_past))]
-    pub(super) fn unstop_app(&mut self, place: usize, states: &[ChildState])
-        ensures { self.new ≡ changed_at (unstopped states.now) self.old place }
+    pub(super) fn unstop_app(&mut self, index: usize, states: &[ChildState])
+        ensures { self.new ≡ changed_at (unstopped states.now) self.old index }
     {
-        if place < self.list.len() {
-            self.list[place].unstop(states);
+        if index < self.list.len() {
+            self.list[index].unstop(states);
         }
     }
 
-    /// The application at a place, counted from 0, leaves, with its children. Takes no memory.
-    pub fn unload(&mut self, place: usize) -> Unloaded
-        requires { place < length self.old }
-        ensures unloaded { self.new ≡ unloaded place self.old }
+    /// The application at an index, counted from 0, leaves, with its children. Takes no memory.
+    pub fn unload(&mut self, index: usize) -> Unloaded
+        requires { index < length self.old }
+        ensures unloaded { self.new ≡ unloaded index self.old }
         ensures inverse { reloaded result self.new ≡ self.old }
-        ensures fits { result.place ≤ length self.new }
+        ensures fits { result.index ≤ length self.new }
         ensures pieces { IsPermutation (held_unloaded result ++ pieces self.new) (pieces self.old) }
     {
-        let app = self.list.remove(place);
-        Unloaded { place, app }
+        let app = self.list.remove(index);
+        Unloaded { index, app }
     }
 
-    /// An application that was unloaded stands at its place again, and those from there on move by one.
+    /// An application that was unloaded stands at its index again, and those from there on move by one.
     ///
     /// # Errors
     ///
     /// What was given, where memory is refused. All is then as it was.
     pub fn reload(&mut self, unloaded: Unloaded) -> Result<(), Unloaded>
-        requires { unloaded.place ≤ length self.old }
+        requires { unloaded.index ≤ length self.old }
         ensures ok { OnOk result (self.new ≡ reloaded unloaded self.old) }
         ensures back { IfErr result (λ it. it ≡ unloaded) }
         ensures err { OnErr result (self.new ≡ self.old) }
     {
-        let Unloaded { place, app } = unloaded;
-        match self.list.insert(place, app) {
+        let Unloaded { index, app } = unloaded;
+        match self.list.insert(index, app) {
             Ok(()) => Ok(()),
             Err(refused) => Err(Unloaded {
-                place,
+                index,
                 app: refused.value,
             }),
         }

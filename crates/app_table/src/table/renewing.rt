@@ -14,7 +14,7 @@ use std::alloc::AllocError;
 use values::Row;
 
 impl AppTable {
-    /// The children of the application at a place, counted from 0, are specified anew (appup(4),
+    /// The children of the application at an index, counted from 0, are specified anew (appup(4),
     /// `{update,Mod,supervisor}`). The new specifications stand in their order: a child whose Id was there keeps its
     /// process, or that it has none, and whether it is due; a new one has no process, and isn't due. Children whose
     /// Ids aren't among the new ones are as they were, behind the others. Looks for each Id among the children that
@@ -23,27 +23,27 @@ impl AppTable {
     /// # Errors
     ///
     /// `AllocError` where memory is refused. All is then as it was.
-    pub fn renew(&mut self, place: usize, specs: Row<ChildSpec>) -> Result<AppsUndo, AllocError>
-        requires { place < length self.old }
-        ensures renewed { OnOk result (self.new ≡ children_renewed place specs self.old) }
+    pub fn renew(&mut self, index: usize, specs: Row<ChildSpec>) -> Result<AppsUndo, AllocError>
+        requires { index < length self.old }
+        ensures renewed { OnOk result (self.new ≡ children_renewed index specs self.old) }
         ensures inverse { IfOk result (λ undo. undone undo self.new ≡ self.old) }
-        ensures renewal { IfOk result (IsRenewal place) }
+        ensures renewal { IfOk result (IsRenewal index) }
         ensures pieces { AreDistinct specs → IfOk result
-            (λ undo. AreSpecsLost (formers_at place undo) (children_at place self.old) (children_at place self.new)) }
+            (λ undo. AreSpecsLost (formers_at index undo) (children_at index self.old) (children_at index self.new)) }
         ensures err { OnErr result (self.new ≡ self.old) }
     {
         let alloc = self.alloc;
-        let edits = self.list[place].renew(alloc, specs)?;
-        Ok(AppsUndo::Renewed(place, edits))
+        let edits = self.list[index].renew(alloc, specs)?;
+        Ok(AppsUndo::Renewed(index, edits))
     }
 
-    /// The children of the application at a place, if there is one, are as they were before they were specified anew.
+    /// The children of the application at an index, if there is one, are as they were before they were specified anew.
     #[tactic(auto, using(crate::proofs::Writes::changed_from_write, crate::proofs::Writes::changed_past))]
-    pub(super) fn unrenew(&mut self, place: usize, edits: Row<ChildEdit>)
-        ensures { self.new ≡ changed_at (with_unrenewed edits) self.old place }
+    pub(super) fn unrenew(&mut self, index: usize, edits: Row<ChildEdit>)
+        ensures { self.new ≡ changed_at (with_unrenewed edits) self.old index }
     {
-        if place < self.list.len() {
-            self.list[place].unrenew(edits);
+        if index < self.list.len() {
+            self.list[index].unrenew(edits);
         }
     }
 }

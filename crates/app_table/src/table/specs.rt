@@ -1,12 +1,12 @@
 // Specifications of another release in place of those that are there.
 ghost use Rattle.std.specs.Prelude.{◌≡◌, ◌+◌, ◌≤◌, ◌<◌, ◌++◌, List, [], IfErr, IfOk, IsPermutation, OnErr, OnOk, length, slice_get, vec_capacity, vec_len};
-ghost use Rattle.app_table.specs.Applications.{Application, place_of};
+ghost use Rattle.app_table.specs.Applications.{Application, index_of};
 ghost use Rattle.app_table.specs.Changes.{all_replaced, former_specs, put_back, replaced_at, replaced_by, spec_set_at, specs_set, with_spec};
 ghost use Rattle.app_table.specs.Pieces.{held_back, held_former, pieces};
 ghost use Rattle.app_table.specs.Undo.{Fits, GivesBack, all_given_up, all_left, all_put, former_of, put_again, with_spec_of};
 ghost use Rattle.values.specs.Edits.{changed_at};
 
-use super::{AppTable, place_in};
+use super::{AppTable, index_in};
 use crate::app::App;
 use crate::specs::{FormerSpecs, Replaced};
 use crate::undo::PutBack;
@@ -19,17 +19,17 @@ use values::Row;
 fn set_spec(list: &mut Vec<App>, alloc: Global, spec: AppSpec, replaced: &mut Vec<Replaced>)
     requires room { vec_len list.old < vec_capacity list.old }
     requires noted { vec_len replaced.old < vec_capacity replaced.old }
-    ensures set { list.new.items ≡ spec_set_at (place_of spec.name list.old.items) spec list.old.items }
-    ensures former { replaced.new.items ≡ replaced.old.items ++ replaced_at (place_of spec.name list.old.items) list.old.items }
+    ensures set { list.new.items ≡ spec_set_at (index_of spec.name list.old.items) spec list.old.items }
+    ensures former { replaced.new.items ≡ replaced.old.items ++ replaced_at (index_of spec.name list.old.items) list.old.items }
     ensures back { (before : List Application) → GivesBack before replaced.old.items list.old.items →
         GivesBack before replaced.new.items list.new.items }
     ensures room { (vec_len list.new ≤ vec_len list.old + 1) × (vec_capacity list.new ≡ vec_capacity list.old) }
     ensures noted { (vec_len replaced.new ≤ vec_len replaced.old + 1) × (vec_capacity replaced.new ≡ vec_capacity replaced.old) }
 {
-    match place_in(list.as_slice(), &spec.name) {
-        Some(place) => {
-            let mut it = Replaced { place, spec };
-            list[place].swap_spec(&mut it.spec);
+    match index_in(list.as_slice(), &spec.name) {
+        Some(index) => {
+            let mut it = Replaced { index, spec };
+            list[index].swap_spec(&mut it.spec);
             replaced.push_reserved(it);
         }
         None => list.push_reserved(App::new(alloc, spec)),
@@ -91,14 +91,14 @@ impl AppTable {
         })
     }
 
-    /// The specification of the application at a place, if there is one, and that which is kept for it change places.
+    /// The specification of the application at an index, if there is one, and that which is kept for it change places.
     #[tactic(auto, using(crate::proofs::Writes::changed_from_write, crate::proofs::Writes::changed_past))]
     fn swap_spec(&mut self, it: &mut Replaced)
-        ensures set { self.new ≡ changed_at (with_spec it.old.spec) self.old it.old.place }
-        ensures left { it.new ≡ with_spec_of (slice_get self.old it.old.place) it.old }
+        ensures set { self.new ≡ changed_at (with_spec it.old.spec) self.old it.old.index }
+        ensures left { it.new ≡ with_spec_of (slice_get self.old it.old.index) it.old }
     {
-        if it.place < self.list.len() {
-            self.list[it.place].swap_spec(&mut it.spec);
+        if it.index < self.list.len() {
+            self.list[it.index].swap_spec(&mut it.spec);
         }
     }
 
@@ -162,7 +162,7 @@ impl AppTable {
     }
 
     /// Specifications that were put back are put in place again, with the applications that were added. What they then stand in
-    /// place of is handed out.
+    /// index of is handed out.
     ///
     /// # Errors
     ///

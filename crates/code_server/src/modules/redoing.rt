@@ -1,8 +1,8 @@
 // A change that has purged old code, taken back so that it can be made again without memory.
 ghost use Rattle.std.specs.Prelude.{◌≡◌, IfErr, IfOk, OnErr, OnOk};
 
+use crate::indices::{SlotChange, change_at, move_back, move_last, put_back, take_out};
 use crate::modules::Modules;
-use crate::places::{SlotChange, change_at, move_back, move_last, put_back, take_out};
 use crate::undo::{ModulesUndo, Redo};
 
 impl<C: Drop> Modules<C> {
@@ -25,29 +25,29 @@ impl<C: Drop> Modules<C> {
         ensures err { OnErr result (self.new ≡ self.old) }
     {
         match undo {
-            ModulesUndo::Replaced(place, instance) => {
-                let gone = change_at(&mut self.table, place, SlotChange::Unstack(Some(instance)));
+            ModulesUndo::Replaced(index, instance) => {
+                let gone = change_at(&mut self.table, index, SlotChange::Unstack(Some(instance)));
                 self.last -= 1;
-                Ok(Redo::Replace(place, gone))
+                Ok(Redo::Replace(index, gone))
             }
-            ModulesUndo::Demoted(place, instance) => {
-                let gone = change_at(&mut self.table, place, SlotChange::Unstack(Some(instance)));
-                Ok(Redo::Demote(place, gone))
+            ModulesUndo::Demoted(index, instance) => {
+                let gone = change_at(&mut self.table, index, SlotChange::Unstack(Some(instance)));
+                Ok(Redo::Demote(index, gone))
             }
-            ModulesUndo::Moved(place, instance) => {
-                let gone = move_back(&mut self.table, place, instance);
+            ModulesUndo::Moved(index, instance) => {
+                let gone = move_back(&mut self.table, index, instance);
                 self.last -= 1;
-                Ok(Redo::Move(place, gone))
+                Ok(Redo::Move(index, gone))
             }
-            ModulesUndo::Purged(place, instance) => {
+            ModulesUndo::Purged(index, instance) => {
                 let change = SlotChange::ReplaceOld(Some(instance));
-                let gone = change_at(&mut self.table, place, change);
-                Ok(Redo::Purge(place, gone))
+                let gone = change_at(&mut self.table, index, change);
+                Ok(Redo::Purge(index, gone))
             }
-            ModulesUndo::Removed(place, name, instance) => {
-                match put_back(&mut self.table, place, name, instance) {
-                    Ok(()) => Ok(Redo::Remove(place)),
-                    Err((name, instance)) => Err(ModulesUndo::Removed(place, name, instance)),
+            ModulesUndo::Removed(index, name, instance) => {
+                match put_back(&mut self.table, index, name, instance) {
+                    Ok(()) => Ok(Redo::Remove(index)),
+                    Err((name, instance)) => Err(ModulesUndo::Removed(index, name, instance)),
                 }
             }
             ModulesUndo::Nothing
@@ -63,34 +63,34 @@ impl<C: Drop> Modules<C> {
         ensures { (undo : ModulesUndo C) (t : Table C) → Redoes redo undo t self.old → (result ≡ undo) × (self.new ≡ t) }
     {
         match redo {
-            Redo::Replace(place, instance) => {
+            Redo::Replace(index, instance) => {
                 self.last += 1;
-                match change_at(&mut self.table, place, SlotChange::Stack(instance)) {
-                    Some(former) => ModulesUndo::Replaced(place, former),
+                match change_at(&mut self.table, index, SlotChange::Stack(instance)) {
+                    Some(former) => ModulesUndo::Replaced(index, former),
                     None => unreachable!(),
                 }
             }
-            Redo::Demote(place, instance) => {
-                match change_at(&mut self.table, place, SlotChange::Stack(instance)) {
-                    Some(former) => ModulesUndo::Demoted(place, former),
+            Redo::Demote(index, instance) => {
+                match change_at(&mut self.table, index, SlotChange::Stack(instance)) {
+                    Some(former) => ModulesUndo::Demoted(index, former),
                     None => unreachable!(),
                 }
             }
-            Redo::Move(place, slots) => {
+            Redo::Move(index, slots) => {
                 self.last += 1;
-                match move_last(&mut self.table, place, slots) {
-                    Some(former) => ModulesUndo::Moved(place, former),
+                match move_last(&mut self.table, index, slots) {
+                    Some(former) => ModulesUndo::Moved(index, former),
                     None => unreachable!(),
                 }
             }
-            Redo::Purge(place, instance) => {
-                match change_at(&mut self.table, place, SlotChange::ReplaceOld(instance)) {
-                    Some(former) => ModulesUndo::Purged(place, former),
+            Redo::Purge(index, instance) => {
+                match change_at(&mut self.table, index, SlotChange::ReplaceOld(instance)) {
+                    Some(former) => ModulesUndo::Purged(index, former),
                     None => unreachable!(),
                 }
             }
-            Redo::Remove(place) => match take_out(&mut self.table, place) {
-                Some((name, former)) => ModulesUndo::Removed(place, name, former),
+            Redo::Remove(index) => match take_out(&mut self.table, index) {
+                Some((name, former)) => ModulesUndo::Removed(index, name, former),
                 None => unreachable!(),
             },
         }

@@ -1,8 +1,8 @@
 // A module is removed.
 ghost use Rattle.std.specs.Prelude.{◌≡◌, IsSome};
 
+use crate::indices::{SlotChange, change_at, has_current, take_out};
 use crate::modules::Modules;
-use crate::places::{SlotChange, change_at, has_current, take_out};
 use crate::undo::ModulesUndo;
 use erl_term::Atom;
 
@@ -18,17 +18,17 @@ impl<C: Drop> Modules<C> {
         ensures pieces { held result ≡ old_of name.now self.old }
         ensures old_code { IsSome (old_of name.now self.old) → HasPurged result }
     {
-        let Some(place) = self.table.get_index_of(name) else {
+        let Some(index) = self.table.get_index_of(name) else {
             return ModulesUndo::Nothing;
         };
-        if has_current(&self.table, place) {
-            let Some(former) = change_at(&mut self.table, place, SlotChange::Stack(None)) else {
-                return ModulesUndo::Retired(place);
+        if has_current(&self.table, index) {
+            let Some(former) = change_at(&mut self.table, index, SlotChange::Stack(None)) else {
+                return ModulesUndo::Retired(index);
             };
-            return ModulesUndo::Demoted(place, former);
+            return ModulesUndo::Demoted(index, former);
         }
-        match take_out(&mut self.table, place) {
-            Some((name, former)) => ModulesUndo::Removed(place, name, former),
+        match take_out(&mut self.table, index) {
+            Some((name, former)) => ModulesUndo::Removed(index, name, former),
             None => unreachable!(),
         }
     }

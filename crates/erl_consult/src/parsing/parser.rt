@@ -166,7 +166,7 @@ impl Parser {
     }
 }
 
-/// Why a reserved word is refused, at its place.
+/// Why a reserved word is refused, at its offset.
 fn refused_word(word: Word, at: usize) -> ReadError
     ensures { (s : Seen) → take_part s (part_of_word word) at ≡ fails result.kind result.at }
 {

@@ -171,7 +171,7 @@ pub(super) fn bracketed<'a>(
     if !opens(role, &shape) {
         return Ok(Err(Refusal::at(Reason::Syntax, told)));
     }
-    let place = node_place(&shape, told, tokens);
+    let told_at = node_told_at(&shape, told, tokens);
     match parts(
         alloc,
         levels,
@@ -180,7 +180,7 @@ pub(super) fn bracketed<'a>(
         closing(&shape),
         tokens,
     )? {
-        Ok((items, rest)) => Ok(made(role, shape, items, place, rest)),
+        Ok((items, rest)) => Ok(made(role, shape, items, told_at, rest)),
         Err(refusal) => Ok(Err(refusal)),
     }
 }
@@ -290,7 +290,7 @@ pub(super) fn made<'a>(
 }
 
 /// Where a node is told that has not such parts: a block of none at its end.
-fn node_place<'a>(shape: &Shape, told: &'a [Spot], tokens: &'a [Spot]) -> &'a [Spot]
+fn node_told_at<'a>(shape: &Shape, told: &'a [Spot], tokens: &'a [Spot]) -> &'a [Spot]
     requires { Leaves told.now tokens.now }
     ensures { Leaves told.now result.now }
 {

@@ -192,7 +192,7 @@ fn called<'a>(
     };
     match &first.what {
         Token::Mark(Mark::OpenParen) => {
-            let told = call_place(role, call, tokens);
+            let told = call_told_at(role, call, tokens);
             bracketed(alloc, levels, role, Shape::Local(name), told, rest)
         }
         Token::Mark(Mark::Colon) => {
@@ -203,7 +203,7 @@ fn called<'a>(
 }
 
 /// Where a call is told that a role hasn't: in a guard at its function's name, in a pattern behind it.
-fn call_place<'a>(role: Role, name: &'a [Spot], behind: &'a [Spot]) -> &'a [Spot]
+fn call_told_at<'a>(role: Role, name: &'a [Spot], behind: &'a [Spot]) -> &'a [Spot]
     requires { Leaves name.now behind.now }
     ensures of_name { Leaves name.now result.now }
     ensures of_behind { Leaves result.now behind.now }

@@ -4,7 +4,7 @@ ghost use Rattle.erl_ir.specs.ExpressionForms.{expr, exprs, guards, clauses};
 ghost use Rattle.erl_ir.specs.FormsCode.{clauses_code, expr_code, exprs_code, guards_code};
 ghost use Rattle.erl_ir.specs.ModuleBytes.{written};
 
-use super::operations::{connective_place, write_operation};
+use super::operations::{connective_index, write_operation};
 use super::patterns::{write_pattern, write_patterns};
 use super::terms::write_term;
 use super::{END, FRONT, PAIR, write_number};
@@ -21,9 +21,9 @@ fn write_expression(expression: &Expression, out: &mut Vec<u8>) -> Result<(), Al
             out.push(FRONT)?;
             write_term(term, out)
         }
-        Expression::Variable(place) => {
+        Expression::Variable(index) => {
             out.push(FRONT + 1)?;
-            write_number(u64::from(*place), out)
+            write_number(u64::from(*index), out)
         }
         Expression::Apply(operation, operands) => {
             out.push(FRONT + 2)?;
@@ -48,7 +48,7 @@ fn write_expression(expression: &Expression, out: &mut Vec<u8>) -> Result<(), Al
         }
         Expression::ShortCircuit(connective, left, right) => {
             out.push(FRONT + 6)?;
-            out.push(FRONT + connective_place(*connective))?;
+            out.push(FRONT + connective_index(*connective))?;
             out.push(PAIR)?;
             write_row(left.as_slice(), out)?;
             write_row(right.as_slice(), out)

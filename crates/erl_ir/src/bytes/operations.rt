@@ -27,7 +27,7 @@ pub(crate) fn write_operation(operation: &Operation, out: &mut Vec<u8>) -> Resul
             Ok(())
         }
         Operation::Operator(operator) => {
-            out.push(FRONT + 3 + operator_place(*operator))?;
+            out.push(FRONT + 3 + operator_index(*operator))?;
             Ok(())
         }
         Operation::BuiltIn {
@@ -35,7 +35,7 @@ pub(crate) fn write_operation(operation: &Operation, out: &mut Vec<u8>) -> Resul
             qualified,
         } => {
             out.push(PAIR)?;
-            out.push(FRONT + 2 + built_in_place(*function))?;
+            out.push(FRONT + 2 + built_in_index(*function))?;
             write_number(u64::from(flag_number(*qualified)), out)
         }
         Operation::Local(name) => {
@@ -53,24 +53,24 @@ pub(crate) fn write_operation(operation: &Operation, out: &mut Vec<u8>) -> Resul
     }
 }
 
-/// An operator's place among the operators.
-fn operator_place(operator: Operator) -> u8
+/// An operator's index among the operators.
+fn operator_index(operator: Operator) -> u8
     ensures value { result ≡ operator_number operator }
     ensures bound { result ≤ 18 }
 {
     operator as u8
 }
 
-/// The place of a function that is built in among these functions.
-fn built_in_place(function: BuiltIn) -> u8
+/// The index of a function that is built in among these functions.
+fn built_in_index(function: BuiltIn) -> u8
     ensures value { result ≡ built_in_number function }
     ensures bound { result ≤ 25 }
 {
     function as u8
 }
 
-/// A connective's place among the two.
-pub(crate) fn connective_place(connective: Connective) -> u8
+/// A connective's index among the two.
+pub(crate) fn connective_index(connective: Connective) -> u8
     ensures value { result ≡ connective_number connective }
     ensures bound { result ≤ 1 }
 {

@@ -20,9 +20,9 @@ pub(crate) fn write_pattern(pattern: &Pattern, out: &mut Vec<u8>) -> Result<(), 
             out.push(FRONT)?;
             write_term(term, out)
         }
-        Pattern::Variable(place) => {
+        Pattern::Variable(index) => {
             out.push(FRONT + 1)?;
-            write_number(u64::from(*place), out)
+            write_number(u64::from(*index), out)
         }
         Pattern::Anything => {
             out.push(FRONT + 2)?;

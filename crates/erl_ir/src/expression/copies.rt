@@ -12,7 +12,7 @@ impl Duplicate for Expression {
     {
         match self {
             Expression::Literal(term) => Ok(Expression::Literal(term.copy(alloc)?)),
-            Expression::Variable(place) => Ok(Expression::Variable(*place)),
+            Expression::Variable(index) => Ok(Expression::Variable(*index)),
             Expression::Apply(operation, operands) => Ok(Expression::Apply(
                 operation.copy(alloc)?,
                 operands.copy(alloc)?,

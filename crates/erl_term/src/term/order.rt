@@ -22,7 +22,7 @@ impl Atom {
 }
 
 impl Term {
-    /// The place of the term's kind in the order.
+    /// The rank of the term's kind in the order.
     fn kind(&self) -> u8
         ensures { result ≡ kind (tree self.now) }
     {

@@ -88,7 +88,7 @@ impl Terms {
     {
         let Terms { row, from, .. } = self;
         match Arc::try_unwrap(row) {
-            Ok(row) => Ok(from_place(row.items.into_vec(alloc)?, from as usize)),
+            Ok(row) => Ok(from_index(row.items.into_vec(alloc)?, from as usize)),
             Err(row) => copied_slice(alloc, seen(row.items.as_slice(), from as usize)),
         }
     }
@@ -129,7 +129,7 @@ impl Terms {
         let Some((first, others)) = terms.split_first() else {
             return self.copy(alloc);
         };
-        let next = next_place(self.from, self.hidden, self.row.last as usize, first.size());
+        let next = next_index(self.from, self.hidden, self.row.last as usize, first.size());
         match next {
             Some((from, hidden)) if self.total_size() < u64::MAX => {
                 let row = Arc::try_clone(&self.row)?;
@@ -167,13 +167,13 @@ impl Duplicate for Terms {
     }
 }
 
-/// The place, or the last that can be kept, if that is before it.
+/// The index, or the last that can be kept, if that is before it.
 #[inline(always)]
-fn place_before(place: usize) -> u32
-    ensures { result ≤ place }
+fn index_before(index: usize) -> u32
+    ensures { result ≤ index }
 {
-    if place < u32::MAX as usize {
-        place as u32
+    if index < u32::MAX as usize {
+        index as u32
     } else {
         u32::MAX
     }
@@ -194,7 +194,7 @@ fn row_of(alloc: Global, items: Stored, told: Extent) -> Result<Terms, AllocErro
             items,
             size,
             depth: depth as u32,
-            last: place_before(last),
+            last: index_before(last),
         },
     )?;
     Ok(Terms {
@@ -224,7 +224,7 @@ fn push_copies(alloc: Global, items: &mut Vec<Term>, terms: &[Term]) -> Result<(
     Ok(())
 }
 
-/// The terms from a place on.
+/// The terms from an index on.
 fn seen(items: &[Term], from: usize) -> &[Term]
     requires { from ≤ length items.now }
     ensures { result.now ≡ drop from items.now }
@@ -232,9 +232,9 @@ fn seen(items: &[Term], from: usize) -> &[Term]
     &items[from..]
 }
 
-/// The place behind this one, and what is hidden then, where a term of this size stands here: if it is no later than
-/// the last place that a row may be seen from, and both have room.
-fn next_place(from: u32, hidden: u32, last: usize, size: u64) -> Option<(u32, u32)>
+/// The index behind this one, and what is hidden then, where a term of this size stands here: if it is no later than
+/// the last index that a row may be seen from, and both have room.
+fn next_index(from: u32, hidden: u32, last: usize, size: u64) -> Option<(u32, u32)>
     ensures { IfSome result (λ p. (p.0 ≡ from + 1) × (p.1 ≡ hidden + size) × (from < last)) }
 {
     if (from as usize) < last {
@@ -245,8 +245,8 @@ fn next_place(from: u32, hidden: u32, last: usize, size: u64) -> Option<(u32, u3
     }
 }
 
-/// The terms from a place on, moved to the front.
-fn from_place(mut items: Vec<Term>, from: usize) -> Vec<Term>
+/// The terms from an index on, moved to the front.
+fn from_index(mut items: Vec<Term>, from: usize) -> Vec<Term>
     requires { from ≤ length items.items }
     ensures { result.items ≡ drop from items.items }
 {

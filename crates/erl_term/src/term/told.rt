@@ -4,7 +4,7 @@ ghost use Rattle.erl_term.specs.Parts.{HasExtent};
 
 use super::Term;
 
-/// The greatest depth of terms, the last place that has it, and the sum of their sizes.
+/// The greatest depth of terms, the last index that has it, and the sum of their sizes.
 #[derive(Clone, Copy)]
 pub(super) struct Extent {
     pub(super) depth: u64,

@@ -1,4 +1,4 @@
-// Changes of the process of a pid in its slot, and of its place in the set of those that could take a message now. Each says
+// Changes of the process of a pid in its slot, and of its number in the set of those that could take a message now. Each says
 // exactly what the processes are then.
 ghost use Rattle.std.specs.Prelude.{◌≡◌, false, IfSome, OnOk, OnErr};
 ghost use Rattle.process_index.specs.Calls.{has};
@@ -8,7 +8,7 @@ ghost use Rattle.process_store.specs.Living.{arrived, run, unarrived, untook};
 ghost use Rattle.process_store.specs.Table.{changed_slots, living_at};
 
 use super::{MarkedSlots, mark};
-use crate::places;
+use crate::slot_changes;
 use erl_semantics::{Instance, Place};
 use erl_term::Term;
 use process::Ran;
@@ -28,7 +28,7 @@ pub(crate) fn arrive_at(
     ensures ok { OnOk result (slots.new ≡ changed_slots (arrived message call) pid slots.old) }
     ensures err { OnErr result (slots.new ≡ slots.old) }
 {
-    places::arrive_at(&mut slots.slots, pid, alloc, message, call)?;
+    slot_changes::arrive_at(&mut slots.slots, pid, alloc, message, call)?;
     mark(&mut slots.ready, slots.below, &slots.slots, pid);
     Ok(())
 }
@@ -37,7 +37,7 @@ pub(crate) fn arrive_at(
 pub(crate) fn unarrive_at(slots: &mut MarkedSlots, pid: u64, call: Option<Call>)
     ensures { slots.new ≡ changed_slots (unarrived call) pid slots.old }
 {
-    places::unarrive_at(&mut slots.slots, pid, call);
+    slot_changes::unarrive_at(&mut slots.slots, pid, call);
     mark(&mut slots.ready, slots.below, &slots.slots, pid);
 }
 
@@ -51,7 +51,7 @@ pub(crate) fn run_at(
 )
     ensures { slots.new ≡ changed_slots (run position entry_serial code) pid slots.old }
 {
-    places::run_at(&mut slots.slots, pid, position, entry_serial, code);
+    slot_changes::run_at(&mut slots.slots, pid, position, entry_serial, code);
     mark(&mut slots.ready, slots.below, &slots.slots, pid);
 }
 
@@ -65,7 +65,7 @@ pub(crate) fn untake_at(
     ensures ok { OnOk result (slots.new ≡ changed_slots (untook position) pid slots.old) }
     ensures err { OnErr result (slots.new ≡ slots.old) }
 {
-    places::untake_at(&mut slots.slots, pid, position)?;
+    slot_changes::untake_at(&mut slots.slots, pid, position)?;
     mark(&mut slots.ready, slots.below, &slots.slots, pid);
     Ok(())
 }
@@ -74,7 +74,7 @@ pub(crate) fn untake_at(
 pub(crate) fn suspend_at(slots: &mut MarkedSlots, pid: u64)
     ensures { slots.new ≡ changed_slots suspend_living pid slots.old }
 {
-    places::suspend_at(&mut slots.slots, pid);
+    slot_changes::suspend_at(&mut slots.slots, pid);
     mark(&mut slots.ready, slots.below, &slots.slots, pid);
 }
 
@@ -82,7 +82,7 @@ pub(crate) fn suspend_at(slots: &mut MarkedSlots, pid: u64)
 pub(crate) fn resume_at(slots: &mut MarkedSlots, pid: u64)
     ensures { slots.new ≡ changed_slots resume_living pid slots.old }
 {
-    places::resume_at(&mut slots.slots, pid);
+    slot_changes::resume_at(&mut slots.slots, pid);
     mark(&mut slots.ready, slots.below, &slots.slots, pid);
 }
 
@@ -100,7 +100,7 @@ pub(crate) fn rest_at(
     ensures rested { slots.new ≡ changed_slots (rest_living place rests_in) pid slots.old }
     ensures back { changed_slots (unrest_living result) pid slots.new ≡ slots.old }
 {
-    let ran = places::rest_at(&mut slots.slots, pid, place, rests_in, next);
+    let ran = slot_changes::rest_at(&mut slots.slots, pid, place, rests_in, next);
     mark(&mut slots.ready, slots.below, &slots.slots, pid);
     ran
 }
@@ -110,7 +110,7 @@ pub(crate) fn unrest_at(slots: &mut MarkedSlots, pid: u64, ran: Ran)
     requires { IfSome (living_at slots.old pid) Turned }
     ensures { slots.new ≡ changed_slots (unrest_living ran) pid slots.old }
 {
-    places::unrest_at(&mut slots.slots, pid, ran);
+    slot_changes::unrest_at(&mut slots.slots, pid, ran);
     mark(&mut slots.ready, slots.below, &slots.slots, pid);
 }
 
@@ -120,7 +120,7 @@ pub(crate) fn restate_at(slots: &mut MarkedSlots, pid: u64, state: Term, turns: 
     ensures restated { slots.new ≡ changed_slots (restate_living state turns) pid slots.old }
     ensures back { changed_slots (unrestate_living result turns) pid slots.new ≡ slots.old }
 {
-    let former = places::restate_at(&mut slots.slots, pid, state, turns);
+    let former = slot_changes::restate_at(&mut slots.slots, pid, state, turns);
     mark(&mut slots.ready, slots.below, &slots.slots, pid);
     former
 }
@@ -131,7 +131,7 @@ pub(crate) fn unrestate_at(slots: &mut MarkedSlots, pid: u64, state: Term, turns
     ensures unrestated { slots.new ≡ changed_slots (unrestate_living state turns) pid slots.old }
     ensures back { changed_slots (restate_living result turns) pid slots.new ≡ slots.old }
 {
-    let former = places::unrestate_at(&mut slots.slots, pid, state, turns);
+    let former = slot_changes::unrestate_at(&mut slots.slots, pid, state, turns);
     mark(&mut slots.ready, slots.below, &slots.slots, pid);
     former
 }
@@ -140,7 +140,7 @@ pub(crate) fn unrestate_at(slots: &mut MarkedSlots, pid: u64, state: Term, turns
 pub(crate) fn close_at(slots: &mut MarkedSlots, pid: u64, call: Call)
     ensures { slots.new ≡ changed_slots (closed_living call) pid slots.old }
 {
-    places::close_at(&mut slots.slots, pid, call);
+    slot_changes::close_at(&mut slots.slots, pid, call);
     mark(&mut slots.ready, slots.below, &slots.slots, pid);
 }
 
@@ -150,7 +150,7 @@ pub(crate) fn reopen_at(slots: &mut MarkedSlots, pid: u64, call: Call) -> Result
     ensures ok { OnOk result (slots.new ≡ changed_slots (reopened_living call) pid slots.old) }
     ensures err { OnErr result (slots.new ≡ slots.old) }
 {
-    places::reopen_at(&mut slots.slots, pid, call)?;
+    slot_changes::reopen_at(&mut slots.slots, pid, call)?;
     mark(&mut slots.ready, slots.below, &slots.slots, pid);
     Ok(())
 }

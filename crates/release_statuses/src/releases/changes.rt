@@ -3,11 +3,11 @@ ghost use Rattle.std.specs.Prelude.{◌≡◌, ◌++◌, ◌≢◌, [], ◌∷�
 ghost use Rattle.std.specs.Str.{chars};
 
 use crate::error::RelError;
+use crate::indices::{index_of, statuses};
 use crate::listed::Listed;
-use crate::places::{place_of, statuses};
 use crate::releases::Releases;
 use crate::status::Status;
-use crate::turns::{install, make_permanent, reboot, restore, turn};
+use crate::status_changes::{change_status, install, make_permanent, reboot, restore};
 use crate::undo::ReleasesUndo;
 use release_table::Release;
 use std::alloc::AllocError;
@@ -25,7 +25,7 @@ fn push(list: &mut Vec<Listed>, it: Listed) -> Result<(), AllocError>
 impl Releases {
     ghost use Rattle.values.specs.Failure.{TellsFailure};
     ghost use Rattle.values.specs.declared.failure.Failure.TheVariants.{Memory};
-    ghost use Rattle.release_statuses.specs.Statuses.{installed, made_permanent, permanent_refusal, place_of, reboot_refusal};
+    ghost use Rattle.release_statuses.specs.Statuses.{installed, made_permanent, permanent_refusal, index_of, reboot_refusal};
     ghost use Rattle.release_statuses.specs.Statuses.{rebooted, remove_refusal, removed, restarted, unpack_refusal, unpacked};
     ghost use Rattle.release_statuses.specs.Undo.{Fits, IsRemoval, TakesBack, undone};
 
@@ -68,8 +68,8 @@ impl Releases {
         if let Some(refusal) = self.remove_refusal(vsn) {
             return Err(Failure::Refused(refusal));
         }
-        match place_of(&self.list, vsn) {
-            Some(place) => Ok(ReleasesUndo::Removed(place, self.list.remove(place))),
+        match index_of(&self.list, vsn) {
+            Some(index) => Ok(ReleasesUndo::Removed(index, self.list.remove(index))),
             None => Err(Failure::Refused(RelError::NoSuchRelease)),
         }
     }
@@ -81,7 +81,7 @@ impl Releases {
     ///
     /// `AllocError` where memory is refused. The releases are then as they were.
     pub fn installed(&mut self, vsn: &str) -> Result<ReleasesUndo, AllocError>
-        requires { IsSome (place_of (chars vsn.now) self.old) }
+        requires { IsSome (index_of (chars vsn.now) self.old) }
         ensures ok { OnOk result (self.new ≡ installed (chars vsn.now) self.old) }
         ensures takes_back { IfOk result (λ undo. TakesBack undo self.old self.new) }
         ensures statuses { IfOk result (λ undo. IsRemoval undo → ⊥) }
@@ -148,7 +148,7 @@ impl Releases {
         ensures err { OnErr result (self.new ≡ self.old) }
     {
         let former = statuses(self.alloc, &self.list)?;
-        turn(self.list.as_mut_slice(), Status::Current, Status::Old);
+        change_status(self.list.as_mut_slice(), Status::Current, Status::Old);
         Ok(ReleasesUndo::Statuses(Row::new(former)))
     }
 
@@ -169,9 +169,9 @@ impl Releases {
                 let _ = self.list.pop();
                 Ok(())
             }
-            ReleasesUndo::Removed(place, it) => match self.list.insert(place, it) {
+            ReleasesUndo::Removed(index, it) => match self.list.insert(index, it) {
                 Ok(()) => Ok(()),
-                Err(refused) => Err(ReleasesUndo::Removed(place, refused.value)),
+                Err(refused) => Err(ReleasesUndo::Removed(index, refused.value)),
             },
             ReleasesUndo::Statuses(former) => {
                 restore(self.list.as_mut_slice(), former.as_slice());

@@ -3,5 +3,5 @@ use Rattle.std.proofs.Common.{◌≡◌, take}
 use Rattle.app_table.specs.Undo.{in_states}
 use Rattle.app_table.proofs.children.set_each.Given as goal
 
-abbrev pub invariant-loop-place : goal.invariant-loop-place
-invariant-loop-place l = l.row ≡ in_states (take l.place l.states) l.fn.row
+abbrev pub invariant-loop-index : goal.invariant-loop-index
+invariant-loop-index l = l.row ≡ in_states (take l.index l.states) l.fn.row

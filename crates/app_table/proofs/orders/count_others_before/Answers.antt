@@ -4,7 +4,7 @@ use Rattle.std.specs.List.Sorted.{IsPartitionPoint}
 use Rattle.std.specs.Ordering.{is_lt}
 use Rattle.std.proofs.lemmas.List.{take_all}
 use Rattle.app_table.proofs.Keys.{by_pid_total}
-use Rattle.app_table.proofs.Places.{point_back, point_front, rises_back, rises_front}
+use Rattle.app_table.proofs.Indices.{point_back, point_front, rises_back, rises_front}
 use Rattle.app_table.specs.Ordered.{Rises, by_pid}
 use Rattle.app_table.proofs.orders.count_others_before.Goals as goal
 
@@ -27,11 +27,11 @@ pub returns-then-count-from-clause-point : goal.returns-then-count-from-clause-p
 returns-then-count-from-clause-point c =
     let long = in_front c.args.pids.now c.args.from c.requires.there in
     let within : c.count_before_by_pid-count.result < length (take c.args.from c.args.pids.now) = omega (arith, long, c.if-count-from.true) in
-    point_front (by_pid c.args.row.now) (by_pid_total c.args.row.now) (take c.args.from c.args.pids.now) (drop (suc c.args.from) c.args.pids.now) c.count_before_by_pid-count.result c.args.place c.requires.rises within c.count_before_by_pid-count.ensures.point
+    point_front (by_pid c.args.row.now) (by_pid_total c.args.row.now) (take c.args.from c.args.pids.now) (drop (suc c.args.from) c.args.pids.now) c.count_before_by_pid-count.result c.args.index c.requires.rises within c.count_before_by_pid-count.ensures.point
 
 pub returns-clause-point : goal.returns-clause-point
 returns-clause-point c =
     let long = in_front c.args.pids.now c.args.from c.requires.there in
     let over : c.args.from ≤ c.count_before_by_pid-count.result = c.if-count-from.false in
-    let point = subst (λ (l : List ℕ). IsPartitionPoint (λ e. is_lt (by_pid c.args.row.now e c.args.place) ≡ true) (λ e. is_lt (by_pid c.args.row.now e c.args.place) ≡ false) l c.count_before_by_pid.result) (behind c.args.pids.now c.args.from) c.count_before_by_pid.ensures.point in
-    point_back (by_pid c.args.row.now) (take c.args.from c.args.pids.now) (drop (suc c.args.from) c.args.pids.now) c.count_before_by_pid.result (c.args.from + c.count_before_by_pid.result) c.args.place (λ k d below. c.count_before_by_pid-count.ensures.point.0 k d (omega arith) (omega (arith, long, over, below))) point (omega (arith, long))
+    let point = subst (λ (l : List ℕ). IsPartitionPoint (λ e. is_lt (by_pid c.args.row.now e c.args.index) ≡ true) (λ e. is_lt (by_pid c.args.row.now e c.args.index) ≡ false) l c.count_before_by_pid.result) (behind c.args.pids.now c.args.from) c.count_before_by_pid.ensures.point in
+    point_back (by_pid c.args.row.now) (take c.args.from c.args.pids.now) (drop (suc c.args.from) c.args.pids.now) c.count_before_by_pid.result (c.args.from + c.count_before_by_pid.result) c.args.index (λ k d below. c.count_before_by_pid-count.ensures.point.0 k d (omega arith) (omega (arith, long, over, below))) point (omega (arith, long))

@@ -1,11 +1,11 @@
--- The places so far are in order, and there is room for the others.
+-- The indices so far are in order, and there is room for the others.
 use Rattle.std.proofs.Common.{◌≡◌, ◌≤◌, length, vec_capacity, vec_len}
 use Rattle.app_table.specs.Ordered.{IsOrderOf, by_id}
 use Rattle.app_table.proofs.orders.put_all_in_by_id.Given as goal
 
-abbrev pub invariant-loop-place : goal.invariant-loop-place
-invariant-loop-place l = record {
-  order : IsOrderOf (by_id l.row) l.place l.ids.items;
-  len : vec_len l.ids ≡ l.place;
+abbrev pub invariant-loop-index : goal.invariant-loop-index
+invariant-loop-index l = record {
+  order : IsOrderOf (by_id l.row) l.index l.ids.items;
+  len : vec_len l.ids ≡ l.index;
   room : length l.row ≤ vec_capacity l.ids;
 }

@@ -6,7 +6,7 @@ use Rattle.std.specs.List.Sorted.{IsPartitionPoint}
 use Rattle.std.specs.Ordering.{is_lt}
 use Rattle.std.proofs.lemmas.List.Sorted.{IsPermutation-insert}
 use Rattle.app_table.proofs.Keys.{by_id_same, by_id_total}
-use Rattle.app_table.proofs.Places.{put}
+use Rattle.app_table.proofs.Indices.{put}
 use Rattle.app_table.specs.Ordered.{Rises, by_id}
 use Rattle.app_table.proofs.orders.put_in_by_id.Goals as goal
 
@@ -14,11 +14,11 @@ pub returns-clause-rises : goal.returns-clause-rises
 returns-clause-rises c =
     let at = c.count_before_by_id-at.result in
     let items = c.args.ids.now.items in
-    let point = subst (λ (l : List ℕ). IsPartitionPoint (λ e. is_lt (by_id c.args.row.now e c.args.place) ≡ true) (λ e. is_lt (by_id c.args.row.now e c.args.place) ≡ false) l c.count_before_by_id-at.result) c.as_slice.ensures.value c.count_before_by_id-at.ensures.point in
-    let is = subst (λ (b : Bool). c.insert.new.self.items ≡ (if b then insert c.args.ids.now.items c.count_before_by_id-at.result c.args.place else c.args.ids.now.items)) (c.insert.ensures.succeeds c.requires.room) c.insert.ensures.items in
-    subst (Rises (by_id c.args.row.now)) (sym is) (put (by_id c.args.row.now) (by_id_total c.args.row.now) (by_id_same c.args.row.now) c.args.ids.now.items c.count_before_by_id-at.result c.args.place c.requires.rises c.requires.others point)
+    let point = subst (λ (l : List ℕ). IsPartitionPoint (λ e. is_lt (by_id c.args.row.now e c.args.index) ≡ true) (λ e. is_lt (by_id c.args.row.now e c.args.index) ≡ false) l c.count_before_by_id-at.result) c.as_slice.ensures.value c.count_before_by_id-at.ensures.point in
+    let is = subst (λ (b : Bool). c.insert.new.self.items ≡ (if b then insert c.args.ids.now.items c.count_before_by_id-at.result c.args.index else c.args.ids.now.items)) (c.insert.ensures.succeeds c.requires.room) c.insert.ensures.items in
+    subst (Rises (by_id c.args.row.now)) (sym is) (put (by_id c.args.row.now) (by_id_total c.args.row.now) (by_id_same c.args.row.now) c.args.ids.now.items c.count_before_by_id-at.result c.args.index c.requires.rises c.requires.others point)
 
 pub returns-clause-once : goal.returns-clause-once
 returns-clause-once c =
-    let is = subst (λ (b : Bool). c.insert.new.self.items ≡ (if b then insert c.args.ids.now.items c.count_before_by_id-at.result c.args.place else c.args.ids.now.items)) (c.insert.ensures.succeeds c.requires.room) c.insert.ensures.items in
-    subst (IsPermutation (c.args.place ∷ c.args.ids.now.items)) (sym is) (IsPermutation-insert c.args.ids.now.items c.count_before_by_id-at.result c.args.place)
+    let is = subst (λ (b : Bool). c.insert.new.self.items ≡ (if b then insert c.args.ids.now.items c.count_before_by_id-at.result c.args.index else c.args.ids.now.items)) (c.insert.ensures.succeeds c.requires.room) c.insert.ensures.items in
+    subst (IsPermutation (c.args.index ∷ c.args.ids.now.items)) (sym is) (IsPermutation-insert c.args.ids.now.items c.count_before_by_id-at.result c.args.index)

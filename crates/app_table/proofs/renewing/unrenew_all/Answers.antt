@@ -11,10 +11,10 @@ loop-at-preserved-in-Some c =
     let edit = c.in-Some.edit in
     let others = c.pop.new.self.items in
     let left : c.loop-at.left.items ≡ others ++ edit ∷ [] = c.in-Some.ensures.items in
-    let place : c.loop-at.at - 1 ≡ 0 + length others = omega (arith, c.loop-at.invariant.long, c.in-Some.ensures.cases) in
+    let index : c.loop-at.at - 1 ≡ 0 + length others = omega (arith, c.loop-at.invariant.long, c.in-Some.ensures.cases) in
     record {
       undone =
-          ap (unrenewed 0 others) (c.undo_edit.ensures.undone ∙ ap (λ n. unedited n edit row) place)
+          ap (unrenewed 0 others) (c.undo_edit.ensures.undone ∙ ap (λ n. unedited n edit row) index)
           ∙ sym (unrenewed_more 0 others edit row)
           ∙ ap (λ (es : List ChildEdit). unrenewed 0 es row) (sym left)
           ∙ c.loop-at.invariant.undone;

@@ -9,8 +9,8 @@ use Rattle.erl_term.specs.Term.{tree}
 use Rattle.child_specs.specs.Reading.{are_distinct, same_id}
 use Rattle.child_specs.proofs.reading.are_distinct.Given as goal
 
-abbrev pub invariant-loop-place : goal.invariant-loop-place
-invariant-loop-place l = record {
-  known : (t : Bor Term) → contains (λ x y. on tree tree_cmp x.now y.now) l.ids t ≡ list_any (same_id t.now) (drop l.place l.children);
-  distinct : are_distinct (drop l.place l.children) ≡ true;
+abbrev pub invariant-loop-index : goal.invariant-loop-index
+invariant-loop-index l = record {
+  known : (t : Bor Term) → contains (λ x y. on tree tree_cmp x.now y.now) l.ids t ≡ list_any (same_id t.now) (drop l.index l.children);
+  distinct : are_distinct (drop l.index l.children) ≡ true;
 }

@@ -7,7 +7,7 @@ use Rattle.code_changes.specs.Renewing.{FirstBadInit}
 use Rattle.process_effects.specs.declared.told.Reply.{Reply}
 use Rattle.upgrade_calls.specs.Changing.{AllChange, FirstUnchanged}
 use Rattle.upgrade_calls.specs.Evaluated.{processes_after, told_after}
-use Rattle.upgrade_calls.specs.declared.changing.Change.{Change}
+use Rattle.upgrade_calls.specs.declared.changing.CodeChangeCall.{CodeChangeCall}
 use Rattle.values.specs.Failure.{Fails}
 use Rattle.code_changes.proofs.changing.evaluate_module.Goals as goal
 
@@ -20,7 +20,7 @@ returns-in-Err-Refused-clause-stops c =
     let now = processes_after code e t in
     let same = c.in_ok-changes.ensures.changes ∙ changes_stay code t e s c.args.module.now c.args.apps.now c.requires in
     let fails = subst (Fails (FirstUnchanged code c.in_ok-changes.changes.items now) (Unit {0})) c.in-Err-Refused.field-0-is c.in-Err-Refused.ensures.failed in
-    subst (FirstUnchanged code (changes_in s c.args.module.now c.args.apps.now now) now) (sym c.in-Err-Refused.failed-is) (subst (λ (cs : List Change). FirstUnchanged code cs now c.in-Err-Refused.failed) same fails)
+    subst (FirstUnchanged code (changes_in s c.args.module.now c.args.apps.now now) now) (sym c.in-Err-Refused.failed-is) (subst (λ (cs : List CodeChangeCall). FirstUnchanged code cs now c.in-Err-Refused.failed) same fails)
 
 pub returns-in-Ok-renew_apps-clause-evaluated : goal.returns-in-Ok-renew_apps-clause-evaluated
 returns-in-Ok-renew_apps-clause-evaluated c = (c.in-Ok-renew_apps.ensures.renews c.args.processes.now c.in-Ok.ensures.evaluated).evaluated
@@ -44,7 +44,7 @@ returns-in-Ok-renew_apps-clause-upgrades c =
         between = between;
         said = told;
         rest = all.said;
-        change = subst (λ (cs : List Change). AllChange code cs now between told) same change;
+        change = subst (λ (cs : List CodeChangeCall). AllChange code cs now between told) same change;
         renew = all.renew;
         tells = refl;
         changes = same;
@@ -71,7 +71,7 @@ returns-in-Err-Refused-renew_apps-clause-stops c =
     let same = c.in_ok-changes.ensures.changes ∙ changes_stay code t e s c.args.module.now c.args.apps.now c.requires in
     let (told, change, tells) = c.in-Ok.ensures.changed in
     let fails = subst (Fails (FirstBadInit code c.args.module.now.name c.args.apps.now) (Unit {0})) c.in-Err-Refused-renew_apps.field-0-is c.in-Err-Refused-renew_apps.ensures.failed in
-    (between, told, subst (λ (cs : List Change). AllChange code cs now between told) same change, fails)
+    (between, told, subst (λ (cs : List CodeChangeCall). AllChange code cs now between told) same change, fails)
 
 pub returns-in-Err-Refused-renew_apps-clause-renewals : goal.returns-in-Err-Refused-renew_apps-clause-renewals
 returns-in-Err-Refused-renew_apps-clause-renewals c = c.renew_apps.ensures.renewals

@@ -1,4 +1,4 @@
--- The application at the place has its children specified anew, where its supervisor is of the module.
+-- The application at the index has its children specified anew, where its supervisor is of the module.
 use Rattle.std.proofs.Common.{◌≡◌, ◌+◌, ◌++◌, ◌∷◌, ◌∙◌, List, [], None, Some, ap, drop, length, refl, sym, subst}
 use Rattle.std.specs.Option.{IsSome, option_copied}
 use Rattle.std.specs.Prelude.{IfSome}
@@ -15,7 +15,7 @@ use Rattle.code_changes.proofs.renewing.renew_app.Goals as goal
 
 pub app_at-requires : goal.app_at-requires
 app_at-requires c =
-    let (a, at) = stands c.args.apps.now c.args.place c.requires in
+    let (a, at) = stands c.args.apps.now c.args.index c.requires in
     subst IsSome (sym at) refl
 
 pub ask-requires : goal.ask-requires
@@ -32,7 +32,7 @@ returns-in_default-clause-renews c =
     let e = c.args.evaluation in
     let a = c.app_at.result.now in
     let none : supervisor_in name a ≡ None = sym c.supervisor_in.ensures ∙ ap option_copied (none_unless c.supervisor_in.result c.in_default.not-Some) in
-    λ t it. subst (λ o. IfSome o (RenewsOne code name c.args.place apps apps t e e)) (sym c.app_at.ensures) (not_renewed code name c.args.place apps t e a c.app_at.ensures none it)
+    λ t it. subst (λ o. IfSome o (RenewsOne code name c.args.index apps apps t e e)) (sym c.app_at.ensures) (not_renewed code name c.args.index apps t e a c.app_at.ensures none it)
 
 pub returns-clause-renews : goal.returns-clause-renews
 returns-clause-renews c =
@@ -46,16 +46,16 @@ returns-clause-renews c =
     let specs = c.in_ok-specs.field-0.specs in
     let acts = c.in_ok-specs.field-0.acts in
     let is : supervisor_in name a ≡ Some m = sym c.supervisor_in.ensures ∙ ap option_copied c.in-Some.is in
-    λ t it. subst (λ o. IfSome o (RenewsOne code name c.args.place apps c.renew.new.self t e f)) (sym c.app_at.ensures)
-    (is_renewed code name c.args.place apps c.renew.new.self t e f a m specs acts c.app_at.ensures is c.in_ok-specs.ensures.given c.in_ok-renew.ensures.renewed c.in_ok-evaluation.ensures.asked it (c.in_ok-evaluation.ensures.evaluated t it))
+    λ t it. subst (λ o. IfSome o (RenewsOne code name c.args.index apps c.renew.new.self t e f)) (sym c.app_at.ensures)
+    (is_renewed code name c.args.index apps c.renew.new.self t e f a m specs acts c.app_at.ensures is c.in_ok-specs.ensures.given c.in_ok-renew.ensures.renewed c.in_ok-evaluation.ensures.asked it (c.in_ok-evaluation.ensures.evaluated t it))
 
 pub returns-clause-others : goal.returns-clause-others
 returns-clause-others c =
     let apps = c.args.apps.now in
-    let place = c.args.place in
+    let index = c.args.index in
     let f = with_renewed c.in_ok-specs.field-0.specs in (
-      ap (λ (xs : List Application). length xs) c.in_ok-renew.ensures.renewed ∙ length-changed_at f apps place,
-      ap (λ (xs : List Application). drop (place + 1) xs) c.in_ok-renew.ensures.renewed ∙ drop_changed apps place f,
+      ap (λ (xs : List Application). length xs) c.in_ok-renew.ensures.renewed ∙ length-changed_at f apps index,
+      ap (λ (xs : List Application). drop (index + 1) xs) c.in_ok-renew.ensures.renewed ∙ drop_changed apps index f,
     )
 
 pub returns-clause-renewals : goal.returns-clause-renewals
@@ -71,4 +71,4 @@ returns-clause-renewals c =
     let so_far = c.args.renewals.now.items in
     let pushed = c.push_reserved.ensures.items ∙ ap (λ (us : List AppsUndo). us ++ undo ∷ []) c.in_ok-reserve.ensures.items in
     λ before x. subst (λ (us : List AppsUndo). AreRenewalsIn code us before c.renew.new.self) (sym pushed)
-    (renewals_more code so_far undo before c.args.apps.now c.renew.new.self c.args.place a m specs acts c.app_at.ensures (its_supervisor name a m is) c.in_ok-specs.ensures.given c.in_ok-renew.ensures.renewed c.in_ok-renew.ensures.inverse c.in_ok-renew.ensures.renewal c.in_ok-renew.ensures.pieces x)
+    (renewals_more code so_far undo before c.args.apps.now c.renew.new.self c.args.index a m specs acts c.app_at.ensures (its_supervisor name a m is) c.in_ok-specs.ensures.given c.in_ok-renew.ensures.renewed c.in_ok-renew.ensures.inverse c.in_ok-renew.ensures.renewal c.in_ok-renew.ensures.pieces x)

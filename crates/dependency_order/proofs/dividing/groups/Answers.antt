@@ -17,39 +17,39 @@ below_own has count n lists are e = let B : ℕ → Type 0 = λ m. AreBelow m li
 pub firsts-requires-clause-on_known : goal.firsts-requires-clause-on_known
 firsts-requires-clause-on_known c =
     let are = c.in_ok-standing.ensures.of_modules in
-    below_own (is_on c.args.places.now) (length c.args.places.now) _ c.in_ok-standing.standing.places are (sym are.many)
+    below_own (is_on c.args.vertices.now) (length c.args.vertices.now) _ c.in_ok-standing.standing.vertices are (sym are.many)
 
 pub firsts-requires-clause-namers_known : goal.firsts-requires-clause-namers_known
 firsts-requires-clause-namers_known c =
     let are = c.in_ok-naming.ensures.of_modules in
-    below_own (is_named c.args.places.now) (length c.args.places.now) _ c.in_ok-naming.naming.places are (sym c.in_ok-standing.ensures.of_modules.many)
+    below_own (is_named c.args.vertices.now) (length c.args.vertices.now) _ c.in_ok-naming.naming.vertices are (sym c.in_ok-standing.ensures.of_modules.many)
 
-both_at : (has : ℕ → ℕ → Bool) (count n : ℕ) (modules places : List (List ℕ)) → AreBothWays count modules places → count ≡ n → AreBothWays n modules places
-both_at has count n modules places are e = let B : ℕ → Type 0 = λ m. AreBothWays m modules places in subst B e are
+both_at : (has : ℕ → ℕ → Bool) (count n : ℕ) (modules vertices : List (List ℕ)) → AreBothWays count modules vertices → count ≡ n → AreBothWays n modules vertices
+both_at has count n modules vertices are e = let B : ℕ → Type 0 = λ m. AreBothWays m modules vertices in subst B e are
 
 pub in_order-requires-clause-asks : goal.in_order-requires-clause-asks
 in_order-requires-clause-asks c =
-    let n = length c.args.places.now in
+    let n = length c.args.vertices.now in
     let is = c.in_ok-naming.ensures in
-    both_at (is_named c.args.places.now) n _ c.in_ok-naming.naming.modules c.in_ok-naming.naming.places (both_ways (is_named c.args.places.now) n c.in_ok-naming.naming.modules c.in_ok-naming.naming.places is) (sym is.of_places.many)
+    both_at (is_named c.args.vertices.now) n _ c.in_ok-naming.naming.modules c.in_ok-naming.naming.vertices (both_ways (is_named c.args.vertices.now) n c.in_ok-naming.naming.modules c.in_ok-naming.naming.vertices is) (sym is.of_vertices.many)
 
 pub in_order-requires-clause-gives : goal.in_order-requires-clause-gives
 in_order-requires-clause-gives c =
-    let n = length c.args.places.now in
+    let n = length c.args.vertices.now in
     let is = c.in_ok-standing.ensures in
-    both_at (is_on c.args.places.now) n _ c.in_ok-standing.standing.modules c.in_ok-standing.standing.places (both_ways (is_on c.args.places.now) n c.in_ok-standing.standing.modules c.in_ok-standing.standing.places is) (sym c.in_ok-naming.ensures.of_places.many)
+    both_at (is_on c.args.vertices.now) n _ c.in_ok-standing.standing.modules c.in_ok-standing.standing.vertices (both_ways (is_on c.args.vertices.now) n c.in_ok-standing.standing.modules c.in_ok-standing.standing.vertices is) (sym c.in_ok-naming.ensures.of_vertices.many)
 
 pub in_order-requires-2-clause-asks : goal.in_order-requires-2-clause-asks
 in_order-requires-2-clause-asks c =
-    let n = length c.args.places.now in
+    let n = length c.args.vertices.now in
     let is = c.in_ok-standing.ensures in
-    both_at (is_on c.args.places.now) n _ c.in_ok-standing.standing.modules c.in_ok-standing.standing.places (both_ways (is_on c.args.places.now) n c.in_ok-standing.standing.modules c.in_ok-standing.standing.places is) (sym is.of_places.many)
+    both_at (is_on c.args.vertices.now) n _ c.in_ok-standing.standing.modules c.in_ok-standing.standing.vertices (both_ways (is_on c.args.vertices.now) n c.in_ok-standing.standing.modules c.in_ok-standing.standing.vertices is) (sym is.of_vertices.many)
 
 pub in_order-requires-2-clause-gives : goal.in_order-requires-2-clause-gives
 in_order-requires-2-clause-gives c =
-    let n = length c.args.places.now in
+    let n = length c.args.vertices.now in
     let is = c.in_ok-naming.ensures in
-    both_at (is_named c.args.places.now) n _ c.in_ok-naming.naming.modules c.in_ok-naming.naming.places (both_ways (is_named c.args.places.now) n c.in_ok-naming.naming.modules c.in_ok-naming.naming.places is) (sym c.in_ok-standing.ensures.of_places.many)
+    both_at (is_named c.args.vertices.now) n _ c.in_ok-naming.naming.modules c.in_ok-naming.naming.vertices (both_ways (is_named c.args.vertices.now) n c.in_ok-naming.naming.modules c.in_ok-naming.naming.vertices is) (sym c.in_ok-standing.ensures.of_vertices.many)
 
 forest_below : (ps qs : List ℕ) → IsForest qs → ps ≡ qs → All (λ p. p < length ps) ps
 forest_below ps qs forest same =
@@ -67,13 +67,13 @@ divided-requires-clause-firsts c = forest_below c.deref.result.now c.in_ok-first
 
 pub divided-requires-clause-dependencies : goal.divided-requires-clause-dependencies
 divided-requires-clause-dependencies c =
-    let end = c.in_ok-naming.ensures.of_places.many ∙ sym (ap length c.deref.ensures.value ∙ c.in_ok-firsts.ensures.trees.many ∙ c.in_ok-standing.ensures.of_modules.many) in
+    let end = c.in_ok-naming.ensures.of_vertices.many ∙ sym (ap length c.deref.ensures.value ∙ c.in_ok-firsts.ensures.trees.many ∙ c.in_ok-standing.ensures.of_modules.many) in
     small (waits_by c.in_ok-naming.naming.modules c.in_ok-standing.standing.modules true) (length c.in_ok-naming.naming.modules) (length c.deref.result.now) c.in_ok-dependencies_first.dependencies_first.items c.deref-2.result.now
     c.in_ok-dependencies_first.ensures c.deref-2.ensures.value end
 
 pub divided-requires-clause-dependants : goal.divided-requires-clause-dependants
 divided-requires-clause-dependants c =
-    let end = c.in_ok-standing.ensures.of_places.many ∙ sym (ap length c.deref.ensures.value ∙ c.in_ok-firsts.ensures.trees.many ∙ c.in_ok-standing.ensures.of_modules.many) in
+    let end = c.in_ok-standing.ensures.of_vertices.many ∙ sym (ap length c.deref.ensures.value ∙ c.in_ok-firsts.ensures.trees.many ∙ c.in_ok-standing.ensures.of_modules.many) in
     small (waits_by c.in_ok-standing.standing.modules c.in_ok-naming.naming.modules false) (length c.in_ok-standing.standing.modules) (length c.deref.result.now) c.in_ok-dependants_first.dependants_first.items c.deref-3.result.now
     c.in_ok-dependants_first.ensures c.deref-3.ensures.value end
 
@@ -87,5 +87,5 @@ returns c =
     let one = c.in_ok-dependencies_first.dependencies_first.items in
     let another = c.in_ok-dependants_first.dependants_first.items in
     let is = c.in_ok-divided.ensures ∙ parts_at c.deref.result.now c.deref-2.result.now c.deref-3.result.now ps one another c.deref.ensures.value c.deref-2.ensures.value c.deref-3.ensures.value in
-    grouped c.args.places.now c.in_ok-naming.naming.modules c.in_ok-naming.naming.places c.in_ok-standing.standing.modules c.in_ok-standing.standing.places c.requires
+    grouped c.args.vertices.now c.in_ok-naming.naming.modules c.in_ok-naming.naming.vertices c.in_ok-standing.standing.modules c.in_ok-standing.standing.vertices c.requires
     c.in_ok-naming.ensures c.in_ok-standing.ensures ps c.in_ok-firsts.ensures one another _ c.in_ok-dependencies_first.ensures c.in_ok-dependants_first.ensures is

@@ -3,5 +3,5 @@ use Rattle.dependency_order.specs.Dealt.{group_of}
 use Rattle.dependency_order.specs.Groups.{leaders}
 use Rattle.dependency_order.proofs.dividing.together.Given as goal
 
-abbrev pub invariant-loop-place : goal.invariant-loop-place
-invariant-loop-place l = l.groups.items ≡ map (group_of l.dependencies_first l.dependants_first) (leaders (take l.place l.firsts))
+abbrev pub invariant-loop-vertex : goal.invariant-loop-vertex
+invariant-loop-vertex l = l.groups.items ≡ map (group_of l.dependencies_first l.dependants_first) (leaders (take l.vertex l.firsts))

@@ -2,5 +2,5 @@ use Rattle.std.proofs.Common.{◌≡◌}
 use Rattle.dependency_order.specs.Lists.{upto}
 use Rattle.dependency_order.proofs.firsts.alone.Given as goal
 
-abbrev pub invariant-loop-place : goal.invariant-loop-place
-invariant-loop-place l = l.parents.items ≡ upto l.place
+abbrev pub invariant-loop-vertex : goal.invariant-loop-vertex
+invariant-loop-vertex l = l.parents.items ≡ upto l.vertex

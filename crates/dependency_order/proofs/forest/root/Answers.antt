@@ -25,9 +25,9 @@ loop-parents-preserved c =
     let long = length-set ps at' (parent ps (parent ps at')) in
     let b = is.before in
     record {
-      flatter = still_flatter old ps c.args.place at' is.known is.flatter;
+      flatter = still_flatter old ps c.args.vertex at' is.known is.flatter;
       before = omega (arith, first, second, b);
       known = omega (arith, first, second, long, up);
-      joined = still_joined old ps c.args.place at' is.known is.flatter is.joined;
-      one = still_one old ps c.args.place at' is.known is.flatter is.one;
+      joined = still_joined old ps c.args.vertex at' is.known is.flatter is.joined;
+      one = still_one old ps c.args.vertex at' is.known is.flatter is.one;
     }

@@ -6,10 +6,10 @@ use Rattle.dependency_order.proofs.forest.root.Given as goal
 abbrev pub invariant-loop-parents : goal.invariant-loop-parents
 invariant-loop-parents l = record {
   flatter : IsFlatter l.initial.parents l.parents;
-  before : l.at ≤ l.place;
+  before : l.at ≤ l.vertex;
   known : l.at < length l.parents;
-  joined : (names : ℕ → ℕ → Bool) → JoinsOnlyJoined names l.initial.parents → IsJoined names l.place l.at;
-  one : (label : ℕ → ℕ) → Respects label l.parents → label l.place ≡ label l.at;
+  joined : (names : ℕ → ℕ → Bool) → JoinsOnlyJoined names l.initial.parents → IsJoined names l.vertex l.at;
+  one : (label : ℕ → ℕ) → Respects label l.parents → label l.vertex ≡ label l.at;
 }
 
 abbrev pub decreases-loop-parents : goal.decreases-loop-parents

@@ -1,4 +1,4 @@
--- Groups are the places that are joined.
+-- Groups are the vertices that are joined.
 use Rattle.std.proofs.Common.{ℕ, get_or, subst}
 use Rattle.dependency_order.specs.Groups.{IsJoined}
 use Rattle.dependency_order.proofs.Chains.{first-joined, joined_back, joined_on}

@@ -3,4 +3,4 @@ use Rattle.dependency_order.specs.Lists.{AreEntered, is_named}
 use Rattle.dependency_order.proofs.relation.namers.Given as goal
 
 abbrev pub invariant-loop-p : goal.invariant-loop-p
-invariant-loop-p l = AreEntered (is_named l.places) (length l.places) l.p l.namers
+invariant-loop-p l = AreEntered (is_named l.vertices) (length l.vertices) l.p l.namers

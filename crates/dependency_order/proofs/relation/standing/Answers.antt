@@ -7,8 +7,8 @@ pub transposed-requires : goal.transposed-requires
 transposed-requires c =
     let Below : ℕ → Type 0 = λ n. AreBelow n c.in_ok-on.on in
     subst Below (sym c.in_ok-on.ensures.many)
-    (entered_below (is_on c.args.places.now) (length c.args.places.now) (length c.args.places.now) c.in_ok-on.on c.in_ok-on.ensures)
+    (entered_below (is_on c.args.vertices.now) (length c.args.vertices.now) (length c.args.vertices.now) c.in_ok-on.on c.in_ok-on.ensures)
 
 pub returns : goal.returns
 returns c =
-    relation_of (is_on c.args.places.now) (length c.args.places.now) c.in_ok-on.on c.in_ok-transposed.field-0 c.in_ok-on.ensures c.in_ok-transposed.ensures
+    relation_of (is_on c.args.vertices.now) (length c.args.vertices.now) c.in_ok-on.on c.in_ok-transposed.field-0 c.in_ok-on.ensures c.in_ok-transposed.ensures

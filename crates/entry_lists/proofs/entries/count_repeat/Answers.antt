@@ -1,4 +1,4 @@
--- One more of the last run is one more entry behind all others, of an idle turn.
+-- One more of the last run is one more entry behind all others, of an idle entry.
 use Rattle.std.proofs.Common.{◌≡◌, ◌+◌, ◌-◌, ◌++◌, ◌∷◌, [], length, ap, ◌∙◌, arith, rules}
 use Rattle.std.proofs.lemmas.List.Elements.{All-set}
 use Rattle.entry_lists.specs.Entries.{IsRun, written_out}

@@ -169,7 +169,7 @@ impl Parser {
         let last = mem::replace(&mut self.last, Last::Nothing);
         let term = last.into_term(&mut self.rows, at)?;
         let Open {
-            at: place,
+            at: offset,
             mut items,
             ..
         } = opened;
@@ -177,7 +177,7 @@ impl Parser {
         self.push_bracket(
             Open {
                 bracket,
-                at: place,
+                at: offset,
                 items,
             },
             at,

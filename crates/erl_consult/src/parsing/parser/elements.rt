@@ -185,7 +185,7 @@ const KEPT: usize = 4096;
 
 /// Where a text of more than `KEPT` bytes is cut: at its middle, or up to three bytes behind it, where a character
 /// begins. A shorter one is not cut.
-fn place_to_cut(text: &str) -> Option<usize>
+fn offset_to_cut(text: &str) -> Option<usize>
     ensures { IfSome result (λ at. (0 < at) × IsCharBoundary text.now at) }
 {
     if text.len() <= KEPT {
@@ -232,7 +232,7 @@ pub(super) fn push_characters(
     ensures err { IfErr result (λ e. e.kind ≡ refused) }
 {
     make_room(items, text.as_str(), at)?;
-    while let Some(middle) = place_to_cut(text.as_str()) {
+    while let Some(middle) = offset_to_cut(text.as_str()) {
         let Ok(back) = text.split_off(middle) else {
             return Err(ReadError {
                 kind: Fault::Memory,

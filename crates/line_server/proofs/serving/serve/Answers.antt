@@ -5,7 +5,7 @@ use Rattle.line_server.proofs.serving.serve.Goals as goal
 
 pub returns-in_default-clause-served : goal.returns-in_default-clause-served
 returns-in_default-clause-served g c =
-    Serves-memory g.S.Session.turn c.args.session.now (g.R.Read.remaining c.args.reader.now) (g.W.Write.contents c.args.writer.now)
+    Serves-memory g.S.Session.exchange c.args.session.now (g.R.Read.remaining c.args.reader.now) (g.W.Write.contents c.args.writer.now)
 
 pub returns-clause-served : goal.returns-clause-served
 returns-clause-served g c =
@@ -13,4 +13,4 @@ returns-clause-served g c =
 
 pub returns-clause-whole : goal.returns-clause-whole
 returns-clause-whole g c = λ input before left held none unrefused.
-    whole-from_Serves g.S.Session.turn c.args.session.now c.serve_reads-served.new.session _ _ _ _ _ input before c.serve_reads-served.ensures left held (fault_of-err c.serve_reads-served.result ∙ sym c.err.ensures.value ∙ none) unrefused
+    whole-from_Serves g.S.Session.exchange c.args.session.now c.serve_reads-served.new.session _ _ _ _ _ input before c.serve_reads-served.ensures left held (fault_of-err c.serve_reads-served.result ∙ sym c.err.ensures.value ∙ none) unrefused

@@ -1,4 +1,4 @@
--- What was found is what the tokens behind the place come to.
+-- What was found is what the tokens behind the index come to.
 use Rattle.std.proofs.Common.{◌≡◌, ◌+◌, ◌≤◌, length, drop}
 use Rattle.module_forms.specs.Brackets.{brackets, closing_count}
 use Rattle.module_forms.proofs.brackets.open_bracket.Given as goal

@@ -1,5 +1,5 @@
 -- The token stands where so many are left.
-use Rattle.module_forms.proofs.TokenPlaces.{stands_there}
+use Rattle.module_forms.proofs.TokenIndices.{stands_there}
 use Rattle.module_forms.proofs.told.told_token.Goals as goal
 
 pub returns : goal.returns

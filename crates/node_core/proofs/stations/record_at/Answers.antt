@@ -3,4 +3,4 @@ use Rattle.node_core.proofs.Kept.{of_record}
 use Rattle.node_core.proofs.stations.record_at.Goals as goal
 
 pub returns-clause-lost : goal.returns-clause-lost
-returns-clause-lost c = of_record c.args.place c.args.journal.now c.record.result c.record.ensures.takes_back
+returns-clause-lost c = of_record c.args.index c.args.journal.now c.record.result c.record.ensures.takes_back

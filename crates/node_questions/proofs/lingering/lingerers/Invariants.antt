@@ -4,5 +4,5 @@ use Rattle.std.specs.List.{flat_map}
 use Rattle.node_questions.specs.Lingering.{lingerers_of}
 use Rattle.node_questions.proofs.lingering.lingerers.Given as goal
 
-abbrev pub invariant-loop-place : goal.invariant-loop-place
-invariant-loop-place l = l.found.items ≡ flat_map (lingerers_of l.processes) (take l.place l.modules.entries)
+abbrev pub invariant-loop-index : goal.invariant-loop-index
+invariant-loop-index l = l.found.items ≡ flat_map (lingerers_of l.processes) (take l.index l.modules.entries)

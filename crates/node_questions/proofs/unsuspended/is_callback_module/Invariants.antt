@@ -4,5 +4,5 @@ use Rattle.std.specs.List.{list_any}
 use Rattle.upgrade_review.specs.Codes.{is_start_module}
 use Rattle.node_questions.proofs.unsuspended.is_callback_module.Given as goal
 
-abbrev pub invariant-loop-place : goal.invariant-loop-place
-invariant-loop-place l = list_any (λ a. is_start_module l.name a.spec.start) (take l.place l.apps) ≡ false
+abbrev pub invariant-loop-index : goal.invariant-loop-index
+invariant-loop-index l = list_any (λ a. is_start_module l.name a.spec.start) (take l.index l.apps) ≡ false

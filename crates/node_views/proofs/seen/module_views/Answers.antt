@@ -10,12 +10,12 @@ use Rattle.node_views.specs.declared.node_view.ModuleView.{ModuleView}
 use Rattle.node_views.proofs.Taken.{one_more}
 use Rattle.node_views.proofs.seen.module_views.Goals as goal
 
-pub loop-place-preserved : goal.loop-place-preserved
-loop-place-preserved c =
+pub loop-index-preserved : goal.loop-index-preserved
+loop-index-preserved c =
     let entries = c.args.modules.now.entries in
     let entry : List ℕ × Slots Forms = (c.in-Some.name.now, c.in-Some.slots.now) in
-    let is : slice_get entries c.loop-place.place ≡ Some entry =
+    let is : slice_get entries c.loop-index.index ≡ Some entry =
     sym c.entry.ensures ∙ ap (λ o. option_map deref_pair o) c.in-Some.is in
-    c.in_ok-push.ensures.items ∙ ap (λ (vs : List ModuleView). vs ++ c.in_ok-module_view.field-0 ∷ []) c.loop-place.invariant
-    ∙ sym (one_more module_view entries c.loop-place.place entry is
-    ∙ ap (λ (v : ModuleView). map module_view (take c.loop-place.place entries) ++ v ∷ []) (sym c.in_ok-module_view.ensures))
+    c.in_ok-push.ensures.items ∙ ap (λ (vs : List ModuleView). vs ++ c.in_ok-module_view.field-0 ∷ []) c.loop-index.invariant
+    ∙ sym (one_more module_view entries c.loop-index.index entry is
+    ∙ ap (λ (v : ModuleView). map module_view (take c.loop-index.index entries) ++ v ∷ []) (sym c.in_ok-module_view.ensures))

@@ -1,6 +1,6 @@
 -- The first message that is taken, or none.
 use Rattle.std.proofs.Common.{arith, sym, ◌∙◌}
-use Rattle.process.proofs.Places.{position_at, position_nowhere, NonePasses-more}
+use Rattle.process.proofs.Indices.{position_at, position_nowhere, NonePasses-more}
 use Rattle.process.specs.Process.{takes_at}
 use Rattle.std.specs.Option.{option_copied}
 use Rattle.process.proofs.process.first_of.Goals as goal

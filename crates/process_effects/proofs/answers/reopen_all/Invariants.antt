@@ -3,8 +3,8 @@ use Rattle.std.proofs.Common.{◌≡◌, drop}
 use Rattle.process_effects.specs.Parted.{all_reclosed, all_reopened}
 use Rattle.process_effects.proofs.answers.reopen_all.Given as goal
 
-abbrev pub invariant-loop-place : goal.invariant-loop-place
-invariant-loop-place l = record {
-  opened : l.store ≡ all_reopened (drop l.place l.closed) l.fn.store;
-  again : all_reclosed (drop l.place l.closed) l.store ≡ l.fn.store;
+abbrev pub invariant-loop-index : goal.invariant-loop-index
+invariant-loop-index l = record {
+  opened : l.store ≡ all_reopened (drop l.index l.closed) l.fn.store;
+  again : all_reclosed (drop l.index l.closed) l.store ≡ l.fn.store;
 }

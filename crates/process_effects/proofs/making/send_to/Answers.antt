@@ -1,6 +1,6 @@
 -- The message is noted, and goes first when all is taken back.
 use Rattle.process_effects.proofs.Undoing.{noted_back, noted_fits}
-use Rattle.process_effects.specs.declared.change.Change.TheVariants.{Sent}
+use Rattle.process_effects.specs.declared.change.Addition.TheVariants.{Sent}
 use Rattle.process_effects.proofs.making.send_to.Goals as goal
 
 pub returns-in-Ok-clause-back : goal.returns-in-Ok-clause-back

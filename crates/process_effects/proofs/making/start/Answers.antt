@@ -1,6 +1,6 @@
 -- The start is noted, and is taken back first.
 use Rattle.process_effects.proofs.Undoing.{noted_back, noted_fits}
-use Rattle.process_effects.specs.declared.change.Change.TheVariants.{Started}
+use Rattle.process_effects.specs.declared.change.Addition.TheVariants.{Started}
 use Rattle.process_effects.proofs.making.start.Goals as goal
 
 pub returns-in-Ok-clause-back : goal.returns-in-Ok-clause-back

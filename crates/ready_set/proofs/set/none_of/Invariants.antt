@@ -1,4 +1,4 @@
--- So many places are there, none of them in the set.
+-- So many numbers are there, none of them in the set.
 use Rattle.std.proofs.Common.{◌≡◌, false, replicate}
 use Rattle.ready_set.proofs.set.none_of.Given as goal
 

@@ -8,12 +8,12 @@ pub loop-app-preserved : goal.loop-app-preserved
 loop-app-preserved c =
     let code = c.args.code.now in
     let release = c.args.release.now in
-    let place = c.loop-app.app-index in
+    let index = c.loop-app.app-index in
     let app = c.app-item.result in
     let a = c.args.apps.now in
     let t = c.args.processes.now in
     let b = c.restart_one.new.apps in
     let u = c.restart_one.new.processes in
-    let here = ap to_start (one_more release place app c.loop-app-test.true c.app-item.is) ∙ both_to_start (take place release) (app ∷ []) in
-    let both = each_of_both code (to_start (take place release)) (to_start (app ∷ [])) a c.loop-app.apps b t c.loop-app.processes u c.loop-app.invariant c.in_ok-restart_one.ensures in
+    let here = ap to_start (one_more release index app c.loop-app-test.true c.app-item.is) ∙ both_to_start (take index release) (app ∷ []) in
+    let both = each_of_both code (to_start (take index release)) (to_start (app ∷ [])) a c.loop-app.apps b t c.loop-app.processes u c.loop-app.invariant c.in_ok-restart_one.ensures in
     subst (λ (names : List (List ℕ)). EachStarts code names a t b u) (sym here) both

@@ -8,4 +8,4 @@ use Rattle.relup_make.proofs.changing.append_at.Goals as goal
 
 pub returns-in-None : goal.returns-in-None
 returns-in-None c =
-    nothing_at (λ o. option_to_list (option_and_then (change_for c.args.kind) o)) c.args.instructions.now c.args.place c.args.found.now.items refl c.in-None.ensures.lookup
+    nothing_at (λ o. option_to_list (option_and_then (change_for c.args.kind) o)) c.args.instructions.now c.args.index c.args.found.now.items refl c.in-None.ensures.lookup

@@ -5,6 +5,6 @@ use Rattle.std.specs.List.{filter_map, slice_get}
 use Rattle.relup_make.specs.Chosen.{change_for}
 use Rattle.relup_make.proofs.changing.changes.Given as goal
 
-abbrev pub invariant-loop-place : goal.invariant-loop-place
-invariant-loop-place l =
-    l.found.items ≡ filter_map (λ place. option_and_then (change_for l.kind) (slice_get l.instructions place)) (take l.place-index l.order)
+abbrev pub invariant-loop-index : goal.invariant-loop-index
+invariant-loop-index l =
+    l.found.items ≡ filter_map (λ index. option_and_then (change_for l.kind) (slice_get l.instructions index)) (take l.index-index l.order)

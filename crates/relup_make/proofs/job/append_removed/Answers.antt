@@ -18,7 +18,7 @@ returns c =
     let seen : apps ≡ (source way).rel.apps = search rules in
     let test : Name → Bool = is_only_in (source way) (target way) in
     let job : Name → Job = λ name. lone name Remove in
-    let front : c.loop-place.place ≡ 0 = omega arith in
-    c.loop-place.invariant
+    let front : c.loop-index.index ≡ 0 = omega arith in
+    c.loop-index.invariant
     ∙ ap (λ n. c.args.jobs.now.items ++ flat_map (tested test (λ name. job name ∷ [])) (reverse (drop n apps))) front
     ∙ ap (λ jobs. c.args.jobs.now.items ++ jobs) (tested_back test job apps ∙ ap (λ these. map job (reverse (filter test (app_names these)))) seen)

@@ -1,4 +1,4 @@
--- The instructions at the places.
+-- The instructions at the indices.
 use Rattle.std.proofs.Common.{◌++◌, [], ap, ◌∙◌}
 use Rattle.std.specs.List.{slice_get}
 use Rattle.std.specs.Option.{option_map_or}
@@ -12,5 +12,5 @@ pub returns : goal.returns
 returns c =
     let loads = loaded_by (way_of c.args.way.now) c.args.app.now in
     let is = c.args.instructions.now in
-    ended (λ place. option_map_or loads (slice_get is place) []) c.args.order.now c.loop-place.place-index c.args.loaded.now.items c.loop-place.loaded.items c.loop-place-test.false c.loop-place.invariant
+    ended (λ index. option_map_or loads (slice_get is index) []) c.args.order.now c.loop-index.index-index c.args.loaded.now.items c.loop-index.loaded.items c.loop-index-test.false c.loop-index.invariant
     ∙ ap (λ loaded. c.args.loaded.now.items ++ loaded) (picked_all loads is c.args.order.now)

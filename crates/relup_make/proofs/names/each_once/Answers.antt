@@ -1,6 +1,6 @@
 -- A name that stands first here is one more.
 use Rattle.std.proofs.Common.{◌≡◌, true, ap, ◌∙◌}
-use Rattle.relup_make.proofs.Places.{once_begun, once_pushed, once_passed_in}
+use Rattle.relup_make.proofs.Indices.{once_begun, once_pushed, once_passed_in}
 use Rattle.relup_make.proofs.names.each_once.Goals as goal
 use Rattle.relup_make.proofs.names.each_once.Goals.{then-is_first_at+in_ok-copy+in_ok-push, else-is_first_at}
 

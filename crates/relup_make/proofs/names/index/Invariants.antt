@@ -3,5 +3,5 @@ use Rattle.std.proofs.Common.{drop}
 use Rattle.relup_make.specs.Indexes.{FindsFrom}
 use Rattle.relup_make.proofs.names.index.Given as goal
 
-abbrev pub invariant-loop-place : goal.invariant-loop-place
-invariant-loop-place l = FindsFrom l.place l.places (drop l.place l.items)
+abbrev pub invariant-loop-index : goal.invariant-loop-index
+invariant-loop-index l = FindsFrom l.index l.indices (drop l.index l.items)

@@ -1,4 +1,4 @@
--- Places are linked as their instructions depend on one another.
+-- Indices are linked as their instructions depend on one another.
 use Rattle.std.proofs.Common.{◌≡◌, length, map, sym, ap, subst, ◌∙◌}
 use Rattle.std.specs.List.{filter_map}
 use Rattle.std.proofs.lemmas.List.{length-map}
@@ -14,13 +14,13 @@ use Rattle.relup_make.proofs.numbering.ordered.Goals as goal
 pub groups-requires : goal.groups-requires
 groups-requires c =
     let is = c.args.instructions.now in
-    let seen = c.as_slice.ensures.value ∙ c.in_ok-places.ensures in
-    subst (λ places. AreNumbered (length places) places) (sym seen) (low_numbers is)
+    let seen = c.as_slice.ensures.value ∙ c.in_ok-vertices.ensures in
+    subst (λ vertices. AreNumbered (length vertices) vertices) (sym seen) (low_numbers is)
 
 pub returns : goal.returns
 returns c =
     let is = c.args.instructions.now in
-    let seen : c.as_slice.result.now ≡ map (numbered (filter_map module_of is)) is = c.as_slice.ensures.value ∙ c.in_ok-places.ensures in
+    let seen : c.as_slice.result.now ≡ map (numbered (filter_map module_of is)) is = c.as_slice.ensures.value ∙ c.in_ok-vertices.ensures in
     let many : length c.as_slice.result.now ≡ length is = ap length seen ∙ length-map is (numbered (filter_map module_of is)) in
     let links : linked c.as_slice.result.now ≡ depends is = ap linked seen ∙ fun_ext (λ p. fun_ext (λ q. linked_same is p q)) in
     IfOk-weaker c.groups.result _ _ (λ groups are. subst (λ n. AreOrderedGroups (depends is) n groups) many (subst (λ links. AreOrderedGroups links (length c.as_slice.result.now) groups) links are)) c.groups.ensures

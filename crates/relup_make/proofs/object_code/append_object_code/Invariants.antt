@@ -6,7 +6,7 @@ use Rattle.relup_make.specs.Releases.{version_in}
 use Rattle.relup_make.specs.Scripts.{modules_of, object_code}
 use Rattle.relup_make.specs.Ways.{way_of}
 use Rattle.relup_make.specs.Work.{target}
-use Rattle.relup_make.proofs.Places.{left}
+use Rattle.relup_make.proofs.Indices.{left}
 use Rattle.relup_make.proofs.object_code.append_object_code.Given as goal
 
 abbrev pub invariant-loop-i : goal.invariant-loop-i

@@ -1,4 +1,4 @@
--- The instructions at the places.
+-- The instructions at the indices.
 use Rattle.std.proofs.Common.{◌++◌, [], ap, ◌∙◌}
 use Rattle.std.specs.List.{slice_get}
 use Rattle.std.specs.Option.{option_map_or}
@@ -12,5 +12,5 @@ pub returns : goal.returns
 returns c =
     let work = work_of (way_of c.args.way.now) in
     let is = c.args.instructions.now in
-    ended (λ place. option_map_or work (slice_get is place) []) c.args.order.now c.loop-place.place-index c.args.parts.now.items c.loop-place.parts.items c.loop-place-test.false c.loop-place.invariant
+    ended (λ index. option_map_or work (slice_get is index) []) c.args.order.now c.loop-index.index-index c.args.parts.now.items c.loop-index.parts.items c.loop-index-test.false c.loop-index.invariant
     ∙ ap (λ parts. c.args.parts.now.items ++ parts) (picked_all work is c.args.order.now)

@@ -6,6 +6,6 @@ use Rattle.relup_make.specs.Parts.{work_of}
 use Rattle.relup_make.specs.Ways.{way_of}
 use Rattle.relup_make.proofs.working.append_works.Given as goal
 
-abbrev pub invariant-loop-place : goal.invariant-loop-place
-invariant-loop-place l =
-    l.parts.items ≡ l.fn.parts.items ++ flat_map (λ place. option_map_or (work_of (way_of l.way)) (slice_get l.instructions place) []) (take l.place-index l.order)
+abbrev pub invariant-loop-index : goal.invariant-loop-index
+invariant-loop-index l =
+    l.parts.items ≡ l.fn.parts.items ++ flat_map (λ index. option_map_or (work_of (way_of l.way)) (slice_get l.instructions index) []) (take l.index-index l.order)

@@ -8,16 +8,16 @@ use Rattle.script_checks.proofs.Least.{one_more}
 use Rattle.script_checks.specs.Checks.{any_faulty, is_faulty_at, is_point}
 use Rattle.script_checks.proofs.checking.check.Goals as goal
 
-pub loop-place-preserved : goal.loop-place-preserved
-loop-place-preserved c =
+pub loop-index-preserved : goal.loop-index-preserved
+loop-index-preserved c =
     let script = c.args.script.now in
-    let place = c.loop-place.place in
-    let item = c.index-script-place.result in
-    let more = list_any_more is_point script place item c.loop-place-test.true in
-    let there : slice_get script place ≡ Some item = slice_get-get_or script place item c.loop-place-test.true ∙ ap Some (sym c.index-script-place.is) in
-    let good = ap (any_faulty (take place script)) there ∙ sym c.is_faulty.ensures ∙ c.if-is_faulty.false in
-    let rest = find (is_faulty_at script) (range_with_len (place + 1) (length script - (place + 1))) in
+    let index = c.loop-index.index in
+    let item = c.index-script-index.result in
+    let more = list_any_more is_point script index item c.loop-index-test.true in
+    let there : slice_get script index ≡ Some item = slice_get-get_or script index item c.loop-index-test.true ∙ ap Some (sym c.index-script-index.is) in
+    let good = ap (any_faulty (take index script)) there ∙ sym c.is_faulty.ensures ∙ c.if-is_faulty.false in
+    let rest = find (is_faulty_at script) (range_with_len (index + 1) (length script - (index + 1))) in
     record {
-      point = c.is_passed-has_point.ensures ∙ (λ i. c.loop-place.invariant.point i || is_point (c.index-script-place.is i)) ∙ sym more;
-      least = c.loop-place.invariant.least ∙ one_more (is_faulty_at script) (length script) place c.loop-place-test.true ∙ ap (λ b. cond b (Some place) rest) good;
+      point = c.is_passed-has_point.ensures ∙ (λ i. c.loop-index.invariant.point i || is_point (c.index-script-index.is i)) ∙ sym more;
+      least = c.loop-index.invariant.least ∙ one_more (is_faulty_at script) (length script) index c.loop-index-test.true ∙ ap (λ b. cond b (Some index) rest) good;
     }

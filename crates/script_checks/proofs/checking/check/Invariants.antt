@@ -4,8 +4,8 @@ use Rattle.std.specs.List.{find, range_with_len}
 use Rattle.script_checks.specs.Checks.{has_point, is_faulty_at}
 use Rattle.script_checks.proofs.checking.check.Given as goal
 
-abbrev pub invariant-loop-place : goal.invariant-loop-place
-invariant-loop-place l = record {
-  point : l.has_point ≡ has_point (take l.place l.script);
-  least : find (is_faulty_at l.script) (range_with_len 0 (length l.script)) ≡ find (is_faulty_at l.script) (range_with_len l.place (length l.script - l.place));
+abbrev pub invariant-loop-index : goal.invariant-loop-index
+invariant-loop-index l = record {
+  point : l.has_point ≡ has_point (take l.index l.script);
+  least : find (is_faulty_at l.script) (range_with_len 0 (length l.script)) ≡ find (is_faulty_at l.script) (range_with_len l.index (length l.script - l.index));
 }

@@ -4,6 +4,6 @@ use Rattle.erl_term.specs.Text.{elements_text, utf8}
 use Rattle.shell_answers.specs.Answers.{apps_of, listed}
 use Rattle.shell_answers.proofs.apps.put_apps.Given as goal
 
-abbrev pub invariant-loop-place : goal.invariant-loop-place
-invariant-loop-place l =
-    l.initial.out.items ++ utf8 (elements_text (apps_of l.apps)) ≡ l.out.items ++ utf8 (listed (eqb l.place 0) (apps_of (drop l.place l.apps)))
+abbrev pub invariant-loop-index : goal.invariant-loop-index
+invariant-loop-index l =
+    l.initial.out.items ++ utf8 (elements_text (apps_of l.apps)) ≡ l.out.items ++ utf8 (listed (eqb l.index 0) (apps_of (drop l.index l.apps)))

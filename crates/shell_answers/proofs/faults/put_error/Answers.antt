@@ -1,4 +1,4 @@
--- Each fault by its word and place.
+-- Each fault by its word and index.
 use Rattle.std.proofs.Common.{◌++◌, ◌∷◌, [], codes, pos, sym, ap, ◌∙◌}
 use Rattle.erl_term.specs.Tree.{int}
 use Rattle.shell_answers.specs.Faults.{error_of, kind_word, placed}
@@ -28,7 +28,7 @@ returns-in-DuplicateKey c =
 
 pub returns-in-BadInstruction : goal.returns-in-BadInstruction
 returns-in-BadInstruction c =
-    on_ok c.put_placed-in-BadInstruction.result _ _ c.put_placed-in-BadInstruction.ensures (λ wrote. same c.args.out.now.items c.put_placed-in-BadInstruction.new.out.items (123 ∷ ((codes "bad_instruction") ++ 44 ∷ (bytes (int (pos c.in-BadInstruction.place)) ++ 125 ∷ []))) _ wrote (placed-pieces (codes "bad_instruction") c.in-BadInstruction.place bad_instruction-word ∙ ap (λ e. bytes (error_of e)) (sym c.in-BadInstruction.is)))
+    on_ok c.put_placed-in-BadInstruction.result _ _ c.put_placed-in-BadInstruction.ensures (λ wrote. same c.args.out.now.items c.put_placed-in-BadInstruction.new.out.items (123 ∷ ((codes "bad_instruction") ++ 44 ∷ (bytes (int (pos c.in-BadInstruction.index)) ++ 125 ∷ []))) _ wrote (placed-pieces (codes "bad_instruction") c.in-BadInstruction.index bad_instruction-word ∙ ap (λ e. bytes (error_of e)) (sym c.in-BadInstruction.is)))
 
 pub returns-in-PatternVersion : goal.returns-in-PatternVersion
 returns-in-PatternVersion c =
@@ -36,7 +36,7 @@ returns-in-PatternVersion c =
 
 pub returns-in-OutOfProfile : goal.returns-in-OutOfProfile
 returns-in-OutOfProfile c =
-    on_ok c.put_placed-in-OutOfProfile.result _ _ c.put_placed-in-OutOfProfile.ensures (λ wrote. same c.args.out.now.items c.put_placed-in-OutOfProfile.new.out.items (123 ∷ ((codes "out_of_profile") ++ 44 ∷ (bytes (int (pos c.in-OutOfProfile.place)) ++ 125 ∷ []))) _ wrote (placed-pieces (codes "out_of_profile") c.in-OutOfProfile.place out_of_profile-word ∙ ap (λ e. bytes (error_of e)) (sym c.in-OutOfProfile.is)))
+    on_ok c.put_placed-in-OutOfProfile.result _ _ c.put_placed-in-OutOfProfile.ensures (λ wrote. same c.args.out.now.items c.put_placed-in-OutOfProfile.new.out.items (123 ∷ ((codes "out_of_profile") ++ 44 ∷ (bytes (int (pos c.in-OutOfProfile.index)) ++ 125 ∷ []))) _ wrote (placed-pieces (codes "out_of_profile") c.in-OutOfProfile.index out_of_profile-word ∙ ap (λ e. bytes (error_of e)) (sym c.in-OutOfProfile.is)))
 
 pub returns-in-Memory : goal.returns-in-Memory
 returns-in-Memory c =

@@ -1,4 +1,4 @@
--- Each fault by its word and place.
+-- Each fault by its word and index.
 use Rattle.std.proofs.Common.{◌++◌, ◌∷◌, [], codes, pos, sym, ap, ◌∙◌}
 use Rattle.erl_term.specs.Tree.{int}
 use Rattle.shell_answers.specs.Faults.{kind_word, lang_fault}

@@ -9,4 +9,4 @@ pub returns : goal.returns
 returns c =
     let old = c.args.out.now.items in
     let new = c.put-2.new.out.items in
-    on_ok c.put-2.result _ _ c.put-2.ensures (λ last. same old new ((codes "{error,") ++ ((123 ∷ (codes "bad_script" ++ 44 ∷ (bytes (int (pos c.args.place)) ++ 125 ∷ []))) ++ (codes "}\n"))) _ (before old c.put.new.out.items new (codes "{error,") ((123 ∷ (codes "bad_script" ++ 44 ∷ (bytes (int (pos c.args.place)) ++ 125 ∷ []))) ++ (codes "}\n")) c.in_ok-put.ensures (before c.put.new.out.items c.put_placed.new.out.items new (123 ∷ (codes "bad_script" ++ 44 ∷ (bytes (int (pos c.args.place)) ++ 125 ∷ []))) (codes "}\n") c.in_ok-put_placed.ensures last)) (bad_script-line c.args.place))
+    on_ok c.put-2.result _ _ c.put-2.ensures (λ last. same old new ((codes "{error,") ++ ((123 ∷ (codes "bad_script" ++ 44 ∷ (bytes (int (pos c.args.index)) ++ 125 ∷ []))) ++ (codes "}\n"))) _ (before old c.put.new.out.items new (codes "{error,") ((123 ∷ (codes "bad_script" ++ 44 ∷ (bytes (int (pos c.args.index)) ++ 125 ∷ []))) ++ (codes "}\n")) c.in_ok-put.ensures (before c.put.new.out.items c.put_placed.new.out.items new (123 ∷ (codes "bad_script" ++ 44 ∷ (bytes (int (pos c.args.index)) ++ 125 ∷ []))) (codes "}\n") c.in_ok-put_placed.ensures last)) (bad_script-line c.args.index))

@@ -9,25 +9,25 @@ use Rattle.shell_answers.proofs.releases.put_releases.Goals as goal
 pub put_release-requires : goal.put_release-requires
 put_release-requires c =
     let all = c.args.releases.now in
-    let from_end = length all - 1 - c.loop-place.place in
-    let within : from_end < length all = omega (arith, c.loop-place-test.true) in
+    let from_end = length all - 1 - c.loop-index.index in
+    let within : from_end < length all = omega (arith, c.loop-index-test.true) in
     ap (map characters) c.as_slice.ensures.value ∙ names_at c.args.names.now all from_end c.index-names-from_end.result c.index-releases-from_end.result c.requires within c.index-names-from_end.is c.index-releases-from_end.is
 
-pub loop-place-preserved : goal.loop-place-preserved
-loop-place-preserved c =
-    let place = c.loop-place.place in
+pub loop-index-preserved : goal.loop-index-preserved
+loop-index-preserved c =
+    let index = c.loop-index.index in
     let all = c.args.releases.now in
-    let out = c.loop-place.out.items in
-    let from_end = length all - 1 - place in
+    let out = c.loop-index.out.items in
+    let from_end = length all - 1 - index in
     let it = c.index-releases-from_end.result in
-    let rest = releases_in (reverse (take (length all - (place + 1)) all)) in
+    let rest = releases_in (reverse (take (length all - (index + 1)) all)) in
     let new = c.put_release.new.out.items in
-    let is : place + (from_end + 1) ≡ length all = omega (arith, c.loop-place-test.true) in
-    element (eqb place 0) (release_of it) rest c.args.out.now.items out c.put_separator.new.out.items new (utf8 (elements_text (releases_in (reverse all)))) (c.loop-place.invariant ∙ ap (λ left. out ++ utf8 (listed (eqb place 0) (releases_in left))) (at_end all place from_end it is c.index-releases-from_end.is)) c.in_ok-put_separator.ensures c.in_ok-put_release.ensures ∙ ap (λ b. new ++ utf8 (listed b rest)) (sym (not_first place))
+    let is : index + (from_end + 1) ≡ length all = omega (arith, c.loop-index-test.true) in
+    element (eqb index 0) (release_of it) rest c.args.out.now.items out c.put_separator.new.out.items new (utf8 (elements_text (releases_in (reverse all)))) (c.loop-index.invariant ∙ ap (λ left. out ++ utf8 (listed (eqb index 0) (releases_in left))) (at_end all index from_end it is c.index-releases-from_end.is)) c.in_ok-put_separator.ensures c.in_ok-put_release.ensures ∙ ap (λ b. new ++ utf8 (listed b rest)) (sym (not_first index))
 
 pub returns : goal.returns
 returns c =
-    let place = c.loop-place.place in
+    let index = c.loop-index.index in
     let all = c.args.releases.now in
-    let past : length all - place ≡ 0 = omega (arith, c.loop-place-test.false) in
-    all_written (eqb place 0) (releases_in (reverse (take (length all - place) all))) c.args.out.now.items c.loop-place.out.items (utf8 (elements_text (releases_in (reverse all)))) c.loop-place.invariant (ap (λ n. releases_in (reverse (take n all))) past)
+    let past : length all - index ≡ 0 = omega (arith, c.loop-index-test.false) in
+    all_written (eqb index 0) (releases_in (reverse (take (length all - index) all))) c.args.out.now.items c.loop-index.out.items (utf8 (elements_text (releases_in (reverse all)))) c.loop-index.invariant (ap (λ n. releases_in (reverse (take n all))) past)

@@ -4,6 +4,6 @@ use Rattle.erl_term.specs.Text.{elements_text, utf8}
 use Rattle.shell_answers.specs.Answers.{listed, releases_in}
 use Rattle.shell_answers.proofs.releases.put_releases.Given as goal
 
-abbrev pub invariant-loop-place : goal.invariant-loop-place
-invariant-loop-place l =
-    l.initial.out.items ++ utf8 (elements_text (releases_in (reverse l.releases))) ≡ l.out.items ++ utf8 (listed (eqb l.place 0) (releases_in (reverse (take (length l.releases - l.place) l.releases))))
+abbrev pub invariant-loop-index : goal.invariant-loop-index
+invariant-loop-index l =
+    l.initial.out.items ++ utf8 (elements_text (releases_in (reverse l.releases))) ≡ l.out.items ++ utf8 (listed (eqb l.index 0) (releases_in (reverse (take (length l.releases - l.index) l.releases))))

@@ -4,5 +4,5 @@ use Rattle.app_table.specs.Applications.{has_name}
 use Rattle.shell_exec.proofs.Finding.{NonePasses}
 use Rattle.shell_exec.proofs.reviving.find_app.Given as goal
 
-abbrev pub invariant-loop-place : goal.invariant-loop-place
-invariant-loop-place l = NonePasses (has_name (chars l.text)) l.place l.apps
+abbrev pub invariant-loop-index : goal.invariant-loop-index
+invariant-loop-index l = NonePasses (has_name (chars l.text)) l.index l.apps

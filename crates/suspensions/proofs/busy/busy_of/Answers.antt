@@ -12,22 +12,22 @@ pub returns-in-Some : goal.returns-in-Some
 returns-in-Some c =
     let test : ℕ → Bool = λ p. is_busy (living p c.args.processes.now) in
     let apps = c.args.apps.now in
-    let place = c.loop-place.place in
+    let index = c.loop-index.index in
     let name = c.args.name.now in
     let a = c.app_at.result.now in
-    let within : place < length apps = omega (arith, c.len-place-end.ensures, c.loop-place-test.true) in
-    let here = from_there apps place a within c.app_at.ensures in
+    let within : index < length apps = omega (arith, c.len-index-end.ensures, c.loop-index-test.true) in
+    let here = from_there apps index a within c.app_at.ensures in
     let front : find test (pids_in name a.children) ≡ Some c.in-Some.pid = sym (c.in-Some.ensures ∙ ap (λ (cs : List Child). find test (pids_in name cs)) c.children.ensures) in
-    sym (c.loop-place.invariant ∙ ap (λ (xs : List Application). find test (pids_of name xs)) here ∙ in_front test (pids_in name a.children) (pids_of name (drop (place + 1) apps)) c.in-Some.pid front)
+    sym (c.loop-index.invariant ∙ ap (λ (xs : List Application). find test (pids_of name xs)) here ∙ in_front test (pids_in name a.children) (pids_of name (drop (index + 1) apps)) c.in-Some.pid front)
 
-pub loop-place-preserved : goal.loop-place-preserved
-loop-place-preserved c =
+pub loop-index-preserved : goal.loop-index-preserved
+loop-index-preserved c =
     let test : ℕ → Bool = λ p. is_busy (living p c.args.processes.now) in
     let apps = c.args.apps.now in
-    let place = c.loop-place.place in
+    let index = c.loop-index.index in
     let name = c.args.name.now in
     let a = c.app_at.result.now in
-    let within : place < length apps = omega (arith, c.len-place-end.ensures, c.loop-place-test.true) in
-    let here = from_there apps place a within c.app_at.ensures in
+    let within : index < length apps = omega (arith, c.len-index-end.ensures, c.loop-index-test.true) in
+    let here = from_there apps index a within c.app_at.ensures in
     let none : find test (pids_in name a.children) ≡ None = ap (λ (cs : List Child). find test (pids_in name cs)) (sym c.children.ensures) ∙ sym c.busy_in.ensures ∙ none_unless c.busy_in.result c.in_default.not-Some in
-    c.loop-place.invariant ∙ ap (λ (xs : List Application). find test (pids_of name xs)) here ∙ behind test (pids_in name a.children) (pids_of name (drop (place + 1) apps)) none
+    c.loop-index.invariant ∙ ap (λ (xs : List Application). find test (pids_of name xs)) here ∙ behind test (pids_in name a.children) (pids_of name (drop (index + 1) apps)) none

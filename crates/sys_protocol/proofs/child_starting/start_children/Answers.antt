@@ -20,17 +20,17 @@ pub returns-in-Err-clause-failed : goal.returns-in-Err-clause-failed
 returns-in-Err-clause-failed c =
     λ before t told way.
     let children = c.args.children.now in
-    let place = c.loop-child.child-index in
+    let index = c.loop-child.child-index in
     let child = c.child-item.result in
     let (now, others, reached, under) = c.loop-child.invariant.so_far before t told way in
-    first_fails c.in-Err.failure c.args.code.now children t child (drop (place + 1) children) (drop place children) c.loop-child.pids.items now others (from_here children place child c.loop-child-test.true c.child-item.is) reached (c.in-Err.ensures.failed before now (told ++ others) under)
+    first_fails c.in-Err.failure c.args.code.now children t child (drop (index + 1) children) (drop index children) c.loop-child.pids.items now others (from_here children index child c.loop-child-test.true c.child-item.is) reached (c.in-Err.ensures.failed before now (told ++ others) under)
 
 pub loop-child-preserved : goal.loop-child-preserved
 loop-child-preserved c = record {
   so_far = λ before t told way.
       let code = c.args.code.now in
       let children = c.args.children.now in
-      let place = c.loop-child.child-index in
+      let index = c.loop-child.child-index in
       let child = c.child-item.result in
       let pids = c.loop-child.pids.items in
       let batch = c.start_child.new.batch in
@@ -38,8 +38,8 @@ loop-child-preserved c = record {
       let (o, begun, more) = c.in-Ok.ensures.started before now (told ++ others) under in
       let after = after_start code o now in
       let said = others ++ start_told code o now in
-      let one = more_reached code children t child (drop (place + 1) children) (drop place children) pids c.in-Ok.pid now others o reached (from_here children place child c.loop-child-test.true c.child-item.is) begun (c.in-Ok.ensures.pid ∙ sym (ap next_pid under.makes ∙ pids_answered c.loop-child.batch.answers.items c.loop-child.processes)) in
-      (after, said, subst (λ ps. Reached code children t (drop (place + 1) children) ps after said) (sym c.in_ok-note-in-Ok.ensures) one, subst (λ (r : List Reply). IsUnderWay batch.changes.items batch.answers.items before c.start_child.new.processes after r) (append_assoc told others (start_told code o now)) more);
+      let one = more_reached code children t child (drop (index + 1) children) (drop index children) pids c.in-Ok.pid now others o reached (from_here children index child c.loop-child-test.true c.child-item.is) begun (c.in-Ok.ensures.pid ∙ sym (ap next_pid under.makes ∙ pids_answered c.loop-child.batch.answers.items c.loop-child.processes)) in
+      (after, said, subst (λ ps. Reached code children t (drop (index + 1) children) ps after said) (sym c.in_ok-note-in-Ok.ensures) one, subst (λ (r : List Reply). IsUnderWay batch.changes.items batch.answers.items before c.start_child.new.processes after r) (append_assoc told others (start_told code o now)) more);
   back = λ before way. c.start_child.ensures.back before (c.loop-child.invariant.back before way);
 }
 

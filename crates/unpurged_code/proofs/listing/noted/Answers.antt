@@ -4,14 +4,14 @@ use Rattle.std.proofs.lemmas.List.{take_all}
 use Rattle.unpurged_code.proofs.Gathering.{Gathered, all_gathered, gathered_next}
 use Rattle.unpurged_code.proofs.listing.noted.Goals as goal
 
-pub loop-place-preserved : goal.loop-place-preserved
-loop-place-preserved c =
-    gathered_next c.args.kind c.args.unpurged.now c.args.modules.now.entries c.loop-place.place c.loop-place.names.items
-    c.put_entry.new.names.items c.in_ok-put_entry.ensures c.loop-place.invariant
+pub loop-index-preserved : goal.loop-index-preserved
+loop-index-preserved c =
+    gathered_next c.args.kind c.args.unpurged.now c.args.modules.now.entries c.loop-index.index c.loop-index.names.items
+    c.put_entry.new.names.items c.in_ok-put_entry.ensures c.loop-index.invariant
 
 pub returns : goal.returns
 returns c =
     let entries = c.args.modules.now.entries in
-    all_gathered c.args.kind c.args.unpurged.now c.args.modules.now c.loop-place.names.items c.len-count.ensures.sound
-    (subst (λ es. Gathered c.args.kind c.args.unpurged.now es c.loop-place.names.items)
-    (take_all c.loop-place.place entries (omega (arith, c.len-count.ensures.len))) c.loop-place.invariant)
+    all_gathered c.args.kind c.args.unpurged.now c.args.modules.now c.loop-index.names.items c.len-count.ensures.sound
+    (subst (λ es. Gathered c.args.kind c.args.unpurged.now es c.loop-index.names.items)
+    (take_all c.loop-index.index entries (omega (arith, c.len-count.ensures.len))) c.loop-index.invariant)

@@ -1,7 +1,7 @@
--- Those of the modules up to the place.
+-- Those of the modules up to the index.
 use Rattle.std.proofs.Common.{take}
 use Rattle.unpurged_code.proofs.Gathering.{Gathered}
 use Rattle.unpurged_code.proofs.listing.noted.Given as goal
 
-abbrev pub invariant-loop-place : goal.invariant-loop-place
-invariant-loop-place l = Gathered l.kind l.unpurged (take l.place l.modules.entries) l.names.items
+abbrev pub invariant-loop-index : goal.invariant-loop-index
+invariant-loop-index l = Gathered l.kind l.unpurged (take l.index l.modules.entries) l.names.items

@@ -1,4 +1,4 @@
--- The session has served, and its seat is handed back. What the session's closure captures are, by their places, the reader (6) and the
+-- The session has served, and its seat is handed back. What the session's closure captures are, by their indices, the reader (6) and the
 -- writer (7).
 use Rattle.std.proofs.Common.{◌≡◌, rules, IfOk, IsSomeAnd, Contains, ap, sym}
 use Rattle.worker_shell.specs.Desk.{DeskState}

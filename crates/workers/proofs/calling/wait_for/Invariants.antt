@@ -2,5 +2,5 @@
 use Rattle.workers.specs.Calling.{HasRead, reads_of}
 use Rattle.workers.proofs.calling.wait_for.Given as goal
 
-abbrev pub invariant-loop-turn : goal.invariant-loop-turn
-invariant-loop-turn g l = HasRead l.number l.first l.from (reads_of l.turn) l.initial.seat l.seat
+abbrev pub invariant-loop-wait : goal.invariant-loop-wait
+invariant-loop-wait g l = HasRead l.number l.first l.from (reads_of l.wait) l.initial.seat l.seat

@@ -1,4 +1,4 @@
--- So many turns were done.
+-- So many rounds were done.
 use Rattle.workers.specs.Serving.{HasServed}
 use Rattle.workers.proofs.serving.serve.Given as goal
 

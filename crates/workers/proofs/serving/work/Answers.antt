@@ -1,6 +1,6 @@
 -- A result is accepted, or comes too late.
 use Rattle.std.proofs.Common.{rules}
-use Rattle.workers.proofs.MoreTurns.{works_in_time, works_late}
+use Rattle.workers.proofs.MoreRounds.{works_in_time, works_late}
 use Rattle.workers.proofs.serving.work.Goals as goal
 
 pub returns-then-not-branch : goal.returns-then-not-branch

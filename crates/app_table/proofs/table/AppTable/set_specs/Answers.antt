@@ -4,7 +4,7 @@ use Rattle.std.specs.Prelude.{All}
 use Rattle.app_table.proofs.Replacing.{gives_all, gives_itself}
 use Rattle.app_table.specs.Applications.{Application}
 use Rattle.app_table.specs.Changes.{put_back}
-use Rattle.app_table.specs.Undo.{GivesBack, IsOfPlace}
+use Rattle.app_table.specs.Undo.{GivesBack, IsOfIndex}
 use Rattle.app_table.specs.declared.specs.FormerSpecs.{FormerSpecs}
 use Rattle.app_table.specs.declared.specs.Replaced.{Replaced}
 use Rattle.app_table.proofs.table.AppTable.set_specs.Goals as goal
@@ -28,5 +28,5 @@ returns-clause-fits c =
     let g = c.set_each.ensures.back now start in
     let after = ap length c.as_slice.ensures.value in (
       omega (arith, after),
-      subst (λ (l : List Replaced). All (λ r. IsOfPlace r c.set_each.new.list.items) l) (sym c.new.ensures) g.places,
+      subst (λ (l : List Replaced). All (λ r. IsOfIndex r c.set_each.new.list.items) l) (sym c.new.ensures) g.indices,
     )

@@ -9,4 +9,4 @@ use Rattle.app_table.proofs.table.AppTable.stop_app.Goals as goal
 pub returns-clause-inverse : goal.returns-clause-inverse
 returns-clause-inverse c =
     let (a, at, started, are) = c.requires in
-    ap (λ (v : List Application). changed_at (unstopped c.args.states) v c.args.place) c.stop_at.ensures ∙ app_back c.args.states c.args.self.now c.args.place a at started are
+    ap (λ (v : List Application). changed_at (unstopped c.args.states) v c.args.index) c.stop_at.ensures ∙ app_back c.args.states c.args.self.now c.args.index a at started are

@@ -11,7 +11,7 @@ pub returns-clause-pieces : goal.returns-clause-pieces
 returns-clause-pieces c =
     let now : List Application = c.args.self.now in
     let it : Application = c.remove-app.result in
-    let read = c.remove-app.ensures.value ∙ ap (λ (l : List Application). get_or l c.args.place it) c.self.view_is in
-    let left = c.remove-app.ensures.items ∙ ap (λ (l : List Application). remove l c.args.place) c.self.view_is in
-    let at = got now c.args.place it c.requires ∙ ap Some (sym read) in
-    subst (λ (v : List Application). IsPermutation (app_pieces it ++ pieces v) (pieces now)) (sym left) (taken_out app_pieces now c.args.place it at)
+    let read = c.remove-app.ensures.value ∙ ap (λ (l : List Application). get_or l c.args.index it) c.self.view_is in
+    let left = c.remove-app.ensures.items ∙ ap (λ (l : List Application). remove l c.args.index) c.self.view_is in
+    let at = got now c.args.index it c.requires ∙ ap Some (sym read) in
+    subst (λ (v : List Application). IsPermutation (app_pieces it ++ pieces v) (pieces now)) (sym left) (taken_out app_pieces now c.args.index it at)

@@ -1,112 +1,112 @@
--- A module with current code stays, and one with old code alone goes, by its place.
+-- A module with current code stays, and one with old code alone goes, by its index.
 use Rattle.std.proofs.Common.{◌+◌, None, Some, true, false, sym, ap, ◌∙◌}
 use Rattle.code_server.specs.Modules.{Table, purged}
 use Rattle.code_server.proofs.Changes.{Nothing-back, Purged-back, Removed-back, codeless, current_of-at, former-taken, held-absent, held-taken, no_current, none_taken, none_unless, purged-gone, purged-kept, some_taken}
 use Rattle.code_server.proofs.Sound.{IsModuleTable-purged_slots, IsModuleTable-removed}
-use Rattle.code_server.proofs.Standing.{Stands-place, absent_from_place}
+use Rattle.code_server.proofs.Standing.{Stands-index, absent_from_index}
 use Rattle.code_server.proofs.modules.Modules.purge.Goals as goal
 
 pub invariant_of-self : goal.invariant_of-self
 invariant_of-self g c =
     let t : Table g.row.C.Denot = record { entries = c.self.inside.table.entries; next = c.self.inside.last + 1 } in
-    rw c.change_at.ensures.changed (IsModuleTable-purged_slots t c.in-Some.place c.self.invariant (sym c.has_current.ensures ∙ c.if-has_current.true))
+    rw c.change_at.ensures.changed (IsModuleTable-purged_slots t c.in-Some.index c.self.invariant (sym c.has_current.ensures ∙ c.if-has_current.true))
 
 pub returns-in_default-change_at-clause-purged : goal.returns-in_default-change_at-clause-purged
 returns-in_default-change_at-clause-purged g c =
     let t : Table g.row.C.Denot = record { entries = c.self.inside.table.entries; next = c.self.inside.last + 1 } in
-    let place = c.in-Some.place in
+    let index = c.in-Some.index in
     let found = sym c.get_index_of.ensures.index ∙ c.in-Some.is in
-    let at = Stands-place c.args.name.now t.entries place found in
-    let there = current_of-at c.args.name.now t place true at (sym c.has_current.ensures ∙ c.if-has_current.true) in
-    ap (λ es. record { entries = es; next = t.next }) c.change_at.ensures.changed ∙ sym (purged-kept c.args.name.now t place found there) ∙ ap (purged c.args.name.now) c.self.view_is
+    let at = Stands-index c.args.name.now t.entries index found in
+    let there = current_of-at c.args.name.now t index true at (sym c.has_current.ensures ∙ c.if-has_current.true) in
+    ap (λ es. record { entries = es; next = t.next }) c.change_at.ensures.changed ∙ sym (purged-kept c.args.name.now t index found there) ∙ ap (purged c.args.name.now) c.self.view_is
 
 pub returns-in_default-change_at-clause-inverse : goal.returns-in_default-change_at-clause-inverse
 returns-in_default-change_at-clause-inverse g c =
     let t : Table g.row.C.Denot = record { entries = c.self.inside.table.entries; next = c.self.inside.last + 1 } in
-    let place = c.in-Some.place in
-    let at = Stands-place c.args.name.now t.entries place (sym c.get_index_of.ensures.index ∙ c.in-Some.is) in
-    let none = former-taken c.args.name.now t.entries place at c.change_at.result None c.change_at.ensures.gone (none_unless c.change_at.result c.in_default-change_at.not-Some) in
-    Nothing-back c.args.name.now t c.args.self.now place c.change_at.new.table.entries at none c.change_at.ensures.changed c.self.invariant c.self.view_is
+    let index = c.in-Some.index in
+    let at = Stands-index c.args.name.now t.entries index (sym c.get_index_of.ensures.index ∙ c.in-Some.is) in
+    let none = former-taken c.args.name.now t.entries index at c.change_at.result None c.change_at.ensures.gone (none_unless c.change_at.result c.in_default-change_at.not-Some) in
+    Nothing-back c.args.name.now t c.args.self.now index c.change_at.new.table.entries at none c.change_at.ensures.changed c.self.invariant c.self.view_is
 
 pub invariant_of-self-then-has_current : goal.invariant_of-self-then-has_current
 invariant_of-self-then-has_current g c =
     let t : Table g.row.C.Denot = record { entries = c.self.inside.table.entries; next = c.self.inside.last + 1 } in
-    rw c.change_at.ensures.changed (IsModuleTable-purged_slots t c.in-Some.place c.self.invariant (sym c.has_current.ensures ∙ c.if-has_current.true))
+    rw c.change_at.ensures.changed (IsModuleTable-purged_slots t c.in-Some.index c.self.invariant (sym c.has_current.ensures ∙ c.if-has_current.true))
 
 pub returns-then-has_current-clause-purged : goal.returns-then-has_current-clause-purged
 returns-then-has_current-clause-purged g c =
     let t : Table g.row.C.Denot = record { entries = c.self.inside.table.entries; next = c.self.inside.last + 1 } in
-    let place = c.in-Some.place in
+    let index = c.in-Some.index in
     let found = sym c.get_index_of.ensures.index ∙ c.in-Some.is in
-    let at = Stands-place c.args.name.now t.entries place found in
-    let there = current_of-at c.args.name.now t place true at (sym c.has_current.ensures ∙ c.if-has_current.true) in
-    ap (λ es. record { entries = es; next = t.next }) c.change_at.ensures.changed ∙ sym (purged-kept c.args.name.now t place found there) ∙ ap (purged c.args.name.now) c.self.view_is
+    let at = Stands-index c.args.name.now t.entries index found in
+    let there = current_of-at c.args.name.now t index true at (sym c.has_current.ensures ∙ c.if-has_current.true) in
+    ap (λ es. record { entries = es; next = t.next }) c.change_at.ensures.changed ∙ sym (purged-kept c.args.name.now t index found there) ∙ ap (purged c.args.name.now) c.self.view_is
 
 pub returns-then-has_current-clause-inverse : goal.returns-then-has_current-clause-inverse
 returns-then-has_current-clause-inverse g c =
     let t : Table g.row.C.Denot = record { entries = c.self.inside.table.entries; next = c.self.inside.last + 1 } in
-    let place = c.in-Some.place in
-    let at = Stands-place c.args.name.now t.entries place (sym c.get_index_of.ensures.index ∙ c.in-Some.is) in
-    let some = former-taken c.args.name.now t.entries place at c.change_at.result (Some c.in-Some-change_at.former) c.change_at.ensures.gone c.in-Some-change_at.is in
-    Purged-back c.args.name.now t c.args.self.now place c.change_at.new.table.entries c.in-Some-change_at.former at some c.change_at.ensures.changed c.self.invariant c.self.view_is
+    let index = c.in-Some.index in
+    let at = Stands-index c.args.name.now t.entries index (sym c.get_index_of.ensures.index ∙ c.in-Some.is) in
+    let some = former-taken c.args.name.now t.entries index at c.change_at.result (Some c.in-Some-change_at.former) c.change_at.ensures.gone c.in-Some-change_at.is in
+    Purged-back c.args.name.now t c.args.self.now index c.change_at.new.table.entries c.in-Some-change_at.former at some c.change_at.ensures.changed c.self.invariant c.self.view_is
 
 pub unreachable-requires : goal.unreachable-requires
 unreachable-requires g c =
     let t : Table g.row.C.Denot = record { entries = c.self.inside.table.entries; next = c.self.inside.last + 1 } in
-    let place = c.in-Some.place in
-    let at = Stands-place c.args.name.now t.entries place (sym c.get_index_of.ensures.index ∙ c.in-Some.is) in
-    let current = no_current c.args.name.now t.entries place at (sym c.has_current.ensures ∙ c.if-has_current.false) in
-    codeless c.args.name.now t place at c.self.invariant current (none_taken c.args.name.now t.entries place at c.take_out.result c.take_out.ensures.taken c.in-None.is)
+    let index = c.in-Some.index in
+    let at = Stands-index c.args.name.now t.entries index (sym c.get_index_of.ensures.index ∙ c.in-Some.is) in
+    let current = no_current c.args.name.now t.entries index at (sym c.has_current.ensures ∙ c.if-has_current.false) in
+    codeless c.args.name.now t index at c.self.invariant current (none_taken c.args.name.now t.entries index at c.take_out.result c.take_out.ensures.taken c.in-None.is)
 
 pub invariant_of-self-2 : goal.invariant_of-self-2
 invariant_of-self-2 g c =
     let t : Table g.row.C.Denot = record { entries = c.self.inside.table.entries; next = c.self.inside.last + 1 } in
-    rw c.take_out.ensures.removed (IsModuleTable-removed t c.in-Some.place c.self.invariant)
+    rw c.take_out.ensures.removed (IsModuleTable-removed t c.in-Some.index c.self.invariant)
 
 pub returns-clause-purged : goal.returns-clause-purged
 returns-clause-purged g c =
     let t : Table g.row.C.Denot = record { entries = c.self.inside.table.entries; next = c.self.inside.last + 1 } in
-    let place = c.in-Some.place in
+    let index = c.in-Some.index in
     let found = sym c.get_index_of.ensures.index ∙ c.in-Some.is in
-    let at = Stands-place c.args.name.now t.entries place found in
-    let none = current_of-at c.args.name.now t place false at (sym c.has_current.ensures ∙ c.if-has_current.false) in
-    ap (λ es. record { entries = es; next = t.next }) c.take_out.ensures.removed ∙ sym (purged-gone c.args.name.now t place found none) ∙ ap (purged c.args.name.now) c.self.view_is
+    let at = Stands-index c.args.name.now t.entries index found in
+    let none = current_of-at c.args.name.now t index false at (sym c.has_current.ensures ∙ c.if-has_current.false) in
+    ap (λ es. record { entries = es; next = t.next }) c.take_out.ensures.removed ∙ sym (purged-gone c.args.name.now t index found none) ∙ ap (purged c.args.name.now) c.self.view_is
 
 pub returns-clause-inverse : goal.returns-clause-inverse
 returns-clause-inverse g c =
     let t : Table g.row.C.Denot = record { entries = c.self.inside.table.entries; next = c.self.inside.last + 1 } in
-    let place = c.in-Some.place in
-    let at = Stands-place c.args.name.now t.entries place (sym c.get_index_of.ensures.index ∙ c.in-Some.is) in
-    let current = no_current c.args.name.now t.entries place at (sym c.has_current.ensures ∙ c.if-has_current.false) in
-    let taken = some_taken c.args.name.now t.entries place at c.take_out.result c.in-Some-take_out.name c.in-Some-take_out.former c.take_out.ensures.taken c.in-Some-take_out.is in
-    Removed-back c.args.name.now c.in-Some-take_out.name t c.args.self.now place c.take_out.new.table.entries c.in-Some-take_out.former at taken.1 current taken.0 c.take_out.ensures.removed c.self.invariant c.self.view_is
+    let index = c.in-Some.index in
+    let at = Stands-index c.args.name.now t.entries index (sym c.get_index_of.ensures.index ∙ c.in-Some.is) in
+    let current = no_current c.args.name.now t.entries index at (sym c.has_current.ensures ∙ c.if-has_current.false) in
+    let taken = some_taken c.args.name.now t.entries index at c.take_out.result c.in-Some-take_out.name c.in-Some-take_out.former c.take_out.ensures.taken c.in-Some-take_out.is in
+    Removed-back c.args.name.now c.in-Some-take_out.name t c.args.self.now index c.take_out.new.table.entries c.in-Some-take_out.former at taken.1 current taken.0 c.take_out.ensures.removed c.self.invariant c.self.view_is
 
 pub returns-in_default-clause-pieces : goal.returns-in_default-clause-pieces
 returns-in_default-clause-pieces g c =
     let t : Table g.row.C.Denot = record { entries = c.self.inside.table.entries; next = c.self.inside.last + 1 } in
-    let absent = absent_from_place c.args.name.now t.entries (sym c.get_index_of.ensures.index ∙ none_unless c.get_index_of.result c.in_default.not-Some) in
+    let absent = absent_from_index c.args.name.now t.entries (sym c.get_index_of.ensures.index ∙ none_unless c.get_index_of.result c.in_default.not-Some) in
     held-absent c.args.name.now t c.args.self.now absent c.self.view_is
 
 pub returns-in_default-change_at-clause-pieces : goal.returns-in_default-change_at-clause-pieces
 returns-in_default-change_at-clause-pieces g c =
     let t : Table g.row.C.Denot = record { entries = c.self.inside.table.entries; next = c.self.inside.last + 1 } in
-    let place = c.in-Some.place in
-    let at = Stands-place c.args.name.now t.entries place (sym c.get_index_of.ensures.index ∙ c.in-Some.is) in
-    let none = former-taken c.args.name.now t.entries place at c.change_at.result None c.change_at.ensures.gone (none_unless c.change_at.result c.in_default-change_at.not-Some) in
-    held-taken c.args.name.now t c.args.self.now place at None none c.self.view_is
+    let index = c.in-Some.index in
+    let at = Stands-index c.args.name.now t.entries index (sym c.get_index_of.ensures.index ∙ c.in-Some.is) in
+    let none = former-taken c.args.name.now t.entries index at c.change_at.result None c.change_at.ensures.gone (none_unless c.change_at.result c.in_default-change_at.not-Some) in
+    held-taken c.args.name.now t c.args.self.now index at None none c.self.view_is
 
 pub returns-then-has_current-clause-pieces : goal.returns-then-has_current-clause-pieces
 returns-then-has_current-clause-pieces g c =
     let t : Table g.row.C.Denot = record { entries = c.self.inside.table.entries; next = c.self.inside.last + 1 } in
-    let place = c.in-Some.place in
-    let at = Stands-place c.args.name.now t.entries place (sym c.get_index_of.ensures.index ∙ c.in-Some.is) in
-    let some = former-taken c.args.name.now t.entries place at c.change_at.result (Some c.in-Some-change_at.former) c.change_at.ensures.gone c.in-Some-change_at.is in
-    held-taken c.args.name.now t c.args.self.now place at (Some c.in-Some-change_at.former) some c.self.view_is
+    let index = c.in-Some.index in
+    let at = Stands-index c.args.name.now t.entries index (sym c.get_index_of.ensures.index ∙ c.in-Some.is) in
+    let some = former-taken c.args.name.now t.entries index at c.change_at.result (Some c.in-Some-change_at.former) c.change_at.ensures.gone c.in-Some-change_at.is in
+    held-taken c.args.name.now t c.args.self.now index at (Some c.in-Some-change_at.former) some c.self.view_is
 
 pub returns-clause-pieces : goal.returns-clause-pieces
 returns-clause-pieces g c =
     let t : Table g.row.C.Denot = record { entries = c.self.inside.table.entries; next = c.self.inside.last + 1 } in
-    let place = c.in-Some.place in
-    let at = Stands-place c.args.name.now t.entries place (sym c.get_index_of.ensures.index ∙ c.in-Some.is) in
-    let taken = some_taken c.args.name.now t.entries place at c.take_out.result c.in-Some-take_out.name c.in-Some-take_out.former c.take_out.ensures.taken c.in-Some-take_out.is in
-    held-taken c.args.name.now t c.args.self.now place at (Some c.in-Some-take_out.former) taken.0 c.self.view_is
+    let index = c.in-Some.index in
+    let at = Stands-index c.args.name.now t.entries index (sym c.get_index_of.ensures.index ∙ c.in-Some.is) in
+    let taken = some_taken c.args.name.now t.entries index at c.take_out.result c.in-Some-take_out.name c.in-Some-take_out.former c.take_out.ensures.taken c.in-Some-take_out.is in
+    held-taken c.args.name.now t c.args.self.now index at (Some c.in-Some-take_out.former) taken.0 c.self.view_is

@@ -1,4 +1,4 @@
--- What is left ends the gap in the same place.
+-- What is left ends the gap in the same offset.
 use Rattle.std.proofs.Common.{◌≡◌, length}
 use Rattle.erl_chars.specs.Cursor.{left, total}
 use Rattle.erl_chars.specs.Gaps.{past_gap, after_gap}

@@ -62,8 +62,8 @@ write_expression-returns-in_ok-write_row-in-Case t c =
 
 pub write_expression-returns-in_ok-write_row-in-ShortCircuit : goal.write_expression-returns-in_ok-write_row-in-ShortCircuit
 write_expression-returns-in_ok-write_row-in-ShortCircuit t c =
-    let value : 128 + c.connective_place.result ≡ connective_number c.in-ShortCircuit.connective + 128 = omega (arith, c.connective_place.ensures.value) in
-    let small : connective_number c.in-ShortCircuit.connective < 128 = omega (arith, c.connective_place.ensures.value, c.connective_place.ensures.bound) in
+    let value : 128 + c.connective_index.result ≡ connective_number c.in-ShortCircuit.connective + 128 = omega (arith, c.connective_index.ensures.value) in
+    let small : connective_number c.in-ShortCircuit.connective < 128 = omega (arith, c.connective_index.ensures.value, c.connective_index.ensures.bound) in
     last c.write_row-in-ShortCircuit-2.result (exprs_code (exprs c.as_slice-in-ShortCircuit-2.result.now)) (expr_code (expr c.args.expression.now)) c.write_row-in-ShortCircuit-2.new.out.items c.write_row-in-ShortCircuit.new.out.items c.args.out.now.items (
     both_is (exprs_code (exprs c.as_slice-in-ShortCircuit.result.now)) (exprs_code (exprs c.as_slice-in-ShortCircuit-2.result.now)) c.push-in-ShortCircuit-2.new.self.items c.push-in-ShortCircuit-3.new.self.items c.write_row-in-ShortCircuit.new.out.items (exprs-parts (exprs c.as_slice-in-ShortCircuit.result.now)) c.in_ok-push-in-ShortCircuit-3.ensures.items c.in_ok-write_row-in-ShortCircuit.ensures ∙
     front_is (connective_number c.in-ShortCircuit.connective) (gcons (exprs_code (exprs c.as_slice-in-ShortCircuit.result.now)) (exprs_code (exprs c.as_slice-in-ShortCircuit-2.result.now))) c.push-in-ShortCircuit.new.self.items c.push-in-ShortCircuit-2.new.self.items small (c.in_ok-push-in-ShortCircuit-2.ensures.items ∙ ap (λ n. c.push-in-ShortCircuit.new.self.items ++ n ∷ []) value) ∙

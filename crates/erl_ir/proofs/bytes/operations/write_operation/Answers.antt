@@ -21,14 +21,14 @@ returns-in_ok-push-in-Cons c =
 
 pub returns-in_ok-push-in-Operator : goal.returns-in_ok-push-in-Operator
 returns-in_ok-push-in-Operator c =
-    let value : 128 + 3 + c.operator_place.result ≡ 3 + operator_number c.in-Operator.operator + 128 = omega (arith, c.operator_place.ensures.value) in
-    let small : 3 + operator_number c.in-Operator.operator < 128 = omega (arith, c.operator_place.ensures.value, c.operator_place.ensures.bound) in
+    let value : 128 + 3 + c.operator_index.result ≡ 3 + operator_number c.in-Operator.operator + 128 = omega (arith, c.operator_index.ensures.value) in
+    let small : 3 + operator_number c.in-Operator.operator < 128 = omega (arith, c.operator_index.ensures.value, c.operator_index.ensures.bound) in
     λ g. ap (λ o. written (gcons (operation_code o) g) c.args.out.now.items) c.in-Operator.is ∙ sym (front_is (3 + operator_number c.in-Operator.operator) (g) c.args.out.now.items c.push-in-Operator.new.self.items small (c.in_ok-push-in-Operator.ensures.items ∙ ap (λ n. c.args.out.now.items ++ n ∷ []) value))
 
 pub returns-in_ok-push-in-BuiltIn-2 : goal.returns-in_ok-push-in-BuiltIn-2
 returns-in_ok-push-in-BuiltIn-2 c =
-    let value : 128 + 2 + c.built_in_place.result ≡ 2 + built_in_number c.in-BuiltIn.function + 128 = omega (arith, c.built_in_place.ensures.value) in
-    let small : 2 + built_in_number c.in-BuiltIn.function < 128 = omega (arith, c.built_in_place.ensures.value, c.built_in_place.ensures.bound) in
+    let value : 128 + 2 + c.built_in_index.result ≡ 2 + built_in_number c.in-BuiltIn.function + 128 = omega (arith, c.built_in_index.ensures.value) in
+    let small : 2 + built_in_number c.in-BuiltIn.function < 128 = omega (arith, c.built_in_index.ensures.value, c.built_in_index.ensures.bound) in
     last_front c.write_number.result (operation_code c.args.operation.now) (gnum c.from.result) c.write_number.new.out.items c.push-in-BuiltIn-2.new.self.items c.args.out.now.items
     (λ g. ap (written g) (front_is (2 + built_in_number c.in-BuiltIn.function) (gnum c.from.result) c.push-in-BuiltIn.new.self.items c.push-in-BuiltIn-2.new.self.items small (c.in_ok-push-in-BuiltIn-2.ensures.items ∙ ap (λ n. c.push-in-BuiltIn.new.self.items ++ n ∷ []) value)) ∙
     both_is (gcons (gnum (2 + built_in_number c.in-BuiltIn.function)) (gnum c.from.result)) g c.args.out.now.items c.push-in-BuiltIn.new.self.items (written (gcons (gnum (2 + built_in_number c.in-BuiltIn.function)) (gnum c.from.result)) c.push-in-BuiltIn.new.self.items) tt c.in_ok-push-in-BuiltIn.ensures.items refl ∙

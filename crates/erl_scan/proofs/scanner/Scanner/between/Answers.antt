@@ -1,4 +1,4 @@
--- An escape's place is told as it was found.
+-- An escape's offset is told as it was found.
 use Rattle.erl_scan.proofs.Reading.{escape_told}
 use Rattle.erl_scan.proofs.scanner.Scanner.between.Goals as goal
 

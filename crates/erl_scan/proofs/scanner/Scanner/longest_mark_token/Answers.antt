@@ -9,4 +9,4 @@ returns-in-Some-clause-answers c =
 
 pub returns-in-None-clause-answers : goal.returns-in-None-clause-answers
 returns-in-None-clause-answers c =
-    faulty _ (mark_none _ c.args.first c.second.result c.third.result c.requires.first c.second.ensures c.third.ensures c.in-None.ensures) c.place.ensures
+    faulty _ (mark_none _ c.args.first c.second.result c.third.result c.requires.first c.second.ensures c.third.ensures c.in-None.ensures) c.offset.ensures

@@ -6,4 +6,4 @@ use Rattle.erl_scan.proofs.scanner.Scanner.name_token.Goals as goal
 
 pub returns-in-Ok-clause-answers : goal.returns-in-Ok-clause-answers
 returns-in-Ok-clause-answers c =
-    name_atom _ _ _ _ c.in-Ok.text _ (c.in-Ok.ensures ∙ c.name-name.ensures.name) c.name-name.ensures.left (c.in-None.ensures ∙ ap word_of (sym c.in-Ok.ensures)) c.place-at.ensures c.atom.ensures
+    name_atom _ _ _ _ c.in-Ok.text _ (c.in-Ok.ensures ∙ c.name-name.ensures.name) c.name-name.ensures.left (c.in-None.ensures ∙ ap word_of (sym c.in-Ok.ensures)) c.offset-at.ensures c.atom.ensures

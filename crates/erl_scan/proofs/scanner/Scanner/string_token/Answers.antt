@@ -5,7 +5,7 @@ use Rattle.erl_scan.proofs.scanner.Scanner.string_token.Goals as goal
 
 pub returns-then-begins_three_quotes-clause-takes : goal.returns-then-begins_three_quotes-clause-takes
 returns-then-begins_three_quotes-clause-takes c =
-    three_quotes _ _ _ c.requires.first (sym c.begins_three_quotes.ensures ∙ c.if-begins_three_quotes.true) c.place.ensures
+    three_quotes _ _ _ c.requires.first (sym c.begins_three_quotes.ensures ∙ c.if-begins_three_quotes.true) c.offset.ensures
 
 pub returns-in-Ok-clause-takes : goal.returns-in-Ok-clause-takes
 returns-in-Ok-clause-takes c =

@@ -1,4 +1,4 @@
--- The same row, seen from one place further on.
+-- The same row, seen from one index further on.
 use Rattle.std.proofs.Common.{◌≡◌, ◌∷◌, drop, ap, sym, ◌∙◌, subst, arith, rules}
 use Rattle.erl_term.specs.Parts.{IsPart, behind}
 use Rattle.erl_term.specs.Stored.{listed}

@@ -5,7 +5,7 @@ use Rattle.line_server.proofs.pending.Pending.take_chunk.Given as goal
 
 abbrev pub invariant-loop-rest : goal.invariant-loop-rest
 invariant-loop-rest g l =
-    (bytes : List ℕ) × (l.chunk ≡ bytes ++ l.rest) × GoesOn g.S.Session.turn bytes l.initial.session l.session (g.W.Write.contents l.initial.writer) (g.W.Write.contents l.writer) l.initial.self l.self
+    (bytes : List ℕ) × (l.chunk ≡ bytes ++ l.rest) × GoesOn g.S.Session.exchange bytes l.initial.session l.session (g.W.Write.contents l.initial.writer) (g.W.Write.contents l.writer) l.initial.self l.self
 
 abbrev pub decreases-loop-rest : goal.decreases-loop-rest
 decreases-loop-rest g l = length l.rest

@@ -22,5 +22,5 @@ returns-in-None-clause-ok g c =
     let chunk = c.args.chunk.now in (
       chunk,
       parted_at-end chunk,
-      λ start had output so. SoFar-piece g.S.Session.turn start had output chunk c.args.session.now c.args.self.now _ (none_in chunk c.in-None.ensures) refl refl c.append.ensures so,
+      λ start had output so. SoFar-piece g.S.Session.exchange start had output chunk c.args.session.now c.args.self.now _ (none_in chunk c.in-None.ensures) refl refl c.append.ensures so,
     )

@@ -1,4 +1,4 @@
--- What lives at a place stands there.
+-- What lives at a pid stands there.
 use Rattle.std.proofs.Common.{◌∙◌}
 use Rattle.std.specs.BTreeMap.{get}
 use Rattle.std.specs.Ordering.{nat_cmp}
@@ -7,4 +7,4 @@ use Rattle.process_index.proofs.slots.Slots.get.Goals as goal
 
 pub returns : goal.returns
 returns g c =
-    c.get.ensures.value ∙ found (get nat_cmp c.self.inside.living) c.self.inside.last c.args.place c.args.self.now c.self.invariant c.self.view_is
+    c.get.ensures.value ∙ found (get nat_cmp c.self.inside.living) c.self.inside.last c.args.pid c.args.self.now c.self.invariant c.self.view_is

@@ -1,4 +1,4 @@
--- What is written through the borrow stands at the place then.
+-- What is written through the borrow stands at the pid then.
 use Rattle.std.proofs.Common.{Some, ◌∙◌, ap, suc}
 use Rattle.std.specs.BTreeMap.{get, keys}
 use Rattle.std.specs.Ordering.{nat_cmp}
@@ -17,9 +17,9 @@ pub returns : goal.returns
 returns g c =
     let old = get nat_cmp c.self.inside.living in
     let last = c.self.inside.last in
-    let place = c.args.place in
+    let pid = c.args.pid in
     let slots = c.args.self.now in
     let at = c.get_mut.follows in (
-      same_read c.get_mut.result _ _ _ _ (λ some it. changed old (get nat_cmp (at.lender it)) last place (Some it) slots c.self.view_is ((at.holds it).3 (lent_some _ _ c.get_mut.ensures.value some)).0) (ap (λ m. standing (get nat_cmp m) 0 (suc last)) at.holds-at-none ∙ c.self.view_is),
-      record { writes_back = tt; value = c.get_mut.ensures.value ∙ found old last place slots c.self.invariant c.self.view_is },
+      same_read c.get_mut.result _ _ _ _ (λ some it. changed old (get nat_cmp (at.lender it)) last pid (Some it) slots c.self.view_is ((at.holds it).3 (lent_some _ _ c.get_mut.ensures.value some)).0) (ap (λ m. standing (get nat_cmp m) 0 (suc last)) at.holds-at-none ∙ c.self.view_is),
+      record { writes_back = tt; value = c.get_mut.ensures.value ∙ found old last pid slots c.self.invariant c.self.view_is },
     )

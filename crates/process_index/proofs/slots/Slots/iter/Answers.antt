@@ -1,4 +1,4 @@
--- The entries are what lives, in order of place.
+-- The entries are what lives, in order of pid.
 use Rattle.std.proofs.Common.{◌∙◌}
 use Rattle.process_index.proofs.Standing.{all_alive}
 use Rattle.process_index.proofs.slots.Slots.iter.Goals as goal

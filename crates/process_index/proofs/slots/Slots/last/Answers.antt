@@ -1,4 +1,4 @@
--- As many places as were given, and 0.
+-- As many pids as were given, and 0.
 use Rattle.std.proofs.Common.{length, suc, arith, ap}
 use Rattle.std.specs.BTreeMap.{get}
 use Rattle.std.specs.Ordering.{nat_cmp}

@@ -1,4 +1,4 @@
--- The last place stands no more.
+-- The last pid stands no more.
 use Rattle.std.proofs.Common.{◌≡◌, ◌-◌, ◌∙◌, arith, suc, ap, length}
 use Rattle.std.specs.BTreeMap.{get}
 use Rattle.std.specs.Ordering.{nat_cmp}

@@ -5,8 +5,8 @@ use Rattle.std.specs.Ordering.{nat_cmp}
 use Rattle.process_index.proofs.Standing.{length-standing, pushed}
 use Rattle.process_index.proofs.slots.Slots.push.Goals as goal
 
-pub overflow_add-place : goal.overflow_add-place
-overflow_add-place g c =
+pub overflow_add-pid : goal.overflow_add-pid
+overflow_add-pid g c =
     let last = c.self.inside.last in
     omega (arith, length-standing (get nat_cmp c.self.inside.living) 0 (suc last), ap length c.self.view_is, c.requires)
 

@@ -1,4 +1,4 @@
--- Nothing stands at any of the places.
+-- Nothing stands at any of the pids.
 use Rattle.std.proofs.Common.{ℕ, List, ◌∙◌, suc, ap}
 use Rattle.std.specs.BTreeMap.{get, is_at}
 use Rattle.std.specs.Map.{lookup}

@@ -1,4 +1,4 @@
--- The last place goes with the last process.
+-- The last number goes with the last process.
 use Rattle.std.proofs.Common.{◌-◌, IsSome, List, Option, length, subst, sym}
 use Rattle.process_store.specs.declared.living.ProcessEntry.{ProcessEntry}
 use Rattle.process_store.specs.Table.{living_at}

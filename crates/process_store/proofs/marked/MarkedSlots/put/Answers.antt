@@ -1,4 +1,4 @@
--- The pid has a place, and the place of no other process tells what is not so.
+-- The pid has a number, and the number of no other process tells what is not so.
 use Rattle.std.proofs.Common.{Some, arith}
 use Rattle.process_store.proofs.Marking.{edited_but}
 use Rattle.process_store.proofs.marked.MarkedSlots.put.Goals as goal

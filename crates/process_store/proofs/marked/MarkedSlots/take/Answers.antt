@@ -1,4 +1,4 @@
--- The place of no other process tells what is not so.
+-- The number of no other process tells what is not so.
 use Rattle.std.proofs.Common.{None, refl}
 use Rattle.process_store.proofs.Marking.{edited_but}
 use Rattle.process_store.proofs.marked.MarkedSlots.take.Goals as goal

@@ -1,4 +1,4 @@
--- The place of no other process tells what is not so.
+-- The number of no other process tells what is not so.
 use Rattle.process_store.specs.Changes.{closed_living}
 use Rattle.process_store.proofs.Marking.{changed_but}
 use Rattle.process_store.proofs.marked.changing.close_at.Goals as goal

@@ -12,9 +12,9 @@ returns c =
     let new = c.put.new.marks in
     let same = c.deref_mut.ensures.value in
     let long : length new ≡ length old = c.put.auto.marks ∙ ap length same in
-    let many : length c.args.self.now ≡ s.places = sym (ap length c.self.view_is) ∙ length-flags old s.places c.self.invariant.room in
-    ap (λ (ms : List Bool). flags_of ms (s.places - 1)) (with_items_is s.marks new (c.put.auto.marks ∙ c.deref_mut.ensures.len))
-    ∙ popped_flags old new s.places long c.self.invariant.room (omega (arith, c.requires, many))
+    let many : length c.args.self.now ≡ s.capacity = sym (ap length c.self.view_is) ∙ length-flags old s.capacity c.self.invariant.room in
+    ap (λ (ms : List Bool). flags_of ms (s.capacity - 1)) (with_items_is s.marks new (c.put.auto.marks ∙ c.deref_mut.ensures.len))
+    ∙ popped_flags old new s.capacity long c.self.invariant.room (omega (arith, c.requires, many))
     (λ k other. c.put.ensures.others k other ∙ ap (λ (ms : List Bool). is_leaf_marked ms k) same)
-    ∙ ap (λ (fs : List Bool). take (s.places - 1) fs) c.self.view_is
+    ∙ ap (λ (fs : List Bool). take (s.capacity - 1) fs) c.self.view_is
     ∙ ap (λ n. take (n - 1) c.args.self.now) (sym many)

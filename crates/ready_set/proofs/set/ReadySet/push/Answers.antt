@@ -12,7 +12,7 @@ returns-clause-ok c =
     let new = c.put.new.marks in
     let same = c.deref_mut.ensures.value in
     let long : length new ≡ length wide.items = c.put.auto.marks ∙ ap length same in
-    ap (λ (ms : List Bool). flags_of ms (s.places + 1)) (with_items_is wide new (c.put.auto.marks ∙ c.deref_mut.ensures.len))
-    ∙ pushed_flags s.marks.items new s.places c.args.marked c.self.invariant.room (omega (arith, c.in_ok-make_room.ensures.room, long)) c.put.ensures.here
+    ap (λ (ms : List Bool). flags_of ms (s.capacity + 1)) (with_items_is wide new (c.put.auto.marks ∙ c.deref_mut.ensures.len))
+    ∙ pushed_flags s.marks.items new s.capacity c.args.marked c.self.invariant.room (omega (arith, c.in_ok-make_room.ensures.room, long)) c.put.ensures.here
     (λ k other. c.put.ensures.others k other ∙ ap (λ (ms : List Bool). is_leaf_marked ms k) same ∙ c.in_ok-make_room.ensures.leaves k)
     ∙ ap (λ (fs : List Bool). fs ++ c.args.marked ∷ []) c.self.view_is

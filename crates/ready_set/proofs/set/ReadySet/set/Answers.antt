@@ -10,11 +10,11 @@ returns c =
     let s = c.self.inside in
     let old = s.marks.items in
     let new = c.put.new.marks in
-    let place = c.args.place in
+    let number = c.args.number in
     let same = c.deref_mut.ensures.value in
     let long : length new ≡ length old = c.put.auto.marks ∙ ap length same in
-    let many : length c.args.self.now ≡ s.places = sym (ap length c.self.view_is) ∙ length-flags old s.places c.self.invariant.room in
-    ap (λ (ms : List Bool). flags_of ms s.places) (with_items_is s.marks new (c.put.auto.marks ∙ c.deref_mut.ensures.len))
-    ∙ put_flags old new s.places place c.args.marked long c.self.invariant.room (omega (arith, c.requires, many)) c.put.ensures.here
+    let many : length c.args.self.now ≡ s.capacity = sym (ap length c.self.view_is) ∙ length-flags old s.capacity c.self.invariant.room in
+    ap (λ (ms : List Bool). flags_of ms s.capacity) (with_items_is s.marks new (c.put.auto.marks ∙ c.deref_mut.ensures.len))
+    ∙ put_flags old new s.capacity number c.args.marked long c.self.invariant.room (omega (arith, c.requires, many)) c.put.ensures.here
     (λ k other. c.put.ensures.others k other ∙ ap (λ (ms : List Bool). is_leaf_marked ms k) same)
-    ∙ ap (λ (fs : List Bool). set fs place c.args.marked) c.self.view_is
+    ∙ ap (λ (fs : List Bool). set fs number c.args.marked) c.self.view_is

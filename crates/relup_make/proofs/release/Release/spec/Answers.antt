@@ -1,4 +1,4 @@
--- The place of a name is that of the first application of that name.
+-- The index of a name is that of the first application of that name.
 use Rattle.std.proofs.Common.{sym, ap, ◌∙◌}
 use Rattle.std.specs.List.{slice_get}
 use Rattle.relup_make.proofs.Lookups.{found_first, found_nowhere, lent_at}
@@ -7,7 +7,7 @@ use Rattle.relup_make.proofs.release.Release.spec.Goals as goal
 pub returns-in-Some : goal.returns-in-Some
 returns-in-Some c =
     let apps = c.args.self.now.whole.now.apps in
-    lent_at c.as_slice.result.now c.in-Some.place c.get.result c.get.ensures.lookup ∙ ap (λ items. slice_get items c.in-Some.place) c.as_slice.ensures ∙ found_first (λ app. app.name) c.in-Some.place c.args.name.now apps (sym c.in-Some.ensures)
+    lent_at c.as_slice.result.now c.in-Some.index c.get.result c.get.ensures.lookup ∙ ap (λ items. slice_get items c.in-Some.index) c.as_slice.ensures ∙ found_first (λ app. app.name) c.in-Some.index c.args.name.now apps (sym c.in-Some.ensures)
 
 pub returns-in-None : goal.returns-in-None
 returns-in-None c =

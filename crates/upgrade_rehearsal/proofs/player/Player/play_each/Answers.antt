@@ -1,7 +1,7 @@
 -- One message more in each turn.
 use Rattle.upgrade_rehearsal.proofs.Leading.{leads_all, leads_next, leads_nowhere}
 use Rattle.upgrade_rehearsal.specs.Stages.{Comes, Scene, ServesAll}
-use Rattle.upgrade_rehearsal.specs.Turns.{Then}
+use Rattle.upgrade_rehearsal.specs.Sequences.{Then}
 use Rattle.upgrade_rehearsal.specs.declared.arrival.Arrival.{Arrival}
 use Rattle.upgrade_rehearsal.proofs.player.Player.play_each.Goals as goal
 

@@ -2,7 +2,7 @@
 use Rattle.std.proofs.Common.{ℕ, List}
 use Rattle.upgrade_rehearsal.specs.Players.{Leads}
 use Rattle.upgrade_rehearsal.specs.Stages.{ServesNext}
-use Rattle.upgrade_rehearsal.specs.Turns.{InTurn}
+use Rattle.upgrade_rehearsal.specs.Sequences.{InTurn}
 use Rattle.upgrade_rehearsal.proofs.player.Player.serve.Given as goal
 
 abbrev pub invariant-loop : goal.invariant-loop

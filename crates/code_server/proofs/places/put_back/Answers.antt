@@ -1,8 +1,0 @@
--- A new key goes to the place.
-use Rattle.std.proofs.Common.{None, Some, ◌∙◌}
-use Rattle.code_server.proofs.Standing.{insert_from_shift}
-use Rattle.code_server.proofs.places.put_back.Goals as goal
-
-pub returns-in-Ok-clause-put : goal.returns-in-Ok-clause-put
-returns-in-Ok-clause-put g c =
-    c.in-Ok.ensures.entries ∙ insert_from_shift c.args.table.now c.args.name (record { current = None; former = Some c.args.instance }) c.args.place c.requires.within c.requires.absent
