@@ -16,7 +16,6 @@ use thiserror::Error;
 use values::{Duplicate, Row, Same};
 
 /// An event: what makes a step of a node.
-#[derive(Drop)]
 pub enum Event {
     /// A message of a client comes for the process of a name.
     Arrive {
@@ -65,6 +64,33 @@ pub enum Event {
     Sweep,
 }
 
+/// It is taken apart here, so that who drops one above has nothing to prove of its parts.
+impl Drop for Event {
+    fn drop(self) {
+        match self {
+            Event::Arrive {
+                client: _client,
+                name: _name,
+                body: _body,
+            } => {}
+            Event::Take(_pid) => {}
+            Event::Commit(_done) => {}
+            Event::Revive { app: _app, id: _id } => {}
+            Event::Load(_module) => {}
+            Event::Delete(_name) => {}
+            Event::Purge(_name) => {}
+            Event::SoftPurge(_name) => {}
+            Event::SetUnpacked(_release) => {}
+            Event::Remove(_vsn) => {}
+            Event::Install(_vsn) => {}
+            Event::Advance { give_up: _give_up } => {}
+            Event::MakePermanent(_vsn) => {}
+            Event::RebootOld(_vsn) => {}
+            Event::Sweep => {}
+        }
+    }
+}
+
 /// The answer to an event that is accepted.
 #[derive(Drop)]
 pub enum Answer {
@@ -101,7 +127,7 @@ pub enum Answer {
 }
 
 /// Why an event is refused; never for lack of memory.
-#[derive(Drop, Error)]
+#[derive(Error)]
 pub enum Refusal {
     /// The processes refuse it.
     #[error("{0}")]
@@ -130,6 +156,23 @@ pub enum Refusal {
     /// The serial of a load, or the turn of a process, can't be counted further.
     #[error("a number can't be counted further")]
     CounterEnd,
+}
+
+/// It is taken apart here, so that who drops one above has nothing to prove of its parts.
+impl Drop for Refusal {
+    fn drop(self) {
+        match self {
+            Refusal::OfProcesses(_why) => {}
+            Refusal::OfModules(_why) => {}
+            Refusal::OfApps(_why) => {}
+            Refusal::OfReleases(_why) => {}
+            Refusal::OfInstall(_why) => {}
+            Refusal::Installing => {}
+            Refusal::NotInstalling => {}
+            Refusal::Busy(_pid) => {}
+            Refusal::CounterEnd => {}
+        }
+    }
 }
 
 /// As it is displayed.
