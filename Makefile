@@ -1,4 +1,4 @@
-# make test: the merge gate, then the wrong bodies of must-fail/ over the libraries that it has built, and then the transcripts and the
+# make test: the names in the documents are looked up (tools/quotes), then the merge gate, then the wrong bodies of must-fail/ over the libraries that it has built, and then the transcripts and the
 #   rehearsals on its programs. Its last line is 'N passed, M failed'.
 # make transcripts: plays the sessions of transcripts/ on the program, which it builds first (tools/transcripts);
 #   make transcripts NAME=name plays one file of them. Its last line is 'N passed, M failed'.
@@ -20,6 +20,7 @@ RT ?= $(CURDIR)/tools/rt
 .PHONY: test transcripts rehearsals check edits trials demo rehearse-demo relnode rehearse
 
 test:
+	@tools/quotes
 	@$(RT) ci
 	@tools/edits --gate
 	@tools/transcripts

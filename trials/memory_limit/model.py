@@ -109,12 +109,12 @@ class Model:
         self.children, self.next_load, self.next_pid = CHILDREN, 4, 3
         self.alive = {1: Process(1, "ctr", ("4", None)), 2: Process(2, "lp", ("0", 3))}
         self.steps, self.last, self.jobs, self.sent = [], 0, [], []
-        # Calls that were tried, and those of them of which it can't be told whether they were: nobody had the name.
-        self.calls, self.doubtful = 0, 0
+        # How many calls were tried.
+        self.calls = 0
 
     def follow(self, line, answer):
         """Does what the line does by its answer. Answers what it should have been, where it is another one."""
-        before = len(self.steps), self.last, len(self.jobs), len(self.sent), self.calls, self.doubtful
+        before = len(self.steps), self.last, len(self.jobs), len(self.sent), self.calls
         wanted, others = self.obey(line, answer)
         if answer == wanted:
             return None
@@ -122,7 +122,7 @@ class Model:
             return " or ".join([wanted, *others])
         while len(self.steps) > before[0]:
             self.steps.pop().back()
-        _, self.last, jobs, replies, self.calls, self.doubtful = before
+        _, self.last, jobs, replies, self.calls = before
         del self.jobs[jobs:]
         del self.sent[replies:]
         return None
@@ -140,7 +140,7 @@ class Model:
         if any(not re.fullmatch("[0-9]+", words[int(k)]) or int(words[int(k)]) >= 2**64 for k in numbers):
             return BAD_COMMAND, []
         if command in ("call", "cast", "send"):
-            return self.arrive("info" if command == "send" else command, *words, answer)
+            return self.arrive("info" if command == "send" else command, *words)
         if command == "undo":
             return self.undo(int(words[0]), answer)
         return getattr(self, command)(*words)
@@ -233,14 +233,14 @@ class Model:
         self.children = {child: "due" if pid == process.pid else pid for child, pid in self.children.items()}
         return [f"{{down,0,{number},{reason}}}" for number in sorted(process.calls)]
 
-    def arrive(self, kind, name, term, answer):
+    def arrive(self, kind, name, term):
         process = self.named(name) if not name.isdigit() else None
         if term in FAULTY_TERMS:
-            return FAULTY_TERMS[term], [MEMORY] if process else ["{error,no_proc}"]
+            return FAULTY_TERMS[term], [MEMORY]
+        self.calls += kind == "call"
         if not process:
-            self.doubtful += kind == "call"
-            return "{error,no_proc}", []
-        message = Message(kind, term, self.number_of(answer) if kind == "call" else None)
+            return "{error,no_proc}", [MEMORY]
+        message = Message(kind, term, self.calls if kind == "call" else None)
         process.mailbox.append(message)
         if kind == "call":
             process.calls.add(message.number)
@@ -250,15 +250,6 @@ class Model:
             process.calls.discard(message.number)
         told = f"{{call,{message.number}}}" if kind == "call" else "ok"
         return self.step(told, back, (), [f"{{{name},{text_of(message)}}}"])
-
-    def number_of(self, answer):
-        """The number of the next call. Calls to nobody before it may count or not."""
-        told = re.fullmatch(r"\{call,(\d+)\}", answer)
-        number = int(told[1]) if told else 0
-        if not self.calls < number <= self.calls + self.doubtful + 1:
-            number = self.calls + self.doubtful + 1
-        self.calls, self.doubtful = number, 0
-        return number
 
     def take(self, word):
         process = self.named(word)

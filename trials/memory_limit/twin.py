@@ -6,7 +6,9 @@ import subprocess
 from model import MEMORY
 
 STEPS = "load delete purge soft_purge call cast send take commit revive unpack remove install step permanent reboot sweep".split()
-# What may stand against a line and needs memory to be known: faults of a release and of what is read, and of what is evaluated.
+# What may refuse a line and needs memory to be found: faults of a release and of what is read, and of what is evaluated. A line that
+# reads a term, a source or a release asks for its refusals after that.
+READING = {"call", "cast", "send", "load", "unpack"}
 NEEDS_MEMORY = re.compile(r'\{error,\{(file,"(releases/|[^"]*",(?!missing))|start_failed,|syntax,).*')
 
 Step = collections.namedtuple("Step", "serial size")
@@ -77,6 +79,8 @@ class Twin:
 
     def hidden_refusal(self, line):
         """What stands against a line that found no memory, and can be told without."""
+        if line.split()[0] in READING:
+            return None
         if line == "mark" or not self.prober:
             return "a mark" if line == "mark" else None
         mark = self.prober.ask("mark")[len("{mark,"):-1]

@@ -3,10 +3,10 @@ use Rattle.std.specs.Prelude.{◌≡◌, ◌⊎◌, ℕ, ◌+◌, ◌==◌, List
 use Rattle.std.specs.List.{slice_split}
 use Rattle.erl_term.specs.Term.{tree}
 use Rattle.erl_term.specs.declared.term.Term.{Term}
-use Rattle.shell_exec.specs.Done.{Misreads}
-use Rattle.shell_exec.specs.Terms.{IsRead, one}
-use Rattle.shell_exec.specs.declared.reading.Misread.{Misread}
-use Rattle.shell_exec.specs.declared.reading.Misread.TheVariants as misread
+use Rattle.shell_requests.specs.Terms.{Misreads}
+use Rattle.shell_requests.specs.Terms.{IsRead, one}
+use Rattle.shell_requests.specs.declared.terms.Misread.{Misread}
+use Rattle.shell_requests.specs.declared.terms.Misread.TheVariants as misread
 use Rattle.shell_requests.specs.Request.{Request, ask, change, load, undo, forget, commit, arrive, serve, revive, unpack, release, relup}
 use Rattle.shell_requests.specs.Request.{advance, sweep, Spoken, too_long, silent, unknown, asks, spoken}
 use Rattle.client_traffic.specs.declared.TrafficError.{TrafficError}

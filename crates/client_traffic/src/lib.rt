@@ -12,8 +12,7 @@ ghost use Rattle.client_traffic.specs.Traffic.{Adds, AllSend, IsAmissBy, IsAmiss
 ghost use Rattle.shell_requests.specs.Request.{arrive};
 
 use erl_scan::ReadError;
-use shell_exec::{Misread, term_of};
-use shell_requests::{ArrivalKind, Line, Name, Request, read_line};
+use shell_requests::{ArrivalKind, Line, Misread, Name, Request, read_line, term_of};
 use std::alloc::Global;
 use thiserror::Error;
 use upgrade_rehearsal::Arrival;

@@ -23,17 +23,21 @@ use process_table::Processes;
 use script_state::NotedVersion;
 use std::alloc::Global;
 use suspensions::changes_for;
+use thiserror::Error;
 use upgrade_calls::{ChangeFailed, ChangeUndo, Changed, Evaluation, make, revert_change};
 use values::{Failure, Row};
 
 /// Why a `code_change` isn't made.
-#[derive(Drop)]
+#[derive(Drop, Error)]
 pub enum CodeChangeError {
     /// A process has failed to change its state.
+    #[error("process {} has failed to change its state", .0.pid)]
     Unchanged(ChangeFailed),
     /// A supervisor's `init` has given no supervision: `{bad_init,V}`.
+    #[error("the init of a supervisor has given no supervision")]
     BadInit(Term),
     /// A turn can't be counted on.
+    #[error("the turn of a process can't be counted further")]
     CounterEnd,
 }
 

@@ -15,19 +15,24 @@ use release_statuses::{RelError, Releases};
 use release_words::Purge;
 use script_checks::check;
 use script_state::script_for;
+use thiserror::Error;
 
 /// Why a release is not installed (release_handler(3), install_release/1). Indices are those of instructions in the script,
 /// counted from 0.
-#[derive(Clone, Copy, Debug, PartialEq, Eq)]
+#[derive(Clone, Copy, Debug, PartialEq, Eq, Error)]
 pub enum InstallError {
     /// There is no such release, or it runs.
+    #[error(transparent)]
     OfReleases(RelError),
     /// No relup leads from the release that runs to this one.
+    #[error("no relup leads from the release that runs to this one")]
     NoMatchingRelup,
     /// The script can't be installed: the least index of a faulty instruction, or its length where the point of no return is
     /// missing.
+    #[error("the script is faulty at instruction {0}")]
     BadScript(usize),
     /// The first index of a load or a removal that is to purge softly, and in the old code of whose module a process lingers.
+    #[error("a process lingers in old code that instruction {0} is to purge softly")]
     OldProcesses(usize),
 }
 

@@ -91,7 +91,7 @@ pub(crate) fn arrive(
     let Ok(told) = room(alloc, n) else {
         return Err(Failure::Memory);
     };
-    let Ok((arrivals, undo)) = parts.processes.arrive(client, name, body, n) else {
+    let Ok((arrivals, undo)) = parts.processes.deliver(client, name, body, n) else {
         return Err(Failure::Memory);
     };
     Ok(Stepped {
@@ -110,7 +110,7 @@ pub(crate) fn take(parts: &mut NodeParts, alloc: Global, pid: u64, n: usize) -> 
     let Ok(told) = room(alloc, n) else {
         return Err(Failure::Memory);
     };
-    let Ok((jobs, undo)) = parts.processes.take(&parts.modules, pid, n) else {
+    let Ok((jobs, undo)) = parts.processes.take_up(&parts.modules, pid, n) else {
         return Err(Failure::Memory);
     };
     Ok(Stepped {
@@ -132,7 +132,7 @@ pub(crate) fn commit(parts: &mut NodeParts, alloc: Global, done: &Done, n: usize
     let Ok(ended) = end_child(&mut parts.apps, alloc, done) else {
         return Err(Failure::Memory);
     };
-    match parts.processes.commit(done, n) {
+    match parts.processes.conclude(done, n) {
         Ok((lists, undo)) => Ok(Stepped {
             told: tell_done(told, lists),
             trace: Record {

@@ -6,6 +6,7 @@ use node_types::{Event, Note, Refusal};
 use process_effects::Reply;
 use release_statuses::Listed;
 use std::alloc::{AllocError, Global};
+use thiserror::Error;
 use undo_journal::{Mark, Report};
 use values::{Boxed, Duplicate, Row, Same, Shared};
 
@@ -62,15 +63,19 @@ pub enum Said {
 }
 
 /// Why a command is refused; never for lack of memory.
-#[derive(Drop)]
+#[derive(Drop, Error)]
 pub enum Fault {
     /// The node refuses it.
+    #[error("the node refuses it")]
     Refused(Shared<Refusal>),
     /// The mark is below the first that is kept.
+    #[error("the mark is forgotten")]
     Forgotten,
     /// The mark is any other that has no station: that was cut, or the mark was never given.
+    #[error("the mark is dead")]
     DeadMark,
     /// No serial is left for a step.
+    #[error("no serial is left for a step")]
     SerialEnd,
 }
 

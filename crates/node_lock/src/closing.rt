@@ -15,6 +15,7 @@ use entry_lists::{History, Run, WrittenOut};
 use node_commands::Node;
 use node_history::{Entry, Line};
 use std::sync::ledger::Share;
+use thiserror::Error;
 use undo_journal::Journal;
 
 /// A node that is closed.
@@ -27,9 +28,10 @@ pub struct Closed {
 }
 
 /// Why a node isn't closed, or not with its seats. What was handed in is handed back.
-#[derive(Drop)]
+#[derive(Drop, Error)]
 pub enum CloseError<N: Naming> {
     /// The seats handed in are not all of the node's, each once.
+    #[error("the seats are not all of the node's, each once")]
     SeatCount {
         /// The node, as it was.
         node: SharedNode<N>,
@@ -37,6 +39,7 @@ pub enum CloseError<N: Naming> {
         seats: Vec<Seat<N>>,
     },
     /// A seat's list isn't the history's.
+    #[error("the list of a seat is not the history's")]
     Foreign {
         /// The node, closed.
         closed: Closed,

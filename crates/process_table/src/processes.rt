@@ -222,14 +222,46 @@ impl Processes {
         }
     }
 
-    /// A message of a client comes for the process that is registered under a name, and goes last in its mailbox. A call is open
-    /// from then on, until it is answered or the process ends. The name and the message are handed out in `n` equal values, which
-    /// share what they are made of.
+    /// Delivers a message of a client to the process that is registered under a name, if nothing refuses it: the message goes
+    /// last in the mailbox. A call is open from then on, until it is answered or the process ends. Returns the name and the
+    /// message in `n` equal values, which share what they are made of.
     ///
     /// # Errors
     ///
-    /// In this order: `NoProc` where no process has the name, `DuplicateCall` where a call of this number is open, `CounterEnd`
-    /// where the number is past `2^63 - 1`, `Memory`. The table is then as it was.
+    /// `AllocError` if an allocation fails. The table is then unchanged.
+    pub fn deliver(
+        &mut self,
+        client: u64,
+        name: &Atom,
+        body: &ClientMessage,
+        n: usize,
+    ) -> Result<(Vec<(Atom, Term)>, ProcessesUndo), AllocError>
+        requires { arrive_refusal name.now (kind_of body.now) self.old ≡ None }
+        ensures arrived { OnOk result (self.new ≡ after_arrival client name.now body.now self.old) }
+        ensures told { IfOk result (λ it. map Some it.0.items ≡ replicate n (arrival_of name.now (message_of body.now))) }
+        ensures inverse { IfOk result (λ it. TakesBack it.1 self.old self.new) }
+        ensures pieces { IfOk result (λ it. HoldsLost (held it.1 self.new) self.old self.new) }
+        ensures err { OnErr result (self.new ≡ self.old) }
+    {
+        let Some(pid) = self.pid_named(name) else {
+            unreachable!()
+        };
+        let Some(message) = body.message(self.alloc)? else {
+            unreachable!()
+        };
+        let arrival = (name.copy(self.alloc)?, message.copy(self.alloc)?);
+        let arrivals = equal_values(self.alloc, arrival, n)?;
+        let call = body.call(client);
+        self.store.arrive(pid, message, call)?;
+        Ok((arrivals, ProcessesUndo::Arrived { pid, call }))
+    }
+
+    /// Delivers a message of a client, as [`Processes::deliver`] does, unless [`Processes::arrive_refusal`] refuses it.
+    ///
+    /// # Errors
+    ///
+    /// In this order: `NoProc` if no process has the name, `DuplicateCall` if a call of this number is open, `CounterEnd` if
+    /// the number is past `2^63 - 1`, `Memory`. The table is then unchanged.
     pub fn arrive(
         &mut self,
         client: u64,
@@ -248,17 +280,10 @@ impl Processes {
         if let Some(refusal) = self.arrive_refusal(name.as_str(), body.kind()) {
             return Err(Failure::Refused(refusal));
         }
-        let Some(pid) = self.pid_named(name) else {
-            unreachable!()
-        };
-        let Some(message) = body.message(self.alloc)? else {
-            unreachable!()
-        };
-        let arrival = (name.copy(self.alloc)?, message.copy(self.alloc)?);
-        let arrivals = equal_values(self.alloc, arrival, n)?;
-        let call = body.call(client);
-        self.store.arrive(pid, message, call)?;
-        Ok((arrivals, ProcessesUndo::Arrived { pid, call }))
+        match self.deliver(client, name, body, n) {
+            Ok(told) => Ok(told),
+            Err(_) => Err(Failure::Memory),
+        }
     }
 
     /// The set of the pids of the processes that could take a message now, in order: those that neither run nor are
@@ -290,13 +315,46 @@ impl Processes {
         }
     }
 
-    /// A process takes the first message that it takes where it rests, and runs it. The job is handed out in `n` equal values:
-    /// the message, and the code, which is the instance that is entered and what it can reach.
+    /// Has a process take up the first message that it takes at its place, if nothing refuses it: the process runs the job from
+    /// then on. Returns the job in `n` equal values: the message, and the code, which is the instance that is entered and what
+    /// it can reach.
     ///
     /// # Errors
     ///
-    /// In this order: `NoProc` where no process has the pid, `Suspended`, `Running`, `Idle` where it takes no message, `Memory`.
-    /// The table is then as it was.
+    /// `AllocError` if an allocation fails. The table is then unchanged.
+    pub fn take_up(
+        &mut self,
+        modules: &Modules<Module>,
+        pid: u64,
+        n: usize,
+    ) -> Result<(Vec<Job>, ProcessesUndo), AllocError>
+        requires { take_refusal pid self.old ≡ None }
+        ensures taken { IfOk result (λ it. TakesMessage modules.now pid n it.0.items self.old self.new) }
+        ensures inverse { IfOk result (λ it. TakesBack it.1 self.old self.new) }
+        ensures pieces { IfOk result (λ it. HoldsLost (held it.1 self.new) self.old self.new) }
+        ensures err { OnErr result (self.new ≡ self.old) }
+    {
+        let Some(living) = self.store.get(pid) else {
+            unreachable!()
+        };
+        let Some(position) = living.process.next_message() else {
+            unreachable!()
+        };
+        let Some((job, code)) = job_for(self.alloc, modules, living, position)? else {
+            unreachable!()
+        };
+        let entry_serial = job.entry_serial;
+        let jobs = equal_values(self.alloc, job, n)?;
+        self.store.run(pid, position, entry_serial, code);
+        Ok((jobs, ProcessesUndo::Taken { pid, position }))
+    }
+
+    /// Has a process take up a message, as [`Processes::take_up`] does, unless [`Processes::take_refusal`] refuses it.
+    ///
+    /// # Errors
+    ///
+    /// In this order: `NoProc` if no process has the pid, `Suspended`, `Running`, `Idle` if it takes no message, `Memory`. The
+    /// table is then unchanged.
     pub fn take(
         &mut self,
         modules: &Modules<Module>,
@@ -310,22 +368,13 @@ impl Processes {
         ensures refused { IfErr result (λ failure. TellsFailure failure (take_refusal pid self.old)) }
         ensures err { OnErr result (self.new ≡ self.old) }
     {
-        let Some(living) = self.store.get(pid) else {
-            return Err(Failure::Refused(ProcError::NoProc));
-        };
-        let position = match next_of(&living.process) {
-            Ok(position) => position,
-            Err(refusal) => return Err(Failure::Refused(refusal)),
-        };
-        let Ok(Some((job, code))) = job_for(self.alloc, modules, living, position) else {
-            return Err(Failure::Memory);
-        };
-        let entry_serial = job.entry_serial;
-        let Ok(jobs) = equal_values(self.alloc, job, n) else {
-            return Err(Failure::Memory);
-        };
-        self.store.run(pid, position, entry_serial, code);
-        Ok((jobs, ProcessesUndo::Taken { pid, position }))
+        if let Some(refusal) = self.take_refusal(pid) {
+            return Err(Failure::Refused(refusal));
+        }
+        match self.take_up(modules, pid, n) {
+            Ok(taken) => Ok(taken),
+            Err(_) => Err(Failure::Memory),
+        }
     }
 
     /// The job that a process runs.

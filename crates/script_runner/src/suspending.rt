@@ -25,7 +25,7 @@ use process_table::Processes;
 use script_children::nothing_told;
 use script_state::NotedVersion;
 use std::alloc::{AllocError, Global};
-use suspensions::{Busy, ResumeUndo, resume, suspend};
+use suspensions::{Busy, ResumeUndo, resume, suspend, suspend_refusal};
 use values::{Failure, Row};
 
 /// What a suspension has come to: what clients are told, and how many processes were suspended.
@@ -64,13 +64,13 @@ pub(crate) fn suspend_children(
         TellsFailure failure (suspend_refusal give_up (names modules.now) apps.now processes.old)) }
     ensures err { OnErr result ((processes.new ≡ processes.old) × (suspended.new.items ≡ suspended.old.items)) }
 {
-    if let Some(busy) = suspensions::suspend_refusal(apps, processes, modules, give_up) {
+    if let Some(busy) = suspend_refusal(apps, processes, modules, give_up) {
         return Err(Failure::Refused(busy));
     }
     let Ok(told) = nothing_told(alloc, n) else {
         return Err(Failure::Memory);
     };
-    let count = suspend(apps, processes, alloc, modules, give_up, suspended)?;
+    let count = suspend(apps, processes, alloc, modules, suspended)?;
     Ok(SuspendedMany { told, count })
 }
 

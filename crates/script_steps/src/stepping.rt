@@ -16,6 +16,7 @@ use script_checks::has_point;
 use script_runner::{Carried, Halt, InstructionUndo, carry_out};
 use script_state::{Progress, Unpurged, instruction_at};
 use std::alloc::Global;
+use thiserror::Error;
 use values::{Failure, Row};
 
 /// What a step of a script has come to.
@@ -37,15 +38,19 @@ pub enum Side {
 }
 
 /// Why a script doesn't go on.
-#[derive(Drop)]
+#[derive(Drop, Error)]
 pub enum NoStep {
     /// No instruction is left.
+    #[error("no instruction is left")]
     AtEnd,
     /// This process runs, and is to be suspended.
+    #[error("process {0} runs, and is to be suspended")]
     Busy(u64),
     /// The next instruction, which stands on this side of the point of no return, has failed, for this reason.
+    #[error("the next instruction has failed")]
     Failed(Side, Term),
     /// The serial of a load, or the turn of a process, can't be counted further.
+    #[error("the serial of a load or the turn of a process can't be counted further")]
     CounterEnd,
 }
 

@@ -50,11 +50,6 @@ module _ (s : ShellState) where
   performs tried e about done _ _ same each (performing.refused room why rule) = same
   performs tried e about done _ _ same each (performing.no_memory room may) = refl
 
-  misses : {X : Type 0} (about : Subject) (e : X → Event) (fate : Option Fate) (d : Effect) → performing.Misses s about e fate d → IsLed s d
-  misses about e _ _ (performing.unread_full is) = refl
-  misses about e _ _ (performing.unread_refused room why rule) = refl
-  misses about e _ _ (performing.no_memory_to_read room may) = refl
-
   carried : (e : Event) (a : Accepted NodeState Answer Note) → Step (node_of s) e (Ok a) → AreAfter Step (option_to_list (Some (command.Perform e))) s.timeline (appended s.timeline a.node a.note)
   carried e a rule = (appended s.timeline a.node a.note, (Ok a, rule, refl), refl)
 
@@ -73,7 +68,7 @@ module _ (s : ShellState) where
   loads name path _ _ (effects.another bytes m found source other) = refl
   loads name path _ _ (effects.read bytes m fate d found source same does) =
       performs s (event.Load m) naming_nothing _ fate d refl (carried (event.Load m)) does
-  loads name path _ _ (effects.unread bytes fate d found does) = misses naming_nothing event.Load fate d does
+  loads name path _ _ (effects.unread bytes found) = refl
 
   tried_same : (kind : ArrivalKind) → (effects.tried kind s).timeline ≡ s.timeline
   tried_same arrivals.Call = refl
@@ -91,7 +86,7 @@ module _ (s : ShellState) where
   arrives kind name text _ _ (effects.read t fate d is does) =
       let e = effects.arrival_event s kind name t in
       performs (effects.tried kind s) e naming_nothing (performing.done_by (effects.tried kind s) e) fate d (tried_same kind) (arrived kind (next_number s) name t) does
-  arrives kind name text _ _ (effects.unread fate d does) = misses naming_nothing _ fate d does
+  arrives kind name text _ _ effects.unread = refl
 
   retakes : (pid : ℕ) (fate : Option Fate) (d : Effect) → serving.Retakes s pid fate d → IsLed s d
   retakes pid _ _ (serving.kept_again job is) = refl
@@ -135,7 +130,7 @@ module _ (s : ShellState) where
   unpacks vsn _ _ (upgrades.no_release path why is) = refl
   unpacks vsn _ _ (upgrades.release_read r fate d is does) =
       performs s (event.SetUnpacked r) (naming (chars vsn)) _ fate d refl (carried (event.SetUnpacked r)) does
-  unpacks vsn _ _ (upgrades.release_unread fate d does) = misses (naming (chars vsn)) (upgrades.unpack_event vsn) fate d does
+  unpacks vsn _ _ upgrades.release_unread = refl
 
   altered : (kind : ReleaseChange) (vsn : List ℕ) (a : Accepted NodeState Answer Note) → Step (node_of s) (upgrades.release_event kind vsn) (Ok a) → IsLed s (performing.done_by s (upgrades.release_event kind vsn) a)
   altered releases.Remove vsn a rule = carried (event.Remove vsn) a rule

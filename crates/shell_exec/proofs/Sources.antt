@@ -4,23 +4,22 @@ use Rattle.erl_ir.specs.Module.{Forms}
 use Rattle.erl_parse.specs.Sources.{IsNoSource}
 use Rattle.erl_parse.specs.Telling.{Says}
 use Rattle.erl_parse.specs.declared.error.LangError.{LangError}
-use Rattle.erl_term.specs.Term.{trees}
-use Rattle.erl_term.specs.declared.term.Term.{Term}
 use Rattle.node_types.specs.declared.event.Event.TheVariants as event
 use Rattle.release_files.specs.Files.{Contents, file_of}
 use Rattle.release_files.specs.declared.fault.FileFault.{FileFault}
 use Rattle.release_files.specs.declared.fault.FileFault.TheVariants as file
-use Rattle.shell_answers.specs.Answers.{line_of}
+use Rattle.shell_answers.specs.Answers.{fixed, line_of}
 use Rattle.shell_answers.specs.Faults.{file_fault}
 use Rattle.shell_answers.specs.Refusals.{naming_nothing}
+use Rattle.shell_answers.specs.declared.fixed.Fixed.TheVariants as words
 use Rattle.shell_upgrades.specs.Done.{IsDone}
-use Rattle.shell_upgrades.specs.Performing.{Misses, Performs, done_by}
+use Rattle.shell_upgrades.specs.Performing.{Performs, done_by}
 use Rattle.shell_upgrades.specs.State.{ShellState}
 use Rattle.shell_upgrades.specs.Fate.{Fate}
+use Rattle.shell_upgrades.specs.Fate.TheVariants as fates
 use Rattle.shell_upgrades.proofs.Performing.{done-as}
 use Rattle.shell_exec.specs.Execution.{Loads, another, missing, no_source, read, unread}
 use Rattle.shell_exec.specs.Done.{IsSourced, Unsourced, not_loaded}
-use Rattle.shell_exec.specs.Terms.{IsNotOne}
 use Rattle.shell_exec.specs.declared.loading.Unloaded.TheVariants.{Faulted}
 use Rattle.values.specs.Failure.{Fails}
 use Rattle.values.specs.declared.failure.Failure.{Failure}
@@ -38,8 +37,9 @@ module _ (s : ShellState) (name path : List ℕ) (new : ShellState) (fate : Opti
   source-read m it done =
       done-as new text appended (λ d does. read it.bytes m fate d it.stands it.source it.named does) done
 
-  pub source-unread : (bytes : List ℕ) → file_of path s.files ≡ Some bytes → IsDone (Misses s naming_nothing event.Load fate) new text appended → IsDone (Loads s name path fate) new text appended
-  source-unread bytes found done = done-as new text appended (λ d does. unread bytes fate d found does) done
+pub source-unread : (s : ShellState) (name path bytes : List ℕ) (fate : Option Fate) (text appended : List ℕ) → file_of path s.files ≡ Some bytes → (fate ≡ Some fates.Refused) × (appended ≡ text ++ line_of (fixed words.Memory)) → IsDone (Loads s name path fate) s text appended
+source-unread s name path bytes fate text appended found said =
+    subst (λ f. IsDone (Loads s name path f) s text appended) (sym said.0) (_, unread bytes found, refl, said.1)
 
 pub source-faulted : (s : ShellState) (name path : List ℕ) (fault : FileFault) (fate : Option Fate) (text appended : List ℕ) → Unsourced s.files name path (Faulted fault) → (fate ≡ None) × (appended ≡ text ++ line_of (file_fault path fault)) → IsDone (Loads s name path fate) s text appended
 source-faulted s name path file.Missing fate text appended is said =
@@ -51,10 +51,3 @@ source-faulted s name path (file.Lang why) fate text appended is said =
 source-faulted s name path (file.File e) fate text appended is said = absurd is
 source-faulted s name path file.DuplicateModule fate text appended is said = absurd is
 source-faulted s name path file.Memory fate text appended is said = absurd is
-
--- Terms of a text.
-
-pub not_one_of : (ts : List Term) → (length ts ≡ 1 → ⊥) → IsNotOne (trees ts)
-not_one_of [] many = tt
-not_one_of (t ∷ []) many = absurd (many refl)
-not_one_of (t ∷ u ∷ ts) many = tt

@@ -23,11 +23,8 @@ use Rattle.shell_upgrades.specs.State.{ShellState}
 use Rattle.shell_upgrades.specs.Halt.{Halt}
 use Rattle.shell_upgrades.specs.Halt.TheVariants.{Full, Refused, Memory}
 use Rattle.shell_exec.specs.Execution.{tried}
-use Rattle.shell_exec.specs.Terms.{IsRead, faulty, not_one}
 use Rattle.shell_exec.specs.declared.loading.Unloaded.{Unloaded}
 use Rattle.shell_exec.specs.declared.loading.Unloaded.TheVariants.{Faulted, Unread}
-use Rattle.shell_exec.specs.declared.reading.Misread.{Misread}
-use Rattle.shell_exec.specs.declared.reading.Misread.TheVariants.{NotOne, Faulty, NoMemory}
 use Rattle.values.specs.declared.failure.Failure.{Failure}
 use Rattle.values.specs.declared.failure.Failure.TheVariants as failures
 
@@ -36,13 +33,6 @@ abbrev pub refusal_of_change : CodeOperation → List ℕ → NodeState → Opti
 refusal_of_change changes.Delete name n = delete_refusal name n.modules
 refusal_of_change changes.Purge name n = None
 refusal_of_change changes.SoftPurge name n = soft_purge_refusal name n
-
--- A term was read, or it is told why none was. Where memory was refused nothing is said of the text.
-
-abbrev pub Misreads : List ℕ → Misread → Type 0
-Misreads text NotOne = IsRead text not_one
-Misreads text (Faulty e) = IsRead text (faulty e.kind e.at)
-Misreads text NoMemory = Unit {0}
 
 -- A module of this name was read, or it is told why none was.
 

@@ -27,13 +27,14 @@ use Rattle.shell_requests.specs.declared.request.ArrivalKind.{ArrivalKind}
 use Rattle.shell_requests.specs.declared.request.ArrivalKind.TheVariants as arrivals
 use Rattle.shell_requests.specs.declared.request.CodeOperation.{CodeOperation}
 use Rattle.shell_requests.specs.declared.request.CodeOperation.TheVariants as changes
-use Rattle.shell_upgrades.specs.Performing.{Misses, Performs, done_by}
+use Rattle.shell_upgrades.specs.Performing.{Performs, done_by}
 use Rattle.shell_upgrades.specs.Serving.{Asks, CommitsKept, Forgets, ServesAs, Undoes, kept_job}
 use Rattle.shell_upgrades.specs.State.{Effect, ShellState, answered, next_number, node_of, with_call}
 use Rattle.shell_upgrades.specs.Fate.{Fate}
+use Rattle.shell_upgrades.specs.Fate.TheVariants.{Refused}
 use Rattle.shell_relups.specs.Relups.{TellsRelup}
 use Rattle.shell_upgrades.specs.Upgrades.{AdvancesScript, AltersReleases, Sweeps, Unpacks}
-use Rattle.shell_exec.specs.Terms.{IsRead, one, not_one, faulty}
+use Rattle.shell_requests.specs.Terms.{IsRead, one, not_one, faulty}
 
 -- `delete`, `purge`, `soft_purge MOD`
 
@@ -46,7 +47,8 @@ abbrev pub Changes : ShellState → CodeOperation → List ℕ → Option Fate �
 Changes s kind name fate d =
     Performs s s (change_event kind name) naming_nothing (done_by s (change_event kind name)) fate d
 
--- `load MOD PATH`: what stands against the file is told first.
+-- `load MOD PATH`: a fault of the file is answered before a refusal. If an allocation fails while the source is read, nothing is
+-- known of either.
 pub data Loads (s : ShellState) (name path : List ℕ) : Option Fate → Effect → Type 0 where
   missing : file_of path s.files ≡ None → Loads s name path None (answered s (file_fault path file.Missing))
   no_source : (bytes : List ℕ) (why : LangError) → file_of path s.files ≡ Some bytes → Says bytes why → IsNoSource bytes →
@@ -56,11 +58,11 @@ pub data Loads (s : ShellState) (name path : List ℕ) : Option Fate → Effect 
   read : (bytes : List ℕ) (m : Forms) (fate : Option Fate) (d : Effect) → file_of path s.files ≡ Some bytes →
       IsSource bytes m → m.name ≡ name →
       Performs s s (event.Load m) naming_nothing (done_by s (event.Load m)) fate d → Loads s name path fate d
-  unread : (bytes : List ℕ) (fate : Option Fate) (d : Effect) → file_of path s.files ≡ Some bytes →
-      Misses s naming_nothing event.Load fate d → Loads s name path fate d
+  unread : (bytes : List ℕ) → file_of path s.files ≡ Some bytes →
+      Loads s name path (Some Refused) (answered s (fixed words.Memory))
 
--- `call`, `cast`, `send NAME TERM`: what stands against the term is told first. A call is counted where its arrival is
--- tried: its term was read, and memory was not refused.
+-- `call`, `cast`, `send NAME TERM`: a fault of the term is answered before a refusal. If an allocation fails while the line is
+-- read, nothing is known of either. A call is counted if its arrival is tried: its term was read, and no allocation failed.
 
 abbrev pub body_of : ArrivalKind → ℕ → Term → ClientMessage
 body_of arrivals.Call number t = body.Call number t
@@ -91,8 +93,7 @@ pub data Arrives (s : ShellState) (kind : ArrivalKind) (name text : List ℕ) : 
       Performs s (tried kind s) (arrival_event s kind name t) naming_nothing
       (done_by (tried kind s) (arrival_event s kind name t)) fate d →
       Arrives s kind name text fate d
-  unread : (fate : Option Fate) (d : Effect) → Misses s naming_nothing (arrival_event s kind name) fate d →
-      Arrives s kind name text fate d
+  unread : Arrives s kind name text (Some Refused) (answered s (fixed words.Memory))
 
 -- `take`, `retake`, `proc PROC`
 

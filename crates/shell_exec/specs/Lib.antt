@@ -1,6 +1,5 @@
 pub mod Execution
 pub mod Done
-pub mod Terms
 pub use Rattle.shell_relups.specs.Relups
 pub use Rattle.shell_upgrades.specs.Done as HoldingsDone
 pub use Rattle.shell_upgrades.specs.Fate

@@ -2,26 +2,22 @@
 ghost use Rattle.std.specs.Prelude.{◌≡◌, ◌++◌, ℕ, List, IfOk, None};
 ghost use Rattle.std.specs.Str.{chars};
 ghost use Rattle.erl_term.specs.Term.{tree};
-ghost use Rattle.erl_term.specs.declared.term.Term.{Term};
-ghost use Rattle.process_table.specs.Steps.{arrive_refusal, kind_of};
 ghost use Rattle.shell_answers.specs.Answers.{line_of};
 ghost use Rattle.shell_answers.specs.Refusals.{naming_nothing};
-ghost use Rattle.shell_exec.specs.Execution.{Arrives, arrival_answer, arrival_event, body_of, event_of_arrival, tried};
+ghost use Rattle.shell_exec.specs.Execution.{Arrives, arrival_answer, event_of_arrival, tried};
 ghost use Rattle.shell_upgrades.specs.Performing.{Performs, done_by};
 ghost use Rattle.shell_upgrades.specs.Done.{IsDone};
 ghost use Rattle.shell_exec.specs.Done.{after_missed};
-ghost use Rattle.shell_upgrades.specs.Halts.{HaltsBy, MayAllRunOut, RefusesAll, halt_answer, halt_fate, missed_fate};
-ghost use Rattle.shell_upgrades.specs.Halt.{Halt};
-ghost use Rattle.shell_upgrades.specs.State.{carried, next_number, node_of, stepped};
-ghost use Rattle.shell_exec.specs.Terms.{IsRead, one};
+ghost use Rattle.shell_upgrades.specs.Halts.{halt_answer, halt_fate};
+ghost use Rattle.shell_upgrades.specs.State.{next_number};
+ghost use Rattle.shell_requests.specs.Terms.{IsRead, one};
 
-use crate::reading::{Misread, term_of};
 use erl_term::{Atom, Term};
-use node_types::{Event, Refusal};
-use process_table::{ClientMessage, MessageKind, ProcError};
+use node_types::Event;
+use process_table::ClientMessage;
 use shell_answers::{Fixed, write_called};
-use shell_requests::{ArrivalKind, Name};
-use shell_upgrades::{Halt, Said, Shell, say, say_term_fault, tell_halt, tell_missed};
+use shell_requests::{ArrivalKind, Misread, Name, term_of};
+use shell_upgrades::{Halt, Said, Shell, refuse, say, say_term_fault, tell_halt};
 
 /// Has the term of a text arrive for the process of a name.
 pub(crate) fn arrive(
@@ -38,18 +34,8 @@ pub(crate) fn arrive(
         Ok(term) => arrive_term(held, kind, name, term, out),
         Err(Misread::NotOne) => say(Fixed::BadCommand, out),
         Err(Misread::Faulty(error)) => say_term_fault(error, out),
-        Err(Misread::NoMemory) => tell_unread(held, kind, name, out),
+        Err(Misread::NoMemory) => refuse(out),
     }
-}
-
-/// Tells what stands against an arrival whatever its term is, which was not read, or else lack of memory.
-fn tell_unread(held: &Shell, kind: ArrivalKind, name: Name<'_>, out: &mut Vec<u8>) -> Said
-    ensures { IfOk result (λ fate. (halt : Halt)
-        × HaltsBy (RefusesAll held.now (arrival_event held.now kind (chars name.entry.text.now)))
-        (MayAllRunOut held.now (arrival_event held.now kind (chars name.entry.text.now))) halt held.now
-        × (fate ≡ missed_fate halt) × (out.new.items ≡ out.old.items ++ line_of (halt_answer naming_nothing halt))) }
-{
-    tell_missed(halt_of_arrival(held, kind, name), out)
 }
 
 /// Has a term arrive.
@@ -64,7 +50,7 @@ fn arrive_term(
         → IsDone (Arrives held.old kind (chars name.entry.text.now) text fate) held.new out.old.items out.new.items) }
 {
     let Ok(atom) = name.atom(held.alloc()) else {
-        return tell_unnamed(held, kind, name, out);
+        return refuse(out);
     };
     arrive_named(held, kind, atom, term, out)
 }
@@ -114,19 +100,6 @@ fn tell_arrived(held: &mut Shell, kind: ArrivalKind, number: u64, out: &mut Vec<
     }
 }
 
-/// Tells what stands against an arrival whatever its term is, or else lack of memory. A call is counted, unless memory was
-/// refused.
-fn tell_unnamed(held: &mut Shell, kind: ArrivalKind, name: Name<'_>, out: &mut Vec<u8>) -> Said
-    ensures { IfOk result (λ fate. (halt : Halt)
-        × HaltsBy (RefusesAll held.old (arrival_event held.old kind (chars name.entry.text.now)))
-        (MayAllRunOut held.old (arrival_event held.old kind (chars name.entry.text.now))) halt held.old
-        × (fate ≡ halt_fate halt) × (held.new ≡ after_missed halt kind held.old) ×
-        (out.new.items ≡ out.old.items ++ line_of (halt_answer naming_nothing halt))) }
-{
-    let halt = halt_of_arrival(held, kind, name);
-    tell_kept_out(held, halt, kind, out)
-}
-
 /// Tells why it has not arrived. A call is counted, unless memory was refused.
 fn tell_kept_out(held: &mut Shell, halt: Halt, kind: ArrivalKind, out: &mut Vec<u8>) -> Said
     ensures { IfOk result (λ fate. (fate ≡ halt_fate halt) × (held.new ≡ after_missed halt kind held.old) ×
@@ -143,40 +116,6 @@ fn count_unless_refused(held: &mut Shell, halt: &Halt, kind: ArrivalKind)
     match halt {
         Halt::Full | Halt::Refused(_) => count(held, kind),
         Halt::Memory => (),
-    }
-}
-
-/// What stands against an arrival whatever its term is, or else lack of memory.
-fn halt_of_arrival(held: &Shell, kind: ArrivalKind, name: Name<'_>) -> Halt
-    ensures { HaltsBy (RefusesAll held.now (arrival_event held.now kind (chars name.entry.text.now)))
-        (MayAllRunOut held.now (arrival_event held.now kind (chars name.entry.text.now))) result held.now }
-{
-    if held.is_full() {
-        return Halt::Full;
-    }
-    match arrival_refusal(held, kind, name) {
-        Some(why) => Halt::Refused(Refusal::OfProcesses(why)),
-        None => Halt::Memory,
-    }
-}
-
-/// Why an arrival is refused whatever its term is.
-fn arrival_refusal(held: &Shell, kind: ArrivalKind, name: Name<'_>) -> Option<ProcError>
-    ensures { (t : Term) → result ≡ arrive_refusal (chars name.entry.text.now)
-        (kind_of (body_of kind (next_number held.now) t)) (node_of held.now).processes }
-{
-    let kind = body_kind(kind, held.next_number());
-    held.processes().arrive_refusal(name.as_str(), kind)
-}
-
-/// The kind of what arrives.
-fn body_kind(kind: ArrivalKind, number: u64) -> MessageKind
-    ensures { (t : Term) → kind_of (body_of kind number t) ≡ result }
-{
-    match kind {
-        ArrivalKind::Call => MessageKind::Call(number),
-        ArrivalKind::Cast => MessageKind::Cast,
-        ArrivalKind::Info => MessageKind::Info,
     }
 }
 

@@ -1,25 +1,20 @@
 // Loads of modules.
-ghost use Rattle.std.specs.Prelude.{◌≡◌, ◌++◌, IfOk, MatchResult, None};
+ghost use Rattle.std.specs.Prelude.{◌≡◌, ◌++◌, ℕ, IfOk, List, MatchResult, None};
 ghost use Rattle.std.specs.Str.{chars};
-ghost use Rattle.node_types.specs.declared.event.Event.TheVariants.{Load};
 ghost use Rattle.shell_answers.specs.Answers.{line_of, loaded};
-ghost use Rattle.shell_answers.specs.Refusals.{naming_nothing};
 ghost use Rattle.shell_exec.specs.Execution.{Loads};
-ghost use Rattle.shell_upgrades.specs.Performing.{Performs};
 ghost use Rattle.shell_upgrades.specs.Done.{IsDone};
 ghost use Rattle.shell_exec.specs.Done.{IsSourced, Unsourced, not_loaded};
-ghost use Rattle.shell_upgrades.specs.Halts.{HaltsBy, MayAllRunOut, RefusesAll};
-ghost use Rattle.shell_upgrades.specs.State.{carried, stepped};
 
 use crate::naming::spells;
 use erl_ir::Module;
 use erl_parse::{LangError, read_module};
 use erl_term::Atom;
-use node_types::{Event, Refusal};
+use node_types::Event;
 use release_files::{FileFault, Files};
 use shell_answers::write_loaded;
 use shell_requests::Name;
-use shell_upgrades::{Halt, Said, Shell, say_file_fault, tell_halt, tell_missed};
+use shell_upgrades::{Said, Shell, refuse, say_file_fault, tell_halt};
 use std::alloc::Global;
 use std::hash::RandomState;
 use values::{Duplicate, Failure};
@@ -29,7 +24,7 @@ use values::{Duplicate, Failure};
 pub enum Unloaded {
     /// This stands against the file.
     Faulted(FileFault),
-    /// There was no memory to read its source.
+    /// An allocation failed while its source was read.
     Unread,
 }
 
@@ -41,7 +36,7 @@ pub(crate) fn load(held: &mut Shell, name: Name<'_>, path: &str, out: &mut Vec<u
     match source_in(held.alloc(), held.hashing(), held.files(), name, path) {
         Ok(code) => load_module(held, code, out),
         Err(Unloaded::Faulted(fault)) => say_file_fault(path, fault, out),
-        Err(Unloaded::Unread) => tell_missed(halt_of_load(held), out),
+        Err(Unloaded::Unread) => refuse(out),
     }
 }
 
@@ -49,7 +44,7 @@ pub(crate) fn load(held: &mut Shell, name: Name<'_>, path: &str, out: &mut Vec<u
 ///
 /// # Errors
 ///
-/// `Faulted` with what stands against the file; `Unread` where there is no memory to read it.
+/// `Faulted` with the fault of the file; `Unread` if an allocation fails while it is read.
 pub fn source_in(
     alloc: Global,
     hashing: RandomState,
@@ -70,29 +65,13 @@ pub fn source_in(
     }
 }
 
-/// What stands against every load that is told without memory, or else want of it.
-fn halt_of_load(held: &Shell) -> Halt
-    ensures { HaltsBy (RefusesAll held.now Load) (MayAllRunOut held.now Load) result held.now }
-{
-    if held.is_full() {
-        return Halt::Full;
-    }
-    if held.node().is_installing() {
-        return Halt::Refused(Refusal::Installing);
-    }
-    match held.node().modules().purge_and_load_refusal() {
-        Some(why) => Halt::Refused(Refusal::OfModules(why)),
-        None => Halt::Memory,
-    }
-}
-
-/// Loads a module.
+/// Loads a module that was read from a file.
 fn load_module(held: &mut Shell, code: Module, out: &mut Vec<u8>) -> Said
-    ensures { IfOk result (λ fate. IsDone (Performs held.old held.old (Load code) naming_nothing
-        (λ a. carried (stepped a held.old) (Load code) (loaded code.name)) fate) held.new out.old.items out.new.items) }
+    ensures { IfOk result (λ fate. (name path : List ℕ) → IsSourced held.old.files name path code →
+        IsDone (Loads held.old name path fate) held.new out.old.items out.new.items) }
 {
     let Ok(name) = code.name().copy(held.alloc()) else {
-        return tell_halt(halt_of_load(held), out);
+        return refuse(out);
     };
     match held.perform(Event::Load(code)) {
         Ok(_) => tell_loaded(&name, out),

@@ -48,7 +48,6 @@ module _ (files : Contents) (from to : List ℕ) (old new : Release) (is_old : I
   pub made-told : (relup : Upgrades Term Low) (fate : Option Fate) (text appended : List ℕ) → IsTranslation (rel_apps old) (rel_apps new) (appups_of new) relup → IsWritten relup fate text appended → IsRelupTold files from to fate text appended
   made-told relup None text appended is told = (_, made old new relup is_old is_new is, told)
   made-told relup (Some fates.Refused) text appended is told = (_, no_memory_for_relup, told)
-  made-told relup (Some fates.Unread) text appended is told = absurd told
   made-told relup (Some (fates.StoppedAt mark)) text appended is told = absurd told
 
   refusal-told : (why : MakeError) (fate : Option Fate) (text appended : List ℕ) → IsRefusal (rel_apps old) (rel_apps new) (appups_of new) why → (fate ≡ unmade_fate why) × (appended ≡ text ++ line_of (unmade why)) → IsRelupTold files from to fate text appended

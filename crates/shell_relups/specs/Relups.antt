@@ -21,7 +21,7 @@ use Rattle.shell_answers.specs.Relups.{unmade}
 use Rattle.shell_answers.specs.declared.fixed.Fixed.TheVariants as words
 use Rattle.shell_state.specs.State.{Effect, ShellState, answered}
 use Rattle.shell_state.specs.Fate.{Fate}
-use Rattle.shell_state.specs.Fate.TheVariants.{Refused, Unread, StoppedAt}
+use Rattle.shell_state.specs.Fate.TheVariants.{Refused, StoppedAt}
 
 -- `relup FROM TO`, by the files: what stands against those of the one release is told first, then what stands against those
 -- of the other, then what stands against a relup of the two.
@@ -64,5 +64,4 @@ unmade_fate _ = None
 abbrev pub IsWritten : Upgrades Term Low → Option Fate → List ℕ → List ℕ → Type 0
 IsWritten relup None text appended = appended ≡ text ++ line_of (relup_tree relup)
 IsWritten relup (Some Refused) text appended = appended ≡ text ++ line_of (fixed words.Memory)
-IsWritten relup (Some Unread) text appended = ⊥
 IsWritten relup (Some (StoppedAt mark)) text appended = ⊥

@@ -1,3 +1,4 @@
 pub mod Reading
 pub mod Request
 pub mod Words
+pub mod Terms

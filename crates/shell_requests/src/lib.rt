@@ -2,16 +2,19 @@
 //!
 //! [`read_line`] reads a line as a [`Line`]: nothing, no command, or a [`Request`]. It takes no memory: what a request
 //! names stands in the line. The commands are one table, `commands` in `specs/Request`, with what follows the
-//! word of each.
+//! word of each. [`term_of`] reads the term of a line.
 //!
 //! # What is proved
 //!
-//! A line says what the table says (`spoken`), whatever its bytes are.
+//! - [`read_line`]: a line says what the table says (`spoken`), whatever its bytes are.
+//! - [`term_of`]: the term that is returned is the one of the text, and an error is the text's (`IsRead`), unless an
+//!   allocation failed.
 #![tactic(auto)]
 
 mod name;
 mod reading;
 mod request;
+mod terms;
 mod words;
 
 pub use name::Name;
@@ -20,3 +23,4 @@ pub use request::{
     ArrivalKind, CodeOperation, CommandOperands, Line, MarkUse, Proc, Question, ReleaseChange,
     Request, Service,
 };
+pub use terms::{Misread, term_of};

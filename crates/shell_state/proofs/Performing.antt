@@ -26,9 +26,9 @@ use Rattle.node_types.specs.declared.event.Refusal.{Refusal}
 use Rattle.node_types.specs.declared.event.Refusal.TheVariants.{Installing}
 use Rattle.script_state.specs.Runner.{RunnerState}
 use Rattle.shell_state.specs.Serving.{Commits, Retakes, no_memory_to_run, not_run, not_run_full, kept_again, no_memory_to_keep, not_running}
-use Rattle.shell_state.specs.Performing.{Misses, Performs, no_memory_to_read, unread_full, unread_refused, accepted, full, no_memory, refused, done_by, job_kept}
+use Rattle.shell_state.specs.Performing.{Performs, accepted, full, no_memory, refused, done_by, job_kept}
 use Rattle.shell_state.specs.Done.{IsDone, KeepsJob}
-use Rattle.shell_steps.specs.Halts.{Halts, HaltsBy, MayAllRunOut, MayCommit, RefusesAll, RefusesResult, halt_answer, halt_by, halt_fate, missed_fate}
+use Rattle.shell_steps.specs.Halts.{Halts, HaltsBy, MayCommit, RefusesResult, halt_answer, halt_by, halt_fate}
 use Rattle.undo_journal.specs.declared.history.Command.TheVariants.{Perform}
 use Rattle.shell_steps.specs.State.{Effect, IsFull, ShellState, node_of, stepped, with_job}
 use Rattle.shell_steps.specs.Stepping.{IsStepped}
@@ -71,7 +71,6 @@ pub again_kept : (s new : ShellState) (pid : ℕ) (job : Job) (fate : Option Fat
 again_kept s new pid job None text appended runs told = (_, kept_again job runs, told.0, told.1)
 again_kept s new pid job (Some fates.Refused) text appended runs told =
     (_, no_memory_to_keep (unrefused_at (living pid (node_of s).processes) job runs), told.0, told.1)
-again_kept s new pid job (Some fates.Unread) text appended runs told = absurd told
 again_kept s new pid job (Some (fates.StoppedAt mark)) text appended runs told = absurd told
 
 -- and it is told why there is none
@@ -84,16 +83,7 @@ pub not_kept : (s : ShellState) (pid : ℕ) (fate : Option Fate) (text appended 
 not_kept s pid fate text appended none told =
     subst (λ f. IsDone (Retakes s pid f) s text appended) (sym told.0) (_, no_memory_to_keep none, refl, told.1)
 
--- Where a part was not read, and where a job was not run.
-
-pub missed : {X : Type 0} (s : ShellState) (about : Subject) (e : X → Event) (h : Halt) (fate : Option Fate) (text appended : List ℕ) → HaltsBy (RefusesAll s e) (MayAllRunOut s e) h s → (fate ≡ missed_fate h) × (appended ≡ text ++ line_of (halt_answer about h)) → IsDone (Misses s about e fate) s text appended
-missed s about e halts.Full fate text appended is told =
-    subst (λ f. IsDone (Misses s about e f) s text appended) (sym told.0) (_, unread_full is, refl, told.1)
-missed s about e (halts.Refused why) fate text appended is told =
-    subst (λ f. IsDone (Misses s about e f) s text appended) (sym told.0) (_, unread_refused is.0 why is.1, refl, told.1)
-missed s about e halts.Memory fate text appended is told =
-    subst (λ f. IsDone (Misses s about e f) s text appended) (sym told.0) (_, no_memory_to_read is.0 is.1, refl, told.1)
-
+-- a job that was not run
 pub unrun : (s : ShellState) (job : Job) (h : Halt) (fate : Option Fate) (text appended : List ℕ) → HaltsBy (RefusesResult s job) (MayCommit s job) h s → (fate ≡ halt_fate h) × (appended ≡ text ++ line_of (halt_answer naming_nothing h)) → IsDone (Commits s job fate) s text appended
 unrun s job halts.Full fate text appended is told =
     subst (λ f. IsDone (Commits s job f) s text appended) (sym told.0) (_, not_run_full is, refl, told.1)
@@ -101,12 +91,6 @@ unrun s job (halts.Refused why) fate text appended is told =
     subst (λ f. IsDone (Commits s job f) s text appended) (sym told.0) (_, not_run is.0 why is.1, refl, told.1)
 unrun s job halts.Memory fate text appended is told =
     subst (λ f. IsDone (Commits s job f) s text appended) (sym told.0) (_, no_memory_to_run is.0 is.1, refl, told.1)
-
--- What stands against an event whatever a part of it is stands against each.
-pub halts-at : {X : Type 0} (s : ShellState) (e : X → Event) (h : Halt) → HaltsBy (RefusesAll s e) (MayAllRunOut s e) h s → (x : X) → Halts h s (e x)
-halts-at s e halts.Full is x = is
-halts-at s e (halts.Refused why) is x = (is.0, is.1 x)
-halts-at s e halts.Memory is x = (is.0, is.1 x)
 
 -- what is one effect is another that it equals
 pub done-as : {P Q : Effect → Type 0} (new : ShellState) (text appended : List ℕ) → ((d : Effect) → P d → Q d) → IsDone P new text appended → IsDone Q new text appended

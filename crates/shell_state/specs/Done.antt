@@ -16,5 +16,4 @@ abbrev pub KeepsJob : ℕ → Job → Option Fate → ShellState → ShellState 
 KeepsJob pid job None old new text appended =
     (new ≡ with_job job old) × (appended ≡ text ++ line_of (job_of (length old.jobs + 1) pid))
 KeepsJob pid job (Some fates.Refused) old new text appended = (new ≡ old) × (appended ≡ text ++ line_of (fixed words.Memory))
-KeepsJob pid job (Some fates.Unread) old new text appended = ⊥
 KeepsJob pid job (Some (fates.StoppedAt mark)) old new text appended = ⊥

@@ -16,10 +16,9 @@ use Rattle.node_types.specs.declared.event.Refusal.{Refusal}
 use Rattle.shell_answers.specs.Answers.{called, carried_out, committed, finished, fixed, installing, job_of, loaded, recovered, restarted, revived, set_unpacked, swept}
 use Rattle.shell_answers.specs.Refusals.{Subject, refusal_of}
 use Rattle.shell_answers.specs.declared.fixed.Fixed.TheVariants as words
-use Rattle.shell_steps.specs.Halts.{MayAllRunOut, RefusesAll}
 use Rattle.shell_steps.specs.State.{Effect, IsFull, ShellState, answered, carried, node_of, stepped, with_job}
 use Rattle.shell_steps.specs.declared.fate.Fate.{Fate}
-use Rattle.shell_steps.specs.declared.fate.Fate.TheVariants.{Refused, Unread}
+use Rattle.shell_steps.specs.declared.fate.Fate.TheVariants.{Refused}
 
 -- What an event comes to: where no serial is left, that, and else what the rule says. A refusal leaves the shell `tried`,
 -- and is told of what it is about; and an event that is accepted does what `done` says.
@@ -32,14 +31,6 @@ pub data Performs (s tried : ShellState) (e : Event) (about : Subject) (done : A
       Performs s tried e about done None (answered tried (refusal_of about why))
   no_memory : (IsFull s → ⊥) → MayRunOut (node_of s) e →
       Performs s tried e about done (Some Refused) (answered s (fixed words.Memory))
-
--- Where one part of the event was not read, for lack of memory: what stands against it whatever that part is, or that
--- memory was refused.
-pub data Misses {X : Type 0} (s : ShellState) (about : Subject) (e : X → Event) : Option Fate → Effect → Type 0 where
-  unread_full : IsFull s → Misses s about e (Some Unread) (answered s (fixed words.SerialEnd))
-  unread_refused : (IsFull s → ⊥) → (why : Refusal) → RefusesAll s e why →
-      Misses s about e (Some Unread) (answered s (refusal_of about why))
-  no_memory_to_read : (IsFull s → ⊥) → MayAllRunOut s e → Misses s about e (Some Refused) (answered s (fixed words.Memory))
 
 -- What an event is answered that is accepted, one clause an event; and what is done of it.
 

@@ -29,5 +29,5 @@ mod undoing;
 pub use shell::Shell;
 pub use shell_steps::{
     Fate, Halt, Node, Said, refuse, say, say_file_fault, say_term_fault, tell_halt, tell_halt_of,
-    tell_missed, tell_missed_of, tell_stopped,
+    tell_stopped,
 };

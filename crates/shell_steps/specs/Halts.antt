@@ -38,13 +38,6 @@ halt_by error.Forgotten = Memory
 halt_by error.DeadMark = Memory
 halt_by (error.Memory mark reports) = Memory
 
--- of events that differ in a part which could not be read, whatever it is
-abbrev pub RefusesAll : {X : Type 0} → ShellState → (X → Event) → Refusal → Type 0
-RefusesAll {X} s e why = (x : X) → Step (node_of s) (e x) (Err why)
-
-abbrev pub MayAllRunOut : {X : Type 0} → ShellState → (X → Event) → Type 0
-MayAllRunOut {X} s e = (x : X) → MayRunOut (node_of s) (e x)
-
 -- of the result of a job, whatever it gives
 abbrev pub RefusesResult : ShellState → Job → Refusal → Type 0
 RefusesResult s job why =
@@ -66,9 +59,3 @@ abbrev pub halt_fate : Halt → Option Fate
 halt_fate Full = None
 halt_fate (Refused why) = None
 halt_fate Memory = Some fates.Refused
-
--- and of what could not be read
-abbrev pub missed_fate : Halt → Option Fate
-missed_fate Full = Some fates.Unread
-missed_fate (Refused why) = Some fates.Unread
-missed_fate Memory = Some fates.Refused

@@ -1,13 +1,11 @@
-// What lack of memory makes of a line.
+// How a line ends if an allocation fails.
 use undo_journal::Mark;
 
-/// What lack of memory makes of a line.
+/// How a line ends if an allocation fails.
 #[derive(Clone, Copy)]
 pub enum Fate {
-    /// The line changed nothing. Nothing stands against it that is told without memory.
+    /// The line changed nothing: its text was not read, or no refusal applies to it that is found without memory.
     Refused,
-    /// The term of the line, or the source of its module, was not read. Told is what stands against the line whatever these are.
-    Unread,
     /// The line's undo stopped at this mark.
     StoppedAt(Mark),
 }

@@ -5,7 +5,7 @@ ghost use Rattle.shell_answers.specs.Faults.{file_fault, term_fault};
 ghost use Rattle.shell_answers.specs.Refusals.{naming_nothing, refusal_of, subject_of};
 ghost use Rattle.shell_answers.specs.declared.fixed.Fixed.TheVariants.{Memory};
 ghost use Rattle.shell_steps.specs.declared.fate.Fate.TheVariants.{Refused};
-ghost use Rattle.shell_steps.specs.Halts.{halt_answer, halt_fate, missed_fate};
+ghost use Rattle.shell_steps.specs.Halts.{halt_answer, halt_fate};
 
 use crate::fate::Fate;
 use crate::stepping::Halt;
@@ -78,26 +78,4 @@ fn say_refusal(about: &Subject<'_>, why: &Refusal, out: &mut Vec<u8>) -> Said
 {
     write_refusal(about, why, out)?;
     Ok(None)
-}
-
-/// Appends why something was not done of which a part was not read, and that names no version.
-pub fn tell_missed(halt: Halt, out: &mut Vec<u8>) -> Said
-    ensures { IfOk result (λ fate. (fate ≡ missed_fate halt) ×
-        (out.new.items ≡ out.old.items ++ line_of (halt_answer naming_nothing halt))) }
-{
-    let about = Subject::naming("");
-    tell_missed_of(&about, halt, out)
-}
-
-/// Appends why something was not done of which a part was not read, told of this.
-pub fn tell_missed_of(about: &Subject<'_>, halt: Halt, out: &mut Vec<u8>) -> Said
-    ensures { IfOk result (λ fate. (fate ≡ missed_fate halt) ×
-        (out.new.items ≡ out.old.items ++ line_of (halt_answer (subject_of about.now) halt))) }
-{
-    let fate = match &halt {
-        Halt::Full | Halt::Refused(_) => Fate::Unread,
-        Halt::Memory => Fate::Refused,
-    };
-    tell_halt_of(about, halt, out)?;
-    Ok(Some(fate))
 }

@@ -28,27 +28,20 @@ use Rattle.shell_answers.specs.Refusals.{Subject, naming, naming_nothing}
 use Rattle.shell_answers.specs.declared.fixed.Fixed.TheVariants as words
 use Rattle.shell_requests.specs.declared.request.ReleaseChange.{ReleaseChange}
 use Rattle.shell_requests.specs.declared.request.ReleaseChange.TheVariants as releases
-use Rattle.shell_state.specs.Performing.{Misses, Performs, begun_in, done_by}
+use Rattle.shell_state.specs.Performing.{Performs, begun_in, done_by}
 use Rattle.shell_state.specs.State.{Effect, ShellState, answered, node_of}
 use Rattle.shell_state.specs.Fate.{Fate}
+use Rattle.shell_state.specs.Fate.TheVariants.{Refused}
 
--- `unpack VSN`: what stands against the files of the release is told first.
-
--- a release of this version
-pub record OfVersion (vsn : List ℕ) : Type 0 where
-  pub it : Release
-  pub is : it.rel.vsn ≡ chars vsn
-
-abbrev pub unpack_event : (vsn : List ℕ) → OfVersion vsn → Event
-unpack_event vsn r = event.SetUnpacked r.it
+-- `unpack VSN`: a fault of the release's files is answered before a refusal. If an allocation fails while they are read, nothing
+-- is known of either.
 
 pub data Unpacks (s : ShellState) (vsn : List ℕ) : Option Fate → Effect → Type 0 where
   no_release : (path : List ℕ) (why : FileFault) → IsFirstFault s.files vsn path why →
       Unpacks s vsn None (answered s (file_fault path why))
   release_read : (r : Release) (fate : Option Fate) (d : Effect) → IsRelease s.files vsn r →
       Performs s s (event.SetUnpacked r) (naming (chars vsn)) (done_by s (event.SetUnpacked r)) fate d → Unpacks s vsn fate d
-  release_unread : (fate : Option Fate) (d : Effect) → Misses s (naming (chars vsn)) (unpack_event vsn) fate d →
-      Unpacks s vsn fate d
+  release_unread : Unpacks s vsn (Some Refused) (answered s (fixed words.Memory))
 
 -- why the files are no release, memory that was refused aside
 abbrev pub IsUnreadRelease : ShellState → List ℕ → ReleaseFault → Type 0

@@ -26,7 +26,7 @@ pub use advancing::advance;
 pub use altering::{alter_releases, release_event};
 pub use shell_state::{
     Fate, Halt, Node, Said, Shell, refuse, say, say_file_fault, say_term_fault, tell_halt,
-    tell_missed, tell_stopped,
+    tell_stopped,
 };
 pub use sweeping::{sweep, tell_swept};
 pub use unpacking::{tell_unpacked, unpack};

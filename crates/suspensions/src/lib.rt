@@ -8,8 +8,9 @@
 //! # What is proved
 //!
 //! - [`suspend`] suspends the gen_server processes that rest, of children that have one of the modules, and nobody else
-//!   (`to_suspend`). Where one of them runs it is refused, and names the first ([`suspend_refusal`]), unless it is given up
-//!   to wait: those that run are then passed over. [`unsuspend`] takes it back, by how many were suspended.
+//!   (`to_suspend`). [`unsuspend`] takes it back, by how many were suspended.
+//! - [`suspend_refusal`] names the first of those processes that runs, unless it is given up to wait for them. The caller asks
+//!   it before a suspension, once.
 //! - [`resume`] resumes those of the suspended processes that live, and whose children have one of the modules; the others
 //!   stay suspended, in their order (`to_resume`, `still_suspended`). [`unresume`] takes it back, whole.
 //! - [`changes_for`] gives the suspended gen_server processes that are to change their states for a module, in the order in

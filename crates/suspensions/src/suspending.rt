@@ -4,18 +4,16 @@ ghost use Rattle.std.specs.List.{list_any};
 ghost use Rattle.app_table.specs.Modules.{runs_with};
 ghost use Rattle.process_store.specs.Table.{living};
 ghost use Rattle.process_table.specs.States.{all_resumed, all_suspended, all_unresumed};
-ghost use Rattle.values.specs.Failure.{TellsFailure};
-ghost use Rattle.suspensions.specs.Suspending.{but_last, is_idle, is_resumed, last_of, names, still_suspended, suspend_refusal, to_resume, to_suspend};
+ghost use Rattle.suspensions.specs.Suspending.{but_last, is_idle, is_resumed, last_of, names, still_suspended, to_resume, to_suspend};
 
 use crate::activities::{is_alive, is_idle};
-use crate::busy::{Busy, suspend_refusal};
 use app_table::{AppTable, ChildProcess};
 use erl_term::Atom;
 use low_instructions::Suspension;
 use process_table::{Processes, Resumed};
 use std::alloc::{AllocError, Global};
 use std::mem;
-use values::{Duplicate, Failure, Row};
+use values::{Duplicate, Row};
 
 /// What takes a resumption back.
 #[derive(Drop)]
@@ -80,22 +78,20 @@ fn append(pids: &mut Vec<u64>, more: &[u64]) -> Result<(), AllocError>
     Ok(())
 }
 
-/// The gen_server processes that rest, of children that have one of these modules, are suspended, and noted behind those
-/// that are. How many there are is handed out, by which [`unsuspend`] takes it back. Those that run are passed over where
-/// it is given up to wait for them.
+/// Suspends the gen_server processes that rest, of children that have one of these modules, and notes them after those that
+/// are suspended. Returns how many there are, by which [`unsuspend`] takes it back. Those that run are passed over: whether
+/// they are to be waited for, the caller asks [`crate::suspend_refusal`] before.
 ///
 /// # Errors
 ///
-/// In this order: [`Busy`] with the first that runs, unless it is given up to wait; `Memory`. All is then as it was.
+/// `AllocError` if an allocation fails. All is then unchanged.
 pub fn suspend(
     apps: &AppTable,
     processes: &mut Processes,
     alloc: Global,
     modules: &[Suspension],
-    give_up: bool,
     suspended: &mut Vec<u64>,
-) -> Result<usize, Failure<Busy>>
-    ensures ok { OnOk result (suspend_refusal give_up (names modules.now) apps.now processes.old ≡ None) }
+) -> Result<usize, AllocError>
     ensures suspended { OnOk result (processes.new ≡ all_suspended (to_suspend (names modules.now) apps.now processes.old)
         processes.old) }
     ensures noted { OnOk result (suspended.new.items ≡ suspended.old.items ++
@@ -103,13 +99,8 @@ pub fn suspend(
     ensures count { IfOk result (λ count. count ≡ length (to_suspend (names modules.now) apps.now processes.old)) }
     ensures back { IfOk result (λ count. (all_resumed (last_of count suspended.new.items) processes.new ≡ processes.old) ×
         (but_last count suspended.new.items ≡ suspended.old.items) × (count ≤ length suspended.new.items)) }
-    ensures refused { IfErr result (λ failure. TellsFailure failure
-        (suspend_refusal give_up (names modules.now) apps.now processes.old)) }
     ensures err { OnErr result ((processes.new ≡ processes.old) × (suspended.new.items ≡ suspended.old.items)) }
 {
-    if let Some(busy) = suspend_refusal(apps, processes, modules, give_up) {
-        return Err(Failure::Refused(busy));
-    }
     let pids = to_suspend(apps, processes, alloc, modules)?;
     append(suspended, pids.as_slice())?;
     processes.suspend_all(pids.as_slice());

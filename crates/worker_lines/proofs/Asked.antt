@@ -30,5 +30,4 @@ releases-told rs (Some fates.Refused) seat after text appended lists told = reco
   listed = lists.1;
   written = told;
 }
-releases-told rs (Some fates.Unread) seat after text appended lists told = absurd told
 releases-told rs (Some (fates.StoppedAt mark)) seat after text appended lists told = absurd told

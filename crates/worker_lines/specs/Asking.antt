@@ -17,7 +17,7 @@ use Rattle.shell_answers.specs.Answers.{fixed, floor_at, line_of, mark_at, relea
 use Rattle.shell_answers.specs.Refusals.{Subject}
 use Rattle.shell_answers.specs.declared.fixed.Fixed.TheVariants as words
 use Rattle.shell_exec.specs.Fate.{Fate}
-use Rattle.shell_exec.specs.Fate.TheVariants.{Refused, StoppedAt, Unread}
+use Rattle.shell_exec.specs.Fate.TheVariants.{Refused, StoppedAt}
 use Rattle.worker_lines.specs.Telling.{fault_told}
 use Rattle.workers.specs.Lines.{line, with_lines}
 
@@ -33,7 +33,6 @@ pub record IsAnswered (may : List Line → List ℕ → Type 0) (seat after : Se
 abbrev pub IsWritten : List Listed → Option Fate → List ℕ → List ℕ → Type 0
 IsWritten releases None text appended = appended ≡ text ++ line_of (list (releases_in releases))
 IsWritten releases (Some Refused) text appended = appended ≡ text ++ line_of (fixed words.Memory)
-IsWritten releases (Some Unread) text appended = ⊥
 IsWritten releases (Some (StoppedAt mark)) text appended = ⊥
 
 -- One holding: the command is listed with its answer, which is told, or with why it's refused, and that is told. Where memory

@@ -36,7 +36,7 @@ use Rattle.shell_answers.specs.Faults.{file_fault, term_fault}
 use Rattle.shell_answers.specs.Refusals.{Subject, naming, naming_nothing}
 use Rattle.shell_answers.specs.declared.fixed.Fixed.TheVariants as words
 use Rattle.shell_exec.specs.Execution.{change_event}
-use Rattle.shell_exec.specs.Terms.{IsRead, one, not_one, faulty}
+use Rattle.shell_requests.specs.Terms.{IsRead, one, not_one, faulty}
 use Rattle.shell_exec.specs.Performing.{revived_in, swept_in, truth_in}
 use Rattle.shell_exec.specs.Relups.{RelupTold}
 use Rattle.shell_requests.specs.Request.{Request, Spoken, ask, change, load, undo, forget, commit, arrive, serve, revive, unpack, release, relup, advance, sweep, too_long, silent, unknown, asks}

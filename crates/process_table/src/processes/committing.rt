@@ -6,7 +6,7 @@ ghost use Rattle.process_effects.specs.Commits.{IsRunning, rested_after};
 ghost use Rattle.process_store.specs.Changes.{CanTurnAt};
 ghost use Rattle.process_store.specs.Table.{living};
 ghost use Rattle.process_effects.specs.Exits.{exit_told, exited};
-ghost use Rattle.process_table.specs.Commit.{CanCommit, RefusesCommit, commit_told, committed, concluded, normal, told_by};
+ghost use Rattle.process_table.specs.Commit.{CanCommit, RefusesCommit, commit_told, committed, normal};
 ghost use Rattle.process_store.specs.Pieces.{HoldsLost};
 ghost use Rattle.process_table.specs.Undo.{Fits, LosesNothing, TakesBackEnds, held, undone};
 
@@ -98,30 +98,6 @@ impl Processes {
         ))
     }
 
-    /// What a job that a process runs has done is done, and the process rests or ends. What clients are told is handed out in `n`
-    /// equal values.
-    fn conclude(
-        &mut self,
-        job: &Job,
-        acts: &[Act],
-        end: &End,
-        n: usize,
-    ) -> Result<(Vec<Row<Reply>>, ProcessesUndo), AllocError>
-        requires running { IsRunning job.now self.old }
-        requires turns { CanTurnAt job.now.pid self.old }
-        ensures concluded { OnOk result (self.new ≡ concluded job.now acts.now end.now self.old) }
-        ensures told { IfOk result (λ it. it.0.items ≡ replicate n (told_by job.now.pid acts.now end.now self.old)) }
-        ensures inverse { IfOk result (λ it. TakesBackEnds it.1 self.old self.new) }
-        ensures pieces { IfOk result (λ it. HoldsLost (held it.1 self.new) self.old self.new) }
-        ensures err { OnErr result (self.new ≡ self.old) }
-    {
-        match end {
-            End::Rest(place) => self.rest(job, acts, place, n),
-            End::Value(_) => self.exit(job.pid, acts, &normal(), n),
-            End::Exit(reason) => self.exit(job.pid, acts, reason, n),
-        }
-    }
-
     /// Why the commit of what a job gives would be refused, whatever that is, but for lack of memory. Takes no memory.
     pub fn commit_refusal(&self, job: &Job) -> Option<ProcError>
         ensures { MatchOption result (CanCommit job.now self.now) (λ why. RefusesCommit why job.now self.now) }
@@ -135,14 +111,40 @@ impl Processes {
         None
     }
 
-    /// Commits what a job gave: its acts are done, in order, and then its process rests, one turn on, or ends. What clients
-    /// are told is handed out in `n` equal values: the replies, in order, and then, where the process ends, its open calls,
-    /// in order of client and number.
+    /// Commits what a job gave, if nothing refuses it: its acts are done, in order, and then its process rests, one turn on, or
+    /// ends. Returns what clients are told, in `n` equal values: the replies, in order, and then, if the process ends, its open
+    /// calls, in order of client and number. The job is not compared.
     ///
     /// # Errors
     ///
-    /// In this order: `Stale` where the process of the job's pid doesn't run an equal job, code included; `CounterEnd`
-    /// where its turn is the last; `Memory`. The table is then as it was.
+    /// `AllocError` if an allocation fails. The table is then unchanged.
+    pub fn conclude(
+        &mut self,
+        done: &Done,
+        n: usize,
+    ) -> Result<(Vec<Row<Reply>>, ProcessesUndo), AllocError>
+        requires { CanCommit done.now.job self.old }
+        ensures committed { OnOk result (self.new ≡ committed done.now self.old) }
+        ensures told { IfOk result (λ it. it.0.items ≡ replicate n (commit_told done.now self.old)) }
+        ensures inverse { IfOk result (λ it. TakesBackEnds it.1 self.old self.new) }
+        ensures pieces { IfOk result (λ it. HoldsLost (held it.1 self.new) self.old self.new) }
+        ensures err { OnErr result (self.new ≡ self.old) }
+    {
+        let (job, outcome) = (done.job(), done.outcome());
+        let acts = outcome.acts.as_slice();
+        match &outcome.end {
+            End::Rest(place) => self.rest(job, acts, place, n),
+            End::Value(_) => self.exit(job.pid, acts, &normal(), n),
+            End::Exit(reason) => self.exit(job.pid, acts, reason, n),
+        }
+    }
+
+    /// Commits what a job gave, as [`Processes::conclude`] does, unless [`Processes::commit_refusal`] refuses it.
+    ///
+    /// # Errors
+    ///
+    /// In this order: `Stale` if the process of the job's pid doesn't run an equal job, code included; `CounterEnd` if its
+    /// turn is the last; `Memory`. The table is then unchanged.
     pub fn commit(
         &mut self,
         done: &Done,
@@ -157,11 +159,10 @@ impl Processes {
             (CanCommit done.now.job self.old)) }
         ensures err { OnErr result (self.new ≡ self.old) }
     {
-        let (job, outcome) = (done.job(), done.outcome());
-        if let Some(refusal) = self.commit_refusal(job) {
+        if let Some(refusal) = self.commit_refusal(done.job()) {
             return Err(Failure::Refused(refusal));
         }
-        match self.conclude(job, outcome.acts.as_slice(), &outcome.end, n) {
+        match self.conclude(done, n) {
             Ok(told) => Ok(told),
             Err(_) => Err(Failure::Memory),
         }

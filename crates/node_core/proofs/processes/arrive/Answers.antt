@@ -26,12 +26,12 @@ returns c =
       note = record { replies = []; arrival = came };
     } in
     let said : Option (List ℕ × Term) → Told Answer Note = λ o. record { answer = answer.Unit; note = record { replies = []; arrival = o } } in
-    let told = c.tell_arrivals.ensures ∙ all_told said c.in-Ok-arrive.arrivals.items came c.args.n c.in-Ok-arrive.ensures.told in (
+    let told = c.tell_arrivals.ensures ∙ all_told said c.in-Ok-deliver.arrivals.items came c.args.n c.in-Ok-deliver.ensures.told in (
       (
         a,
-        unless_none (arrive_refusal name (kind_of body) n.processes) OfProcesses a c.in-Ok-arrive.ensures.ok,
-        ap (λ t. with_processes t n) (sym c.in-Ok-arrive.ensures.arrived),
+        unless_none (arrive_refusal name (kind_of body) n.processes) OfProcesses a c.requires,
+        ap (λ t. with_processes t n) (sym c.in-Ok-deliver.ensures.arrived),
         told,
       ),
-      (ends_back c.in-Ok-arrive.undo n.processes c.arrive.new.self c.in-Ok-arrive.ensures.inverse, refl, c.in-Ok-arrive.ensures.pieces),
+      (ends_back c.in-Ok-deliver.undo n.processes c.deliver.new.self c.in-Ok-deliver.ensures.inverse, refl, c.in-Ok-deliver.ensures.pieces),
     )

@@ -14,8 +14,8 @@ use Rattle.script_events.proofs.Accepting.{each_of}
 use Rattle.script_events.specs.Step.{ended_by}
 use Rattle.node_core.proofs.processes.commit.Goals as goal
 
-pub returns-in-Ok-commit : goal.returns-in-Ok-commit
-returns-in-Ok-commit c =
+pub returns-in-Ok-conclude : goal.returns-in-Ok-conclude
+returns-in-Ok-conclude c =
     let n = state_of c.args.parts.now in
     let done = c.args.done.now in
     let a : Accepted NodeState Answer Note = record {
@@ -23,8 +23,8 @@ returns-in-Ok-commit c =
       answer = answer.Unit;
       note = reporting (commit_told done n.processes);
     } in
-    let after : NodeState = record n { processes = c.commit.new.self; apps = c.end_child.new.apps } in
+    let after : NodeState = record n { processes = c.conclude.new.self; apps = c.end_child.new.apps } in
     let said : List Reply → Told Answer Note = λ rs. record { answer = answer.Unit; note = record { replies = rs; arrival = None } } in
-    let is : a.node ≡ after = (λ i. record n { processes = sym c.in-Ok-commit.ensures.committed i; apps = sym c.in-Ok-end_child.ensures.ended i }) in
-    let told = c.tell_done.ensures ∙ ap (map said) c.in-Ok-commit.ensures.told ∙ each_of said (commit_told done n.processes) c.args.n in
-    ((a, (c.in-Ok-commit.ensures.ok, refl), is, told), c.way_back_of.ensures n after c.in-Ok-commit.ensures.inverse c.in-Ok-end_child.ensures.inverse refl c.in-Ok-commit.ensures.pieces c.in-Ok-end_child.ensures.pieces)
+    let is : a.node ≡ after = (λ i. record n { processes = sym c.in-Ok-conclude.ensures.committed i; apps = sym c.in-Ok-end_child.ensures.ended i }) in
+    let told = c.tell_done.ensures ∙ ap (map said) c.in-Ok-conclude.ensures.told ∙ each_of said (commit_told done n.processes) c.args.n in
+    ((a, (c.requires, refl), is, told), c.way_back_of.ensures n after c.in-Ok-conclude.ensures.inverse c.in-Ok-end_child.ensures.inverse refl c.in-Ok-conclude.ensures.pieces c.in-Ok-end_child.ensures.pieces)

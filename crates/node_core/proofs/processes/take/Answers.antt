@@ -19,12 +19,12 @@ pub returns : goal.returns
 returns c =
     let n = state_of c.args.parts.now in
     let pid = c.args.pid in
-    let takes = c.in-Ok-take.ensures.taken in
+    let takes = c.in-Ok-take_up.ensures.taken in
     let job = takes.job in
     let a : Accepted NodeState Answer Note = record { node = run_taken pid job n; answer = answer.Job job; note = reporting [] } in
     let said : Job → Told Answer Note = λ j. record { answer = answer.Job j; note = record { replies = []; arrival = None } } in
     let runs = ap (λ (u : Table). job_at (living pid u)) (sym takes.table) ∙ takes.runs in
     let told = c.tell_jobs.ensures ∙ ap (map said) takes.told ∙ each_of said job c.args.n in (
-      (a, (job, c.in-Ok-take.ensures.ok, takes.code, runs, refl), ap (λ t. with_processes t n) (sym takes.table), told),
-      (ends_back c.in-Ok-take.undo n.processes c.take.new.self c.in-Ok-take.ensures.inverse, refl, c.in-Ok-take.ensures.pieces),
+      (a, (job, c.requires, takes.code, runs, refl), ap (λ t. with_processes t n) (sym takes.table), told),
+      (ends_back c.in-Ok-take_up.undo n.processes c.take_up.new.self c.in-Ok-take_up.ensures.inverse, refl, c.in-Ok-take_up.ensures.pieces),
     )

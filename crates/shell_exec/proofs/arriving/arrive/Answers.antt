@@ -1,12 +1,10 @@
 -- The term of the text arrives, or it is told what stands against it.
 use Rattle.std.proofs.Common.{[], refl, subst, sym}
 use Rattle.std.specs.Str.{chars}
-use Rattle.shell_answers.specs.Refusals.{naming_nothing}
 use Rattle.shell_upgrades.proofs.Done.{IfOk-then}
-use Rattle.shell_upgrades.proofs.Performing.{done-as, missed}
-use Rattle.shell_exec.specs.Execution.{Arrives, arrival_event, no_text, several, unread}
+use Rattle.shell_exec.specs.Execution.{Arrives, no_text, several, unread}
 use Rattle.shell_upgrades.specs.Done.{IsDone}
-use Rattle.shell_exec.specs.Done.{Misreads}
+use Rattle.shell_requests.specs.Terms.{Misreads}
 use Rattle.shell_exec.proofs.arriving.arrive.Goals as goal
 
 pub returns-in-Ok : goal.returns-in-Ok
@@ -29,6 +27,4 @@ pub returns-in-Err-NoMemory : goal.returns-in-Err-NoMemory
 returns-in-Err-NoMemory c =
     let s = c.args.held.now in
     let name = chars c.args.name.text.now in
-    let here = c.args.out.now.items in
-    let out = c.tell_unread.new.out.items in
-    IfOk-then c.tell_unread.result _ _ c.tell_unread.ensures (λ fate told. done-as s here out (λ d does. unread fate d does) (missed s naming_nothing (arrival_event s c.args.kind name) told.0 fate here out told.1 (told.2, told.3)))
+    IfOk-then c.refuse.result _ _ c.refuse.ensures (λ fate told. subst (λ f. IsDone (Arrives s c.args.kind name c.args.text.now f) s c.args.out.now.items c.refuse.new.out.items) (sym told.0) (_, unread, refl, told.1))

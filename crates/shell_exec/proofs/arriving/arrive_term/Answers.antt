@@ -1,14 +1,12 @@
 -- The term has arrived, or it is told why it has not.
-use Rattle.std.proofs.Common.{[], ◌≡◌, ap, subst}
+use Rattle.std.proofs.Common.{[], ◌≡◌, Some, ap, refl, subst, sym}
 use Rattle.std.specs.Str.{chars}
 use Rattle.node_types.specs.declared.event.Event.{Event}
 use Rattle.shell_answers.specs.Refusals.{naming_nothing}
 use Rattle.shell_upgrades.proofs.Done.{IfOk-then}
 use Rattle.shell_upgrades.proofs.Performing.{done-as}
-use Rattle.shell_exec.proofs.Arrived.{kept_out}
-use Rattle.shell_upgrades.proofs.Performing.{halts-at}
 use Rattle.shell_upgrades.specs.Performing.{Performs, done_by}
-use Rattle.shell_exec.specs.Execution.{arrival_event, event_of_arrival, read, tried}
+use Rattle.shell_exec.specs.Execution.{Arrives, arrival_event, event_of_arrival, read, tried, unread}
 use Rattle.shell_upgrades.specs.Done.{IsDone}
 use Rattle.shell_upgrades.specs.State.{next_number}
 use Rattle.shell_exec.proofs.arriving.arrive_term.Goals as goal
@@ -16,14 +14,8 @@ use Rattle.shell_exec.proofs.arriving.arrive_term.Goals as goal
 pub returns-in_default : goal.returns-in_default
 returns-in_default c =
     let s = c.args.held.now in
-    let kind = c.args.kind in
     let name = chars c.args.name.text.now in
-    let t = c.args.term in
-    let e = arrival_event s kind name t in
-    let new = c.tell_unnamed.new.held in
-    let here = c.args.out.now.items in
-    let out = c.tell_unnamed.new.out.items in
-    IfOk-then c.tell_unnamed.result _ _ c.tell_unnamed.ensures (λ fate told. λ text is. done-as new here out (λ d does. read t fate d is does) (kept_out s new kind e (done_by (tried kind s) e) told.0 fate here out (halts-at s (arrival_event s kind name) told.0 told.1 t) (told.2, told.3, told.4)))
+    IfOk-then c.refuse.result _ _ c.refuse.ensures (λ fate told. λ text is. subst (λ f. IsDone (Arrives s c.args.kind name text f) s c.args.out.now.items c.refuse.new.out.items) (sym told.0) (_, unread, refl, told.1))
 
 pub returns : goal.returns
 returns c =

@@ -1,7 +1,7 @@
 -- The term of the text arrives, or it is told what stands against it.
 use Rattle.std.proofs.Common.{None, Some, subst, sym}
 use Rattle.std.specs.Str.{chars}
-use Rattle.shell_exec.specs.Done.{Misreads}
+use Rattle.shell_requests.specs.Terms.{Misreads}
 use Rattle.shell_exec.specs.Fate.TheVariants.{Refused}
 use Rattle.worker_lines.specs.Asking.{IsAnswered}
 use Rattle.worker_lines.specs.Execution.{Arrives, no_memory_to_read, no_text, read, several}

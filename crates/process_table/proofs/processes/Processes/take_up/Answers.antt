@@ -7,7 +7,7 @@ use Rattle.process_store.specs.Living.{run, takes_next}
 use Rattle.process_store.specs.Table.{Table, changed, living}
 use Rattle.process_table.proofs.Jobs.{job_is, taken_is}
 use Rattle.process_table.specs.Steps.{IsCodeOf}
-use Rattle.process_table.proofs.processes.Processes.take.Goals as goal
+use Rattle.process_table.proofs.processes.Processes.take_up.Goals as goal
 
 pub run-requires : goal.run-requires
 run-requires c = ap takes_next (sym c.get.ensures ∙ ap option_copied c.in-Some.is) ∙ c.in-Ok.ensures.next

@@ -3,6 +3,8 @@ use Rattle.std.specs.Prelude.{ℕ, ⊤, List, ◌++◌, codes}
 use Rattle.erl_scan.specs.declared.error.Fault.{Fault}
 use Rattle.erl_term.specs.Tree.{Tree, Trees, none, more}
 use Rattle.erl_consult.specs.Faults.{IsRefused, IsTextOf}
+use Rattle.shell_requests.specs.declared.terms.Misread.{Misread}
+use Rattle.shell_requests.specs.declared.terms.Misread.TheVariants.{NotOne, Faulty, NoMemory}
 
 -- What a text is read as.
 pub data Reading : Type 0 where
@@ -27,3 +29,9 @@ abbrev pub IsRead : List ℕ → Reading → Type 0
 IsRead text (one t) = IsTextOf (ended text) (more t none)
 IsRead text not_one = (ts : Trees) × IsTextOf (ended text) ts × IsNotOne ts
 IsRead text (faulty fault at) = IsRefused (ended text) fault at
+
+-- Why no term was read. If an allocation failed, nothing is known of the text.
+abbrev pub Misreads : List ℕ → Misread → Type 0
+Misreads text NotOne = IsRead text not_one
+Misreads text (Faulty e) = IsRead text (faulty e.kind e.at)
+Misreads text NoMemory = Unit {0}

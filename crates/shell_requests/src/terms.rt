@@ -2,8 +2,7 @@
 ghost use Rattle.std.specs.Prelude.{◌≡◌, IfOk, MatchOption, MatchResult};
 ghost use Rattle.erl_term.specs.Term.{tree, trees};
 ghost use Rattle.erl_term.specs.Tree.{more, none};
-ghost use Rattle.shell_exec.specs.Done.{Misreads};
-ghost use Rattle.shell_exec.specs.Terms.{IsNotOne, IsRead, ended, one};
+ghost use Rattle.shell_requests.specs.Terms.{IsNotOne, IsRead, Misreads, ended, one};
 
 use erl_consult::read_terms;
 use erl_scan::{Fault, ReadError};
@@ -17,11 +16,15 @@ pub enum Misread {
     NotOne,
     /// The text is faulty.
     Faulty(ReadError),
-    /// There was no memory to read it.
+    /// An allocation failed while it was read.
     NoMemory,
 }
 
-/// The term that a text is, which has no dot.
+/// Returns the term that a text is, which has no dot.
+///
+/// # Errors
+///
+/// `NotOne` if the text has none or several, `Faulty` with the first fault of the text, and `NoMemory` if an allocation fails.
 pub fn term_of(alloc: Global, text: &str) -> Result<Term, Misread>
     ensures { MatchResult result (λ t. IsRead text.now (one (tree t))) (Misreads text.now) }
 {
@@ -43,7 +46,7 @@ pub fn term_of(alloc: Global, text: &str) -> Result<Term, Misread>
     }
 }
 
-/// A text with a dot and a newline behind it.
+/// Returns a text with a dot and a newline after it.
 fn with_dot(alloc: Global, text: &str) -> Result<Vec<u8>, AllocError>
     ensures { IfOk result (λ it. it.items ≡ ended text.now) }
 {
@@ -53,7 +56,7 @@ fn with_dot(alloc: Global, text: &str) -> Result<Vec<u8>, AllocError>
     Ok(ended)
 }
 
-/// The only one of terms.
+/// Returns the only one of terms.
 fn only(mut terms: Vec<Term>) -> Option<Term>
     ensures { MatchOption result (IsNotOne (trees terms.items)) (λ t. trees terms.items ≡ more (tree t) none) }
 {

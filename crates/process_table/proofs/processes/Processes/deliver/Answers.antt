@@ -4,7 +4,7 @@ use Rattle.process_store.specs.Table.{is_open, living}
 use Rattle.process_table.proofs.Arriving.{all_there, named_lives, unasked_call}
 use Rattle.process_table.specs.Messages.{arrival_of, message_of}
 use Rattle.process_table.specs.Steps.{arrive_refusal, arrived_at}
-use Rattle.process_table.proofs.processes.Processes.arrive.Goals as goal
+use Rattle.process_table.proofs.processes.Processes.deliver.Goals as goal
 
 pub arrive-requires-clause-lives : goal.arrive-requires-clause-lives
 arrive-requires-clause-lives c = subst (λ t. IsSome (living c.in-Some-pid_named.pid t)) (sym c.self.view_is) (named_lives c.args.name.now c.args.self.now c.in-Some-pid_named.pid (sym c.pid_named.ensures ∙ c.in-Some-pid_named.is))
