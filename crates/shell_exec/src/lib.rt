@@ -8,9 +8,8 @@
 //!
 //! - A line has one of the effects that its command allows (`ExecutesLine`): its answer is appended, and what is held is as
 //!   the effect leaves it.
-//! - That memory was refused is told only where nothing stands against the line that is told without memory, and then all
-//!   is as it was. Where a term or a source was not read, what is told stands against the line whatever they are
-//!   (`Misses`).
+//! - An event that was tried is answered by `{error,memory}` only if no refusal applies to it that is found without memory
+//!   (`Performs`). So is a line whose term or source was not read (`Arrives`, `Loads`). All is then unchanged.
 //!
 //! # What no contract says
 //!

@@ -8,8 +8,8 @@
 //!
 //! Each has one of the effects that its command allows (`Unpacks`, `AltersReleases`, `AdvancesScript`, `Sweeps`): its
 //! answer is appended, and what is held is as the effect leaves it. A refused install is told with the version that runs,
-//! or the module that stands against it (`subject_in`). Where memory is refused, what stands against the line and is told
-//! without memory is told (`Halts`, `Misses`).
+//! or the module that stands against it (`subject_in`). If an allocation fails, a refusal that is found without memory is answered
+//! all the same (`Halts`), but of an `unpack` whose release was not read.
 //!
 //! # What no contract says
 //!
