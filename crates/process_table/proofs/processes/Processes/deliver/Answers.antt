@@ -7,17 +7,16 @@ use Rattle.process_table.specs.Steps.{arrive_refusal, arrived_at}
 use Rattle.process_table.proofs.processes.Processes.deliver.Goals as goal
 
 pub arrive-requires-clause-lives : goal.arrive-requires-clause-lives
-arrive-requires-clause-lives c = subst (λ t. IsSome (living c.in-Some-pid_named.pid t)) (sym c.self.view_is) (named_lives c.args.name.now c.args.self.now c.in-Some-pid_named.pid (sym c.pid_named.ensures ∙ c.in-Some-pid_named.is))
+arrive-requires-clause-lives c = subst (λ t. IsSome (living c.in-Some.pid t)) (sym c.self.view_is) (named_lives c.args.name.now c.args.self.now c.in-Some.pid (sym c.pid_named.ensures ∙ c.in-Some.is))
 
 pub arrive-requires-clause-unasked : goal.arrive-requires-clause-unasked
 arrive-requires-clause-unasked c =
-    let free = sym (λ i. arrive_refusal (c.as_str.ensures.chars i) (c.kind.ensures i) c.args.self.now) ∙ sym c.arrive_refusal.ensures ∙ c.in_default.is in
-    let unasked = unasked_call c.args.client c.args.name.now c.args.body.now c.args.self.now c.call-call.result c.call-call.ensures free in
+    let unasked = unasked_call c.args.client c.args.name.now c.args.body.now c.args.self.now c.call-call.result c.call-call.ensures c.requires in
     subst (λ t. IfSome c.call-call.result (λ x. is_open x.number t ≡ false)) (sym c.self.view_is) unasked
 
 pub returns-clause-arrived : goal.returns-clause-arrived
 returns-clause-arrived c =
-    let pid = sym c.in-Some-pid_named.is ∙ c.pid_named.ensures in
+    let pid = sym c.in-Some.is ∙ c.pid_named.ensures in
     let message = sym c.in-Some-2.is ∙ c.in_ok-message.ensures.message in
     c.in_ok-arrive.ensures.ok ∙ (λ i. arrived_at (pid i) (message i) (c.call-call.ensures i) (c.self.view_is i))
 
