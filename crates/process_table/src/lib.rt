@@ -31,7 +31,8 @@
 //! - [`Processes::kill_users`] takes each user of an instance out, and nobody else (`without_users` of
 //!   [`process_effects`]).
 //! - [`Processes::arrive_refusal`], [`Processes::take_refusal`] and [`Processes::commit_refusal`] tell without memory why a
-//!   step would be refused, but for want of it (`RefusesCommit`, `CanCommit`).
+//!   step would be refused, but for want of it (`RefusesCommit`, `CanCommit`). A caller that has asked them makes the step by
+//!   [`Processes::deliver`], [`Processes::take_up`] and [`Processes::conclude`], which ask nothing again: a job is compared once.
 //! - What an undo gives back is the table before the step, whole (`undone`, `TakesBack`). A process that has ended and a
 //!   job that was committed are kept without code, so of a commit, an end and a kill this is said over the tables of
 //!   modules in which the instances that the processes use stand (`TakesBackEnds`). An undo that is done loses no process
