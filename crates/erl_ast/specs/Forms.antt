@@ -128,10 +128,10 @@ abbrev mutual
 -- A clause with so many patterns, nested at most 256 deep
 pub record IsFunctionClause (arity : ℕ) (c : FunctionClause) : Type 0 where
   pub has_arity : tree_count c.clause.patterns ≡ arity
-  pub are_patterns : AreWell Pattern matches matches c.clause.patterns
+  pub are_patterns : AreWell Pattern matches c.clause.patterns
   pub are_guards : AreWellGuards c.clause.guard
   pub has_body : 1 ≤ tree_count c.clause.body
-  pub is_body : AreWell Expression matches matches c.clause.body
+  pub is_body : AreWell Expression matches c.clause.body
   pub patterns_deep : trees_depth c.clause.patterns ≤ 256
   pub guards_deep : guards_depth c.clause.guard ≤ 256
   pub body_deep : trees_depth c.clause.body ≤ 256
@@ -146,7 +146,7 @@ IsFunction cs = (arity : ℕ) × (1 ≤ length cs) × AreClauses arity cs
 
 -- A loop function; its `receive` is a level of nesting of its own.
 pub record IsLoop (l : LoopTree) : Type 0 where
-  pub are_patterns : AreWell Pattern matches matches l.patterns
+  pub are_patterns : AreWell Pattern matches l.patterns
   pub are_guards : AreWellGuards l.guard
   pub has_clauses : IsTrue (has_clause l.receive)
   pub are_clauses : AreWellClauses l.receive

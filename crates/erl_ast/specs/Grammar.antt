@@ -153,36 +153,20 @@ has role (shapes.Remote m f) n = calls_remote role m f.name n
 has role (shapes.Prefix op) n = not (is_pattern role) && (n == 1)
 has role (shapes.Infix op) n = has_operator role op && (n == 2)
 
--- What may stand left of `=`: literals, variables, tuples, lists and other matches.
-
-abbrev pub makes_pattern : Shape → Bool
-makes_pattern shapes.Tuple = true
-makes_pattern shapes.List = true
-makes_pattern shapes.Cons = true
-makes_pattern shapes.Parenthesized = true
-makes_pattern (shapes.Infix operators.Match) = true
-makes_pattern shape = false
-
-abbrev mutual
-  pub fits_pattern : Tree → Bool
-  fits_pattern (leaf l) = true
-  fits_pattern (node shape ts) = makes_pattern shape && fit_pattern ts
-  fits_pattern (case subject cs) = false
-
-  pub fit_pattern : Trees → Bool
-  fit_pattern none = true
-  fit_pattern (more t ts) = fits_pattern t && fit_pattern ts
-
 -- `-` before digits is the sign of an integer.
 abbrev pub is_unsigned : Tree → Bool
 is_unsigned (leaf (leaves.Integer Unsigned n)) = true
 is_unsigned t = false
 
--- what a node asks of its first part beside its level
+-- what a node asks of its first part beside its role and level
 abbrev pub begins : Shape → Trees → Bool
 begins (shapes.Prefix Negate) (more t ts) = not (is_unsigned t)
-begins (shapes.Infix operators.Match) (more t ts) = fits_pattern t
 begins shape ts = true
+
+-- The role of a node's first part: left of `=` stands a pattern (Erlang Reference Manual, Expressions, The Match Operator).
+abbrev pub first_role : Role → Shape → Role
+first_role role (shapes.Infix operators.Match) = Pattern
+first_role role shape = role
 
 abbrev pub has_clause : Clauses → Bool
 has_clause no_clauses = false
@@ -193,24 +177,29 @@ abbrev mutual
   pub IsWell : Role → Tree → Type 0
   IsWell role (leaf l) = IsTrue (is_leaf l)
   IsWell role (node shape ts) =
-      IsTrue (has role shape (tree_count ts)) × IsTrue (begins shape ts) ×
-      AreWell role (first_level role shape) (other_level role shape) ts
+      IsTrue (has role shape (tree_count ts)) × IsTrue (begins shape ts) × ArePartsWell role shape ts
   IsWell role (case subject cs) =
-      IsTrue (is_expression role) × (tree_count subject ≡ 1) × AreWell Expression matches matches subject ×
+      IsTrue (is_expression role) × (tree_count subject ≡ 1) × AreWell Expression matches subject ×
       IsTrue (has_clause cs) × AreWellClauses cs
 
-  -- trees in a row, with the greatest level of the first and of the others
-  pub AreWell : Role → ℕ → ℕ → Trees → Type 0
-  AreWell role first others none = ⊤
-  AreWell role first others (more t ts) = (level t ≤ first) × IsWell role t × AreWell role others others ts
+  -- the parts of a node
+  pub ArePartsWell : Role → Shape → Trees → Type 0
+  ArePartsWell role shape none = ⊤
+  ArePartsWell role shape (more t ts) =
+      (level t ≤ first_level role shape) × IsWell (first_role role shape) t × AreWell role (other_level role shape) ts
+
+  -- trees in a row, each of at most a level
+  pub AreWell : Role → ℕ → Trees → Type 0
+  AreWell role most none = ⊤
+  AreWell role most (more t ts) = (level t ≤ most) × IsWell role t × AreWell role most ts
 
   pub AreWellGuards : Guards → Type 0
   AreWellGuards no_guards = ⊤
-  AreWellGuards (guard tests gs) = (1 ≤ tree_count tests) × AreWell Test operations operations tests × AreWellGuards gs
+  AreWellGuards (guard tests gs) = (1 ≤ tree_count tests) × AreWell Test operations tests × AreWellGuards gs
 
   -- the clauses of a `case` or of a `receive`
   pub AreWellClauses : Clauses → Type 0
   AreWellClauses no_clauses = ⊤
   AreWellClauses (clause ps gs body cs) =
-      (tree_count ps ≡ 1) × AreWell Pattern matches matches ps × AreWellGuards gs ×
-      (1 ≤ tree_count body) × AreWell Expression matches matches body × AreWellClauses cs
+      (tree_count ps ≡ 1) × AreWell Pattern matches ps × AreWellGuards gs ×
+      (1 ≤ tree_count body) × AreWell Expression matches body × AreWellClauses cs

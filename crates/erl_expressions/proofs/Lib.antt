@@ -1,8 +1,10 @@
 pub mod ByLevels
 pub mod Dots
+pub mod Halting
 pub mod Inversion
 pub mod Lengths
 pub mod Levels
+pub mod Roles
 pub mod Rows
 pub mod Sound
 pub mod SoundClauses
@@ -11,6 +13,7 @@ pub mod SoundRows
 pub mod Strings
 pub mod Things
 pub mod Trees
+pub mod Matches
 pub mod ReadBack
 pub mod WholeClauses
 pub mod WholeRows

@@ -1,5 +1,5 @@
 -- What is written of a tree is read as that tree.
-use Rattle.std.proofs.Common.{◌≡◌, ℕ, zero, suc, ◌+◌, ◌-◌, ◌≤◌, nat_lt, nat_le, ◌==◌, Bool, true, false, ◌&&◌, not, if◌then◌else◌, IsTrue, is_some, List, [], ◌∷◌, Option, Some, None, ap, subst, sym, ◌∙◌, refl, arith, rules, true≢false}
+use Rattle.std.proofs.Common.{◌≡◌, ℕ, suc, ◌+◌, ◌-◌, ◌≤◌, nat_lt, nat_le, ◌==◌, Bool, true, false, ◌&&◌, not, if◌then◌else◌, IsTrue, is_some, List, [], ◌∷◌, Option, Some, None, ap, subst, sym, ◌∙◌, refl, arith, rules, true≢false}
 use Rattle.erl_scan.specs.declared.mark.Mark.TheVariants as marks
 use Rattle.erl_scan.specs.declared.word.Word.TheVariants as words
 use Rattle.erl_ast.specs.declared.leaf.Sign.TheVariants as signs
@@ -8,7 +8,6 @@ use Rattle.erl_ast.specs.declared.leaf.Leaf.TheVariants as leaves
 use Rattle.erl_ast.specs.declared.role.Role.{Role}
 use Rattle.erl_ast.specs.declared.role.Role.TheVariants.{Expression, Pattern, Test}
 use Rattle.erl_ast.specs.declared.shape.Infix.{Infix}
-use Rattle.erl_ast.specs.declared.shape.Infix.TheVariants as infixes
 use Rattle.erl_ast.specs.declared.shape.Prefix.{Prefix}
 use Rattle.erl_ast.specs.declared.shape.Prefix.TheVariants.{Negate, Not}
 use Rattle.erl_ast.specs.declared.shape.Qualifier.TheVariants as qualifier
@@ -17,19 +16,20 @@ use Rattle.erl_ast.specs.declared.shape.Shape.TheVariants as shapes
 use Rattle.erl_ast.specs.Functions.{guard_arity, is_arity, is_guard_function}
 use Rattle.erl_ast.specs.Terminal.{Terminal, word, string, mark}
 use Rattle.erl_ast.specs.Tree.{Tree, Trees, Clauses, leaf, node, case, none, more, tree_count, tree_depth, trees_depth, clauses_depth}
-use Rattle.erl_ast.specs.Grammar.{level, right_level, matches, in_brackets, first_level, has, has_operator, begins, is_unsigned, is_pattern, is_erlang, is_leaf, IsWell, AreWell, AreWellClauses, has_clause}
+use Rattle.erl_ast.specs.Grammar.{level, right_level, matches, operations, in_brackets, first_level, has, has_operator, begins, is_unsigned, is_pattern, is_erlang, is_leaf, IsWell, AreWell, AreWellClauses, has_clause}
 use Rattle.erl_ast.specs.Written.{written, leaf_written, strings_written, infix_terminal, closed, parts_written, row_written, clauses_written}
 use Rattle.erl_expressions.specs.declared.delimiter.Delimiter.{Delimiter}
 use Rattle.erl_expressions.specs.declared.delimiter.Delimiter.TheVariants.{Comma, CloseParen, CloseBracket, Bar, Of}
 use Rattle.erl_expressions.specs.Delimiters.{delimiter, after}
-use Rattle.erl_expressions.specs.Leaves.{leaf_ahead, number_ahead, strings_ahead, after_strings, call_ahead, colon_ahead, operator_ahead}
-use Rattle.erl_expressions.specs.Reading.{Found, Reader, and_then, parts, parts_by, closing, opens, made, bracketed, parenthesized, list_end, listed_by, listed, prefixed, remote, called, own_called, cased, clauses_to_end, construct, leaf_read, begun_by, begun, joined, climbed, ended_by, only_leaf, read, with_last}
-use Rattle.erl_expressions.proofs.ByLevels.{read_next, climbed_all, climbed_one}
+use Rattle.erl_expressions.specs.Leaves.{leaf_ahead, number_ahead, strings_ahead, after_strings, call_ahead, colon_ahead}
+use Rattle.erl_expressions.specs.Reading.{Found, Reader, and_then, parts, parts_by, closing, opens, made, bracketed, parenthesized, list_end, listed_by, listed, prefixed, remote, called, own_called, cased, clauses_to_end, construct, leaf_read, begun_by, begun, fits, joined, climbed, with_last}
+use Rattle.erl_expressions.proofs.ByLevels.{climbed_one}
 use Rattle.erl_expressions.proofs.Inversion.{both}
 use Rattle.erl_expressions.proofs.Lengths.{two_parts}
 use Rattle.erl_expressions.specs.Readings.{Stops, is_quiet}
-use Rattle.erl_expressions.proofs.Levels.{stops_lower, stops_before, no_operator, operator_there, above_prefix, left_at_most, end_level, end_at_most, stops_at_operator}
-use Rattle.erl_expressions.proofs.Sound.{read_zero, and_true}
+use Rattle.erl_expressions.proofs.Levels.{stops_before, operator_there, above_prefix, left_at_most, end_level, stops_at_operator}
+use Rattle.erl_expressions.proofs.Roles.{row_of_parts, own_role, fits_operation}
+use Rattle.erl_expressions.proofs.Sound.{and_true}
 use Rattle.erl_expressions.proofs.SoundNodes.{IsBracket, tuples, blocks, locals, remotes, parts_of_bracket, with_last_written}
 use Rattle.erl_expressions.proofs.WholeRows.{Whole, after_there, row_no_delimiter, row_whole}
 use Rattle.erl_expressions.proofs.WholeClauses.{clauses_whole}
@@ -75,7 +75,7 @@ leaf_found l rest = Some (l, rest)
 abbrev module_if : Bool → Leaf → List Terminal → Option (Leaf × List Terminal)
 module_if b l rest = if not b then Some (l, rest) else None
 
-leaf_whole : (l : Leaf) (rest : List Terminal) → IsTrue (is_leaf l) → IsTrue (is_quiet rest) → leaf_ahead (leaf_written l rest) ≡ Some (l, rest)
+pub leaf_whole : (l : Leaf) (rest : List Terminal) → IsTrue (is_leaf l) → IsTrue (is_quiet rest) → leaf_ahead (leaf_written l rest) ≡ Some (l, rest)
 unfolding leaf_ahead
 leaf_whole (leaves.Integer signs.Unsigned n) rest is quiet = refl
 leaf_whole (leaves.Integer signs.Plus n) rest is quiet = refl
@@ -88,7 +88,7 @@ leaf_whole (leaves.Strings (s ∷ ss)) rest is quiet =
 leaf_whole (leaves.Variable name at) rest is quiet = refl
 leaf_whole (leaves.ModuleName at) rest is quiet = ap (λ b. module_if b (leaves.ModuleName at) rest) (no_colon rest quiet)
 
-leaf_read_whole : (l : Leaf) (rest : List Terminal) → IsTrue (is_leaf l) → leaf_read (l, rest) ≡ Some (leaf l, rest)
+pub leaf_read_whole : (l : Leaf) (rest : List Terminal) → IsTrue (is_leaf l) → leaf_read (l, rest) ≡ Some (leaf l, rest)
 leaf_read_whole l rest is = ap (λ b. if b then found (leaf l) rest else None) is
 
 -- Nodes
@@ -107,7 +107,7 @@ some_arity : (o : Option ℕ) (n : ℕ) → IsTrue (is_arity o n) → IsTrue (is
 some_arity None n is = absurd (true≢false (sym is))
 some_arity (Some k) n is = refl
 
-opens_tuple : (role : Role) → IsTrue (opens role shapes.Tuple)
+pub opens_tuple : (role : Role) → IsTrue (opens role shapes.Tuple)
 opens_tuple Expression = refl
 opens_tuple Pattern = refl
 opens_tuple Test = refl
@@ -154,7 +154,7 @@ abbrev case_found : Tree → Clauses × List Terminal → Found Tree
 case_found t g = Some (case (more t none) g.0, g.1)
 
 -- the last tree of a row, and those before it
-record HasLast (us : Trees) : Type 0 where
+pub record HasLast (us : Trees) : Type 0 where
   pub front : Trees
   pub last : Tree
   pub is : us ≡ with_last front last
@@ -162,7 +162,7 @@ record HasLast (us : Trees) : Type 0 where
   pub front_deep : trees_depth front ≤ trees_depth us
   pub last_deep : tree_depth last ≤ trees_depth us
 
-last_of : (us : Trees) → 2 ≤ tree_count us → HasLast us
+pub last_of : (us : Trees) → 2 ≤ tree_count us → HasLast us
 last_of none two = absurd (omega (arith, two))
 last_of (more t none) two = absurd (omega (arith, two))
 last_of (more t (more u none)) two = record {
@@ -184,20 +184,20 @@ last_of (more t (more u (more v us))) two =
       last_deep = omega (arith, others.last_deep);
     }
 
-well_apart : (role : Role) (m : ℕ) (us : Trees) (t : Tree) → AreWell role m m (with_last us t) →
-    AreWell role m m us × (level t ≤ m) × IsWell role t
+pub well_apart : (role : Role) (m : ℕ) (us : Trees) (t : Tree) → AreWell role m (with_last us t) →
+    AreWell role m us × (level t ≤ m) × IsWell role t
 well_apart role m none t well = (tt, well.0, well.1)
 well_apart role m (more u us) t well =
     let others = well_apart role m us t well.2 in
     ((well.0, well.1, others.0), others.1, others.2)
 
-count_two : (n : ℕ) → IsTrue (nat_le 2 n) → 2 ≤ n
+pub count_two : (n : ℕ) → IsTrue (nat_le 2 n) → 2 ≤ n
 count_two n is = search rules
 
 one_is : (n : ℕ) → IsTrue (n == 1) → n ≡ 1
 one_is n is = search rules
 
-count_one : (n : ℕ) → IsTrue (1 + (1 + n) == 1) → suc n ≤ n
+pub count_one : (n : ℕ) → IsTrue (1 + (1 + n) == 1) → suc n ≤ n
 count_one n is = absurd (omega (arith, one_is (1 + (1 + n)) is))
 
 no_number : (role : Role) (t : Tree) (rest : List Terminal) → IsWell role t → IsTrue (not (is_unsigned t)) → level t ≤ 1 → number_ahead signs.Minus (written t rest) ≡ None
@@ -223,48 +223,25 @@ no_number role (node (shapes.Prefix Not) ts) rest well is low = refl
 no_number role (node (shapes.Infix op) ts) rest well is low = absurd (omega (arith, above_prefix op, low))
 
 -- operators in what stands left of operators
-abbrev spine : Tree → ℕ
+abbrev pub spine : Tree → ℕ
 spine (node (shapes.Infix op) (more t us)) = suc (spine t)
 spine t = 0
 
-spine_depth : (t : Tree) → spine t ≤ tree_depth t
+pub spine_depth : (t : Tree) → spine t ≤ tree_depth t
 spine_depth (node (shapes.Infix op) (more t us)) = omega (arith, spine_depth t)
 spine_depth _ = omega arith
 
 abbrev infix_found : Tree → Infix → Tree × List Terminal → Found Tree
 infix_found t op f = Some (node (shapes.Infix op) (more t (more f.0 none)), f.1)
 
-abbrev climbing : ℕ → Reader → Role → ℕ → ℕ → Tree × List Terminal → Found Tree
+abbrev pub climbing : ℕ → Reader → Role → ℕ → ℕ → Tree × List Terminal → Found Tree
 climbing k p role most levels f = climbed k p role most levels f.0 f.1
 
 is_less : (a b : ℕ) → suc a ≤ b → IsTrue (nat_lt a b)
 is_less a b le = search rules
 
-begins_first : (op : Infix) (t u : Tree) → IsTrue (begins (shapes.Infix op) (more t (more u none))) →
-    IsTrue (begins (shapes.Infix op) (more t none))
-begins_first infixes.Multiply t u is = is
-begins_first infixes.Divide t u is = is
-begins_first infixes.Remainder t u is = is
-begins_first infixes.And t u is = is
-begins_first infixes.Add t u is = is
-begins_first infixes.Subtract t u is = is
-begins_first infixes.Or t u is = is
-begins_first infixes.Append t u is = is
-begins_first infixes.Equal t u is = is
-begins_first infixes.NotEqual t u is = is
-begins_first infixes.ExactlyEqual t u is = is
-begins_first infixes.ExactlyNotEqual t u is = is
-begins_first infixes.Less t u is = is
-begins_first infixes.Greater t u is = is
-begins_first infixes.AtMost t u is = is
-begins_first infixes.AtLeast t u is = is
-begins_first infixes.AndAlso t u is = is
-begins_first infixes.OrElse t u is = is
-begins_first infixes.Send t u is = is
-begins_first infixes.Match t u is = is
-
 module _ (p : Reader) (n : ℕ) (whole : Whole p n) where
-  pub parts_whole : (role : Role) (most : ℕ) (close : Delimiter) (us : Trees) (rest : List Terminal) → AreWell role most most us →
+  pub parts_whole : (role : Role) (most : ℕ) (close : Delimiter) (us : Trees) (rest : List Terminal) → AreWell role most us →
       trees_depth us ≤ n → after Comma (delimiter close ∷ rest) ≡ None →
       parts (p role most) close (row_written us (delimiter close ∷ rest)) ≡ Some (us, rest)
   unfolding parts
@@ -272,7 +249,7 @@ module _ (p : Reader) (n : ℕ) (whole : Whole p n) where
       ap (λ o. parts_by o (p role most) close (delimiter close ∷ rest)) (after_there close rest)
   parts_whole role most close (more t us) rest well deep ends =
       let text = row_written (more t us) (delimiter close ∷ rest) in
-      ap (λ o. parts_by o (p role most) close text) (row_no_delimiter close role most most (more t us) (delimiter close ∷ rest) (omega arith) well) ∙
+      ap (λ o. parts_by o (p role most) close text) (row_no_delimiter close role most (more t us) (delimiter close ∷ rest) (omega arith) well) ∙
       ap (λ o. and_then o (λ f. and_then (after close f.1) (trees_found f.0)))
       (row_whole p n whole role most (more t us) (delimiter close ∷ rest) (omega arith) well deep (stops_before close most rest) ends) ∙
       ap (λ o. and_then o (trees_found (more t us))) (after_there close rest)
@@ -284,11 +261,11 @@ module _ (p : Reader) (n : ℕ) (whole : Whole p n) where
   bracketed_whole role shape bracket us rest well deep ends =
       let text : parts_written shape us (closed shape rest) ≡ row_written us (delimiter (closing shape) ∷ rest) =
       parts_of_bracket shape bracket.commas us (closed shape rest) ∙ ap (λ vs. row_written us vs) (bracket.closes rest) in
-      let level_is = subst (λ m. AreWell role (first_level role shape) m us) bracket.same_level well.2 in
+      let row_well = row_of_parts role shape bracket.same_role bracket.same_level us well.2 in
       if_true (opens role shape) (and_then (parts (p role (first_level role shape)) (closing shape) (parts_written shape us (closed shape rest))) (λ f. made role shape f.0 f.1))
       (opens_whole role shape (tree_count us) well.0) ∙
       ap (λ vs. and_then (parts (p role (first_level role shape)) (closing shape) vs) (λ f. made role shape f.0 f.1)) text ∙
-      ap (λ o. and_then o (λ f. made role shape f.0 f.1)) (parts_whole role (first_level role shape) (closing shape) us rest level_is deep ends) ∙
+      ap (λ o. and_then o (λ f. made role shape f.0 f.1)) (parts_whole role (first_level role shape) (closing shape) us rest row_well deep ends) ∙
       made_whole role shape us rest well.0 well.1
 
   parenthesized_whole : (role : Role) (t : Tree) (rest : List Terminal) → IsWell role t → level t ≤ in_brackets role → tree_depth t ≤ n →
@@ -318,11 +295,12 @@ module _ (p : Reader) (n : ℕ) (whole : Whole p n) where
   list_whole role (more t us) rest well deep =
       let tail = mark marks.CloseBracket ∷ rest in
       let text : parts_written shapes.List (more t us) tail ≡ row_written (more t us) tail = parts_of_bracket shapes.List (λ vs. refl) (more t us) tail in
+      let row_well = row_of_parts role shapes.List refl refl (more t us) well.2 in
       ap (λ vs. listed_by (after CloseBracket vs) p role vs) text ∙
       ap (λ o. listed_by o p role (row_written (more t us) tail))
-      (row_no_delimiter CloseBracket role (in_brackets role) (in_brackets role) (more t us) tail (omega arith) well.2) ∙
+      (row_no_delimiter CloseBracket role (in_brackets role) (more t us) tail (omega arith) row_well) ∙
       ap (λ o. and_then o (λ f. list_end p role f.0 (after CloseBracket f.1) (after Bar f.1)))
-      (row_whole p n whole role (in_brackets role) (more t us) tail (omega arith) well.2 deep (stops_before CloseBracket (in_brackets role) rest) refl) ∙
+      (row_whole p n whole role (in_brackets role) (more t us) tail (omega arith) row_well deep (stops_before CloseBracket (in_brackets role) rest) refl) ∙
       made_whole role shapes.List (more t us) rest well.0 well.1
 
   cons_whole : (role : Role) (us : Trees) (t : Tree) (rest : List Terminal) → 1 ≤ tree_count us →
@@ -331,10 +309,10 @@ module _ (p : Reader) (n : ℕ) (whole : Whole p n) where
   unfolding listed
   cons_whole role us t rest some well deep deep_last =
       let tail = mark marks.Bar ∷ written t (mark marks.CloseBracket ∷ rest) in
-      let apart = well_apart role (in_brackets role) us t well.2 in
+      let apart = well_apart role (in_brackets role) us t (row_of_parts role shapes.Cons refl refl (with_last us t) well.2) in
       ap (λ vs. listed_by (after CloseBracket vs) p role vs) (with_last_written us t (mark marks.CloseBracket ∷ rest) some) ∙
       ap (λ o. listed_by o p role (row_written us tail))
-      (row_no_delimiter CloseBracket role (in_brackets role) (in_brackets role) us tail some apart.0) ∙
+      (row_no_delimiter CloseBracket role (in_brackets role) us tail some apart.0) ∙
       ap (λ o. and_then o (λ f. list_end p role f.0 (after CloseBracket f.1) (after Bar f.1)))
       (row_whole p n whole role (in_brackets role) us tail some apart.0 deep (stops_before Bar (in_brackets role) (written t (mark marks.CloseBracket ∷ rest))) refl) ∙
       ap (λ o. and_then o (λ f. and_then (after CloseBracket f.1) (λ behind. made role shapes.Cons (with_last us f.0) behind)))
@@ -355,7 +333,7 @@ module _ (p : Reader) (n : ℕ) (whole : Whole p n) where
 
   -- Up to the first operator
 
-  not_leaf : (role : Role) (ts : List Terminal) (t : Tree) (rest : List Terminal) → leaf_ahead ts ≡ None →
+  pub not_leaf : (role : Role) (ts : List Terminal) (t : Tree) (rest : List Terminal) → leaf_ahead ts ≡ None →
       construct p role ts ≡ Some (t, rest) → begun p role ts ≡ Some (t, rest)
   unfolding begun
   not_leaf role ts t rest none_ahead is = ap (λ o. begun_by o p role ts) none_ahead ∙ is
@@ -366,7 +344,7 @@ module _ (p : Reader) (n : ℕ) (whole : Whole p n) where
   leaf_begun role l rest is quiet =
       ap (λ o. begun_by o p role (leaf_written l rest)) (leaf_whole l rest is quiet) ∙ leaf_read_whole l rest is
 
-  begun_whole : (role : Role) (t : Tree) (rest : List Terminal) → IsWell role t → level t ≤ 1 → tree_depth t ≤ suc n →
+  pub begun_whole : (role : Role) (t : Tree) (rest : List Terminal) → IsWell role t → level t ≤ 1 → tree_depth t ≤ suc n →
       Stops (end_level t) rest → begun p role (written t rest) ≡ Some (t, rest)
   unfolding construct called remote own_called leaf_ahead
   begun_whole role (leaf l) rest well low deep stops = leaf_begun role l rest well stops.quiet
@@ -420,84 +398,63 @@ module _ (p : Reader) (n : ℕ) (whole : Whole p n) where
 
   -- Operators, from the left
 
-  joined_whole : (role : Role) (t : Tree) (op : Infix) (u : Tree) (rest : List Terminal) →
-      IsWell role (node (shapes.Infix op) (more t (more u none))) → tree_depth (node (shapes.Infix op) (more t (more u none))) ≤ suc n →
-      Stops (right_level op) rest →
-      joined p role (suc n) t op (infix_terminal op ∷ written u rest) ≡ Some (node (shapes.Infix op) (more t (more u none)), rest)
-  joined_whole role t op u rest well deep stops =
-      if_true (nat_lt (tree_depth t) (suc n)) (if begins (shapes.Infix op) (more t none) then
+  pub joined_whole : (was role : Role) (t : Tree) (op : Infix) (u : Tree) (rest : List Terminal) → IsTrue (fits was op t) → IsWell role u →
+      level u ≤ right_level op → tree_depth (node (shapes.Infix op) (more t (more u none))) ≤ suc n → Stops (right_level op) rest →
+      joined p was role (suc n) t op (infix_terminal op ∷ written u rest) ≡ Some (node (shapes.Infix op) (more t (more u none)), rest)
+  joined_whole was role t op u rest fit well low deep stops =
+      if_true (nat_lt (tree_depth t) (suc n)) (if fits was op t then
       and_then (p role (right_level op) (written u rest)) (infix_found t op) else None) (is_less (tree_depth t) (suc n) (omega (arith, deep))) ∙
-      if_true (begins (shapes.Infix op) (more t none)) (and_then (p role (right_level op) (written u rest)) (infix_found t op))
-      (begins_first op t u well.1) ∙
-      ap (λ o. and_then o (infix_found t op)) (whole role (right_level op) u rest well.2.2.1 well.2.2.0 (omega (arith, deep)) stops)
+      if_true (fits was op t) (and_then (p role (right_level op) (written u rest)) (infix_found t op)) fit ∙
+      ap (λ o. and_then o (infix_found t op)) (whole role (right_level op) u rest well low (omega (arith, deep)) stops)
 
-  spine_whole : (role : Role) (most k : ℕ) (t : Tree) (rest : List Terminal) → IsWell role t → level t ≤ most → tree_depth t ≤ suc n →
+  -- what is no match
+
+  pub spine_whole : (role : Role) (most k : ℕ) (t : Tree) (rest : List Terminal) → IsWell role t → level t ≤ most →
+      level t ≤ operations → tree_depth t ≤ suc n →
       Stops (end_level t) rest → spine t ≤ k →
       and_then (begun p role (written t rest)) (climbing k p role most (suc n)) ≡ climbed (k - spine t) p role most (suc n) t rest
-  spine_whole role most k (leaf l) rest well low deep stops short =
+  spine_whole role most k (leaf l) rest well low flat deep stops short =
       ap (λ o. and_then o (climbing k p role most (suc n))) (begun_whole role (leaf l) rest well (omega arith) deep stops) ∙
       ap (λ m. climbed m p role most (suc n) (leaf l) rest) {x = k} {y = k - 0} (omega arith)
-  spine_whole role most k (case subject cs) rest well low deep stops short =
+  spine_whole role most k (case subject cs) rest well low flat deep stops short =
       ap (λ o. and_then o (climbing k p role most (suc n))) (begun_whole role (case subject cs) rest well (omega arith) deep stops) ∙
       ap (λ m. climbed m p role most (suc n) (case subject cs) rest) {x = k} {y = k - 0} (omega arith)
-  spine_whole role most k (node shapes.Tuple us) rest well low deep stops short =
+  spine_whole role most k (node shapes.Tuple us) rest well low flat deep stops short =
       ap (λ o. and_then o (climbing k p role most (suc n))) (begun_whole role (node shapes.Tuple us) rest well (omega arith) deep stops) ∙
       ap (λ m. climbed m p role most (suc n) (node shapes.Tuple us) rest) {x = k} {y = k - 0} (omega arith)
-  spine_whole role most k (node shapes.List us) rest well low deep stops short =
+  spine_whole role most k (node shapes.List us) rest well low flat deep stops short =
       ap (λ o. and_then o (climbing k p role most (suc n))) (begun_whole role (node shapes.List us) rest well (omega arith) deep stops) ∙
       ap (λ m. climbed m p role most (suc n) (node shapes.List us) rest) {x = k} {y = k - 0} (omega arith)
-  spine_whole role most k (node shapes.Cons us) rest well low deep stops short =
+  spine_whole role most k (node shapes.Cons us) rest well low flat deep stops short =
       ap (λ o. and_then o (climbing k p role most (suc n))) (begun_whole role (node shapes.Cons us) rest well (omega arith) deep stops) ∙
       ap (λ m. climbed m p role most (suc n) (node shapes.Cons us) rest) {x = k} {y = k - 0} (omega arith)
-  spine_whole role most k (node shapes.Parenthesized us) rest well low deep stops short =
+  spine_whole role most k (node shapes.Parenthesized us) rest well low flat deep stops short =
       ap (λ o. and_then o (climbing k p role most (suc n))) (begun_whole role (node shapes.Parenthesized us) rest well (omega arith) deep stops) ∙
       ap (λ m. climbed m p role most (suc n) (node shapes.Parenthesized us) rest) {x = k} {y = k - 0} (omega arith)
-  spine_whole role most k (node shapes.Block us) rest well low deep stops short =
+  spine_whole role most k (node shapes.Block us) rest well low flat deep stops short =
       ap (λ o. and_then o (climbing k p role most (suc n))) (begun_whole role (node shapes.Block us) rest well (omega arith) deep stops) ∙
       ap (λ m. climbed m p role most (suc n) (node shapes.Block us) rest) {x = k} {y = k - 0} (omega arith)
-  spine_whole role most k (node (shapes.Local f) us) rest well low deep stops short =
+  spine_whole role most k (node (shapes.Local f) us) rest well low flat deep stops short =
       ap (λ o. and_then o (climbing k p role most (suc n))) (begun_whole role (node (shapes.Local f) us) rest well (omega arith) deep stops) ∙
       ap (λ m. climbed m p role most (suc n) (node (shapes.Local f) us) rest) {x = k} {y = k - 0} (omega arith)
-  spine_whole role most k (node (shapes.Remote owner f) us) rest well low deep stops short =
+  spine_whole role most k (node (shapes.Remote owner f) us) rest well low flat deep stops short =
       ap (λ o. and_then o (climbing k p role most (suc n))) (begun_whole role (node (shapes.Remote owner f) us) rest well (omega arith) deep stops) ∙
       ap (λ m. climbed m p role most (suc n) (node (shapes.Remote owner f) us) rest) {x = k} {y = k - 0} (omega arith)
-  spine_whole role most k (node (shapes.Prefix op) us) rest well low deep stops short =
+  spine_whole role most k (node (shapes.Prefix op) us) rest well low flat deep stops short =
       ap (λ o. and_then o (climbing k p role most (suc n))) (begun_whole role (node (shapes.Prefix op) us) rest well (omega arith) deep stops) ∙
       ap (λ m. climbed m p role most (suc n) (node (shapes.Prefix op) us) rest) {x = k} {y = k - 0} (omega arith)
-  spine_whole role most k (node (shapes.Infix op) none) rest well low deep stops short =
+  spine_whole role most k (node (shapes.Infix op) none) rest well low flat deep stops short =
       absurd (omega (arith, two_parts (has_operator role op) 0 well.0))
-  spine_whole role most k (node (shapes.Infix op) (more t none)) rest well low deep stops short =
+  spine_whole role most k (node (shapes.Infix op) (more t none)) rest well low flat deep stops short =
       absurd (omega (arith, two_parts (has_operator role op) 1 well.0))
-  spine_whole role most k (node (shapes.Infix op) (more t (more u (more v us)))) rest well low deep stops short =
+  spine_whole role most k (node (shapes.Infix op) (more t (more u (more v us)))) rest well low flat deep stops short =
       absurd (omega (arith, two_parts (has_operator role op) (1 + (1 + (1 + tree_count us))) well.0))
-  spine_whole role most k (node (shapes.Infix op) (more t (more u none))) rest well low deep stops short =
+  spine_whole role most k (node (shapes.Infix op) (more t (more u none))) rest well low flat deep stops short =
       let behind = infix_terminal op ∷ written u rest in
       let it = node (shapes.Infix op) (more t (more u none)) in
-      spine_whole role most k t behind well.2.1 (omega (arith, well.2.0, left_at_most op, low)) (omega (arith, deep))
-      (stops_at_operator t op (written u rest) well.2.0) (omega (arith, short)) ∙
+      spine_whole role most k t behind (subst (λ r. IsWell r t) (own_role role op flat) well.2.1) (omega (arith, well.2.0, left_at_most op, low))
+      (omega (arith, well.2.0, left_at_most op, flat)) (omega (arith, deep)) (stops_at_operator t op (written u rest) well.2.0) (omega (arith, short)) ∙
       ap (λ m. climbed m p role most (suc n) t behind) {x = k - spine t} {y = suc (k - spine it)} (omega (arith, short)) ∙
       climbed_one (k - spine it) p role most (suc n) t it behind rest op
       (operator_there role most (level t) op (written u rest) (both (has_operator role op) true well.0).0 low well.2.0)
-      (joined_whole role t op u rest well deep stops)
-
--- All
-
-read_one : (n : ℕ) → Whole (read n) n → Whole (read (suc n)) (suc n)
-read_one n whole role most t rest well low deep stops =
-    read_next n role most (written t rest) ∙
-    spine_whole (read n) n whole role most (suc n) t rest well low deep
-    (stops_lower (end_level t) most rest (omega (arith, end_at_most t, low)) stops) (omega (arith, spine_depth t, deep)) ∙
-    climbed_all (suc n - spine t) (read n) role most (suc n) t rest (no_operator role most (level t) rest stops)
-
-read_alone : Whole (read zero) zero
-read_alone role most (leaf l) rest well low deep stops =
-    read_zero role most (leaf_written l rest) ∙
-    ap (λ o. only_leaf o role most) (leaf_whole l rest well stops.quiet) ∙
-    ap (λ o. and_then o (λ g. ended_by (operator_ahead role most 0 g.1) g)) (leaf_read_whole l rest well) ∙
-    ap (λ o. ended_by o (leaf l, rest)) (no_operator role most 0 rest stops)
-read_alone role most (node shape us) rest well low deep stops = absurd (omega (arith, deep))
-read_alone role most (case subject cs) rest well low deep stops = absurd (omega (arith, deep))
-
-pub read_whole : (n : ℕ) → Whole (read n) n
-read_whole zero = read_alone
-read_whole (suc n) = read_one n (read_whole n)
+      (joined_whole role role t op u rest (fits_operation role op t flat) well.2.2.1 well.2.2.0 deep stops)

@@ -1,11 +1,10 @@
 -- Rows of trees.
 use Rattle.std.proofs.Common.{◌≡◌, ℕ, zero, suc, ◌+◌, ◌<◌, ◌≤◌, max, ◌&&◌, List, [], ◌∷◌, ◌++◌, length, get_or, drop, ap, sym, subst, ◌∙◌, refl, arith}
-use Rattle.erl_ast.specs.Grammar.{fits_pattern, fit_pattern}
 use Rattle.erl_ast.specs.declared.tree.SyntaxTree.{SyntaxTree}
 use Rattle.erl_ast.specs.declared.tree.ClauseTree.{ClauseTree}
 use Rattle.erl_ast.specs.Tree.{Tree, Trees, none, more, tree_count, tree_depth, trees_depth, Guards, guards_depth, clauses_depth, guard, clause}
 use Rattle.erl_ast.specs.TreeForms.{tree, trees, guards, clauses}
-use Rattle.erl_expressions.specs.Reading.{with_last, with_last_guard, with_last_clause}
+use Rattle.erl_expressions.specs.Reading.{fits_pattern, fit_pattern, with_last, with_last_guard, with_last_clause}
 
 pub trees_push : (ts : List SyntaxTree) (t : SyntaxTree) → trees (ts ++ t ∷ []) ≡ with_last (trees ts) (tree t)
 trees_push [] t = refl

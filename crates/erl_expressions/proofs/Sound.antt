@@ -13,6 +13,7 @@ use Rattle.erl_ast.specs.declared.leaf.Leaf.{Leaf}
 use Rattle.erl_ast.specs.declared.leaf.Leaf.TheVariants as leaves
 use Rattle.erl_ast.specs.declared.leaf.Named.{Named}
 use Rattle.erl_ast.specs.declared.role.Role.{Role}
+use Rattle.erl_ast.specs.declared.role.Role.TheVariants.{Expression, Pattern, Test}
 use Rattle.erl_ast.specs.declared.shape.Infix.{Infix}
 use Rattle.erl_ast.specs.declared.shape.Infix.TheVariants as infixes
 use Rattle.erl_ast.specs.declared.shape.Prefix.TheVariants.{Negate, Not}
@@ -21,13 +22,14 @@ use Rattle.erl_ast.specs.declared.shape.Qualifier.TheVariants as qualifier
 use Rattle.erl_ast.specs.declared.shape.Shape.TheVariants as shapes
 use Rattle.erl_ast.specs.Terminal.{Terminal, integer, atom, word, variable, string, mark}
 use Rattle.erl_ast.specs.Tree.{Tree, leaf, node, none, more, tree_depth}
-use Rattle.erl_ast.specs.Grammar.{level, level_of, left_level, right_level, has_operator, is_leaf, begins}
+use Rattle.erl_ast.specs.Grammar.{matches, operations, level, level_of, left_level, right_level, first_role, has_operator, is_leaf, IsWell}
 use Rattle.erl_ast.specs.Written.{written, leaf_written, strings_written, infix_terminal, qualified, signed}
 use Rattle.erl_expressions.specs.Leaves.{leaf_ahead, leaf_behind, number_ahead, module_ahead, strings_ahead, after_strings, call_ahead, colon_ahead, paren_ahead, infix_ahead, fitting, operator_ahead}
-use Rattle.erl_expressions.specs.Reading.{Found, Reader, and_then, behind_first, bracketed, remote, called, own_called, begun_by_mark, begun_by_word, construct, leaf_read, begun_by, begun, joined, climbed_by, climbed, ended_by, only_leaf, read}
+use Rattle.erl_expressions.specs.Reading.{Found, Reader, and_then, behind_first, bracketed, remote, called, own_called, begun_by_mark, begun_by_word, construct, leaf_read, begun_by, begun, fits, joined, climbed_by, climbed, ended_by, only_leaf, match_ahead, matched_by, matched, read_by, read}
 use Rattle.erl_expressions.specs.Readings.{BeginsWith}
 use Rattle.erl_expressions.proofs.ByLevels.{read_next}
 use Rattle.erl_expressions.proofs.Inversion.{inverts, if_some, both, infix_is}
+use Rattle.erl_expressions.proofs.Roles.{left_well}
 use Rattle.erl_expressions.proofs.SoundRows.{Sound}
 use Rattle.erl_expressions.proofs.SoundNodes.{tuples, blocks, locals, remotes, bracketed_sound, parenthesized_sound, prefixed_sound, listed_sound, cased_sound}
 
@@ -150,29 +152,6 @@ room_right infixes.OrElse = omega arith
 room_right infixes.Send = omega arith
 room_right infixes.Match = omega arith
 
-begins_alike : (op : Infix) (t u : Tree) → IsTrue (begins (shapes.Infix op) (more t none)) →
-    IsTrue (begins (shapes.Infix op) (more t (more u none)))
-begins_alike infixes.Multiply t u is = is
-begins_alike infixes.Divide t u is = is
-begins_alike infixes.Remainder t u is = is
-begins_alike infixes.And t u is = is
-begins_alike infixes.Add t u is = is
-begins_alike infixes.Subtract t u is = is
-begins_alike infixes.Or t u is = is
-begins_alike infixes.Append t u is = is
-begins_alike infixes.Equal t u is = is
-begins_alike infixes.NotEqual t u is = is
-begins_alike infixes.ExactlyEqual t u is = is
-begins_alike infixes.ExactlyNotEqual t u is = is
-begins_alike infixes.Less t u is = is
-begins_alike infixes.Greater t u is = is
-begins_alike infixes.AtMost t u is = is
-begins_alike infixes.AtLeast t u is = is
-begins_alike infixes.AndAlso t u is = is
-begins_alike infixes.OrElse t u is = is
-begins_alike infixes.Send t u is = is
-begins_alike infixes.Match t u is = is
-
 pub and_true : (a b : Bool) → IsTrue a → IsTrue b → IsTrue (a && b)
 and_true true b one two = two
 and_true false b one two = one
@@ -184,6 +163,11 @@ paren_is : (ts : List Terminal) → IsTrue (paren_ahead ts) → ts ≡ mark mark
 paren_is (mark marks.OpenParen ∷ ts) is = refl
 paren_is [] is = absurd (true≢false (sym is))
 paren_is (_ ∷ ts) is = absurd (true≢false (sym is))
+
+pub match_is : (ts : List Terminal) → IsTrue (match_ahead ts) → ts ≡ mark marks.Match ∷ behind_first ts
+match_is (mark marks.Match ∷ ts) is = refl
+match_is [] is = absurd (true≢false (sym is))
+match_is (_ ∷ ts) is = absurd (true≢false (sym is))
 
 colon_is : (ts : List Terminal) → IsTrue (colon_ahead ts) → ts ≡ mark marks.Colon ∷ behind_first ts
 colon_is (mark marks.Colon ∷ ts) is = refl
@@ -262,26 +246,26 @@ module _ (p : Reader) (n : ℕ) (sound : Sound p n) where
 
   -- An operator behind a tree
 
-  joined_sound : (role : Role) (most : ℕ) (us : List Terminal) (t : Tree) (ts : List Terminal) → BeginsWith role most (suc n) us t ts →
-      (op : Infix) → Fits role most (level t) ts op → (u : Tree) (rest : List Terminal) → joined p role (suc n) t op ts ≡ Some (u, rest) →
-      BeginsWith role most (suc n) us u rest
-  joined_sound role most us t ts left op fits u rest is =
-      let deep = if_some (nat_lt (tree_depth t) (suc n)) (if begins (shapes.Infix op) (more t none) then
+  joined_sound : (was role : Role) (most : ℕ) (us : List Terminal) (t : Tree) (ts : List Terminal) (op : Infix) → us ≡ written t ts →
+      (IsTrue (fits was op t) → IsWell (first_role role (shapes.Infix op)) t) → Fits role most (level t) ts op →
+      (u : Tree) (rest : List Terminal) → joined p was role (suc n) t op ts ≡ Some (u, rest) → BeginsWith role most (suc n) us u rest
+  joined_sound was role most us t ts op text left there u rest is =
+      let deep = if_some (nat_lt (tree_depth t) (suc n)) (if fits was op t then
       and_then (p role (right_level op) (behind_first ts)) (λ f. Some (node (shapes.Infix op) (more t (more f.0 none)), f.1)) else None) (u, rest) is in
-      let begun = if_some (begins (shapes.Infix op) (more t none))
+      let begun = if_some (fits was op t)
       (and_then (p role (right_level op) (behind_first ts)) (λ f. Some (node (shapes.Infix op) (more t (more f.0 none)), f.1))) (u, rest) deep.1 in
       let f = inverts (p role (right_level op) (behind_first ts)) (λ f. Some (node (shapes.Infix op) (more t (more f.0 none)), f.1)) (u, rest) begun.1 in
       let right = sound role (right_level op) (behind_first ts) f.0.0 f.0.1 (room_right op) f.1 in
       subst (λ h. BeginsWith role most (suc n) us h.0 h.1)
       (same_Some {A = Tree × List Terminal} (node (shapes.Infix op) (more t (more f.0.0 none)), f.0.1) (u, rest) f.2)
       (record {
-        is_written = left.is_written ∙ ap (λ vs. written t vs) (fits.is_there ∙ ap (λ vs. infix_terminal op ∷ vs) right.is_written);
+        is_written = text ∙ ap (λ vs. written t vs) (there.is_there ∙ ap (λ vs. infix_terminal op ∷ vs) right.is_written);
         is_well = (
-          and_true (has_operator role op) true fits.is_allowed refl,
-          begins_alike op t f.0.0 begun.0,
-          (fits.is_left, left.is_well, (right.is_level, right.is_well, tt)),
+          and_true (has_operator role op) true there.is_allowed refl,
+          refl,
+          (there.is_left, left begun.0, (right.is_level, right.is_well, tt)),
         );
-        is_level = fits.is_low;
+        is_level = there.is_low;
         is_deep = omega (arith, below (tree_depth t) (suc n) deep.0, right.is_deep);
       })
 
@@ -294,8 +278,10 @@ module _ (p : Reader) (n : ℕ) (sound : Sound p n) where
   climbed_by_sound go role most us goes t ts left None ahead u rest is =
       subst (λ h. BeginsWith role most (suc n) us h.0 h.1) (same_Some {A = Tree × List Terminal} (t, ts) (u, rest) is) left
   climbed_by_sound go role most us goes t ts left (Some op) ahead u rest is =
-      let f = inverts (joined p role (suc n) t op ts) (λ f. go f.0 f.1) (u, rest) is in
-      goes f.0.0 f.0.1 (joined_sound role most us t ts left op (operator_sound role most (level t) ts op ahead) f.0.0 f.0.1 f.1) u rest f.2
+      let f = inverts (joined p role role (suc n) t op ts) (λ f. go f.0 f.1) (u, rest) is in
+      let there = operator_sound role most (level t) ts op ahead in
+      goes f.0.0 f.0.1 (joined_sound role role most us t ts op left.is_written (left_well role op t there.is_allowed left.is_well) there
+      f.0.0 f.0.1 f.1) u rest f.2
 
   ended_sound : (o : Option Infix) (role : Role) (most : ℕ) (us : List Terminal) (t : Tree) (ts : List Terminal) →
       BeginsWith role most (suc n) us t ts → (u : Tree) (rest : List Terminal) →
@@ -311,6 +297,32 @@ module _ (p : Reader) (n : ℕ) (sound : Sound p n) where
   climbed_sound (suc k) role most us t ts left u rest is =
       climbed_by_sound (climbed k p role most (suc n)) role most us (climbed_sound k role most us) t ts left
       (operator_ahead role most (level t) ts) refl u rest is
+
+  -- A match whose pattern is no expression
+
+  matched_by_sound : (most : ℕ) → matches ≤ most → (us : List Terminal) (f : Tree × List Terminal) →
+      BeginsWith Pattern operations (suc n) us f.0 f.1 → (u : Tree) (rest : List Terminal) →
+      matched_by f p Expression (suc n) ≡ Some (u, rest) → BeginsWith Expression most (suc n) us u rest
+  matched_by_sound most high us f left u rest is =
+      let found = if_some (match_ahead f.1) (joined p Pattern Expression (suc n) f.0 infixes.Match f.1) (u, rest) is in
+      joined_sound Pattern Expression most us f.0 f.1 infixes.Match left.is_written (λ fit. left.is_well)
+      (record { is_there = match_is f.1 found.0; is_allowed = refl; is_low = high; is_left = left.is_level }) u rest found.1
+
+  matched_sound : (role : Role) (most : ℕ) (ts : List Terminal) (t : Tree) (rest : List Terminal) →
+      matched p role most (suc n) ts ≡ Some (t, rest) → BeginsWith role most (suc n) ts t rest
+  matched_sound Expression most ts t rest is =
+      let found = if_some (nat_le matches most) (and_then (begun p Pattern ts) (λ f. matched_by f p Expression (suc n))) (t, rest) is in
+      let f = inverts (begun p Pattern ts) (λ f. matched_by f p Expression (suc n)) (t, rest) found.1 in
+      matched_by_sound most (at_most matches most found.0) ts f.0
+      (begun_sound Pattern operations (omega arith) ts f.0.0 f.0.1 f.1) t rest f.2
+  matched_sound Pattern most ts t rest is = absurd (none-some (t, rest) is)
+  matched_sound Test most ts t rest is = absurd (none-some (t, rest) is)
+
+  read_by_sound : (role : Role) (most : ℕ) → 1 ≤ most → (ts : List Terminal) (o : Found Tree) → begun p role ts ≡ o →
+      (t : Tree) (rest : List Terminal) → read_by o p role most (suc n) ts ≡ Some (t, rest) → BeginsWith role most (suc n) ts t rest
+  read_by_sound role most room ts None begins t rest is = matched_sound role most ts t rest is
+  read_by_sound role most room ts (Some f) begins t rest is =
+      climbed_sound (suc n) role most ts f.0 f.1 (begun_sound role most room ts f.0 f.1 begins) t rest is
 
 -- All
 
@@ -335,7 +347,4 @@ pub read_sound : (n : ℕ) → Sound (read n) n
 read_sound zero role most ts t rest room is =
     alone_sound role most ts (leaf_ahead ts) refl t rest (sym (read_zero role most ts) ∙ is)
 read_sound (suc n) role most ts t rest room is =
-    let f = inverts (begun (read n) role ts) (λ f. climbed (suc n) (read n) role most (suc n) f.0 f.1) (t, rest)
-    (sym (read_next n role most ts) ∙ is) in
-    climbed_sound (read n) n (read_sound n) (suc n) role most ts f.0.0 f.0.1
-    (begun_sound (read n) n (read_sound n) role most room ts f.0.0 f.0.1 f.1) t rest f.2
+    read_by_sound (read n) n (read_sound n) role most room ts (begun (read n) role ts) refl t rest (sym (read_next n role most ts) ∙ is)

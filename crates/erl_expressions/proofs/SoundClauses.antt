@@ -105,7 +105,7 @@ pub record IsArm (levels : ℕ) (ts : List Terminal) (it : Arm) (rest : List Ter
   pub is_written : ts ≡ guards_written it.0 (mark marks.Arrow ∷ row_written it.1 rest)
   pub are_well : AreWellGuards it.0
   pub is_body : 1 ≤ tree_count it.1
-  pub is_well : AreWell Expression matches matches it.1
+  pub is_well : AreWell Expression matches it.1
   pub is_deep : max (guards_depth it.0) (trees_depth it.1) ≤ levels
 
 module _ (p : Reader) (n : ℕ) (sound : Sound p n) where

@@ -12,7 +12,7 @@ use Rattle.erl_ast.specs.declared.shape.Shape.{Shape}
 use Rattle.erl_ast.specs.declared.shape.Shape.TheVariants as shapes
 use Rattle.erl_ast.specs.Terminal.{Terminal, mark, word}
 use Rattle.erl_ast.specs.Tree.{Tree, Trees, node, case, none, more, tree_count, tree_depth, trees_depth}
-use Rattle.erl_ast.specs.Grammar.{level, matches, in_brackets, first_level, other_level, has, begins, is_expression, is_pattern, IsWell, AreWell}
+use Rattle.erl_ast.specs.Grammar.{level, matches, in_brackets, first_level, other_level, first_role, has, begins, is_expression, is_pattern, IsWell, AreWell}
 use Rattle.erl_ast.specs.Written.{written, row_written, others_written, parts_written, other_parts_written, before_part, opened, closed, prefix_terminal}
 use Rattle.erl_expressions.specs.declared.delimiter.Delimiter.{Delimiter}
 use Rattle.erl_expressions.specs.declared.delimiter.Delimiter.TheVariants.{CloseParen, CloseBracket, Bar, Of}
@@ -20,6 +20,7 @@ use Rattle.erl_expressions.specs.Delimiters.{delimiter, after}
 use Rattle.erl_expressions.specs.Reading.{Found, Reader, and_then, row, parts, parts_by, closing, opens, made, bracketed, parenthesized, tailed, list_end, listed_by, listed, prefixed, cased, clauses_to_end, with_last}
 use Rattle.erl_expressions.specs.Readings.{BeginsWith}
 use Rattle.erl_expressions.proofs.Inversion.{inverts, if_some, both, after_is}
+use Rattle.erl_expressions.proofs.Roles.{parts_of_row}
 use Rattle.erl_expressions.proofs.SoundRows.{Sound, IsRow, row_sound}
 use Rattle.erl_expressions.proofs.SoundClauses.{clauses_sound}
 
@@ -49,6 +50,7 @@ made_is role shape us rest t left is =
 
 -- Brackets around parts with commas between them
 pub record IsBracket (role : Role) (shape : Shape) : Type 0 where
+  pub same_role : first_role role shape ≡ role
   pub same_level : other_level role shape ≡ first_level role shape
   pub room : 1 ≤ first_level role shape
   pub flat : (us : Trees) → level (node shape us) ≡ 0
@@ -56,22 +58,22 @@ pub record IsBracket (role : Role) (shape : Shape) : Type 0 where
   pub closes : (rest : List Terminal) → closed shape rest ≡ delimiter (closing shape) ∷ rest
 
 pub tuples : (role : Role) → IsBracket role shapes.Tuple
-tuples role = record { same_level = refl; room = room_in_brackets role; flat = λ us. refl; commas = λ us. refl; closes = λ rest. refl }
+tuples role = record { same_role = refl; same_level = refl; room = room_in_brackets role; flat = λ us. refl; commas = λ us. refl; closes = λ rest. refl }
 
 pub lists : (role : Role) → IsBracket role shapes.List
-lists role = record { same_level = refl; room = room_in_brackets role; flat = λ us. refl; commas = λ us. refl; closes = λ rest. refl }
+lists role = record { same_role = refl; same_level = refl; room = room_in_brackets role; flat = λ us. refl; commas = λ us. refl; closes = λ rest. refl }
 
 pub parentheses : (role : Role) → IsBracket role shapes.Parenthesized
-parentheses role = record { same_level = refl; room = room_in_brackets role; flat = λ us. refl; commas = λ us. refl; closes = λ rest. refl }
+parentheses role = record { same_role = refl; same_level = refl; room = room_in_brackets role; flat = λ us. refl; commas = λ us. refl; closes = λ rest. refl }
 
 pub blocks : (role : Role) → IsBracket role shapes.Block
-blocks role = record { same_level = refl; room = omega arith; flat = λ us. refl; commas = λ us. refl; closes = λ rest. refl }
+blocks role = record { same_role = refl; same_level = refl; room = omega arith; flat = λ us. refl; commas = λ us. refl; closes = λ rest. refl }
 
 pub locals : (role : Role) (f : Named) → IsBracket role (shapes.Local f)
-locals role f = record { same_level = refl; room = room_in_brackets role; flat = λ us. refl; commas = λ us. refl; closes = λ rest. refl }
+locals role f = record { same_role = refl; same_level = refl; room = room_in_brackets role; flat = λ us. refl; commas = λ us. refl; closes = λ rest. refl }
 
 pub remotes : (role : Role) (m : Qualifier) (f : Named) → IsBracket role (shapes.Remote m f)
-remotes role m f = record { same_level = refl; room = room_in_brackets role; flat = λ us. refl; commas = λ us. refl; closes = λ rest. refl }
+remotes role m f = record { same_role = refl; same_level = refl; room = room_in_brackets role; flat = λ us. refl; commas = λ us. refl; closes = λ rest. refl }
 
 others_of_bracket : (shape : Shape) → ((us : Trees) → before_part shape us ≡ mark marks.Comma) → (us : Trees) (rest : List Terminal) →
     other_parts_written shape us rest ≡ others_written us rest
@@ -86,7 +88,7 @@ parts_of_bracket shape commas (more t ts) rest = ap (λ us. written t us) (other
 
 pub record AreParts (role : Role) (most levels : ℕ) (close : Delimiter) (ts : List Terminal) (us : Trees) (rest : List Terminal) : Type 0 where
   pub are_written : ts ≡ row_written us (delimiter close ∷ rest)
-  pub are_well : AreWell role most most us
+  pub are_well : AreWell role most us
   pub are_deep : trees_depth us ≤ levels
 
 behind_first_written : (us : Trees) (t : Tree) (rest : List Terminal) →
@@ -137,7 +139,7 @@ module _ (p : Reader) (n : ℕ) (sound : Sound p n) where
         is_written = ap (λ us. opened shape us) (there.are_written ∙
             ap (λ us. row_written f.0.0 us) (sym (bracket.closes f.0.1)) ∙
             sym (parts_of_bracket shape bracket.commas f.0.0 (closed shape f.0.1)));
-        is_well = (it.has_parts, it.begins_so, subst (λ m. AreWell role (first_level role shape) m f.0.0) (sym bracket.same_level) there.are_well);
+        is_well = (it.has_parts, it.begins_so, parts_of_row role shape bracket.same_role bracket.same_level f.0.0 there.are_well);
         is_level = omega (arith, bracket.flat f.0.0);
         is_deep = omega (arith, there.are_deep);
       })
@@ -183,8 +185,8 @@ module _ (p : Reader) (n : ℕ) (sound : Sound p n) where
 
   -- Lists
 
-  with_last_well : (role : Role) (m : ℕ) (us : Trees) (t : Tree) → AreWell role m m us → level t ≤ m → IsWell role t →
-      AreWell role m m (with_last us t)
+  with_last_well : (role : Role) (m : ℕ) (us : Trees) (t : Tree) → AreWell role m us → level t ≤ m → IsWell role t →
+      AreWell role m (with_last us t)
   with_last_well role m none t well flat is = (flat, is, tt)
   with_last_well role m (more u us) t well flat is = (well.0, well.1, with_last_well role m us t well.2 flat is)
 
@@ -192,7 +194,7 @@ module _ (p : Reader) (n : ℕ) (sound : Sound p n) where
   with_last_deep none t = omega arith
   with_last_deep (more u us) t = omega (arith, with_last_deep us t)
 
-  tailed_sound : (role : Role) (most : ℕ) (us : Trees) → 1 ≤ tree_count us → AreWell role (in_brackets role) (in_brackets role) us →
+  tailed_sound : (role : Role) (most : ℕ) (us : Trees) → 1 ≤ tree_count us → AreWell role (in_brackets role) us →
       trees_depth us ≤ n → (ts behind : List Terminal) (t : Tree) (rest : List Terminal) →
       ts ≡ row_written us (mark marks.Bar ∷ behind) → tailed p role us behind ≡ Some (t, rest) →
       BeginsWith role most (suc n) (mark marks.OpenBracket ∷ ts) t rest
@@ -207,12 +209,16 @@ module _ (p : Reader) (n : ℕ) (sound : Sound p n) where
         is_written = ap (λ vs. mark marks.OpenBracket ∷ vs) (text ∙
             ap (λ vs. row_written us (mark marks.Bar ∷ vs)) (last.is_written ∙ ap (λ vs. written f.0.0 vs) (after_is CloseBracket f.0.1 g.0 g.1)) ∙
             sym (with_last_written us f.0.0 (mark marks.CloseBracket ∷ g.0) some));
-        is_well = (it.has_parts, it.begins_so, with_last_well role (in_brackets role) us f.0.0 well last.is_level last.is_well);
+        is_well = (
+          it.has_parts,
+          it.begins_so,
+          parts_of_row role shapes.Cons refl refl (with_last us f.0.0) (with_last_well role (in_brackets role) us f.0.0 well last.is_level last.is_well),
+        );
         is_level = omega arith;
         is_deep = omega (arith, with_last_deep us f.0.0, deep, last.is_deep);
       })
 
-  listed_whole : (role : Role) (most : ℕ) (us : Trees) → AreWell role (in_brackets role) (in_brackets role) us → trees_depth us ≤ n →
+  listed_whole : (role : Role) (most : ℕ) (us : Trees) → AreWell role (in_brackets role) us → trees_depth us ≤ n →
       (ts behind : List Terminal) (t : Tree) (rest : List Terminal) → ts ≡ row_written us (mark marks.CloseBracket ∷ behind) →
       made role shapes.List us behind ≡ Some (t, rest) → BeginsWith role most (suc n) (mark marks.OpenBracket ∷ ts) t rest
   listed_whole role most us well deep ts behind t rest text is =
@@ -222,7 +228,7 @@ module _ (p : Reader) (n : ℕ) (sound : Sound p n) where
       (record {
         is_written = ap (λ vs. mark marks.OpenBracket ∷ vs) (text ∙
             sym (parts_of_bracket shapes.List (λ vs. refl) us (mark marks.CloseBracket ∷ behind)));
-        is_well = (it.has_parts, it.begins_so, well);
+        is_well = (it.has_parts, it.begins_so, parts_of_row role shapes.List refl refl us well);
         is_level = omega arith;
         is_deep = omega (arith, deep);
       })

@@ -70,7 +70,7 @@ row_of-with_more ts (u ∷ us) = row_of-with_more (with_last ts u) us ∙ last_a
 
 pub record IsRow (role : Role) (most levels : ℕ) (ts : List Terminal) (us : Trees) (rest : List Terminal) : Type 0 where
   pub is_written : ts ≡ row_written us rest
-  pub are_well : AreWell role most most us
+  pub are_well : AreWell role most us
   pub is_some : 1 ≤ tree_count us
   pub are_deep : trees_depth us ≤ levels
 

@@ -8,7 +8,7 @@ use Rattle.erl_ast.specs.Tree.{Tree}
 use Rattle.erl_expressions.specs.Reading.{read}
 use Rattle.erl_expressions.specs.Readings.{BeginsWith, Stops, greatest, OneTree}
 use Rattle.erl_expressions.proofs.Sound.{read_sound}
-use Rattle.erl_expressions.proofs.ReadBack.{read_whole}
+use Rattle.erl_expressions.proofs.Matches.{read_whole}
 
 room : (role : Role) → 1 ≤ greatest role
 room Expression = omega arith

@@ -36,7 +36,7 @@ many_guards us no_guards rest = omega arith
 many_guards us (guard vs gs) rest =
     omega (arith, many_guards vs gs rest, row_longer vs (other_guards_written gs rest))
 
-own_row : (us : Trees) (rest : List Terminal) → 1 ≤ tree_count us → AreWell Test operations operations us →
+own_row : (us : Trees) (rest : List Terminal) → 1 ≤ tree_count us → AreWell Test operations us →
     suc (length rest) ≤ length (row_written us rest)
 own_row none rest some well = absurd (omega (arith, some))
 own_row (more t us) rest some well = omega (arith, own_tree Test t (others_written us rest) well.1, others_longer us rest)
@@ -53,7 +53,7 @@ no_comma_guards no_guards rest = refl
 no_comma_guards (guard us gs) rest = refl
 
 module _ (p : Reader) (n : ℕ) (whole : Whole p n) where
-  guards_read : (us : Trees) (gs : Guards) (rest : List Terminal) → 1 ≤ tree_count us → AreWell Test operations operations us →
+  guards_read : (us : Trees) (gs : Guards) (rest : List Terminal) → 1 ≤ tree_count us → AreWell Test operations us →
       AreWellGuards gs → trees_depth us ≤ n → guards_depth gs ≤ n →
       Things Semicolon (Reads Semicolon (row (p Test operations))) (sequence_written us gs (mark marks.Arrow ∷ rest))
       (us ∷ list_of_guards gs) (mark marks.Arrow ∷ rest)
@@ -83,7 +83,7 @@ module _ (p : Reader) (n : ℕ) (whole : Whole p n) where
   -- A guard sequence and a body
 
   pub arm_whole : (gs : Guards) (body : Trees) (rest : List Terminal) → AreWellGuards gs → guards_depth gs ≤ n → 1 ≤ tree_count body →
-      AreWell Expression matches matches body → trees_depth body ≤ n → Stops matches rest → after Comma rest ≡ None →
+      AreWell Expression matches body → trees_depth body ≤ n → Stops matches rest → after Comma rest ≡ None →
       arm p (guards_written gs (mark marks.Arrow ∷ row_written body rest)) ≡ Some ((gs, body), rest)
   unfolding arm
   arm_whole gs body rest wells deeps some well deep stops ends =
@@ -119,8 +119,8 @@ abbrev clauses_found : Clauses → List Terminal → Found Clauses
 clauses_found cs rest = Some (cs, rest)
 
 module _ (p : Reader) (n : ℕ) (whole : Whole p n) where
-  clause_whole : (t : Tree) (gs : Guards) (body : Trees) (rest : List Terminal) → AreWell Pattern matches matches (more t none) →
-      AreWellGuards gs → 1 ≤ tree_count body → AreWell Expression matches matches body →
+  clause_whole : (t : Tree) (gs : Guards) (body : Trees) (rest : List Terminal) → AreWell Pattern matches (more t none) →
+      AreWellGuards gs → 1 ≤ tree_count body → AreWell Expression matches body →
       tree_depth t ≤ n → guards_depth gs ≤ n → trees_depth body ≤ n → Stops matches rest → after Comma rest ≡ None →
       one_clause p (written t (guards_written gs (mark marks.Arrow ∷ row_written body rest))) ≡ Some ((t, (gs, body)), rest)
   unfolding one_clause

@@ -9,7 +9,7 @@ use Rattle.erl_ast.specs.declared.shape.Qualifier.TheVariants as qualifier
 use Rattle.erl_ast.specs.declared.shape.Shape.TheVariants as shapes
 use Rattle.erl_ast.specs.Terminal.{Terminal}
 use Rattle.erl_ast.specs.Tree.{Tree, Trees, leaf, node, case, none, more, tree_count, tree_depth, trees_depth}
-use Rattle.erl_ast.specs.Grammar.{level, is_leaf, has_operator, IsWell, AreWell}
+use Rattle.erl_ast.specs.Grammar.{level, is_leaf, first_role, has_operator, IsWell, AreWell}
 use Rattle.erl_ast.specs.Written.{written, leaf_written, row_written, others_written, other_parts_written}
 use Rattle.erl_expressions.specs.declared.delimiter.Delimiter.{Delimiter}
 use Rattle.erl_expressions.specs.declared.delimiter.Delimiter.TheVariants as delimiters
@@ -119,7 +119,7 @@ pub no_delimiter : (d : Delimiter) (role : Role) (t : Tree) (rest : List Termina
 no_delimiter d role (leaf l) rest is = leaf_no_delimiter d l rest is
 no_delimiter d role (node (shapes.Infix op) none) rest is = absurd (omega (arith, two_parts (has_operator role op) 0 is.0))
 no_delimiter d role (node (shapes.Infix op) (more t us)) rest is =
-    no_delimiter d role t (other_parts_written (shapes.Infix op) us rest) is.2.1
+    no_delimiter d (first_role role (shapes.Infix op)) t (other_parts_written (shapes.Infix op) us rest) is.2.1
 no_delimiter delimiters.Comma role (node shapes.Tuple us) rest is = refl
 no_delimiter delimiters.Comma role (node shapes.List us) rest is = refl
 no_delimiter delimiters.Comma role (node shapes.Cons us) rest is = refl
@@ -231,10 +231,10 @@ no_delimiter delimiters.End role (node (shapes.Prefix Negate) us) rest is = refl
 no_delimiter delimiters.End role (node (shapes.Prefix Not) us) rest is = refl
 no_delimiter delimiters.End role (case subject cs) rest is = refl
 
-pub row_no_delimiter : (d : Delimiter) (role : Role) (first others : ℕ) (us : Trees) (rest : List Terminal) → 1 ≤ tree_count us →
-    AreWell role first others us → after d (row_written us rest) ≡ None
-row_no_delimiter d role first others none rest some well = absurd (omega (arith, some))
-row_no_delimiter d role first others (more t us) rest some well = no_delimiter d role t (others_written us rest) well.1
+pub row_no_delimiter : (d : Delimiter) (role : Role) (most : ℕ) (us : Trees) (rest : List Terminal) → 1 ≤ tree_count us →
+    AreWell role most us → after d (row_written us rest) ≡ None
+row_no_delimiter d role most none rest some well = absurd (omega (arith, some))
+row_no_delimiter d role most (more t us) rest some well = no_delimiter d role t (others_written us rest) well.1
 
 -- Things in a row
 
@@ -271,15 +271,15 @@ list_length : (us : Trees) → length (list_of us) ≡ tree_count us
 list_length none = refl
 list_length (more t us) = omega (arith, list_length us)
 
-many_tokens : (role : Role) (first others : ℕ) (us : Trees) (rest : List Terminal) → AreWell role first others us →
+many_tokens : (role : Role) (most : ℕ) (us : Trees) (rest : List Terminal) → AreWell role most us →
     tree_count us ≤ length (row_written us rest)
-many_tokens role first others none rest well = omega arith
-many_tokens role first others (more t none) rest well = omega (arith, own_tree role t rest well.1)
-many_tokens role first others (more t (more u us)) rest well =
-    omega (arith, own_tree role t (others_written (more u us) rest) well.1, many_tokens role others others (more u us) rest well.2)
+many_tokens role most none rest well = omega arith
+many_tokens role most (more t none) rest well = omega (arith, own_tree role t rest well.1)
+many_tokens role most (more t (more u us)) rest well =
+    omega (arith, own_tree role t (others_written (more u us) rest) well.1, many_tokens role most (more u us) rest well.2)
 
 module _ (p : Reader) (n : ℕ) (whole : Whole p n) (role : Role) (most : ℕ) where
-  trees_read : (us : Trees) (rest : List Terminal) → 1 ≤ tree_count us → AreWell role most most us → trees_depth us ≤ n →
+  trees_read : (us : Trees) (rest : List Terminal) → 1 ≤ tree_count us → AreWell role most us → trees_depth us ≤ n →
       Stops most rest → Things Comma (Reads Comma (p role most)) (row_written us rest) (list_of us) rest
   trees_read none rest some well deep stops = absurd (omega (arith, some))
   trees_read (more t none) rest some well deep stops =
@@ -288,10 +288,10 @@ module _ (p : Reader) (n : ℕ) (whole : Whole p n) (role : Role) (most : ℕ) w
       then_more (whole role most t (others_written (more u us) rest) well.1 well.0 (omega (arith, deep)) (stops_before Comma most (row_written (more u us) rest)))
       (trees_read (more u us) rest (omega arith) well.2 (omega (arith, deep)) stops)
 
-  pub row_whole : (us : Trees) (rest : List Terminal) → 1 ≤ tree_count us → AreWell role most most us → trees_depth us ≤ n →
+  pub row_whole : (us : Trees) (rest : List Terminal) → 1 ≤ tree_count us → AreWell role most us → trees_depth us ≤ n →
       Stops most rest → after Comma rest ≡ None → row (p role most) (row_written us rest) ≡ Some (us, rest)
   unfolding row
   row_whole us rest some well deep stops ends =
       ap (λ o. and_then o (rest_of_row none)) (things_whole Comma (p role most) (length (row_written us rest))
-      (trees_read us rest some well deep stops) (omega (arith, list_length us, many_tokens role most most us rest well)) ends) ∙
+      (trees_read us rest some well deep stops) (omega (arith, list_length us, many_tokens role most us rest well)) ends) ∙
       ap (λ vs. row_found vs rest) (row_of-with_more none (list_of us) ∙ list_and_row us)

@@ -1,6 +1,6 @@
 -- Reading as a function of tokens: the tree that tokens begin with, and what is left behind it, if they begin with one. Each
 -- function has as an argument the reader of trees that are nested one level less.
-use Rattle.std.specs.Prelude.{ℕ, zero, suc, Bool, true, false, ◌&&◌, nat_lt, if◌then◌else◌, is_some, List, [], ◌∷◌, length}
+use Rattle.std.specs.Prelude.{ℕ, zero, suc, Bool, true, false, ◌&&◌, nat_lt, nat_le, if◌then◌else◌, is_some, List, [], ◌∷◌, length}
 use Rattle.std.specs.Prelude.{codes, Option, None, Some}
 use Rattle.std.specs.Str.{bytes_eq}
 use Rattle.erl_scan.specs.declared.mark.Mark.{Mark}
@@ -12,6 +12,7 @@ use Rattle.erl_ast.specs.declared.leaf.Named.{Named}
 use Rattle.erl_ast.specs.declared.role.Role.{Role}
 use Rattle.erl_ast.specs.declared.role.Role.TheVariants.{Expression, Pattern, Test}
 use Rattle.erl_ast.specs.declared.shape.Infix.{Infix}
+use Rattle.erl_ast.specs.declared.shape.Infix.TheVariants as operators
 use Rattle.erl_ast.specs.declared.shape.Prefix.{Prefix}
 use Rattle.erl_ast.specs.declared.shape.Prefix.TheVariants.{Negate, Not}
 use Rattle.erl_ast.specs.declared.shape.Qualifier.{Qualifier}
@@ -255,18 +256,43 @@ begun_by None p role ts = construct p role ts
 unfoldable pub begun : Reader → Role → List Terminal → Found Tree
 begun p role ts = begun_by (leaf_ahead ts) p role ts
 
--- An operator goes on with what stands left of it, where that leaves room for it within so many levels.
-abbrev pub joined : Reader → Role → ℕ → Tree → Infix → List Terminal → Found Tree
-joined p role levels t op ts =
+-- What was read as an expression may stand left of `=` if it is a pattern: literals, variables, tuples and lists of them.
+
+abbrev pub makes_pattern : Shape → Bool
+makes_pattern shapes.Tuple = true
+makes_pattern shapes.List = true
+makes_pattern shapes.Cons = true
+makes_pattern shapes.Parenthesized = true
+makes_pattern shape = false
+
+abbrev mutual
+  pub fits_pattern : Tree → Bool
+  fits_pattern (leaf l) = true
+  fits_pattern (node shape ts) = makes_pattern shape && fit_pattern ts
+  fits_pattern (case subject cs) = false
+
+  pub fit_pattern : Trees → Bool
+  fit_pattern none = true
+  fit_pattern (more t ts) = fits_pattern t && fit_pattern ts
+
+-- whether what was read in a role may stand left of an operator, its level aside
+abbrev pub fits : Role → Infix → Tree → Bool
+fits Expression operators.Match t = fits_pattern t
+fits was op t = true
+
+-- An operator goes on with what stands left of it, which was read in a role of its own, if that leaves room for it within so
+-- many levels.
+abbrev pub joined : Reader → Role → Role → ℕ → Tree → Infix → List Terminal → Found Tree
+joined p was role levels t op ts =
     if nat_lt (tree_depth t) levels then
-    (if begins (shapes.Infix op) (more t none) then
+    (if fits was op t then
     and_then (p role (right_level op) (behind_first ts)) (λ f. Some (node (shapes.Infix op) (more t (more f.0 none)), f.1))
     else None)
     else None
 
 abbrev pub climbed_by : Option Infix → Reader → Role → ℕ → Tree → List Terminal → (Tree → List Terminal → Found Tree) → Found Tree
 climbed_by None p role levels t ts go = Some (t, ts)
-climbed_by (Some op) p role levels t ts go = and_then (joined p role levels t op ts) (λ f. go f.0 f.1)
+climbed_by (Some op) p role levels t ts go = and_then (joined p role role levels t op ts) (λ f. go f.0 f.1)
 
 abbrev pub ended_by : Option Infix → Tree × List Terminal → Found Tree
 ended_by None f = Some f
@@ -282,8 +308,23 @@ abbrev pub only_leaf : Option (Leaf × List Terminal) → Role → ℕ → Found
 only_leaf None role most = None
 only_leaf (Some f) role most = and_then (leaf_read f) (λ g. ended_by (operator_ahead role most 0 g.1) g)
 
+abbrev pub match_ahead : List Terminal → Bool
+match_ahead (mark marks.Match ∷ ts) = true
+match_ahead ts = false
+
+abbrev pub matched_by : Tree × List Terminal → Reader → Role → ℕ → Found Tree
+matched_by f p role levels = if match_ahead f.1 then joined p Pattern role levels f.0 operators.Match f.1 else None
+
+-- A match whose pattern is no expression, as another match stands in it.
+abbrev pub matched : Reader → Role → ℕ → ℕ → List Terminal → Found Tree
+matched p role most levels ts =
+    if is_expression role && nat_le matches most then and_then (begun p Pattern ts) (λ f. matched_by f p role levels) else None
+
+abbrev pub read_by : Found Tree → Reader → Role → ℕ → ℕ → List Terminal → Found Tree
+read_by None p role most levels ts = matched p role most levels ts
+read_by (Some f) p role most levels ts = climbed levels p role most levels f.0 f.1
+
 -- The expression, pattern or test of at most a level that tokens begin with, nested at most so deep: as long as it goes on.
 unfoldable pub read : ℕ → Reader
 read zero role most ts = only_leaf (leaf_ahead ts) role most
-read (suc levels) role most ts =
-    and_then (begun (read levels) role ts) (λ f. climbed (suc levels) (read levels) role most (suc levels) f.0 f.1)
+read (suc levels) role most ts = read_by (begun (read levels) role ts) (read levels) role most (suc levels) ts

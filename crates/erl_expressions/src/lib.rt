@@ -31,10 +31,11 @@
 //! `expressions_tests` see them. The token at which a text can't go on is told, from left to right; what Erlang has but this
 //! profile hasn't is `Unsupported` at the token that shows it, an operator at itself.
 //!
-//! That there is memory, and what a call costs. Reading takes time and memory for each token that it steps over; left of `=`
-//! the whole tree is looked at again, which is right for short patterns, and at most as often as matches are nested. What is
-//! read stands in no more room than it takes. Reading recurses as deep as trees may be nested, which the caller bounds with
-//! `levels`, and a row of any length takes no recursion.
+//! That there is memory, and what a call costs. Reading takes time and memory for each token that it steps over. What begins an
+//! expression of a body, the subject of a `case` or the right side of `=` is read as an expression, and what is read left of `=`
+//! is looked at once more: it has to be a pattern. Only if these tokens begin with no expression, they are read once more, as a
+//! pattern. What is read stands in no more room than it takes. Reading recurses as deep as trees may be nested, which the caller
+//! bounds with `levels`, and a row of any length takes no recursion.
 #![tactic(auto)]
 
 mod deep;

@@ -1,10 +1,11 @@
 // The operator that tokens begin with.
-ghost use Rattle.std.specs.Prelude.{◌≡◌, false, OnSome};
+ghost use Rattle.std.specs.Prelude.{◌≡◌, true, false, OnSome};
 ghost use Rattle.erl_ast.specs.Terminal.{terminals};
 ghost use Rattle.erl_ast.specs.Grammar.{level_of as level_in, left_level as left_in, right_level as right_in};
 ghost use Rattle.erl_ast.specs.Grammar.{has_operator as has_in};
 ghost use Rattle.erl_expressions.specs.Leaves.{infix_mark as mark_in, infix_word as word_in, infix_ahead as ahead_in};
 ghost use Rattle.erl_expressions.specs.Leaves.{operator_ahead as operator_in};
+ghost use Rattle.erl_expressions.specs.Reading.{match_ahead as match_in};
 ghost use Rattle.erl_expressions.specs.Refusing.{begins_with_dot};
 
 use erl_ast::{Infix, Role};
@@ -26,6 +27,17 @@ pub(crate) fn operator_ahead(role: Role, most: u32, left: u32, tokens: &[Spot]) 
         Some(op)
     } else {
         None
+    }
+}
+
+/// Whether tokens begin with `=`.
+pub(crate) fn match_ahead(tokens: &[Spot]) -> bool
+    ensures is { result ≡ match_in (terminals tokens.now) }
+    ensures no_dot { result ≡ true → begins_with_dot tokens.now ≡ false }
+{
+    match tokens.first() {
+        Some(first) => matches!(first.what, Token::Mark(Mark::Match)),
+        None => false,
     }
 }
 

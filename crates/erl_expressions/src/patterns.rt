@@ -1,20 +1,19 @@
 // What may stand left of `=`, and behind an operator.
 ghost use Rattle.std.specs.Prelude.{◌≡◌, ◌&&◌};
-ghost use Rattle.erl_ast.specs.Grammar.{fits_pattern as fits_in, fit_pattern as fit_in, makes_pattern as makes_in, begins as begins_in};
-ghost use Rattle.erl_ast.specs.Grammar.{is_unsigned as unsigned_in};
-ghost use Rattle.erl_ast.specs.Tree.{Trees, more, none};
+ghost use Rattle.erl_ast.specs.Grammar.{begins as begins_in, is_unsigned as unsigned_in};
 ghost use Rattle.erl_ast.specs.TreeForms.{tree as tree_of, trees as trees_of};
-ghost use Rattle.erl_ast.specs.declared.shape.Shape.TheVariants.{Infix as infix_of};
+ghost use Rattle.erl_expressions.specs.Reading.{fits as left_in, fits_pattern as fits_in, fit_pattern as fit_in};
+ghost use Rattle.erl_expressions.specs.Reading.{makes_pattern as makes_in};
 
-use erl_ast::{Infix, Leaf, Prefix, Shape, Sign, SyntaxTree};
+use erl_ast::{Infix, Leaf, Prefix, Role, Shape, Sign, SyntaxTree};
 
-/// Whether a tree may stand left of an operator, its level aside: left of `=` what is a pattern.
-pub(crate) fn may_be_left_of(op: Infix, left: &SyntaxTree) -> bool
-    ensures { result ≡ begins_in (infix_of op) (more (tree_of left.now) none) }
+/// Whether what was read in a role may stand left of an operator, its level aside: left of `=` what is a pattern.
+pub(crate) fn may_be_left_of(was: Role, op: Infix, left: &SyntaxTree) -> bool
+    ensures { result ≡ left_in was op (tree_of left.now) }
 {
-    match op {
-        Infix::Match => fits_pattern(left),
-        _ => true,
+    match (was, op) {
+        (Role::Expression, Infix::Match) => fits_pattern(left),
+        (_, _) => true,
     }
 }
 
@@ -27,7 +26,6 @@ pub(crate) fn may_begin(shape: &Shape, parts: &[SyntaxTree]) -> bool
     };
     match shape {
         Shape::Prefix(Prefix::Negate) => !is_unsigned(first),
-        Shape::Infix(Infix::Match) => fits_pattern(first),
         _ => true,
     }
 }
@@ -39,7 +37,7 @@ fn is_unsigned(tree: &SyntaxTree) -> bool
     matches!(tree, SyntaxTree::Leaf(Leaf::Integer(Sign::Unsigned, _)))
 }
 
-/// Whether a tree is made of what patterns are made of.
+/// Whether an expression is a pattern.
 #[cycle(fits)]
 fn fits_pattern(tree: &SyntaxTree) -> bool
     ensures { result ≡ fits_in (tree_of tree.now) }
@@ -51,7 +49,7 @@ fn fits_pattern(tree: &SyntaxTree) -> bool
     }
 }
 
-/// Whether trees are made of what patterns are made of.
+/// Whether expressions are patterns.
 #[cycle(fits)]
 fn fit_pattern(parts: &[SyntaxTree]) -> bool
     ensures { result ≡ fit_in (trees_of parts.now) }
@@ -70,6 +68,6 @@ fn makes_pattern(shape: &Shape) -> bool
 {
     matches!(
         shape,
-        Shape::Tuple | Shape::List | Shape::Cons | Shape::Parenthesized | Shape::Infix(Infix::Match)
+        Shape::Tuple | Shape::List | Shape::Cons | Shape::Parenthesized
     )
 }

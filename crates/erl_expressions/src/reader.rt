@@ -37,6 +37,6 @@ pub(crate) fn read<'a>(
     }
     match operands::begun(alloc, levels - 1, role, tokens)? {
         Ok((left, rest)) => operands::climbed(alloc, levels, role, most, left, rest),
-        Err(refusal) => Ok(Err(refusal)),
+        Err(refusal) => operands::matched(alloc, levels, role, most, tokens, refusal),
     }
 }

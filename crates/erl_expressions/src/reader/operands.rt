@@ -7,7 +7,7 @@ ghost use Rattle.erl_expressions.specs.Reading.{read as read_in, begun as begun_
 ghost use Rattle.erl_expressions.specs.Reading.{begun_by_mark as by_mark, begun_by_word as by_word, called as called_in};
 ghost use Rattle.erl_expressions.specs.Reading.{own_called as own_in, remote as remote_in, prefixed as prefixed_in};
 ghost use Rattle.erl_expressions.specs.Reading.{climbed as climbed_in, joined as joined_in, only_leaf};
-ghost use Rattle.erl_expressions.specs.Reading.{behind_first as behind_first_in};
+ghost use Rattle.erl_expressions.specs.Reading.{behind_first as behind_first_in, matched as matched_in};
 ghost use Rattle.erl_expressions.specs.Leaves.{leaf_ahead as leaf_ahead_in};
 ghost use Rattle.erl_expressions.specs.Refusing.{Leaves, IsToldOf, begins_with_dot};
 
@@ -16,7 +16,7 @@ use super::clauses::cased;
 use super::{Reading, read};
 use crate::deep::{Deep, DeepRow};
 use crate::leaves::{colon_ahead, is_module, leaf_ahead, named, paren_ahead};
-use crate::operators::{level_of, operator_ahead, right_level};
+use crate::operators::{MATCHES, level_of, match_ahead, operator_ahead, right_level};
 use crate::patterns::may_be_left_of;
 use crate::refusal::{Reason, Refusal};
 use erl_ast::{Infix, Leaf, Named, Prefix, Qualifier, Role, Shape, Sign, SyntaxTree};
@@ -329,7 +329,7 @@ pub(super) fn climbed<'a>(
         let Some(op) = operator_ahead(role, most, level(&left.tree), rest) else {
             return Ok(Ok((left, rest)));
         };
-        match joined(alloc, levels, role, left, op, rest)? {
+        match joined(alloc, levels, role, role, left, op, rest)? {
             Ok((tree, behind)) => {
                 left = tree;
                 rest = behind;
@@ -343,11 +343,50 @@ pub(super) fn climbed<'a>(
     }
 }
 
-/// An operator between what stands left of it and what is read on its right, where there is room for it.
+/// A match whose pattern is no expression, as another match stands in it. Else the expression's refusal is told.
+#[cycle(reading)]
+#[inline(never)]
+pub(super) fn matched<'a>(
+    alloc: Global,
+    levels: u32,
+    role: Role,
+    most: u32,
+    tokens: &'a [Spot],
+    refusal: Refusal,
+) -> Reading<'a, Deep>
+    requires levels { 1 ≤ levels }
+    requires told { IsToldOf tokens.now refusal }
+    ensures read { IfOk result (λ answer. MatchResult answer
+        (λ f. matched_in (read_in (levels - 1)) role most levels (terminals tokens.now) ≡ Some (f.0, terminals f.1.now))
+        (λ _. matched_in (read_in (levels - 1)) role most levels (terminals tokens.now) ≡ None)) }
+    ensures told { IfOk result (λ answer. MatchResult answer (λ f. Leaves tokens.now f.1.now) (λ r. IsToldOf tokens.now r)) }
+{
+    if !matches!(role, Role::Expression) || most < MATCHES {
+        return Ok(Err(refusal));
+    }
+    match begun(alloc, levels - 1, Role::Pattern, tokens)? {
+        Ok((pattern, rest)) if match_ahead(rest) => {
+            joined(
+                alloc,
+                levels,
+                Role::Pattern,
+                role,
+                pattern,
+                Infix::Match,
+                rest,
+            )
+        }
+        Ok(_) | Err(_) => Ok(Err(refusal)),
+    }
+}
+
+/// An operator between what stands left of it, which was read in a role of its own, and what is read on its right, if there is
+/// room for it.
 #[cycle(reading)]
 fn joined<'a>(
     alloc: Global,
     levels: u32,
+    was: Role,
     role: Role,
     left: Deep,
     op: Infix,
@@ -356,14 +395,14 @@ fn joined<'a>(
     requires levels { 1 ≤ levels }
     requires no_dot { begins_with_dot tokens.now ≡ false }
     ensures read { IfOk result (λ answer. MatchResult answer
-        (λ f. joined_in (read_in (levels - 1)) role levels left op (terminals tokens.now) ≡ Some (f.0, terminals f.1.now))
-        (λ _. joined_in (read_in (levels - 1)) role levels left op (terminals tokens.now) ≡ None)) }
+        (λ f. joined_in (read_in (levels - 1)) was role levels left op (terminals tokens.now) ≡ Some (f.0, terminals f.1.now))
+        (λ _. joined_in (read_in (levels - 1)) was role levels left op (terminals tokens.now) ≡ None)) }
     ensures told { IfOk result (λ answer. MatchResult answer (λ f. Leaves tokens.now f.1.now) (λ r. IsToldOf tokens.now r)) }
 {
     if !left.is_below(levels) {
         return Ok(Err(Refusal::at(Reason::TooDeep, tokens)));
     }
-    if !may_be_left_of(op, &left.tree) {
+    if !may_be_left_of(was, op, &left.tree) {
         return Ok(Err(Refusal::no_pattern(&left.tree, tokens)));
     }
     match read(

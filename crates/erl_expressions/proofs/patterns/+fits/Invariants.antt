@@ -1,8 +1,8 @@
 -- What is left fits where all does, and each call goes down.
 use Rattle.std.proofs.Common.{◌≡◌, ◌+◌, ◌*◌, drop}
-use Rattle.erl_ast.specs.Grammar.{fit_pattern}
 use Rattle.erl_ast.specs.Tree.{tree_depth, trees_depth}
 use Rattle.erl_ast.specs.TreeForms.{tree, trees}
+use Rattle.erl_expressions.specs.Reading.{fit_pattern}
 use Rattle.erl_expressions.proofs.patterns.+fits.Given as goal
 
 abbrev pub decreases-fits_pattern : goal.decreases-fits_pattern

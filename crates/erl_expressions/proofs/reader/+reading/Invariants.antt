@@ -80,6 +80,9 @@ decreases-operands::climbed l = 16 * l.levels - 2
 abbrev pub decreases-operands::joined : goal.decreases-operands::joined
 decreases-operands::joined l = 16 * l.levels - 3
 
+abbrev pub decreases-operands::matched : goal.decreases-operands::matched
+decreases-operands::matched l = 16 * l.levels - 2
+
 abbrev pub decreases-read : goal.decreases-read
 decreases-read l = 16 * l.levels
 
