@@ -6,9 +6,10 @@ use crate::answers::{Closed, answer_all, answers_of};
 use crate::sends::send_all;
 use crate::told::Reply;
 use erl_semantics::Act;
+use few_lists::Few;
 use process_store::ProcessStore;
+use smallvec::SmallVec;
 use std::alloc::{AllocError, Global};
-use values::Row;
 
 /// What the acts of a job have come to.
 #[derive(Drop)]
@@ -16,9 +17,9 @@ pub(crate) struct Acted {
     /// What clients are told.
     pub(crate) replies: Vec<Reply>,
     /// Whom messages were sent to, in order.
-    pub(crate) receivers: Vec<u64>,
+    pub(crate) receivers: SmallVec<u64, 2>,
     /// The calls that were closed, in order.
-    pub(crate) closed: Row<Closed>,
+    pub(crate) closed: Few<Closed, 1>,
 }
 
 /// Does acts, in order: first the messages, but for those to one process, if one is spared, and then the replies. There is
@@ -47,12 +48,12 @@ pub(crate) fn act_all(
         return Err(AllocError);
     };
     let mut replies = Vec::with_capacity(alloc, room)?;
-    let mut closed = Vec::with_capacity(alloc, answers.len())?;
+    let mut closed = SmallVec::with_capacity(alloc, answers.len())?;
     let receivers = send_all(store, alloc, spared, acts)?;
     answer_all(store, &mut replies, &mut closed, answers);
     Ok(Acted {
         replies,
         receivers,
-        closed: Row::new(closed),
+        closed: Few::new(closed),
     })
 }

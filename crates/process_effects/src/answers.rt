@@ -3,12 +3,14 @@ ghost use Rattle.std.specs.Prelude.{◌≡◌, ◌+◌, ◌<◌, ◌≤◌, ◌+
 ghost use Rattle.process_effects.specs.Acts.{answered, reply_of};
 ghost use Rattle.process_effects.specs.Parted.{AllReopen, act_answers, all_answered, all_reclosed, all_reopened, answers_of, answers_told};
 ghost use Rattle.process_store.specs.Changes.{owner_of};
+ghost use Rattle.smallvec.specs.SmallVec.{HasRoomFor, small_vec_len};
 
 use crate::told::{Reply, ReplyBody};
 use erl_semantics::Act;
 use erl_term::Term;
 use process_index::Call;
 use process_store::ProcessStore;
+use smallvec::SmallVec;
 use std::alloc::{AllocError, Global};
 use values::Duplicate;
 
@@ -28,6 +30,19 @@ pub struct Closed {
     pub pid: u64,
     /// The call.
     pub call: Call,
+}
+
+/// What stands in a list where it keeps no item.
+impl Default for Closed {
+    fn default() -> Closed {
+        Closed {
+            pid: 0,
+            call: Call {
+                client: 0,
+                number: 0,
+            },
+        }
+    }
 }
 
 /// The reply that an act gives, if it is one.
@@ -64,18 +79,19 @@ pub fn answers_of(alloc: Global, acts: &[Act]) -> Result<Vec<Answer>, AllocError
 fn answer_call(
     store: &mut ProcessStore,
     replies: &mut Vec<Reply>,
-    closed: &mut Vec<Closed>,
+    closed: &mut SmallVec<Closed, 1>,
     answer: Answer,
 )
     requires replies { vec_len replies.old < vec_capacity replies.old }
-    requires closed { vec_len closed.old < vec_capacity closed.old }
+    requires closed { HasRoomFor closed.old 1 }
     ensures answered { store.new ≡ answered answer.number store.old }
     ensures told { replies.new.items ≡ replies.old.items ++ reply_of answer.reply (owner_of answer.number store.old) }
     ensures fits { AllReopen closed.old.items store.old → AllReopen closed.new.items store.new }
     ensures back { all_reopened closed.new.items store.new ≡ all_reopened closed.old.items store.old }
     ensures replies_room { (vec_len replies.new ≤ vec_len replies.old + 1) ×
         (vec_capacity replies.new ≡ vec_capacity replies.old) }
-    ensures closed_room { (vec_len closed.new ≤ vec_len closed.old + 1) × (vec_capacity closed.new ≡ vec_capacity closed.old) }
+    ensures closed_room { (small_vec_len closed.new ≤ small_vec_len closed.old + 1) ×
+        (closed.new.capacity ≡ closed.old.capacity) }
 {
     let Answer { number, reply } = answer;
     if let Some((pid, call)) = store.close(number) {
@@ -92,11 +108,11 @@ fn answer_call(
 pub fn answer_all(
     store: &mut ProcessStore,
     replies: &mut Vec<Reply>,
-    closed: &mut Vec<Closed>,
+    closed: &mut SmallVec<Closed, 1>,
     answers: Vec<Answer>,
 )
     requires replies { vec_len replies.old + vec_len answers ≤ vec_capacity replies.old }
-    requires closed { vec_len closed.old + vec_len answers ≤ vec_capacity closed.old }
+    requires closed { HasRoomFor closed.old (vec_len answers) }
     requires none { closed.old.items ≡ [] }
     ensures answered { store.new ≡ all_answered answers.items store.old }
     ensures told { replies.new.items ≡ replies.old.items ++ answers_told answers.items store.old }

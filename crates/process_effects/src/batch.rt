@@ -12,7 +12,9 @@ use crate::making::make_all;
 use crate::told::Reply;
 use erl_semantics::{Act, Instance};
 use erl_term::Atom;
+use few_lists::Few;
 use process_store::ProcessStore;
+use smallvec::SmallVec;
 use std::alloc::{AllocError, Global};
 use values::Row;
 
@@ -20,7 +22,7 @@ use values::Row;
 #[derive(Drop)]
 pub struct Batch {
     /// What was done, in order.
-    pub changes: Vec<Addition>,
+    pub changes: SmallVec<Addition, 2>,
     /// The replies that are left to give, in order.
     pub answers: Vec<Answer>,
 }
@@ -29,9 +31,9 @@ pub struct Batch {
 #[derive(Drop)]
 pub struct Batched {
     /// What was done, in order.
-    pub changes: Row<Addition>,
+    pub changes: Few<Addition, 2>,
     /// The calls that were closed by replies, in order.
-    pub closed: Row<Closed>,
+    pub closed: Few<Closed, 1>,
 }
 
 impl Batch {
@@ -40,7 +42,7 @@ impl Batch {
         ensures { (t : Table) → IsUnderWay result.changes.items result.answers.items t t t [] }
     {
         Batch {
-            changes: Vec::new(alloc),
+            changes: SmallVec::new(alloc),
             answers: Vec::new(alloc),
         }
     }
@@ -111,12 +113,12 @@ pub fn give_up(store: &mut ProcessStore, batch: Batch)
 }
 
 /// Room for so many replies and closed calls.
-fn room(alloc: Global, count: usize) -> Result<(Vec<Reply>, Vec<Closed>), AllocError>
+fn room(alloc: Global, count: usize) -> Result<(Vec<Reply>, SmallVec<Closed, 1>), AllocError>
     ensures none { IfOk result (λ it. (it.0.items ≡ []) × (it.1.items ≡ [])) }
-    ensures room { IfOk result (λ it. (count ≤ vec_capacity it.0) × (count ≤ vec_capacity it.1)) }
+    ensures room { IfOk result (λ it. (count ≤ vec_capacity it.0) × (count ≤ it.1.capacity)) }
 {
     let replies = Vec::with_capacity(alloc, count)?;
-    let closed = Vec::with_capacity(alloc, count)?;
+    let closed = SmallVec::with_capacity(alloc, count)?;
     Ok((replies, closed))
 }
 
@@ -142,8 +144,8 @@ pub fn finish(
         Ok((mut replies, mut closed)) => {
             answer_all(store, &mut replies, &mut closed, answers);
             let batched = Batched {
-                changes: Row::new(changes),
-                closed: Row::new(closed),
+                changes: Few::new(changes),
+                closed: Few::new(closed),
             };
             Ok((replies, batched))
         }

@@ -18,10 +18,11 @@ use code_server::Modules;
 use erl_ir::Module;
 use erl_semantics::Act;
 use erl_term::Term;
+use few_lists::Few;
 use process_index::Calls;
 use process_store::ProcessStore;
 use std::alloc::{AllocError, Global};
-use values::{Duplicate, Row};
+use values::Duplicate;
 
 /// What takes the commit of a job back whose process has ended.
 #[derive(Drop)]
@@ -29,9 +30,9 @@ pub struct Exited {
     /// The process, whole, but without what it sent to itself.
     pub ended: EndedProcess,
     /// Whom messages were sent to, in order.
-    pub receivers: Row<u64>,
+    pub receivers: Few<u64, 2>,
     /// The calls that were closed by replies, in order.
-    pub closed: Row<Closed>,
+    pub closed: Few<Closed, 1>,
 }
 
 /// A reason, as often as there are calls.
@@ -121,7 +122,7 @@ pub fn commit_exit(
             tell_downs(&mut replies, reasons, &living.calls);
             let exited = Exited {
                 ended: ended_process(pid, living, told),
-                receivers: Row::new(receivers),
+                receivers: Few::new(receivers),
                 closed,
             };
             Ok((replies, exited))

@@ -14,12 +14,13 @@ use crate::sends::receiver_of;
 use erl_semantics::{Act, Instance, Place, Receiver};
 use erl_term::{Atom, Term};
 use process_store::ProcessStore;
+use smallvec::SmallVec;
 use std::alloc::{AllocError, Global};
 
 /// Sends a message to the process of a pid, and notes it.
 fn send_to(
     store: &mut ProcessStore,
-    changes: &mut Vec<Addition>,
+    changes: &mut SmallVec<Addition, 2>,
     pid: u64,
     message: Term,
 ) -> Result<(), AllocError>
@@ -41,7 +42,7 @@ fn send_to(
 /// Sends a message, where it has a receiver, and notes it.
 fn send(
     store: &mut ProcessStore,
-    changes: &mut Vec<Addition>,
+    changes: &mut SmallVec<Addition, 2>,
     to: &Receiver,
     message: Term,
 ) -> Result<(), AllocError>
@@ -64,7 +65,7 @@ fn send(
 fn start(
     store: &mut ProcessStore,
     alloc: Global,
-    changes: &mut Vec<Addition>,
+    changes: &mut SmallVec<Addition, 2>,
     name: Option<Atom>,
     place: Place,
     code: &[Instance],
@@ -93,7 +94,7 @@ fn start(
 fn make_one(
     store: &mut ProcessStore,
     alloc: Global,
-    changes: &mut Vec<Addition>,
+    changes: &mut SmallVec<Addition, 2>,
     answers: &mut Vec<Answer>,
     name: Option<Atom>,
     code: &[Instance],
@@ -135,7 +136,7 @@ fn make_one(
 pub(crate) fn make_all(
     store: &mut ProcessStore,
     alloc: Global,
-    changes: &mut Vec<Addition>,
+    changes: &mut SmallVec<Addition, 2>,
     answers: &mut Vec<Answer>,
     name: Option<Atom>,
     code: &[Instance],

@@ -19,10 +19,11 @@ use code_server::Modules;
 use erl_ir::Module;
 use erl_semantics::{Act, Instance, Job, Place};
 use erl_term::Atom;
+use few_lists::Few;
 use process::{CodeRefs, NamedRan, Used};
 use process_store::ProcessStore;
 use std::alloc::{AllocError, Global};
-use values::{Boxed, Duplicate, Reserved, Row};
+use values::{Boxed, Duplicate, Reserved};
 
 /// What takes the commit of a job back whose process rests again.
 #[derive(Drop)]
@@ -32,9 +33,9 @@ pub struct Rested {
     /// Where it rested before, and what it ran.
     pub ran: NamedRan,
     /// Whom messages were sent to, in order.
-    pub receivers: Row<u64>,
+    pub receivers: Few<u64, 2>,
     /// The calls that were closed, in order.
-    pub closed: Row<Closed>,
+    pub closed: Few<Closed, 1>,
 }
 
 /// The instance that a loop function's place names, among the code in which it came to rest; none of a callback module's.
@@ -115,7 +116,7 @@ pub fn commit_rest(
             let rested = room.fill(Rested {
                 pid,
                 ran: ran.named(told),
-                receivers: Row::new(receivers),
+                receivers: Few::new(receivers),
                 closed,
             });
             Ok((replies, rested))

@@ -8,6 +8,7 @@ ghost use Rattle.process_store.specs.Table.{changed};
 use erl_semantics::{Act, Receiver};
 use erl_term::Term;
 use process_store::ProcessStore;
+use smallvec::SmallVec;
 use std::alloc::{AllocError, Global};
 use values::Duplicate;
 
@@ -41,7 +42,7 @@ fn other_than(spared: Option<u64>, receiver: Option<u64>) -> Option<u64>
 fn send_to(
     store: &mut ProcessStore,
     alloc: Global,
-    receivers: &mut Vec<u64>,
+    receivers: &mut SmallVec<u64, 2>,
     pid: u64,
     message: &Term,
 ) -> Result<(), AllocError>
@@ -67,7 +68,7 @@ fn send(
     store: &mut ProcessStore,
     alloc: Global,
     spared: Option<u64>,
-    receivers: &mut Vec<u64>,
+    receivers: &mut SmallVec<u64, 2>,
     act: &Act,
 ) -> Result<(), AllocError>
     ensures ok { OnOk result (store.new ≡ act_sent spared act.now store.old) }
@@ -107,12 +108,12 @@ pub(crate) fn send_all(
     alloc: Global,
     spared: Option<u64>,
     acts: &[Act],
-) -> Result<Vec<u64>, AllocError>
+) -> Result<SmallVec<u64, 2>, AllocError>
     ensures ok { OnOk result (store.new ≡ acts_sent spared acts.now store.old) }
     ensures back { IfOk result (λ receivers. all_unsent receivers.items store.new ≡ store.old) }
     ensures err { OnErr result (store.new ≡ store.old) }
 {
-    let mut receivers = Vec::new(alloc);
+    let mut receivers = SmallVec::new(alloc);
     for act in acts {
         if let Err(refused) = send(store, alloc, spared, &mut receivers, act) {
             unsend_all(store, receivers.as_slice());

@@ -1,6 +1,7 @@
 -- What is left gives what all of it gives, and there is room for it.
 use Rattle.std.proofs.Common.{◌≡◌, ◌≤◌, ◌+◌, ◌++◌, vec_capacity, vec_len}
 use Rattle.std.specs.Vec.Iter.{into_iter_items, into_iter_len}
+use Rattle.smallvec.specs.SmallVec.{small_vec_len}
 use Rattle.process_effects.specs.Parted.{AllReopen, all_answered, all_reopened, answers_told}
 use Rattle.process_effects.proofs.answers.answer_all.Given as goal
 
@@ -12,6 +13,6 @@ invariant-loop-each l = record {
   back : all_reopened l.closed.items l.store ≡ l.fn.store;
   replies : vec_len l.replies + into_iter_len l.each-iterator ≤ vec_len l.fn.replies + vec_len l.fn.answers;
   replies_room : vec_capacity l.replies ≡ vec_capacity l.fn.replies;
-  closed : vec_len l.closed + into_iter_len l.each-iterator ≤ vec_len l.fn.closed + vec_len l.fn.answers;
-  closed_room : vec_capacity l.closed ≡ vec_capacity l.fn.closed;
+  closed : small_vec_len l.closed + into_iter_len l.each-iterator ≤ small_vec_len l.fn.closed + vec_len l.fn.answers;
+  closed_room : l.closed.capacity ≡ l.fn.closed.capacity;
 }

@@ -5,8 +5,8 @@ use Rattle.process_effects.proofs.making.start.Goals as goal
 
 pub returns-in-Ok-clause-back : goal.returns-in-Ok-clause-back
 returns-in-Ok-clause-back c =
-    noted_back c.args.changes.now.items c.push.new.self.items Started c.args.store.now c.add.new.self c.in_ok-push.ensures.items c.in-Ok.ensures.back
+    noted_back c.args.changes.now.items c.push.new.self.items Started c.args.store.now c.add.new.self c.in_ok-push.ensures.ok c.in-Ok.ensures.back
 
 pub returns-in-Ok-clause-fits : goal.returns-in-Ok-clause-fits
 returns-in-Ok-clause-fits c =
-    noted_fits c.args.changes.now.items c.push.new.self.items Started c.args.store.now c.add.new.self c.in_ok-push.ensures.items c.in-Ok.ensures.back c.in-Ok.ensures.fits
+    noted_fits c.args.changes.now.items c.push.new.self.items Started c.args.store.now c.add.new.self c.in_ok-push.ensures.ok c.in-Ok.ensures.back c.in-Ok.ensures.fits
