@@ -1,5 +1,5 @@
 // The applications of a node.
-ghost use Rattle.std.specs.Prelude.{◌≡◌, ◌↔◌, ◌+◌, ◌≤◌, ◌<◌, ◌++◌, ◌∷◌, [], IfOk, IfSome, IsSome, IsTrue, OnErr, OnOk, Some, false, length, map, position, slice_get, true, vec_capacity, vec_len};
+ghost use Rattle.std.specs.Prelude.{◌≡◌, ◌↔◌, ◌+◌, ◌≤◌, ◌<◌, ◌++◌, ◌∷◌, [], IfOk, IfSome, IsSome, IsTrue, OnErr, OnOk, Some, false, length, map, position, slice_get, true};
 ghost use Rattle.std.specs.Option.{option_copied};
 ghost use Rattle.app_table.specs.Applications.{Application, all_ended, changed_child, child_at, ended, has_process, loaded, index_of, set_child, spot_by_pid, spot_of, with_children};
 ghost use Rattle.app_table.specs.Children.{after_end, is_due};
@@ -7,6 +7,7 @@ ghost use Rattle.app_table.specs.Pieces.{child_pieces, held};
 ghost use Rattle.app_table.specs.Undo.{all_unended, undone, unended};
 ghost use Rattle.app_table.specs.declared.child.Child.{Child as OneChild};
 ghost use Rattle.app_table.specs.declared.child.ChildState.TheVariants.{Running};
+ghost use Rattle.smallvec.specs.SmallVec.{HasRoomFor, small_vec_len};
 ghost use Rattle.values.specs.Edits.{changed_at};
 
 mod changing;
@@ -20,7 +21,9 @@ use crate::children::Children;
 use crate::spot::Spot;
 use crate::undo::{AppsUndo, ChildProcess};
 use erl_term::{Atom, Term};
+use few_lists::Few;
 use otp_files::AppSpec;
+use smallvec::SmallVec;
 use std::alloc::{AllocError, Global};
 use std::marker::Model;
 use values::Row;
@@ -210,11 +213,11 @@ impl AppTable {
 
     /// The process of a pid has ended for a reason: if it was a child's, the child is due now, or stopped. There is room for
     /// what takes it back.
-    fn end(&mut self, pid: u64, reason: &Term, undo: &mut Vec<ChildProcess>)
-        requires { vec_len undo.old < vec_capacity undo.old }
+    fn end(&mut self, pid: u64, reason: &Term, undo: &mut SmallVec<ChildProcess, 1>)
+        requires { HasRoomFor undo.old 1 }
         ensures ended { self.new ≡ ended reason.now pid self.old }
         ensures back { all_unended undo.new.items self.new ≡ all_unended undo.old.items self.old }
-        ensures room { (vec_len undo.new ≤ vec_len undo.old + 1) × (vec_capacity undo.new ≡ vec_capacity undo.old) }
+        ensures room { (small_vec_len undo.new ≤ small_vec_len undo.old + 1) × (undo.new.capacity ≡ undo.old.capacity) }
     {
         let Some(spot) = self.spot_by_pid(pid) else {
             return;
@@ -235,11 +238,11 @@ impl AppTable {
         ensures pieces { IfOk result (λ undo. held undo self.new ≡ []) }
         ensures err { OnErr result (self.new ≡ self.old) }
     {
-        let mut undo = Vec::with_capacity(self.alloc, pids.len())?;
+        let mut undo = SmallVec::with_capacity(self.alloc, pids.len())?;
         for pid in pids {
             self.end(*pid, reason, &mut undo);
         }
-        Ok(AppsUndo::AllEnded(Row::new(undo)))
+        Ok(AppsUndo::AllEnded(Few::new(undo)))
     }
 
     /// Children run again as the processes that have ended, the last first.

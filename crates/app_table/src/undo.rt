@@ -5,10 +5,11 @@ use crate::children::Children;
 use crate::renewing::ChildEdit;
 use crate::specs::Replaced;
 use crate::spot::Spot;
+use few_lists::Few;
 use values::Row;
 
 /// A child and a process that it runs as, or has run as.
-#[derive(Clone, Copy, Debug, PartialEq, Eq, Drop)]
+#[derive(Clone, Copy, Debug, Default, PartialEq, Eq, Drop)]
 pub struct ChildProcess {
     /// Where the child stands.
     pub spot: Spot,
@@ -33,7 +34,7 @@ pub enum AppsUndo {
     /// The child at a spot was due, and runs.
     Revived(Spot),
     /// Children have ended, in this order.
-    AllEnded(Row<ChildProcess>),
+    AllEnded(Few<ChildProcess, 1>),
     /// Children run that had no process, in this order.
     AllRun(Row<Rerun>),
     /// The application at an index was stopped, whose children were in these states, in order.

@@ -12,6 +12,8 @@ use crate::child::ChildState;
 use crate::children::{pids_back, states_of};
 use crate::spot::Spot;
 use crate::undo::{AppsUndo, ChildProcess, Rerun, Unloaded};
+use few_lists::Few;
+use smallvec::SmallVec;
 use std::alloc::{AllocError, Global};
 use values::Row;
 
@@ -25,7 +27,7 @@ impl AppTable {
         ensures pieces { held result self.new ≡ [] }
     {
         self.stop_each(children.as_slice());
-        AppsUndo::AllEnded(children)
+        AppsUndo::AllEnded(Few::new(SmallVec::from_vec(children.into_vec())))
     }
 
     /// Children are stopped.

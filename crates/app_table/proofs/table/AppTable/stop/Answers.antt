@@ -11,4 +11,5 @@ pub returns-clause-inverse : goal.returns-clause-inverse
 returns-clause-inverse c =
     let now = c.args.self.now in
     let children = c.args.children in
-    ap (λ (v : List Application). all_unended children v) (c.stop_each.ensures ∙ ap (λ (cs : List ChildProcess). all_stopped cs now) c.as_slice.ensures) ∙ stop_back children now c.requires
+    let noted = c.new.ensures ∙ c.from_vec.ensures.items ∙ c.into_vec.ensures in
+    ap (λ (cs : List ChildProcess). all_unended cs c.stop_each.new.self) noted ∙ ap (λ (v : List Application). all_unended children v) (c.stop_each.ensures ∙ ap (λ (cs : List ChildProcess). all_stopped cs now) c.as_slice.ensures) ∙ stop_back children now c.requires
