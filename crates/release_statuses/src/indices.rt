@@ -2,9 +2,10 @@
 ghost use Rattle.std.specs.Prelude.{◌≡◌, IfOk, map};
 ghost use Rattle.std.specs.Option.{option_copied};
 ghost use Rattle.std.specs.Str.{bytes_eq, chars};
-ghost use Rattle.release_statuses.specs.Statuses.{has_status, is_permanent, is_status, listed, index_of, index_with};
+ghost use Rattle.release_statuses.specs.Statuses.{has_status, index_with, is_permanent, is_status, listed};
 ghost use Rattle.release_statuses.specs.Statuses.{status_of, vsn_of};
 
+use crate::by_version::ByVersion;
 use crate::listed::Listed;
 use crate::status::Status;
 use std::alloc::{AllocError, Global};
@@ -30,13 +31,6 @@ pub(crate) fn is_of(it: &Listed, vsn: &str) -> bool
     vsn == it.release.rel.vsn.as_str()
 }
 
-/// Where the release of a version stands. Looks at each release before it.
-pub(crate) fn index_of(list: &[Listed], vsn: &str) -> Option<usize>
-    ensures { result ≡ index_of (chars vsn.now) list.now }
-{
-    list.iter().position(|it| is_of(it, vsn))
-}
-
 /// Where the first release with a status stands. Looks at each release before it.
 pub(crate) fn index_with(list: &[Listed], status: Status) -> Option<usize>
     ensures { result ≡ index_with status list.now }
@@ -45,28 +39,28 @@ pub(crate) fn index_with(list: &[Listed], status: Status) -> Option<usize>
 }
 
 /// The release of a version, with its status.
-pub(crate) fn listed<'a>(list: &'a [Listed], vsn: &str) -> Option<&'a Listed>
-    ensures { option_copied result ≡ listed (chars vsn.now) list.now }
+pub(crate) fn listed<'a>(table: &'a ByVersion, vsn: &str) -> Option<&'a Listed>
+    ensures { option_copied result ≡ listed (chars vsn.now) table.now }
 {
-    let index = index_of(list, vsn)?;
-    list.get(index)
+    let index = table.index_of(vsn)?;
+    table.as_slice().get(index)
 }
 
 /// The status of the release of a version.
-pub(crate) fn status_of(list: &[Listed], vsn: &str) -> Option<Status>
-    ensures { result ≡ status_of (chars vsn.now) list.now }
+pub(crate) fn status_of(table: &ByVersion, vsn: &str) -> Option<Status>
+    ensures { result ≡ status_of (chars vsn.now) table.now }
 {
-    match listed(list, vsn) {
+    match listed(table, vsn) {
         Some(it) => Some(it.status),
         None => None,
     }
 }
 
 /// Whether the release of a version is permanent.
-pub(crate) fn is_permanent(list: &[Listed], vsn: &str) -> bool
-    ensures { result ≡ is_permanent (status_of (chars vsn.now) list.now) }
+pub(crate) fn is_permanent(table: &ByVersion, vsn: &str) -> bool
+    ensures { result ≡ is_permanent (status_of (chars vsn.now) table.now) }
 {
-    match status_of(list, vsn) {
+    match status_of(table, vsn) {
         Some(status) => is_status(Status::Permanent, status),
         None => false,
     }

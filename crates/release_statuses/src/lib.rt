@@ -12,14 +12,17 @@
 //!   refusals are told without memory.
 //! - What an undo gives back is the releases before the change, whole (`TakesBack`); of a removal it may be refused, for lack of
 //!   memory, and hands itself back then.
+//! - [`Releases::which_releases`] lends the releases, the latest that was set unpacked first.
 //! - One release is always permanent, so that one runs ([`Releases::running`]).
 //!
 //! # What no contract says
 //!
-//! That there is memory, and what a call costs: the release of a version is looked for among all, of which there are few. A
-//! record holds the release that a removal took away, and else statuses alone.
+//! That there is memory, and what a call costs. The release of a version is found by key, in a time that doesn't grow with the
+//! table; versions are hashed by secrets that come from outside, so nobody who picks versions can make that slow. The release
+//! with a status is looked for among all. A record holds the release that a removal took away, and else statuses alone.
 #![tactic(auto)]
 
+mod by_version;
 mod error;
 mod indices;
 mod listed;
@@ -29,6 +32,7 @@ mod status_changes;
 mod undo;
 mod vsn;
 
+pub use by_version::TakenOut;
 pub use error::RelError;
 pub use listed::Listed;
 pub use releases::Releases;

@@ -2,23 +2,30 @@
 mod changes;
 
 ghost use Rattle.std.specs.Prelude.{◌≡◌, IfOk, Some};
+ghost use Rattle.std.specs.Iterator.Adapters.{rev_steps};
+ghost use Rattle.std.specs.Iterator.Runs.{EachRunFrom, ItemsMapTo};
 ghost use Rattle.std.specs.Option.{option_copied};
+ghost use Rattle.std.specs.Slice.Iter.{iter_steps_back};
 ghost use Rattle.std.specs.Str.{chars};
 
+use crate::by_version::ByVersion;
 use crate::error::RelError;
-use crate::indices::{index_of, index_with, is_of, listed, status_of};
+use crate::indices::{index_with, is_of, listed, status_of};
 use crate::listed::Listed;
 use crate::status::Status;
 use release_table::Release;
 use std::alloc::{AllocError, Global};
+use std::hash::RandomState;
+use std::iter::Rev;
 use std::marker::Model;
+use std::slice::Iter;
 
 /// The releases of a node, in the order in which they were set unpacked, each with its status. One of them is permanent.
 ///
-/// A release is found by its version among all, of which there are few. Where a version is named, it is the text of the version.
+/// A release is found by its version, by key, in a time that doesn't grow with the table. A version is named by its text.
 pub struct Releases {
     alloc: Global,
-    list: Vec<Listed>,
+    table: ByVersion,
 }
 
 /// It is taken apart here, so that who drops one above has nothing to prove of its parts.
@@ -26,7 +33,7 @@ impl Drop for Releases {
     fn drop(self) {
         let Releases {
             alloc: _alloc,
-            list: _list,
+            table: _table,
         } = self;
     }
 }
@@ -42,30 +49,37 @@ impl Model for Releases {
 
     ghost coded = { coded_list one_listed.the_row.coded };
 
-    ghost view = { λ a. a.list.items };
+    ghost view = { λ a. a.table };
 
-    ghost invariant = { λ a. HasPermanent a.list.items };
+    ghost invariant = { λ a. HasPermanent a.table };
 }
 
 impl Releases {
     ghost use Rattle.release_statuses.specs.Statuses.{HasPermanent, booted, first_with, install_refusal, listed, permanent_refusal};
     ghost use Rattle.release_statuses.specs.declared.status.Status.TheVariants as status;
     ghost use Rattle.release_statuses.specs.Statuses.{reboot_refusal, remove_refusal, running, status_of, unpack_refusal};
+    ghost use Rattle.release_statuses.specs.Statuses.{which_releases};
 
-    /// The release that a node has booted: it is the only one, and permanent.
+    /// Makes the table of a node that has booted a release, which is the only one, and permanent. Versions are hashed by
+    /// `hashing`.
     ///
     /// # Errors
     ///
-    /// `AllocError` where memory is refused. The release is then dropped.
-    pub fn booted(alloc: Global, release: Release) -> Result<Releases, AllocError>
+    /// `AllocError` if an allocation fails. The release is then dropped.
+    pub fn booted(
+        alloc: Global,
+        hashing: RandomState,
+        release: Release,
+    ) -> Result<Releases, AllocError>
         ensures { IfOk result (λ it. it ≡ booted release) }
     {
-        let mut list = Vec::new(alloc);
-        list.push(Listed {
+        let mut table = ByVersion::new(alloc, hashing);
+        let it = Listed {
             release,
             status: Status::Permanent,
-        })?;
-        Ok(Releases { alloc, list })
+        };
+        table.push(alloc, it)?;
+        Ok(Releases { alloc, table })
     }
 
     /// The releases, in the order in which they were set unpacked; the one that booted stands first. Takes no memory.
@@ -73,29 +87,39 @@ impl Releases {
         ensures items { result.now ≡ self.now }
         ensures kept { HasPermanent self.now }
     {
-        self.list.as_slice()
+        self.table.as_slice()
+    }
+
+    /// Lends the releases with their statuses as `which_releases` prints them: the latest that was set unpacked first, and the
+    /// one that booted last. Takes no memory.
+    pub fn which_releases(&self) -> Rev<Iter<'_, Listed>>
+        ensures { EachRunFrom (rev_steps iter_steps_back) result
+            (λ run. ItemsMapTo run (λ it. it.now) (which_releases self.now)) }
+    {
+        self.as_slice().iter().rev()
     }
 
     /// The release of a version, if it is there. Takes no memory.
     pub fn get(&self, vsn: &str) -> Option<&Listed>
         ensures { option_copied result ≡ listed (chars vsn.now) self.now }
     {
-        listed(&self.list, vsn)
+        listed(&self.table, vsn)
     }
 
     /// The status of the release of a version.
     fn status(&self, vsn: &str) -> Option<Status>
         ensures { result ≡ status_of (chars vsn.now) self.now }
     {
-        status_of(&self.list, vsn)
+        status_of(&self.table, vsn)
     }
 
     /// The release that runs: the current one, or else the permanent one. Takes no memory.
     pub fn running(&self) -> &Listed
         ensures { running self.now ≡ Some result.now }
     {
-        match index_with(&self.list, Status::Current) {
-            Some(index) => &self.list[index],
+        let list = self.table.as_slice();
+        match index_with(list, Status::Current) {
+            Some(index) => &list[index],
             None => self.permanent(),
         }
     }
@@ -104,8 +128,9 @@ impl Releases {
     pub fn permanent(&self) -> &Listed
         ensures { first_with status.Permanent self.now ≡ Some result.now }
     {
-        match index_with(&self.list, Status::Permanent) {
-            Some(index) => &self.list[index],
+        let list = self.table.as_slice();
+        match index_with(list, Status::Permanent) {
+            Some(index) => &list[index],
             None => unreachable!(),
         }
     }
@@ -115,7 +140,7 @@ impl Releases {
     pub fn unpack_refusal(&self, vsn: &str) -> Option<RelError>
         ensures { result ≡ unpack_refusal (chars vsn.now) self.now }
     {
-        match index_of(&self.list, vsn) {
+        match self.table.index_of(vsn) {
             Some(_) => Some(RelError::Exists),
             None => None,
         }
@@ -138,7 +163,7 @@ impl Releases {
     pub fn install_refusal(&self, vsn: &str) -> Option<RelError>
         ensures { result ≡ install_refusal (chars vsn.now) self.now }
     {
-        if index_of(&self.list, vsn).is_none() {
+        if self.table.index_of(vsn).is_none() {
             return Some(RelError::NoSuchRelease);
         }
         if is_of(self.running(), vsn) {

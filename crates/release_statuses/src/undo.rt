@@ -1,5 +1,5 @@
 // What takes a change of the releases back.
-use crate::listed::Listed;
+use crate::by_version::TakenOut;
 use crate::status::Status;
 use values::Row;
 
@@ -9,7 +9,7 @@ pub enum ReleasesUndo {
     /// A release was set unpacked: the last one.
     Added,
     /// This release stood at this index.
-    Removed(usize, Listed),
+    Removed(usize, TakenOut),
     /// The releases had these statuses, in their order.
     Statuses(Row<Status>),
 }

@@ -1,9 +1,9 @@
 // Changes of the releases, and what takes them back.
-ghost use Rattle.std.specs.Prelude.{◌≡◌, ◌++◌, ◌≢◌, [], ◌∷◌, IfErr, IfOk, IsSome, None, OnErr, OnOk};
+ghost use Rattle.std.specs.Prelude.{◌≡◌, ◌≢◌, IfErr, IfOk, IsSome, None, OnErr, OnOk};
 ghost use Rattle.std.specs.Str.{chars};
 
 use crate::error::RelError;
-use crate::indices::{index_of, statuses};
+use crate::indices::statuses;
 use crate::listed::Listed;
 use crate::releases::Releases;
 use crate::status::Status;
@@ -12,15 +12,6 @@ use crate::undo::ReleasesUndo;
 use release_table::Release;
 use std::alloc::AllocError;
 use values::{Failure, Row};
-
-/// Puts a release last.
-fn push(list: &mut Vec<Listed>, it: Listed) -> Result<(), AllocError>
-    ensures pushed { OnOk result (list.new.items ≡ list.old.items ++ it ∷ []) }
-    ensures err { OnErr result (list.new.items ≡ list.old.items) }
-{
-    list.push(it)?;
-    Ok(())
-}
 
 impl Releases {
     ghost use Rattle.values.specs.Failure.{TellsFailure};
@@ -48,7 +39,7 @@ impl Releases {
             release,
             status: Status::Unpacked,
         };
-        push(&mut self.list, it)?;
+        self.table.push(self.alloc, it)?;
         Ok(ReleasesUndo::Added)
     }
 
@@ -68,8 +59,8 @@ impl Releases {
         if let Some(refusal) = self.remove_refusal(vsn) {
             return Err(Failure::Refused(refusal));
         }
-        match index_of(&self.list, vsn) {
-            Some(index) => Ok(ReleasesUndo::Removed(index, self.list.remove(index))),
+        match self.table.index_of(vsn) {
+            Some(index) => Ok(ReleasesUndo::Removed(index, self.table.take_out(index))),
             None => Err(Failure::Refused(RelError::NoSuchRelease)),
         }
     }
@@ -87,8 +78,8 @@ impl Releases {
         ensures statuses { IfOk result (λ undo. IsRemoval undo → ⊥) }
         ensures err { OnErr result (self.new ≡ self.old) }
     {
-        let former = statuses(self.alloc, &self.list)?;
-        install(self.list.as_mut_slice(), vsn);
+        let former = statuses(self.alloc, self.table.as_slice())?;
+        install(&mut self.table, vsn);
         Ok(ReleasesUndo::Statuses(Row::new(former)))
     }
 
@@ -109,8 +100,8 @@ impl Releases {
         if let Some(refusal) = self.permanent_refusal(vsn) {
             return Err(Failure::Refused(refusal));
         }
-        let former = statuses(self.alloc, &self.list)?;
-        make_permanent(self.list.as_mut_slice(), vsn);
+        let former = statuses(self.alloc, self.table.as_slice())?;
+        make_permanent(&mut self.table, vsn);
         Ok(ReleasesUndo::Statuses(Row::new(former)))
     }
 
@@ -131,8 +122,8 @@ impl Releases {
         if let Some(refusal) = self.reboot_refusal(vsn) {
             return Err(Failure::Refused(refusal));
         }
-        let former = statuses(self.alloc, &self.list)?;
-        reboot(self.list.as_mut_slice(), vsn);
+        let former = statuses(self.alloc, self.table.as_slice())?;
+        reboot(&mut self.table, vsn);
         Ok(ReleasesUndo::Statuses(Row::new(former)))
     }
 
@@ -147,8 +138,8 @@ impl Releases {
         ensures statuses { IfOk result (λ undo. IsRemoval undo → ⊥) }
         ensures err { OnErr result (self.new ≡ self.old) }
     {
-        let former = statuses(self.alloc, &self.list)?;
-        change_status(self.list.as_mut_slice(), Status::Current, Status::Old);
+        let former = statuses(self.alloc, self.table.as_slice())?;
+        change_status(&mut self.table, Status::Current, Status::Old);
         Ok(ReleasesUndo::Statuses(Row::new(former)))
     }
 
@@ -166,15 +157,15 @@ impl Releases {
     {
         match undo {
             ReleasesUndo::Added => {
-                let _ = self.list.pop();
+                self.table.pop();
                 Ok(())
             }
-            ReleasesUndo::Removed(index, it) => match self.list.insert(index, it) {
+            ReleasesUndo::Removed(index, taken) => match self.table.put_back(index, taken) {
                 Ok(()) => Ok(()),
-                Err(refused) => Err(ReleasesUndo::Removed(index, refused.value)),
+                Err(taken) => Err(ReleasesUndo::Removed(index, taken)),
             },
             ReleasesUndo::Statuses(former) => {
-                restore(self.list.as_mut_slice(), former.as_slice());
+                restore(&mut self.table, former.as_slice());
                 Ok(())
             }
         }
