@@ -13,6 +13,7 @@ use Rattle.erl_ast.specs.declared.shape.Shape.TheVariants as shapes
 use Rattle.erl_ast.specs.declared.shape.Qualifier.TheVariants as qualifier
 use Rattle.erl_ast.specs.declared.shape.Prefix.TheVariants.{Negate, Not}
 use Rattle.erl_expressions.proofs.Lengths.{two_parts, row_longer, guards_longer}
+use Rattle.erl_ast.specs.declared.role.Role.{Role}
 use Rattle.erl_ast.specs.declared.role.Role.TheVariants.{Expression, Pattern}
 use Rattle.erl_ast.specs.declared.form.Exported.{Exported}
 use Rattle.erl_ast.specs.declared.form.FunctionClause.{FunctionClause}
@@ -21,7 +22,7 @@ use Rattle.erl_ast.specs.declared.form.FormTree.TheVariants as forms
 use Rattle.erl_ast.specs.declared.form.LoopTree.{LoopTree}
 use Rattle.erl_ast.specs.Terminal.{Terminal, integer, atom, word, mark, dot}
 use Rattle.erl_ast.specs.Tree.{Tree, Trees, Guards, Clauses, leaf, node, case, none, more, tree_count, tree_depth, trees_depth, guards_depth}
-use Rattle.erl_ast.specs.Grammar.{matches, level, is_leaf, has_operator, IsWell, AreWell, AreWellGuards}
+use Rattle.erl_ast.specs.Grammar.{matches, level, is_leaf, first_role, has_operator, IsWell, AreWell, AreWellGuards}
 use Rattle.erl_ast.specs.Written.{written, leaf_written, other_parts_written, row_written, others_written, guards_written, clauses_written}
 use Rattle.erl_ast.specs.Forms.{Attribute, skipped, attribute, is_term, after_dot, are_arities, entry_written, entries_written, other_entries_written, head_written, clause_written, function_written, other_function_written, IsFunctionClause, AreClauses, IsFunction, IsLoop, loop_written, attribute_written, BeginsForm, export_form, version_form, skipped_form, function_form, loop_form}
 use Rattle.erl_expressions.specs.declared.delimiter.Delimiter.TheVariants.{Comma, Semicolon, Arrow, CloseParen, CloseBracket}
@@ -33,7 +34,8 @@ use Rattle.erl_expressions.proofs.Levels.{stops_before}
 use Rattle.erl_expressions.proofs.SoundRows.{Things, only, then_more}
 use Rattle.erl_expressions.proofs.WholeRows.{Reads, things_whole, row_whole}
 use Rattle.erl_expressions.proofs.WholeClauses.{guarded_whole, clauses_whole}
-use Rattle.erl_expressions.proofs.ReadBack.{read_whole, parts_whole, if_true}
+use Rattle.erl_expressions.proofs.Matches.{read_whole}
+use Rattle.erl_expressions.proofs.ReadBack.{parts_whole, if_true}
 use Rattle.module_forms.specs.declared.opening.Opening.TheVariants as openings
 use Rattle.module_forms.specs.Openings.{opening, is_opening, behind}
 use Rattle.module_forms.specs.FormReading.{named_ahead, closed_form, arity_ahead, entry, closed_entries, rest_of_entries, some_entries, entries_by, exported, version_form as version_read, versioned, head, front, clause_of, one_clause, if_same, clause_like, more_by, clauses_like, ended, rest_of_function, function_from, looped, function_by, function, by_attribute, form_by, form}
@@ -98,7 +100,7 @@ versioned_whole t rest well low deep is =
 
 -- Functions
 
-front_whole : (ps : Trees) (gs : Guards) (rest : List Terminal) → AreWell Pattern matches matches ps → AreWellGuards gs →
+front_whole : (ps : Trees) (gs : Guards) (rest : List Terminal) → AreWell Pattern matches ps → AreWellGuards gs →
     trees_depth ps ≤ 256 → guards_depth gs ≤ 256 →
     front (mark marks.OpenParen ∷ row_written ps (mark marks.CloseParen ∷ guards_written gs (mark marks.Arrow ∷ rest))) ≡ Some ((ps, gs), rest)
 unfolding front
@@ -166,26 +168,27 @@ leaf_no_receive (leaves.Strings (s ∷ ss)) rest is = refl
 leaf_no_receive (leaves.Variable name at) rest is = refl
 leaf_no_receive (leaves.ModuleName at) rest is = refl
 
-no_receive : (t : Tree) (rest : List Terminal) → IsWell Expression t → behind openings.Receive (written t rest) ≡ None
-no_receive (leaf l) rest is = leaf_no_receive l rest is
-no_receive (node (shapes.Infix op) none) rest is = absurd (omega (arith, two_parts (has_operator Expression op) 0 is.0))
-no_receive (node (shapes.Infix op) (more t us)) rest is = no_receive t (other_parts_written (shapes.Infix op) us rest) is.2.1
-no_receive (node shapes.Tuple us) rest is = refl
-no_receive (node shapes.List us) rest is = refl
-no_receive (node shapes.Cons us) rest is = refl
-no_receive (node shapes.Parenthesized us) rest is = refl
-no_receive (node shapes.Block us) rest is = refl
-no_receive (node (shapes.Local f) us) rest is = refl
-no_receive (node (shapes.Remote (qualifier.Module m) f) us) rest is = refl
-no_receive (node (shapes.Remote (qualifier.ModuleName at) f) us) rest is = refl
-no_receive (node (shapes.Prefix Negate) us) rest is = refl
-no_receive (node (shapes.Prefix Not) us) rest is = refl
-no_receive (case subject cs) rest is = refl
+no_receive : (role : Role) (t : Tree) (rest : List Terminal) → IsWell role t → behind openings.Receive (written t rest) ≡ None
+no_receive role (leaf l) rest is = leaf_no_receive l rest is
+no_receive role (node (shapes.Infix op) none) rest is = absurd (omega (arith, two_parts (has_operator role op) 0 is.0))
+no_receive role (node (shapes.Infix op) (more t us)) rest is =
+    no_receive (first_role role (shapes.Infix op)) t (other_parts_written (shapes.Infix op) us rest) is.2.1
+no_receive role (node shapes.Tuple us) rest is = refl
+no_receive role (node shapes.List us) rest is = refl
+no_receive role (node shapes.Cons us) rest is = refl
+no_receive role (node shapes.Parenthesized us) rest is = refl
+no_receive role (node shapes.Block us) rest is = refl
+no_receive role (node (shapes.Local f) us) rest is = refl
+no_receive role (node (shapes.Remote (qualifier.Module m) f) us) rest is = refl
+no_receive role (node (shapes.Remote (qualifier.ModuleName at) f) us) rest is = refl
+no_receive role (node (shapes.Prefix Negate) us) rest is = refl
+no_receive role (node (shapes.Prefix Not) us) rest is = refl
+no_receive role (case subject cs) rest is = refl
 
-body_no_receive : (body : Trees) (rest : List Terminal) → 1 ≤ tree_count body → AreWell Expression matches matches body →
+body_no_receive : (body : Trees) (rest : List Terminal) → 1 ≤ tree_count body → AreWell Expression matches body →
     behind openings.Receive (row_written body rest) ≡ None
 body_no_receive none rest some well = absurd (omega (arith, some))
-body_no_receive (more t us) rest some well = no_receive t (others_written us rest) well.1
+body_no_receive (more t us) rest some well = no_receive Expression t (others_written us rest) well.1
 
 few_clauses : (name : List ℕ) (cs : List FunctionClause) (rest : List Terminal) → length cs ≤ length (other_function_written name cs rest)
 few_clauses name [] rest = omega arith

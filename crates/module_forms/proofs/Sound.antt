@@ -163,7 +163,7 @@ versioned_sound at ts f rest is =
 -- patterns, a guard sequence and an arrow, behind a name
 record IsFront (ts : List Terminal) (ps : Trees) (gs : Guards) (rest : List Terminal) : Type 0 where
   pub is_written : ts ≡ mark marks.OpenParen ∷ row_written ps (mark marks.CloseParen ∷ guards_written gs (mark marks.Arrow ∷ rest))
-  pub are_patterns : AreWell Pattern matches matches ps
+  pub are_patterns : AreWell Pattern matches ps
   pub are_guards : AreWellGuards gs
   pub patterns_deep : trees_depth ps ≤ 256
   pub guards_deep : guards_depth gs ≤ 256
