@@ -60,7 +60,7 @@ fn are_sound(modules: &Modules<Module>)
 
 impl Node {
     /// The node that a release boots: the code of all its applications is loaded first, and then they start, in order. The
-    /// release is the node's only one, and permanent. Names are hashed by `hashing`.
+    /// release is the node's only one, and permanent. Names and versions are hashed by `hashing`.
     ///
     /// # Errors
     ///
@@ -77,7 +77,7 @@ impl Node {
             apps,
         } = boot(alloc, hashing, release)?;
         are_sound(&modules);
-        let releases = Releases::booted(alloc, release.copy(alloc)?)?;
+        let releases = Releases::booted(alloc, hashing, release.copy(alloc)?)?;
         Ok(Node {
             alloc,
             parts: NodeParts {

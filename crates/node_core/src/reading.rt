@@ -1,20 +1,25 @@
 // What is asked of a node.
 ghost use Rattle.std.specs.Prelude.{◌≡◌, IfErr, IfOk, Some, is_some, option_map};
+ghost use Rattle.std.specs.Iterator.Adapters.{rev_steps};
+ghost use Rattle.std.specs.Iterator.Runs.{EachRunFrom, ItemsMapTo};
 ghost use Rattle.std.specs.Option.{option_copied};
+ghost use Rattle.std.specs.Slice.Iter.{iter_steps_back};
 ghost use Rattle.std.specs.Str.{chars};
 ghost use Rattle.values.specs.Failure.{TellsFailure};
 ghost use Rattle.process_effects.specs.Commits.{job_at};
 ghost use Rattle.process_store.specs.Table.{living, pid_of};
 ghost use Rattle.process_table.specs.Steps.{IsNextRunnable, is_runnable, retake_refusal};
-ghost use Rattle.release_statuses.specs.Statuses.{status_of};
+ghost use Rattle.release_statuses.specs.Statuses.{status_of, which_releases};
 ghost use Rattle.script_state.specs.Runner.{runner_of};
 
 use crate::node::Node;
 use erl_semantics::Job;
 use process::Process;
 use process_table::ProcError;
-use release_statuses::Status;
+use release_statuses::{Listed, Status};
 use script_state::Runner;
+use std::iter::Rev;
+use std::slice::Iter;
 use values::Failure;
 
 impl Node {
@@ -78,6 +83,15 @@ impl Node {
         ensures { IsNextRunnable after result self.now.processes }
     {
         self.parts.processes.runnable(after)
+    }
+
+    /// Lends its releases with their statuses, the latest that was set unpacked first, and the one that booted last. Takes no
+    /// memory.
+    pub fn which_releases(&self) -> Rev<Iter<'_, Listed>>
+        ensures { EachRunFrom (rev_steps iter_steps_back) result
+            (λ run. ItemsMapTo run (λ it. it.now) (which_releases self.now.releases)) }
+    {
+        self.parts.releases.which_releases()
     }
 
     /// The status of the release of a version, where the node knows it. Takes no memory.
