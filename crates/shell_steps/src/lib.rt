@@ -35,7 +35,5 @@ pub use fate::Fate;
 pub use node_core::Node;
 pub use stepping::{Halt, halt_of, send_told, step};
 pub use taking::{halt_of_take, step_take, tell_taken};
-pub use telling::{
-    Said, refuse, say, say_file_fault, say_term_fault, tell_halt, tell_halt_of,
-};
+pub use telling::{Said, refuse, say, say_file_fault, say_term_fault, tell_halt, tell_halt_of};
 pub use undoing::{Undone, tell_forget, tell_stopped, tell_undo, tell_undone, undo_steps};
