@@ -21,6 +21,7 @@ use Rattle.app_table.specs.contracts.undo.PutBack as PutBack
 use Rattle.app_table.specs.contracts.undo.AppsUndo as AppsUndo
 use Rattle.app_table.specs.contracts.undo.Unloaded as Unloaded
 use Rattle.erl_term.proofs.atom.Atom.TheSendSync as atom
+use Rattle.few_lists.proofs.few.Few.TheSendSync as few
 use Rattle.node_sends.proofs.ChildSpecs as child_specs
 use Rattle.node_sends.proofs.ErlTerm as erl_term
 use Rattle.node_sends.proofs.OtpFiles as otp_files
@@ -172,7 +173,7 @@ undo_send = variants_send AppsUndo.enum (
   (
     (spot.the_send, tt),
     (
-      (search (child_process.the_send, row.the_send, crosses, sendable) depth 60 fits 20000, tt),
+      (search (child_process.the_send, few.the_send, crosses, sendable) depth 60 fits 20000, tt),
       (
         (
           search (
@@ -223,7 +224,7 @@ undo_sync = variants_sync AppsUndo.enum (
   (
     (spot.the_sync, tt),
     (
-      (search (child_process.the_sync, row.the_sync, crosses, sendable) depth 60 fits 20000, tt),
+      (search (child_process.the_sync, few.the_sync, crosses, sendable) depth 60 fits 20000, tt),
       (
         (
           search (

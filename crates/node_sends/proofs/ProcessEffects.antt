@@ -2,6 +2,7 @@
 use denote.Param.Send.{IsSend, IsSync, sendable}
 use denote.Param.SendFields.{declared_send, declared_sync, variants_send, variants_sync}
 use Rattle.std.proofs.Crossing.{crosses}
+use Rattle.few_lists.proofs.few.Few.TheSendSync as few
 use Rattle.node_sends.proofs.ErlTerm as erl_term
 use Rattle.node_sends.proofs.Process as process
 use Rattle.process_effects.proofs.answers.Closed.TheSendSync as closed
@@ -11,7 +12,6 @@ use Rattle.process_effects.specs.contracts.resting.Rested as Rested
 use Rattle.process_effects.specs.contracts.told.Reply as Reply
 use Rattle.process_effects.specs.contracts.told.ReplyBody as ReplyBody
 use Rattle.process_index.proofs.calls.Calls.TheSendSync as calls
-use Rattle.values.proofs.row.Row.TheSendSync as row
 
 pub reply_body_send : IsSend ReplyBody.the_row
 reply_body_send = variants_send ReplyBody.enum ((erl_term.term_send, tt), ((erl_term.term_send, tt), tt))
@@ -32,11 +32,11 @@ rested_send = declared_send Rested.the_type (
     process.named_ran_send,
     (
       search (
-        row.the_send,
+        few.the_send,
         crosses,
         sendable,
       ) depth 60 fits 20000,
-      (search (closed.the_send, row.the_send, crosses, sendable) depth 60 fits 20000, tt),
+      (search (closed.the_send, few.the_send, crosses, sendable) depth 60 fits 20000, tt),
     ),
   ),
 )
@@ -48,11 +48,11 @@ rested_sync = declared_sync Rested.the_type (
     process.named_ran_sync,
     (
       search (
-        row.the_sync,
+        few.the_sync,
         crosses,
         sendable,
       ) depth 60 fits 20000,
-      (search (closed.the_sync, row.the_sync, crosses, sendable) depth 60 fits 20000, tt),
+      (search (closed.the_sync, few.the_sync, crosses, sendable) depth 60 fits 20000, tt),
     ),
   ),
 )
@@ -68,11 +68,11 @@ exited_send = declared_send Exited.the_type (
   ended_process_send,
   (
     search (
-      row.the_send,
+      few.the_send,
       crosses,
       sendable,
     ) depth 60 fits 20000,
-    (search (closed.the_send, row.the_send, crosses, sendable) depth 60 fits 20000, tt),
+    (search (closed.the_send, few.the_send, crosses, sendable) depth 60 fits 20000, tt),
   ),
 )
 
@@ -81,10 +81,10 @@ exited_sync = declared_sync Exited.the_type (
   ended_process_sync,
   (
     search (
-      row.the_sync,
+      few.the_sync,
       crosses,
       sendable,
     ) depth 60 fits 20000,
-    (search (closed.the_sync, row.the_sync, crosses, sendable) depth 60 fits 20000, tt),
+    (search (closed.the_sync, few.the_sync, crosses, sendable) depth 60 fits 20000, tt),
   ),
 )
