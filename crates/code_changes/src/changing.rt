@@ -22,6 +22,7 @@ use process_effects::Reply;
 use process_table::Processes;
 use script_state::NotedVersion;
 use std::alloc::Global;
+use std::fmt;
 use suspensions::changes_for;
 use thiserror::Error;
 use upgrade_calls::{ChangeFailed, ChangeUndo, Changed, Evaluation, make, revert_change};
@@ -39,6 +40,13 @@ pub enum CodeChangeError {
     /// A turn can't be counted on.
     #[error("the turn of a process can't be counted further")]
     CounterEnd,
+}
+
+/// As it is displayed.
+impl fmt::Debug for CodeChangeError {
+    fn fmt<W: fmt::Write>(&self, f: &mut fmt::Formatter<W>) -> fmt::Result {
+        write!(f, "{self}")
+    }
 }
 
 /// What takes a `code_change` back.

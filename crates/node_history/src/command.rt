@@ -6,6 +6,7 @@ use node_types::{Event, Note, Refusal};
 use process_effects::Reply;
 use release_statuses::Listed;
 use std::alloc::{AllocError, Global};
+use std::fmt;
 use thiserror::Error;
 use undo_journal::{Mark, Report};
 use values::{Boxed, Duplicate, Row, Same, Shared};
@@ -77,6 +78,13 @@ pub enum Fault {
     /// No serial is left for a step.
     #[error("no serial is left for a step")]
     SerialEnd,
+}
+
+/// As it is displayed.
+impl fmt::Debug for Fault {
+    fn fmt<W: fmt::Write>(&self, f: &mut fmt::Formatter<W>) -> fmt::Result {
+        write!(f, "{self}")
+    }
 }
 
 impl Duplicate for Command {

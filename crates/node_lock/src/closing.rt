@@ -14,6 +14,7 @@ use crate::shared::SharedNode;
 use entry_lists::{History, Run, WrittenOut};
 use node_commands::Node;
 use node_history::{Entry, Line};
+use std::fmt;
 use std::sync::ledger::Share;
 use thiserror::Error;
 use undo_journal::Journal;
@@ -46,6 +47,13 @@ pub enum CloseError<N: Naming> {
         /// The seats, as they were.
         seats: Vec<Seat<N>>,
     },
+}
+
+/// As it is displayed.
+impl<N: Naming> fmt::Debug for CloseError<N> {
+    fn fmt<W: fmt::Write>(&self, f: &mut fmt::Formatter<W>) -> fmt::Result {
+        write!(f, "{self}")
+    }
 }
 
 /// Whether the lines that are left go on with that of an entry, where it's of the seat with this number. That line

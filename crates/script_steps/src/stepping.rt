@@ -16,6 +16,7 @@ use script_checks::has_point;
 use script_runner::{Carried, Halt, InstructionUndo, carry_out};
 use script_state::{Progress, Unpurged, instruction_at};
 use std::alloc::Global;
+use std::fmt;
 use thiserror::Error;
 use values::{Failure, Row};
 
@@ -52,6 +53,13 @@ pub enum NoStep {
     /// The serial of a load, or the turn of a process, can't be counted further.
     #[error("the serial of a load or the turn of a process can't be counted further")]
     CounterEnd,
+}
+
+/// As it is displayed.
+impl fmt::Debug for NoStep {
+    fn fmt<W: fmt::Write>(&self, f: &mut fmt::Formatter<W>) -> fmt::Result {
+        write!(f, "{self}")
+    }
 }
 
 /// Whether the point of no return stands before an index of a script.
