@@ -24,8 +24,8 @@ use Rattle.erl_ast.specs.declared.form.FormTree.{FormTree}
 use Rattle.erl_ast.specs.declared.form.FormTree.TheVariants as forms
 use Rattle.erl_ast.specs.declared.form.ModuleTree.{ModuleTree}
 use Rattle.erl_ast.specs.Functions.{guard_functions, arity_among, is_arity, is_guard_function}
-use Rattle.erl_ast.specs.Grammar.{IsWell, AreWell, AreWellGuards, AreWellClauses, has, is_erlang, first_level, other_level, matches}
-use Rattle.erl_ast.specs.Grammar.{operations}
+use Rattle.erl_ast.specs.Grammar.{IsWell, ArePartsWell, AreWell, AreWellGuards, AreWellClauses, has, is_erlang}
+use Rattle.erl_ast.specs.Grammar.{first_role, other_level, matches, operations}
 use Rattle.erl_ast.specs.Terminal.{Terminal}
 use Rattle.erl_ast.specs.Forms.{AreClauses, BeginsForm, AreForms, IsModule, function_form, loop_form}
 use Rattle.erl_ast.specs.Tree as tree
@@ -301,20 +301,20 @@ leaf_tests own bound l = tt
 -- what is made of a node where the parts have no fault
 module _ (own : List ℕ) (functions : List keys.Key) (m : Forms) (has_all : HasAll functions m) where
   node_formed : (seen bound : Names) (shape : Shape) (ts : Trees) → IsTrue (has Expression shape (tree_count ts)) →
-      (faults_apart functions seen ts ≡ [] → AreFormed m (row_of own bound ts)) →
-      (faults_in_turn functions seen ts ≡ [] → AreFormed m (row_of own bound ts)) →
+      (first_role Expression shape ≡ Expression → faults_apart functions seen ts ≡ [] → AreFormed m (row_of own bound ts)) →
+      (first_role Expression shape ≡ Expression → faults_in_turn functions seen ts ≡ [] → AreFormed m (row_of own bound ts)) →
       (faults_behind functions seen ts ≡ [] → tree_count ts ≡ 2 → IsFormed m (match_of own bound ts)) →
-      ((c : Connective) → faults_in_turn functions seen ts ≡ [] → tree_count ts ≡ 2 →
+      ((c : Connective) → first_role Expression shape ≡ Expression → faults_in_turn functions seen ts ≡ [] → tree_count ts ≡ 2 →
       IsFormed m (connected_of own bound c ts)) →
       faults_in functions seen (tree.node shape ts) ≡ [] → IsFormed m (expression_of own bound (tree.node shape ts))
-  node_formed seen bound shapes.Tuple ts is apart turn matching connecting e = (refl, refl, apart e)
-  node_formed seen bound shapes.List ts is apart turn matching connecting e = (refl, refl, apart e)
+  node_formed seen bound shapes.Tuple ts is apart turn matching connecting e = (refl, refl, apart refl e)
+  node_formed seen bound shapes.List ts is apart turn matching connecting e = (refl, refl, apart refl e)
   node_formed seen bound shapes.Cons ts is apart turn matching connecting e =
-      (subst (λ n. IsTrue (nat_le 2 n)) (sym (row_counted own bound ts)) is, refl, apart e)
+      (subst (λ n. IsTrue (nat_le 2 n)) (sym (row_counted own bound ts)) is, refl, apart refl e)
   node_formed seen bound shapes.Parenthesized ts is apart turn matching connecting e =
-      alone_formed m (row_of own bound ts) (row_counted own bound ts ∙ same (tree_count ts) 1 is) (apart e)
+      alone_formed m (row_of own bound ts) (row_counted own bound ts ∙ same (tree_count ts) 1 is) (apart refl e)
   node_formed seen bound shapes.Block ts is apart turn matching connecting e =
-      (at_least_one (tree_count ts) (row_counted own bound ts) is, turn e)
+      (at_least_one (tree_count ts) (row_counted own bound ts) is, turn refl e)
   node_formed seen bound (shapes.Local f) ts is apart turn matching connecting e =
       let n = tree_count ts in
       let call = call_faults functions (shapes.Local f) n in
@@ -323,7 +323,7 @@ module _ (own : List ℕ) (functions : List keys.Key) (m : Forms) (has_all : Has
             (plainly_of (erlang_function f.name n) f.name n (erlang_takes f.name n)),
         counted_there m (local_call f.name n) (row_counted own bound ts)
             (local_defined functions m has_all f.name n f.at (left_empty call others e)),
-        apart (right_empty call others e),
+        apart refl (right_empty call others e),
       )
   node_formed seen bound (shapes.Remote q f) ts is apart turn matching connecting e =
       let n = tree_count ts in
@@ -332,51 +332,52 @@ module _ (own : List ℕ) (functions : List keys.Key) (m : Forms) (has_all : Has
             (with_module_of (function_in called f.name n) called f.name n (function_takes called f.name n)),
         counted_there m (remote_call called f.name n) (row_counted own bound ts)
             (remote_defined m (function_in called f.name n) called f.name n),
-        apart e,
+        apart refl e,
       )
   node_formed seen bound (shapes.Prefix prefixes.Negate) ts is apart turn matching connecting e =
-      (subst (λ n. IsTrue (n == 1)) (sym (row_counted own bound ts)) is, refl, apart e)
+      (subst (λ n. IsTrue (n == 1)) (sym (row_counted own bound ts)) is, refl, apart refl e)
   node_formed seen bound (shapes.Prefix prefixes.Not) ts is apart turn matching connecting e =
-      (subst (λ n. IsTrue (n == 1)) (sym (row_counted own bound ts)) is, refl, apart e)
+      (subst (λ n. IsTrue (n == 1)) (sym (row_counted own bound ts)) is, refl, apart refl e)
   node_formed seen bound (shapes.Infix operators.Match) ts is apart turn matching connecting e =
       matching e (same (tree_count ts) 2 is)
   node_formed seen bound (shapes.Infix operators.AndAlso) ts is apart turn matching connecting e =
-      connecting connective.AndAlso e (same (tree_count ts) 2 is)
+      connecting connective.AndAlso refl e (same (tree_count ts) 2 is)
   node_formed seen bound (shapes.Infix operators.OrElse) ts is apart turn matching connecting e =
-      connecting connective.OrElse e (same (tree_count ts) 2 is)
+      connecting connective.OrElse refl e (same (tree_count ts) 2 is)
   node_formed seen bound (shapes.Infix op) ts is apart turn matching connecting e =
-      (subst (λ n. IsTrue (n == 2)) (sym (row_counted own bound ts)) is, refl, apart e)
+      (subst (λ n. IsTrue (n == 2)) (sym (row_counted own bound ts)) is, refl, apart refl e)
 
 node_tests : (own : List ℕ) (bound : Names) (shape : Shape) (ts : Trees) → IsTrue (has Test shape (tree_count ts)) →
-    AreTests (row_of own bound ts) → ((c : Connective) → tree_count ts ≡ 2 → IsTest (connected_of own bound c ts)) →
+    (first_role Test shape ≡ Test → AreTests (row_of own bound ts)) →
+    ((c : Connective) → first_role Test shape ≡ Test → tree_count ts ≡ 2 → IsTest (connected_of own bound c ts)) →
     IsTest (expression_of own bound (tree.node shape ts))
-node_tests own bound shapes.Tuple ts is row connecting = (refl, refl, row)
-node_tests own bound shapes.List ts is row connecting = (refl, refl, row)
+node_tests own bound shapes.Tuple ts is row connecting = (refl, refl, row refl)
+node_tests own bound shapes.List ts is row connecting = (refl, refl, row refl)
 node_tests own bound shapes.Cons ts is row connecting =
-    (refl, subst (λ n. IsTrue (nat_le 2 n)) (sym (row_counted own bound ts)) is, row)
+    (refl, subst (λ n. IsTrue (nat_le 2 n)) (sym (row_counted own bound ts)) is, row refl)
 node_tests own bound shapes.Parenthesized ts is row connecting =
-    alone_tests (row_of own bound ts) (row_counted own bound ts ∙ same (tree_count ts) 1 is) row
+    alone_tests (row_of own bound ts) (row_counted own bound ts ∙ same (tree_count ts) 1 is) (row refl)
 node_tests own bound shapes.Block ts is row connecting = absurd (true≢false (sym is))
 node_tests own bound (shapes.Local f) ts is row connecting =
     let tests = plainly_tests (erlang_function f.name (tree_count ts)) f.name (tree_count ts)
     (guard_call f.name (tree_count ts) is) in
-    (tests.0, counted (local_call f.name (tree_count ts)) (row_counted own bound ts) tests.1, row)
+    (tests.0, counted (local_call f.name (tree_count ts)) (row_counted own bound ts) tests.1, row refl)
 node_tests own bound (shapes.Remote m f) ts is row connecting =
     let tests = remote_tests own m f.name (tree_count ts) is in
-    (tests.0, counted (remote_call (called_in own m) f.name (tree_count ts)) (row_counted own bound ts) tests.1, row)
+    (tests.0, counted (remote_call (called_in own m) f.name (tree_count ts)) (row_counted own bound ts) tests.1, row refl)
 node_tests own bound (shapes.Prefix prefixes.Negate) ts is row connecting =
-    (refl, subst (λ n. IsTrue (n == 1)) (sym (row_counted own bound ts)) is, row)
+    (refl, subst (λ n. IsTrue (n == 1)) (sym (row_counted own bound ts)) is, row refl)
 node_tests own bound (shapes.Prefix prefixes.Not) ts is row connecting =
-    (refl, subst (λ n. IsTrue (n == 1)) (sym (row_counted own bound ts)) is, row)
+    (refl, subst (λ n. IsTrue (n == 1)) (sym (row_counted own bound ts)) is, row refl)
 node_tests own bound (shapes.Infix operators.Match) ts is row connecting = absurd (true≢false (sym is))
 node_tests own bound (shapes.Infix operators.Append) ts is row connecting = absurd (true≢false (sym is))
 node_tests own bound (shapes.Infix operators.Send) ts is row connecting = absurd (true≢false (sym is))
 node_tests own bound (shapes.Infix operators.AndAlso) ts is row connecting =
-    connecting connective.AndAlso (same (tree_count ts) 2 is)
+    connecting connective.AndAlso refl (same (tree_count ts) 2 is)
 node_tests own bound (shapes.Infix operators.OrElse) ts is row connecting =
-    connecting connective.OrElse (same (tree_count ts) 2 is)
+    connecting connective.OrElse refl (same (tree_count ts) 2 is)
 node_tests own bound (shapes.Infix op) ts is row connecting =
-    (refl, subst (λ n. IsTrue (n == 2)) (sym (row_counted own bound ts)) is, row)
+    (refl, subst (λ n. IsTrue (n == 2)) (sym (row_counted own bound ts)) is, row refl)
 
 -- one part is left behind the first of two
 second_counted : (own : List ℕ) (bound : Names) (ts : Trees) → 1 + tree_count ts ≡ 2 → expr_count (row_of own bound ts) ≡ 1
@@ -402,30 +403,37 @@ mutual
   tests : (own : List ℕ) (bound : Names) (t : Tree) → IsWell Test t → IsTest (expression_of own bound t)
   tests own bound (tree.leaf l) well = leaf_tests own bound l
   tests own bound (tree.node shape ts) well =
-      node_tests own bound shape ts well.0 (row_tests own bound ts (first_level Test shape) (other_level Test shape) well.2)
-      (λ c. connected_tests own bound c ts (first_level Test shape) (other_level Test shape) well.2)
+      node_tests own bound shape ts well.0 (parts_tests own bound shape ts well.2)
+      (λ c. connected_tests own bound c shape ts well.2)
   tests own bound (tree.case subject cs) well = absurd (true≢false (sym well.0))
 
-  row_tests : (own : List ℕ) (bound : Names) (ts : Trees) (first others : ℕ) → AreWell Test first others ts →
-      AreTests (row_of own bound ts)
-  row_tests own bound tree.none first others well = tt
-  row_tests own bound (tree.more t ts) first others well =
-      (tests own bound t well.1, row_tests own (with_names bound (binds t)) ts others others well.2)
+  parts_tests : (own : List ℕ) (bound : Names) (shape : Shape) (ts : Trees) → ArePartsWell Test shape ts →
+      first_role Test shape ≡ Test → AreTests (row_of own bound ts)
+  parts_tests own bound shape tree.none well alike = tt
+  parts_tests own bound shape (tree.more t ts) well alike = (
+    tests own bound t (subst (λ r. IsWell r t) alike well.1),
+    row_tests own (with_names bound (binds t)) ts (other_level Test shape) well.2,
+  )
 
-  connected_tests : (own : List ℕ) (bound : Names) (c : Connective) (ts : Trees) (first others : ℕ) →
-      AreWell Test first others ts → tree_count ts ≡ 2 → IsTest (connected_of own bound c ts)
-  connected_tests own bound c tree.none first others well two = absurd (omega (arith, two))
-  connected_tests own bound c (tree.more t ts) first others well two = (
+  row_tests : (own : List ℕ) (bound : Names) (ts : Trees) (most : ℕ) → AreWell Test most ts → AreTests (row_of own bound ts)
+  row_tests own bound tree.none most well = tt
+  row_tests own bound (tree.more t ts) most well =
+      (tests own bound t well.1, row_tests own (with_names bound (binds t)) ts most well.2)
+
+  connected_tests : (own : List ℕ) (bound : Names) (c : Connective) (shape : Shape) (ts : Trees) → ArePartsWell Test shape ts →
+      first_role Test shape ≡ Test → tree_count ts ≡ 2 → IsTest (connected_of own bound c ts)
+  connected_tests own bound c shape tree.none well alike two = absurd (omega (arith, two))
+  connected_tests own bound c shape (tree.more t ts) well alike two = (
     refl,
-    (tests own bound t well.1, tt),
+    (tests own bound t (subst (λ r. IsWell r t) alike well.1), tt),
     second_counted own (with_names bound (binds t)) ts two,
-    row_tests own (with_names bound (binds t)) ts others others well.2,
+    row_tests own (with_names bound (binds t)) ts (other_level Test shape) well.2,
   )
 
   guards_formed : (own : List ℕ) (bound : Names) (gs : tree.Guards) → AreWellGuards gs → AreGuards (guards_of own bound gs)
   guards_formed own bound tree.no_guards well = tt
   guards_formed own bound (tree.guard conditions gs) well =
-      (row_tests own bound conditions operations operations well.1, guards_formed own bound gs well.2)
+      (row_tests own bound conditions operations well.1, guards_formed own bound gs well.2)
 
 module _ (own : List ℕ) (functions : List keys.Key) (m : Forms) (has_all : HasAll functions m) where
   mutual
@@ -433,59 +441,77 @@ module _ (own : List ℕ) (functions : List keys.Key) (m : Forms) (has_all : Has
         IsFormed m (expression_of own bound t)
     formed seen bound (tree.leaf l) well e = leaf_formed m own bound l
     formed seen bound (tree.node shape ts) well e =
-        let first = first_level Expression shape in
-        let other = other_level Expression shape in
-        node_formed own functions m has_all seen bound shape ts well.0 (row_apart seen bound ts first other well.2)
-        (row_in_turn seen bound ts first other well.2) (match_formed seen bound ts first other well.2)
-        (λ c. connected_formed seen bound c ts first other well.2) e
+        node_formed own functions m has_all seen bound shape ts well.0 (parts_apart seen bound shape ts well.2)
+        (parts_in_turn seen bound shape ts well.2) (match_formed seen bound shape ts well.2)
+        (λ c. connected_formed seen bound c shape ts well.2) e
     formed seen bound (tree.case subject cs) well e =
         let asked = faults_apart functions seen subject in
         let tried = faults_in_clauses functions (with_names seen (binds_in subject)) cs in (
           one_or_more (row_counted own bound subject ∙ well.1),
-          row_apart seen bound subject matches matches well.2 (left_empty asked tried e),
+          row_apart seen bound subject matches well.2 (left_empty asked tried e),
           clauses_formed (with_names seen (binds_in subject)) (with_names bound (binds_in subject)) cs well.4
               (right_empty asked tried e),
           case_counted own (with_names bound (binds_in subject)) cs well.4,
         )
 
-    row_apart : (seen bound : Names) (ts : Trees) (first others : ℕ) → AreWell Expression first others ts →
+    parts_apart : (seen bound : Names) (shape : Shape) (ts : Trees) → ArePartsWell Expression shape ts →
+        first_role Expression shape ≡ Expression → faults_apart functions seen ts ≡ [] → AreFormed m (row_of own bound ts)
+    parts_apart seen bound shape tree.none well alike e = tt
+    parts_apart seen bound shape (tree.more t ts) well alike e =
+        let here = faults_in functions seen t in
+        let later = faults_apart functions seen ts in (
+          formed seen bound t (subst (λ r. IsWell r t) alike well.1) (left_empty here later e),
+          row_apart seen (with_names bound (binds t)) ts (other_level Expression shape) well.2 (right_empty here later e),
+        )
+
+    row_apart : (seen bound : Names) (ts : Trees) (most : ℕ) → AreWell Expression most ts →
         faults_apart functions seen ts ≡ [] → AreFormed m (row_of own bound ts)
-    row_apart seen bound tree.none first others well e = tt
-    row_apart seen bound (tree.more t ts) first others well e =
+    row_apart seen bound tree.none most well e = tt
+    row_apart seen bound (tree.more t ts) most well e =
         let here = faults_in functions seen t in
         let later = faults_apart functions seen ts in (
           formed seen bound t well.1 (left_empty here later e),
-          row_apart seen (with_names bound (binds t)) ts others others well.2 (right_empty here later e),
+          row_apart seen (with_names bound (binds t)) ts most well.2 (right_empty here later e),
         )
 
-    row_in_turn : (seen bound : Names) (ts : Trees) (first others : ℕ) → AreWell Expression first others ts →
-        faults_in_turn functions seen ts ≡ [] → AreFormed m (row_of own bound ts)
-    row_in_turn seen bound tree.none first others well e = tt
-    row_in_turn seen bound (tree.more t ts) first others well e =
+    parts_in_turn : (seen bound : Names) (shape : Shape) (ts : Trees) → ArePartsWell Expression shape ts →
+        first_role Expression shape ≡ Expression → faults_in_turn functions seen ts ≡ [] → AreFormed m (row_of own bound ts)
+    parts_in_turn seen bound shape tree.none well alike e = tt
+    parts_in_turn seen bound shape (tree.more t ts) well alike e =
         let here = faults_in functions seen t in
         let later = faults_in_turn functions (with_names seen (binds t)) ts in (
-          formed seen bound t well.1 (left_empty here later e),
-          row_in_turn (with_names seen (binds t)) (with_names bound (binds t)) ts others others well.2
+          formed seen bound t (subst (λ r. IsWell r t) alike well.1) (left_empty here later e),
+          row_in_turn (with_names seen (binds t)) (with_names bound (binds t)) ts (other_level Expression shape) well.2
               (right_empty here later e),
         )
 
-    match_formed : (seen bound : Names) (ts : Trees) (first others : ℕ) → AreWell Expression first others ts →
-        faults_behind functions seen ts ≡ [] → tree_count ts ≡ 2 → IsFormed m (match_of own bound ts)
-    match_formed seen bound tree.none first others well e two = absurd (omega (arith, two))
-    match_formed seen bound (tree.more p ts) first others well e two =
-        (one_or_more (second_counted own bound ts two), row_apart seen bound ts others others well.2 e)
+    row_in_turn : (seen bound : Names) (ts : Trees) (most : ℕ) → AreWell Expression most ts →
+        faults_in_turn functions seen ts ≡ [] → AreFormed m (row_of own bound ts)
+    row_in_turn seen bound tree.none most well e = tt
+    row_in_turn seen bound (tree.more t ts) most well e =
+        let here = faults_in functions seen t in
+        let later = faults_in_turn functions (with_names seen (binds t)) ts in (
+          formed seen bound t well.1 (left_empty here later e),
+          row_in_turn (with_names seen (binds t)) (with_names bound (binds t)) ts most well.2 (right_empty here later e),
+        )
 
-    connected_formed : (seen bound : Names) (c : Connective) (ts : Trees) (first others : ℕ) →
-        AreWell Expression first others ts →
-        faults_in_turn functions seen ts ≡ [] → tree_count ts ≡ 2 → IsFormed m (connected_of own bound c ts)
-    connected_formed seen bound c tree.none first others well e two = absurd (omega (arith, two))
-    connected_formed seen bound c (tree.more t ts) first others well e two =
+    match_formed : (seen bound : Names) (shape : Shape) (ts : Trees) → ArePartsWell Expression shape ts →
+        faults_behind functions seen ts ≡ [] → tree_count ts ≡ 2 → IsFormed m (match_of own bound ts)
+    match_formed seen bound shape tree.none well e two = absurd (omega (arith, two))
+    match_formed seen bound shape (tree.more p ts) well e two =
+        (one_or_more (second_counted own bound ts two), row_apart seen bound ts (other_level Expression shape) well.2 e)
+
+    connected_formed : (seen bound : Names) (c : Connective) (shape : Shape) (ts : Trees) → ArePartsWell Expression shape ts →
+        first_role Expression shape ≡ Expression → faults_in_turn functions seen ts ≡ [] → tree_count ts ≡ 2 →
+        IsFormed m (connected_of own bound c ts)
+    connected_formed seen bound c shape tree.none well alike e two = absurd (omega (arith, two))
+    connected_formed seen bound c shape (tree.more t ts) well alike e two =
         let here = faults_in functions seen t in
         let later = faults_in_turn functions (with_names seen (binds t)) ts in (
           omega arith,
-          (formed seen bound t well.1 (left_empty here later e), tt),
+          (formed seen bound t (subst (λ r. IsWell r t) alike well.1) (left_empty here later e), tt),
           one_or_more (second_counted own (with_names bound (binds t)) ts two),
-          row_in_turn (with_names seen (binds t)) (with_names bound (binds t)) ts others others well.2
+          row_in_turn (with_names seen (binds t)) (with_names bound (binds t)) ts (other_level Expression shape) well.2
               (right_empty here later e),
         )
 
@@ -501,7 +527,7 @@ module _ (own : List ℕ) (functions : List keys.Key) (m : Forms) (has_all : Has
         let here = left_empty (guarding ++ doing) others e in (
           guards_formed own inside gs well.2,
           body_counted own inside body well.3,
-          row_in_turn (with_names seen names) inside body matches matches well.4 (right_empty guarding doing here),
+          row_in_turn (with_names seen names) inside body matches well.4 (right_empty guarding doing here),
           clauses_formed seen bound cs well.5 (right_empty (guarding ++ doing) others e),
         )
 
@@ -518,7 +544,7 @@ module _ (own : List ℕ) (functions : List keys.Key) (m : Forms) (has_all : Has
       let here = left_empty (guarding ++ doing) others e in (
         guards_formed own inside c.clause.guard are.0.are_guards,
         body_counted own inside c.clause.body are.0.has_body,
-        row_in_turn inside inside c.clause.body matches matches are.0.is_body (right_empty guarding doing here),
+        row_in_turn inside inside c.clause.body matches are.0.is_body (right_empty guarding doing here),
         function_formed arity cs are.1 (right_empty (guarding ++ doing) others e),
       )
 
