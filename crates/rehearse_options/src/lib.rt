@@ -13,7 +13,7 @@ use std::rt::Env;
 
 const NAME: &str = "rehearse";
 
-const VERSION: &str = "0.1.0";
+const VERSION: &str = "0.1.0, proved";
 
 const ABOUT: &str =
     "Rehearses the upgrade of an Erlang/OTP release before it is made: looks at its script, carries it out step by step, fails behind each step on purpose, and comes down again";

@@ -18,7 +18,7 @@ use std::rt::Env;
 
 const NAME: &str = "relnode";
 
-const VERSION: &str = "0.1.0";
+const VERSION: &str = "0.1.0, proved";
 
 const ABOUT: &str =
     "An Erlang/OTP node whose steps can be undone: boots a release, serves its processes by commands, sets marks, and goes back to any mark";
