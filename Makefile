@@ -1,5 +1,5 @@
-# make test: the names in the documents are looked up (tools/quotes), then the merge gate, then the wrong bodies of must-fail/ over the libraries that it has built, and then the transcripts and the
-#   rehearsals on its programs. Its last line is 'N passed, M failed'.
+# make test: the names in the documents are looked up (tools/quotes), then the merge gate, then the wrong bodies of must-fail/ over the
+#   libraries that it has built, and then the transcripts and the rehearsals on its programs. Its last line is 'N passed, M failed'.
 # make transcripts: plays the sessions of transcripts/ on the program, which it builds first (tools/transcripts);
 #   make transcripts NAME=name plays one file of them. Its last line is 'N passed, M failed'.
 # make rehearsals: plays the runs of rehearsals/ on `rehearse`, which it builds first (tools/rehearsals);
@@ -11,13 +11,14 @@
 #   make trials NAME=name runs one crate of them. Its last line is 'N passed, M failed'.
 # make relnode, make rehearse: proves and builds a program, and leaves it at crates/relnode/out/relnode or
 #   crates/rehearse/out/rehearse.
+# make quick: builds both programs without proof, at full speed, and leaves them at out/quick/relnode and out/quick/rehearse (tools/quick).
 # make demo: a session of relnode on the example tree, tried with checks and not proved: in two minutes on a new machine (tools/demo).
 # make rehearse-demo: the report of an upgrade with two mistakes, so tried.
 # The kit's rt, by a tool that keeps what rt asks again and again of crates.txt, and reckons the memory of proofs by what they took;
 # RT=rt is the kit's alone.
 RT ?= $(CURDIR)/tools/rt
 
-.PHONY: test transcripts rehearsals check edits trials demo rehearse-demo relnode rehearse
+.PHONY: test transcripts rehearsals check edits trials quick demo rehearse-demo relnode rehearse
 
 test:
 	@tools/quotes
@@ -48,6 +49,9 @@ relnode:
 rehearse:
 	@cd crates/rehearse && $(RT) run -- ../relnode/data/tree A O > /dev/null
 	@echo crates/rehearse/out/rehearse
+
+quick:
+	@tools/quick
 
 demo:
 	@RT="$(RT)" tools/demo
