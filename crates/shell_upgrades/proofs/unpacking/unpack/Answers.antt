@@ -19,4 +19,4 @@ pub returns-in-Err : goal.returns-in-Err
 returns-in-Err c =
     let it = c.in-Err.fault in
     let is = subst (λ (files : Contents). (it.fault ≡ Memory) ⊎ IsFirstFault files c.args.vsn.now (string_bytes it.path) it.fault) c.files.ensures c.in-Err.ensures in
-    IfOk-then c.tell_unread_release.result _ _ c.tell_unread_release.ensures (λ fate done. done is)
+    IfOk-then c.tell_unread_release.result _ _ c.tell_unread_release.ensures (λ fate done. done c.args.held.now c.args.vsn.now is)
