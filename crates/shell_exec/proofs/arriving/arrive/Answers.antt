@@ -21,7 +21,7 @@ pub returns-in-Err-Faulty : goal.returns-in-Err-Faulty
 returns-in-Err-Faulty c =
     let s = c.args.held.now in
     let name = chars c.args.name.text.now in
-    IfOk-then c.say_term_fault.result _ _ c.say_term_fault.ensures (λ fate told. subst (λ f. IsDone (Arrives s c.args.kind name c.args.text.now f) s c.args.out.now.items c.say_term_fault.new.out.items) (sym told.0) (_, no_text c.in-Err-Faulty.error.kind c.in-Err-Faulty.error.at (subst (Misreads c.args.text.now) c.in-Err-Faulty.field-0-is c.in-Err-Faulty.ensures), refl, told.1))
+    IfOk-then c.say_term_fault.result _ _ c.say_term_fault.ensures (λ fate told. subst (λ f. IsDone (Arrives s c.args.kind name c.args.text.now f) s c.args.out.now.items c.say_term_fault.new.out.items) (sym told.0) (_, no_text c.in-Err-Faulty.error.kind c.in-Err-Faulty.error.at (subst (Misreads c.args.text.now) c.in-Err-Faulty.field-0-is c.in-Err-Faulty.ensures), refl, rw c.in-Err-Faulty.field-0-is at told.1))
 
 pub returns-in-Err-NoMemory : goal.returns-in-Err-NoMemory
 returns-in-Err-NoMemory c =
