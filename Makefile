@@ -12,13 +12,14 @@
 # make relnode, make rehearse: proves and builds a program, and leaves it at crates/relnode/out/relnode or
 #   crates/rehearse/out/rehearse.
 # make quick: builds both programs without proof, at full speed, and leaves them at out/quick/relnode and out/quick/rehearse (tools/quick).
-# make demo: a session of relnode on the example tree, tried with checks and not proved: in two minutes on a new machine (tools/demo).
-# make rehearse-demo: the report of an upgrade with two mistakes, so tried.
+# make demo: a session of relnode on the example tree, by the program of make quick, which is built first where it isn't there (tools/demo).
+# make rehearse-demo: the report of an upgrade with two mistakes, likewise.
+# make try-expand: plays tools/expand, which expands macros, includes and records of a release (tools/try_expand).
 # The kit's rt, by a tool that keeps what rt asks again and again of crates.txt, and reckons the memory of proofs by what they took;
 # RT=rt is the kit's alone.
 RT ?= $(CURDIR)/tools/rt
 
-.PHONY: test transcripts rehearsals check edits trials quick demo rehearse-demo relnode rehearse
+.PHONY: test transcripts rehearsals check edits trials quick demo rehearse-demo try-expand relnode rehearse
 
 test:
 	@tools/quotes
@@ -54,7 +55,10 @@ quick:
 	@tools/quick
 
 demo:
-	@RT="$(RT)" tools/demo
+	@tools/demo
 
 rehearse-demo:
-	@RT="$(RT)" tools/demo rehearse
+	@tools/demo rehearse
+
+try-expand:
+	@tools/try_expand

@@ -5,7 +5,7 @@ use Rattle.std.proofs.lemmas.List.Sums.{sum_by-append, sum_by-cons}
 use Rattle.std.specs.Str.{bytes_eq}
 use Rattle.code_server.specs.declared.modules.Instance.{Instance}
 use Rattle.code_server.specs.declared.modules.Slots.{Slots}
-use Rattle.code_server.specs.Modules.{Entry, IsModuleTable, Table as Loaded, current_of, in_entries, in_entry, in_slot, loaded, loaded_at, old_of, index_of, purged, purged_slots, removed, retired, stacked, with_slots}
+use Rattle.code_server.specs.Modules.{Entry, IsModuleTable, Table as Loaded, current_of, in_entries, in_entry, in_slot, loaded, loaded_at, new_slots, old_of, index_of, purged, purged_slots, removed, retired, stacked, with_slots}
 use Rattle.code_server.specs.Undo.{Fits, HasPurged, held, undone}
 use Rattle.code_server.specs.declared.undo.ModulesUndo.{ModulesUndo}
 use Rattle.code_server.proofs.Changes.{current_at-slots, current_of-slots, no_current, none_from_test, old_of-slots, purged-absent, purged-gone, purged-kept}
@@ -17,6 +17,7 @@ use Rattle.erl_ir.specs.Module.{Forms}
 use Rattle.process_store.specs.Pieces.{HoldsLost, no_pieces}
 use Rattle.process_store.specs.Table.{Table}
 use Rattle.process_table.specs.declared.undo.ProcessesUndo as kills
+use Rattle.release_words.specs.declared.purge.Purge.{Purge}
 use Rattle.code_loading.specs.Pieces.{CodeLost, IsTaken, all_held, among, held_killed}
 use Rattle.code_loading.specs.Undo.{UndoesKills, LivesAgain, TakesBack}
 
@@ -61,49 +62,49 @@ purged_by n name t (Some index) found = purged_at_index n name t index found (is
 pub purged-takes : (n : ℕ) (name : List ℕ) (t : Loaded Forms) → TakesOld n name t (purged name t)
 purged-takes n name t = purged_by n name t (index_of name t.entries) refl
 
-removed_at_index : (n : ℕ) (name : List ℕ) (t : Loaded Forms) (index : ℕ) → IsModuleTable t → (found : index_of name t.entries ≡ Some index) (b : Bool) → is_some (current_of name t) ≡ b → TakesOld n name t (removed name t)
-removed_at_index n name t index sound found true there =
+removed_at_index : (n : ℕ) (name : List ℕ) (post : Option Purge) (t : Loaded Forms) (index : ℕ) → IsModuleTable t → (found : index_of name t.entries ≡ Some index) (b : Bool) → is_some (current_of name t) ≡ b → TakesOld n name t (removed name post t)
+removed_at_index n name post t index sound found true there =
     let at = Stands-index name t.entries index found in
-    omega (arith, ap (λ (u : Loaded Forms). in_entries n u.entries) (removed-kept name t index found there), with_index n retired name t.entries index at, old_at n name t index at)
-removed_at_index n name t index sound found false there =
+    omega (arith, ap (λ (u : Loaded Forms). in_entries n u.entries) (removed-kept name post t index found there), with_index n (retired post) name t.entries index at, old_at n name t index at)
+removed_at_index n name post t index sound found false there =
     let at = Stands-index name t.entries index found in
     let none = ap (in_slot n) (none_from_test at.slots.current (ap is_some (sym (current_of-slots name t index at)) ∙ there)) in
-    omega (arith, ap (λ (u : Loaded Forms). in_entries n u.entries) (removed-gone name t index sound found there), without_index n name t.entries index at, old_at n name t index at, none)
+    omega (arith, ap (λ (u : Loaded Forms). in_entries n u.entries) (removed-gone name post t index sound found there), without_index n name t.entries index at, old_at n name t index at, none)
 
-removed_by : (n : ℕ) (name : List ℕ) (t : Loaded Forms) → IsModuleTable t → (o : Option ℕ) → index_of name t.entries ≡ o → TakesOld n name t (removed name t)
-removed_by n name t sound None absent = omega (arith, ap (λ (u : Loaded Forms). in_entries n u.entries) (removed-absent name t absent), no_old n name t absent)
-removed_by n name t sound (Some index) found = removed_at_index n name t index sound found (is_some (current_of name t)) refl
+removed_by : (n : ℕ) (name : List ℕ) (post : Option Purge) (t : Loaded Forms) → IsModuleTable t → (o : Option ℕ) → index_of name t.entries ≡ o → TakesOld n name t (removed name post t)
+removed_by n name post t sound None absent = omega (arith, ap (λ (u : Loaded Forms). in_entries n u.entries) (removed-absent name post t absent), no_old n name t absent)
+removed_by n name post t sound (Some index) found = removed_at_index n name post t index sound found (is_some (current_of name t)) refl
 
-pub removed-takes : (n : ℕ) (name : List ℕ) (t : Loaded Forms) → IsModuleTable t → TakesOld n name t (removed name t)
-removed-takes n name t sound = removed_by n name t sound (index_of name t.entries) refl
+pub removed-takes : (n : ℕ) (name : List ℕ) (post : Option Purge) (t : Loaded Forms) → IsModuleTable t → TakesOld n name t (removed name post t)
+removed-takes n name post t sound = removed_by n name post t sound (index_of name t.entries) refl
 
 -- with an instance of the next serial
-abbrev Reloads : ℕ → List ℕ → Forms → Loaded Forms → Type 0
-Reloads n name code t = in_entries n (loaded name code (purged name t)).entries + in_slot n (old_of name t) ≡ in_entries n t.entries + in_slot n (Some (record { serial = t.next; code = code }))
+abbrev Reloads : ℕ → List ℕ → Forms → Option Purge → Loaded Forms → Type 0
+Reloads n name code post t = in_entries n (loaded name code post (purged name t)).entries + in_slot n (old_of name t) ≡ in_entries n t.entries + in_slot n (Some (record { serial = t.next; code = code }))
 
-loaded_at_index : (n : ℕ) (name : List ℕ) (code : Forms) (t : Loaded Forms) (index : ℕ) → IsModuleTable t → (found : index_of name t.entries ≡ Some index) (b : Bool) → is_some (current_of name t) ≡ b → Reloads n name code t
-loaded_at_index n name code t index sound found true there =
+loaded_at_index : (n : ℕ) (name : List ℕ) (code : Forms) (post : Option Purge) (t : Loaded Forms) (index : ℕ) → IsModuleTable t → (found : index_of name t.entries ≡ Some index) (b : Bool) → is_some (current_of name t) ≡ b → Reloads n name code post t
+loaded_at_index n name code post t index sound found true there =
     let at = Stands-index name t.entries index found in
-    omega (arith, ap (λ (u : Loaded Forms). in_entries n u.entries) (loaded-kept name code t index found there), with_index n (stacked (record { serial = t.next; code = code })) name t.entries index at, old_at n name t index at)
-loaded_at_index n name code t index sound found false there =
+    omega (arith, ap (λ (u : Loaded Forms). in_entries n u.entries) (loaded-kept name code post t index found there), with_index n (stacked post (record { serial = t.next; code = code })) name t.entries index at, old_at n name t index at)
+loaded_at_index n name code post t index sound found false there =
     let at = Stands-index name t.entries index found in
     let none = ap (in_slot n) (none_from_test at.slots.current (ap is_some (sym (current_of-slots name t index at)) ∙ there)) in
-    let last : Entry Forms = (name, record { current = Some (record { serial = t.next; code = code }); former = None }) in
-    omega (arith, ap (λ (u : Loaded Forms). in_entries n u.entries) (loaded-gone name code t index sound found there), sum_by-append (in_entry n) (remove t.entries index) (last ∷ []), sum_by-cons (in_entry n) last [], without_index n name t.entries index at, old_at n name t index at, none)
+    let last : Entry Forms = (name, new_slots (record { serial = t.next; code = code })) in
+    omega (arith, ap (λ (u : Loaded Forms). in_entries n u.entries) (loaded-gone name code post t index sound found there), sum_by-append (in_entry n) (remove t.entries index) (last ∷ []), sum_by-cons (in_entry n) last [], without_index n name t.entries index at, old_at n name t index at, none)
 
-loaded-absent : (name : List ℕ) (code : Forms) (t : Loaded Forms) → index_of name t.entries ≡ None → loaded name code t ≡ record { entries = t.entries ++ (name, record { current = Some (record { serial = t.next; code = code }); former = None }) ∷ []; next = t.next + 1 }
-loaded-absent name code t absent = (λ j. record { entries = loaded_at (absent j) name (record { serial = t.next; code = code }) t.entries; next = t.next + 1 })
+loaded-absent : (name : List ℕ) (code : Forms) (post : Option Purge) (t : Loaded Forms) → index_of name t.entries ≡ None → loaded name code post t ≡ record { entries = t.entries ++ (name, new_slots (record { serial = t.next; code = code })) ∷ []; next = t.next + 1 }
+loaded-absent name code post t absent = (λ j. record { entries = loaded_at (absent j) name post (record { serial = t.next; code = code }) t.entries; next = t.next + 1 })
 
-loaded_by : (n : ℕ) (name : List ℕ) (code : Forms) (t : Loaded Forms) → IsModuleTable t → (o : Option ℕ) → index_of name t.entries ≡ o → Reloads n name code t
-loaded_by n name code t sound None absent =
-    let last : Entry Forms = (name, record { current = Some (record { serial = t.next; code = code }); former = None }) in
+loaded_by : (n : ℕ) (name : List ℕ) (code : Forms) (post : Option Purge) (t : Loaded Forms) → IsModuleTable t → (o : Option ℕ) → index_of name t.entries ≡ o → Reloads n name code post t
+loaded_by n name code post t sound None absent =
+    let last : Entry Forms = (name, new_slots (record { serial = t.next; code = code })) in
     let same = purged-absent name t absent in
-    let added : loaded name code t ≡ record { entries = t.entries ++ last ∷ []; next = t.next + 1 } = loaded-absent name code t absent in
-    omega (arith, ap (λ (u : Loaded Forms). in_entries n (loaded name code u).entries) same, ap (λ (u : Loaded Forms). in_entries n u.entries) added, sum_by-append (in_entry n) t.entries (last ∷ []), sum_by-cons (in_entry n) last [], no_old n name t absent)
-loaded_by n name code t sound (Some index) found = loaded_at_index n name code t index sound found (is_some (current_of name t)) refl
+    let added : loaded name code post t ≡ record { entries = t.entries ++ last ∷ []; next = t.next + 1 } = loaded-absent name code post t absent in
+    omega (arith, ap (λ (u : Loaded Forms). in_entries n (loaded name code post u).entries) same, ap (λ (u : Loaded Forms). in_entries n u.entries) added, sum_by-append (in_entry n) t.entries (last ∷ []), sum_by-cons (in_entry n) last [], no_old n name t absent)
+loaded_by n name code post t sound (Some index) found = loaded_at_index n name code post t index sound found (is_some (current_of name t)) refl
 
-pub loaded-takes : (n : ℕ) (name : List ℕ) (code : Forms) (t : Loaded Forms) → IsModuleTable t → Reloads n name code t
-loaded-takes n name code t sound = loaded_by n name code t sound (index_of name t.entries) refl
+pub loaded-takes : (n : ℕ) (name : List ℕ) (code : Forms) (post : Option Purge) (t : Loaded Forms) → IsModuleTable t → Reloads n name code post t
+loaded-takes n name code post t sound = loaded_by n name code post t sound (index_of name t.entries) refl
 
 -- So what is held is lost, where it is the old code.
 
@@ -114,18 +115,18 @@ among_one n (Some i) = omega (arith, sum_by-cons (λ (x : Instance Forms). in_sl
 pub purge-lost : (name : List ℕ) (t : Loaded Forms) (held : Option (Instance Forms)) → held ≡ old_of name t → CodeLost (option_to_list held) t (purged name t)
 purge-lost name t held is n some = omega (arith, among_one n held, ap (in_slot n) is, purged-takes n name t)
 
-pub removal-lost : (name : List ℕ) (t : Loaded Forms) (held : Option (Instance Forms)) → IsModuleTable t → held ≡ old_of name t → CodeLost (option_to_list held) t (removed name t)
-removal-lost name t held sound is n some = omega (arith, among_one n held, ap (in_slot n) is, removed-takes n name t sound)
+pub removal-lost : (name : List ℕ) (post : Option Purge) (t : Loaded Forms) (held : Option (Instance Forms)) → IsModuleTable t → held ≡ old_of name t → CodeLost (option_to_list held) t (removed name post t)
+removal-lost name post t held sound is n some = omega (arith, among_one n held, ap (in_slot n) is, removed-takes n name post t sound)
 
 -- the serial of a load was not given before
 new_slot : (n : ℕ) (code : Forms) (t : Loaded Forms) (b : Bool) → (t.next == n) ≡ b → IsModuleTable t → 1 ≤ in_entries n t.entries → in_slot n (Some (record { serial = t.next; code = code })) ≡ 0
 new_slot n code t true same sound some = absurd (omega (arith, in_entries-given t.next n t.entries (omega (arith, eqb-true t.next n same)) sound.given, some))
 new_slot n code t false other sound some = ap (λ b. if b then 1 else 0) other
 
-pub load-lost : (name : List ℕ) (code : Forms) (t : Loaded Forms) (held : Option (Instance Forms)) → IsModuleTable t → held ≡ old_of name t → CodeLost (option_to_list held) t (loaded name code (purged name t))
-load-lost name code t held sound is n some =
+pub load-lost : (name : List ℕ) (code : Forms) (post : Option Purge) (t : Loaded Forms) (held : Option (Instance Forms)) → IsModuleTable t → held ≡ old_of name t → CodeLost (option_to_list held) t (loaded name code post (purged name t))
+load-lost name code post t held sound is n some =
     let there : 1 ≤ in_entries n t.entries = omega (arith, among_one n held, ap (in_slot n) is, purged-takes n name t, some) in
-    omega (arith, among_one n held, ap (in_slot n) is, loaded-takes n name code t sound, new_slot n code t (t.next == n) refl sound there)
+    omega (arith, among_one n held, ap (in_slot n) is, loaded-takes n name code post t sound, new_slot n code t (t.next == n) refl sound there)
 
 -- Purges one after the other take each its own.
 
@@ -177,10 +178,10 @@ takes_back_alone u m after t (fits, back) lost = record { fits = fits; code = ba
 pub purge_taken : (name : List ℕ) (u : ModulesUndo Forms) (m after : Loaded Forms) → after ≡ purged name m → held u ≡ old_of name m → CodeLost (option_to_list (held u)) m after
 purge_taken name u m after is holds = subst (λ (x : Loaded Forms). CodeLost (option_to_list (held u)) m x) (sym is) (purge-lost name m (held u) holds)
 
-pub removal_taken : (name : List ℕ) (u : ModulesUndo Forms) (m after : Loaded Forms) → Fits u after × (undone u after ≡ m) → after ≡ removed name m → held u ≡ old_of name m → CodeLost (option_to_list (held u)) m after
-removal_taken name u m after (fits, back) is holds =
-    subst (λ (x : Loaded Forms). CodeLost (option_to_list (held u)) m x) (sym is) (removal-lost name m (held u) (subst IsModuleTable back fits.sound) holds)
+pub removal_taken : (name : List ℕ) (post : Option Purge) (u : ModulesUndo Forms) (m after : Loaded Forms) → Fits u after × (undone u after ≡ m) → after ≡ removed name post m → held u ≡ old_of name m → CodeLost (option_to_list (held u)) m after
+removal_taken name post u m after (fits, back) is holds =
+    subst (λ (x : Loaded Forms). CodeLost (option_to_list (held u)) m x) (sym is) (removal-lost name post m (held u) (subst IsModuleTable back fits.sound) holds)
 
-pub load_taken : (name : List ℕ) (code : Forms) (u : ModulesUndo Forms) (m after : Loaded Forms) → Fits u after × (undone u after ≡ m) → after ≡ loaded name code (purged name m) → held u ≡ old_of name m → CodeLost (option_to_list (held u)) m after
-load_taken name code u m after (fits, back) is holds =
-    subst (λ (x : Loaded Forms). CodeLost (option_to_list (held u)) m x) (sym is) (load-lost name code m (held u) (subst IsModuleTable back fits.sound) holds)
+pub load_taken : (name : List ℕ) (code : Forms) (post : Option Purge) (u : ModulesUndo Forms) (m after : Loaded Forms) → Fits u after × (undone u after ≡ m) → after ≡ loaded name code post (purged name m) → held u ≡ old_of name m → CodeLost (option_to_list (held u)) m after
+load_taken name code post u m after (fits, back) is holds =
+    subst (λ (x : Loaded Forms). CodeLost (option_to_list (held u)) m x) (sym is) (load-lost name code post m (held u) (subst IsModuleTable back fits.sound) holds)

@@ -22,6 +22,7 @@ use Rattle.process_effects.specs.Kills.{unless_uses, without_users}
 use Rattle.process_effects.specs.Uses.{is_among, is_of, uses, uses_by}
 use Rattle.process_store.specs.Table.{Table, living, living_at}
 use Rattle.process_store.specs.declared.living.ProcessEntry.{ProcessEntry}
+use Rattle.release_words.specs.declared.purge.Purge.{Purge}
 use Rattle.code_loading.proofs.Keeping.{Spared, deleted_keeps, loaded_keeps, purged_keeps}
 use Rattle.code_loading.specs.Consistent.{Enters, EntersAt, EntersBy, IsConsistent}
 use Rattle.code_loading.specs.Laws.{LoadingKeepsCode}
@@ -154,34 +155,34 @@ purge_keeps name m t kept = purged_from name m t (old_of name m) refl kept
 
 -- a load, and a delete
 
-sound_loaded : (name : List ℕ) (code : Forms) (m : Loaded Forms) (o : Option ℕ) → IsModuleTable m → m.next < 2 ^ 64 → index_of name m.entries ≡ o → IsModuleTable (loaded name code m)
-sound_loaded name code m None sound below at =
-    subst (λ o. IsModuleTable (record { entries = loaded_at o name (record { serial = m.next; code = code }) m.entries; next = m.next + 1 })) (sym at) (IsModuleTable-added m name (record { serial = m.next; code = code }) sound (absent_from_index name m.entries at) refl below)
-sound_loaded name code m (Some index) sound below at =
-    subst (λ o. IsModuleTable (record { entries = loaded_at o name (record { serial = m.next; code = code }) m.entries; next = m.next + 1 })) (sym at) (IsModuleTable-stacked m index (record { serial = m.next; code = code }) sound refl below)
+sound_loaded : (name : List ℕ) (code : Forms) (post : Option Purge) (m : Loaded Forms) (o : Option ℕ) → IsModuleTable m → m.next < 2 ^ 64 → index_of name m.entries ≡ o → IsModuleTable (loaded name code post m)
+sound_loaded name code post m None sound below at =
+    subst (λ o. IsModuleTable (record { entries = loaded_at o name post (record { serial = m.next; code = code }) m.entries; next = m.next + 1 })) (sym at) (IsModuleTable-added m name (record { serial = m.next; code = code }) sound (absent_from_index name m.entries at) refl below)
+sound_loaded name code post m (Some index) sound below at =
+    subst (λ o. IsModuleTable (record { entries = loaded_at o name post (record { serial = m.next; code = code }) m.entries; next = m.next + 1 })) (sym at) (IsModuleTable-stacked m index post (record { serial = m.next; code = code }) sound refl below)
 
-pub load_keeps : (name : List ℕ) (code : Forms) (m : Loaded Forms) (t : Table) → IsConsistent m t → load_refusal name m ≡ None → IsConsistent (loaded name code m) t
-load_keeps name code m t kept unrefused =
+pub load_keeps : (name : List ℕ) (code : Forms) (post : Option Purge) (m : Loaded Forms) (t : Table) → IsConsistent m t → load_refusal name m ≡ None → IsConsistent (loaded name code post m) t
+load_keeps name code post m t kept unrefused =
     let ready = IsLoadable-unrefused name m kept.sound unrefused in
     record {
-      sound = sound_loaded name code m (index_of name m.entries) kept.sound ready.serial refl;
-      stand = all_stay m (loaded name code m) t (loaded_keeps name code m ready.no_old) kept.stand;
+      sound = sound_loaded name code post m (index_of name m.entries) kept.sound ready.serial refl;
+      stand = all_stay m (loaded name code post m) t (loaded_keeps name code post m ready.no_old) kept.stand;
       enter = kept.enter;
     }
 
-sound_deleted : (name : List ℕ) (m : Loaded Forms) (o : Option ℕ) → IsModuleTable m → is_some (current_of name m) ≡ true → index_of name m.entries ≡ o → IsModuleTable (deleted name m)
-sound_deleted name m None sound there at = subst (λ o. IsModuleTable (record { entries = deleted_at o m.entries; next = m.next })) (sym at) sound
-sound_deleted name m (Some index) sound there at =
+sound_deleted : (name : List ℕ) (post : Option Purge) (m : Loaded Forms) (o : Option ℕ) → IsModuleTable m → is_some (current_of name m) ≡ true → index_of name m.entries ≡ o → IsModuleTable (deleted name post m)
+sound_deleted name post m None sound there at = subst (λ o. IsModuleTable (record { entries = deleted_at o post m.entries; next = m.next })) (sym at) sound
+sound_deleted name post m (Some index) sound there at =
     let stands = Stands-index name m.entries index at in
     let here : is_some (current_at m.entries index) ≡ true = ap is_some (current_at-slots name m.entries index stands ∙ sym (current_of-slots name m index stands)) ∙ there in
-    subst (λ o. IsModuleTable (record { entries = deleted_at o m.entries; next = m.next })) (sym at) (IsModuleTable-retired m index sound here)
+    subst (λ o. IsModuleTable (record { entries = deleted_at o post m.entries; next = m.next })) (sym at) (IsModuleTable-retired m index post sound here)
 
-pub delete_keeps : (name : List ℕ) (m : Loaded Forms) (t : Table) → IsConsistent m t → delete_refusal name m ≡ None → IsConsistent (deleted name m) t
-delete_keeps name m t kept unrefused =
+pub delete_keeps : (name : List ℕ) (post : Option Purge) (m : Loaded Forms) (t : Table) → IsConsistent m t → delete_refusal name m ≡ None → IsConsistent (deleted name post m) t
+delete_keeps name post m t kept unrefused =
     let ready = IsDeletable-unrefused name m unrefused in
     record {
-      sound = sound_deleted name m (index_of name m.entries) kept.sound ready.has_current refl;
-      stand = all_stay m (deleted name m) t (deleted_keeps name m unrefused) kept.stand;
+      sound = sound_deleted name post m (index_of name m.entries) kept.sound ready.has_current refl;
+      stand = all_stay m (deleted name post m) t (deleted_keeps name post m unrefused) kept.stand;
       enter = kept.enter;
     }
 

@@ -8,10 +8,11 @@ use Rattle.std.specs.Str.{bytes_eq}
 use Rattle.values.specs.Edits.{changed_at}
 use Rattle.values.proofs.Edits.{changed_at-same, slice_get-changed_at}
 use Rattle.erl_ir.specs.Module.{Forms}
-use Rattle.code_server.proofs.Changes.{codeless, current_of-slots, none_from_test, old_of-slots, purged-absent, purged-gone, purged-kept, same_slots}
+use Rattle.code_server.proofs.Changes.{codeless, current_of-slots, none_from_test, none_later, old_of-slots, purged-absent, purged-gone, purged-kept, same_slots}
 use Rattle.code_server.proofs.Reloads.{index_of-with_slots}
 use Rattle.code_server.proofs.Standing.{Stands-index, absent_from_index}
-use Rattle.code_server.specs.Modules.{Entry, IsModuleTable, Table as Loaded, current_of, old_of, index_of, purged, purged_slots, slots_of, with_slots}
+use Rattle.code_server.specs.Modules.{Entry, IsModuleTable, Table as Loaded, current_of, old_of, index_of, post_of, purged, purged_slots, slots_of, with_slots}
+use Rattle.code_server.specs.declared.modules.Slots.{Slots}
 
 -- what is found by a key where the entry at an index, which has another, is changed or taken out
 
@@ -53,32 +54,39 @@ module _ (n k : List ℕ) (m : Loaded Forms) (other : bytes_eq k n ≡ false) wh
   other_purged : old_of k (purged n m) ≡ old_of k m
   other_purged = ap (option_and_then (λ slots. slots.former)) (other_by (index_of n m.entries) refl)
 
--- it has no old code, and where it had none all is as it was
+  pub other_noted : post_of k (purged n m) ≡ post_of k m
+  other_noted = ap (option_and_then (λ slots. slots.post)) (other_by (index_of n m.entries) refl)
+
+-- it has no old code, and nothing that is purged later, and where it had no old code all is as it was
 
 module _ (n : List ℕ) (m : Loaded Forms) (sound : IsModuleTable m) where
-  own_at : (index : ℕ) (b : Bool) → index_of n m.entries ≡ Some index → is_some (current_of n m) ≡ b → old_of n (purged n m) ≡ None
-  own_at index true at is =
+  own_at : {A : Type 0} (part : Slots Forms → Option A) → ((s : Slots Forms) → part (purged_slots s) ≡ None) → (index : ℕ) (b : Bool) → index_of n m.entries ≡ Some index → is_some (current_of n m) ≡ b → option_and_then part (slots_of n (purged n m)) ≡ None
+  own_at part clears index true at is =
       let kept : Loaded Forms = record { entries = with_slots purged_slots m.entries index; next = m.next } in
       let here = Stands-index n m.entries index at in
       let there = Stands-index n kept.entries index (index_of-with_slots purged_slots n m.entries index at) in
       let now : slice_get kept.entries index ≡ Some (n, purged_slots here.slots) = slice_get-changed_at (λ (e : Entry Forms). (e.0, purged_slots e.1)) m.entries index (n, here.slots) here.entry in
       let same : (n, there.slots) ≡ (n, purged_slots here.slots) = same_Some (n, there.slots) (n, purged_slots here.slots) (sym there.entry ∙ now) in
-      ap (old_of n) (purged-kept n m index at is) ∙ old_of-slots n kept index there ∙ ap (λ (e : Entry Forms). e.1.former) same
-  own_at index false at is =
-      ap (old_of n) (purged-gone n m index at is) ∙ ap (option_and_then (λ slots. slots.former)) ((Stands-index n m.entries index at).gone sound.distinct)
+      ap (λ x. option_and_then part (slots_of n x)) (purged-kept n m index at is) ∙ ap (option_and_then part) there.value ∙ ap (λ (e : Entry Forms). part e.1) same ∙ clears here.slots
+  own_at part clears index false at is =
+      ap (λ x. option_and_then part (slots_of n x)) (purged-gone n m index at is) ∙ ap (option_and_then part) ((Stands-index n m.entries index at).gone sound.distinct)
 
-  own_by : (o : Option ℕ) → index_of n m.entries ≡ o → old_of n (purged n m) ≡ None
-  own_by None at =
-      ap (old_of n) (purged-absent n m at) ∙ ap (option_and_then (λ slots. slots.former)) (absent_from_index n m.entries at)
-  own_by (Some index) at = own_at index (is_some (current_of n m)) at refl
+  own_by : {A : Type 0} (part : Slots Forms → Option A) → ((s : Slots Forms) → part (purged_slots s) ≡ None) → (o : Option ℕ) → index_of n m.entries ≡ o → option_and_then part (slots_of n (purged n m)) ≡ None
+  own_by part clears None at =
+      ap (λ x. option_and_then part (slots_of n x)) (purged-absent n m at) ∙ ap (option_and_then part) (absent_from_index n m.entries at)
+  own_by part clears (Some index) at = own_at part clears index (is_some (current_of n m)) at refl
 
   pub own_purged : old_of n (purged n m) ≡ None
-  own_purged = own_by (index_of n m.entries) refl
+  own_purged = own_by (λ s. s.former) (λ s. refl) (index_of n m.entries) refl
+
+  pub own_noted : post_of n (purged n m) ≡ None
+  own_noted = own_by (λ s. s.post) (λ s. refl) (index_of n m.entries) refl
 
   nothing_at : (index : ℕ) (b : Bool) → index_of n m.entries ≡ Some index → is_some (current_of n m) ≡ b → old_of n m ≡ None → purged n m ≡ m
   nothing_at index true at is none =
       let here = Stands-index n m.entries index at in
-      let slots = same_slots here.slots.current None here.slots refl (sym (old_of-slots n m index here) ∙ none) in
+      let no_old = sym (old_of-slots n m index here) ∙ none in
+      let slots = same_slots here.slots.current None None here.slots refl no_old (none_later n m index here sound no_old) in
       let entries = changed_at-same (λ (e : Entry Forms). (e.0, purged_slots e.1)) m.entries index (n, here.slots) here.entry (ap (λ s. (n, s)) slots) in
       purged-kept n m index at is ∙ (λ j. record { entries = entries j; next = m.next })
   nothing_at index false at is none =

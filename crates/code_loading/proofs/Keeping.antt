@@ -8,11 +8,12 @@ use Rattle.erl_semantics.specs.State.{Instance}
 use Rattle.erl_ir.specs.Module.{Forms}
 use Rattle.code_server.proofs.Changes.{IsDeletable-unrefused, current_of-slots, old_of-slots, purged-absent, purged-gone, purged-kept}
 use Rattle.code_server.proofs.Standing.{Stands, Stands-index}
-use Rattle.code_server.specs.Modules.{Entry, Table as Loaded, current_of, delete_refusal, deleted, deleted_at, loaded, loaded_at, old_of, index_of, purged, purged_slots, retired, slots_of, stacked, with_slots}
+use Rattle.code_server.specs.Modules.{Entry, Table as Loaded, current_of, delete_refusal, deleted, deleted_at, loaded, loaded_at, new_slots, old_of, index_of, purged, purged_slots, retired, slots_of, stacked, with_slots}
 use Rattle.code_server.specs.declared.modules.Instance as held
 use Rattle.code_server.specs.declared.modules.Slots.{Slots}
 use Rattle.process.specs.JobCode.{instance_of}
 use Rattle.process.specs.Named.{StandsIn, as_current, as_old}
+use Rattle.release_words.specs.declared.purge.Purge.{Purge}
 use Rattle.code_loading.proofs.Lookups.{IsFound, elsewhere, there, IsLeft, stays, goes, found_changed, found_in_front, found_left}
 
 -- What stands is in the slots of its name.
@@ -133,20 +134,20 @@ module _ (t u : Loaded Forms) (last : Entry Forms) where
       let by = slots_by (slots_of n t) (λ s. s.former) i is in
       as_slots_old u n by.0 i (ap (lookup (bytes_eq n)) entries ∙ found_in_front (bytes_eq n) t.entries last by.0 by.1) by.2
 
-stands_loaded : (name : List ℕ) (code : Forms) (t : Loaded Forms) (o : Option ℕ) → index_of name t.entries ≡ o → old_of name t ≡ None → (x : Instance) → StandsIn t x → StandsIn (loaded name code t) x
-stands_loaded name code t None at none x stands =
-    added t (loaded name code t) (name, record { current = Some (record { serial = t.next; code = code }); former = None }) (ap (λ o. loaded_at o name (record { serial = t.next; code = code }) t.entries) at) x stands
-stands_loaded name code t (Some index) at none x stands =
-    aged name t (loaded name code t) index (Stands-index name t.entries index at) (stacked (record { serial = t.next; code = code })) (λ s. refl) none (ap (λ o. loaded_at o name (record { serial = t.next; code = code }) t.entries) at) x stands
+stands_loaded : (name : List ℕ) (code : Forms) (post : Option Purge) (t : Loaded Forms) (o : Option ℕ) → index_of name t.entries ≡ o → old_of name t ≡ None → (x : Instance) → StandsIn t x → StandsIn (loaded name code post t) x
+stands_loaded name code post t None at none x stands =
+    added t (loaded name code post t) (name, new_slots (record { serial = t.next; code = code })) (ap (λ o. loaded_at o name post (record { serial = t.next; code = code }) t.entries) at) x stands
+stands_loaded name code post t (Some index) at none x stands =
+    aged name t (loaded name code post t) index (Stands-index name t.entries index at) (stacked post (record { serial = t.next; code = code })) (λ s. refl) none (ap (λ o. loaded_at o name post (record { serial = t.next; code = code }) t.entries) at) x stands
 
-pub loaded_keeps : (name : List ℕ) (code : Forms) (t : Loaded Forms) → old_of name t ≡ None → (x : Instance) → StandsIn t x → StandsIn (loaded name code t) x
-loaded_keeps name code t none x stands = stands_loaded name code t (index_of name t.entries) refl none x stands
+pub loaded_keeps : (name : List ℕ) (code : Forms) (post : Option Purge) (t : Loaded Forms) → old_of name t ≡ None → (x : Instance) → StandsIn t x → StandsIn (loaded name code post t) x
+loaded_keeps name code post t none x stands = stands_loaded name code post t (index_of name t.entries) refl none x stands
 
-stands_deleted : (name : List ℕ) (t : Loaded Forms) (o : Option ℕ) → index_of name t.entries ≡ o → old_of name t ≡ None → (x : Instance) → StandsIn t x → StandsIn (deleted name t) x
-stands_deleted name t None at none x stands =
-    subst (λ u. StandsIn u x) (sym (ap (λ o. record { entries = deleted_at o t.entries; next = t.next }) at)) stands
-stands_deleted name t (Some index) at none x stands =
-    aged name t (deleted name t) index (Stands-index name t.entries index at) retired (λ s. refl) none (ap (λ o. deleted_at o t.entries) at) x stands
+stands_deleted : (name : List ℕ) (post : Option Purge) (t : Loaded Forms) (o : Option ℕ) → index_of name t.entries ≡ o → old_of name t ≡ None → (x : Instance) → StandsIn t x → StandsIn (deleted name post t) x
+stands_deleted name post t None at none x stands =
+    subst (λ u. StandsIn u x) (sym (ap (λ o. record { entries = deleted_at o post t.entries; next = t.next }) at)) stands
+stands_deleted name post t (Some index) at none x stands =
+    aged name t (deleted name post t) index (Stands-index name t.entries index at) (retired post) (λ s. refl) none (ap (λ o. deleted_at o post t.entries) at) x stands
 
-pub deleted_keeps : (name : List ℕ) (t : Loaded Forms) → delete_refusal name t ≡ None → (x : Instance) → StandsIn t x → StandsIn (deleted name t) x
-deleted_keeps name t none x stands = stands_deleted name t (index_of name t.entries) refl (IsDeletable-unrefused name t none).no_old x stands
+pub deleted_keeps : (name : List ℕ) (post : Option Purge) (t : Loaded Forms) → delete_refusal name t ≡ None → (x : Instance) → StandsIn t x → StandsIn (deleted name post t) x
+deleted_keeps name post t none x stands = stands_deleted name post t (index_of name t.entries) refl (IsDeletable-unrefused name t none).no_old x stands

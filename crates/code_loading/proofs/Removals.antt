@@ -10,6 +10,7 @@ use Rattle.code_server.proofs.Standing.{Stands-index}
 use Rattle.code_server.specs.Modules.{Entry, IsModuleTable, Table as Loaded, current_of, delete_refusal, index_of, purged, purged_slots, removed, with_slots}
 use Rattle.code_server.specs.declared.error.CodeError.TheVariants.{NotLoaded, NotPurged}
 use Rattle.process_store.specs.Table.{Table}
+use Rattle.release_words.specs.declared.purge.Purge.{Purge}
 use Rattle.code_loading.proofs.Consistency.{delete_keeps, purge_keeps}
 use Rattle.code_loading.proofs.Emptied.{own_purged}
 use Rattle.code_loading.specs.Consistent.{IsConsistent}
@@ -35,16 +36,16 @@ can_delete n m index sound at has =
 
 -- one that has none is purged
 
-removed_at : (n : List ℕ) (m : Loaded Forms) (t : Table) (index : ℕ) (b : Bool) → IsConsistent m t → index_of n m.entries ≡ Some index → is_some (current_of n m) ≡ b → IsConsistent (removed n m) (spared n m t)
-removed_at n m t index true kept at has =
-    delete_keeps n (purged n m) (spared n m t) (purge_keeps n m t kept) (can_delete n m index kept.sound at has)
-removed_at n m t index false kept at none =
-    subst (λ u. IsConsistent u (spared n m t)) (purged-gone n m index at none ∙ sym (removed-gone n m index kept.sound at none)) (purge_keeps n m t kept)
+removed_at : (n : List ℕ) (post : Option Purge) (m : Loaded Forms) (t : Table) (index : ℕ) (b : Bool) → IsConsistent m t → index_of n m.entries ≡ Some index → is_some (current_of n m) ≡ b → IsConsistent (removed n post m) (spared n m t)
+removed_at n post m t index true kept at has =
+    delete_keeps n post (purged n m) (spared n m t) (purge_keeps n m t kept) (can_delete n m index kept.sound at has)
+removed_at n post m t index false kept at none =
+    subst (λ u. IsConsistent u (spared n m t)) (purged-gone n m index at none ∙ sym (removed-gone n post m index kept.sound at none)) (purge_keeps n m t kept)
 
-removed_by : (n : List ℕ) (m : Loaded Forms) (t : Table) (o : Option ℕ) → IsConsistent m t → index_of n m.entries ≡ o → IsConsistent (removed n m) (spared n m t)
-removed_by n m t None kept at =
-    subst (λ u. IsConsistent u (spared n m t)) (purged-absent n m at ∙ sym (removed-absent n m at)) (purge_keeps n m t kept)
-removed_by n m t (Some index) kept at = removed_at n m t index (is_some (current_of n m)) kept at refl
+removed_by : (n : List ℕ) (post : Option Purge) (m : Loaded Forms) (t : Table) (o : Option ℕ) → IsConsistent m t → index_of n m.entries ≡ o → IsConsistent (removed n post m) (spared n m t)
+removed_by n post m t None kept at =
+    subst (λ u. IsConsistent u (spared n m t)) (purged-absent n m at ∙ sym (removed-absent n post m at)) (purge_keeps n m t kept)
+removed_by n post m t (Some index) kept at = removed_at n post m t index (is_some (current_of n m)) kept at refl
 
 all_keep : (ns : List (List ℕ)) (m : Loaded Forms) (t : Table) → IsConsistent m t → IsConsistent (all_purged ns m) (all_spared ns m t)
 all_keep [] m t kept = kept
@@ -52,6 +53,6 @@ all_keep (n ∷ ns) m t kept = all_keep ns (purged n m) (spared n m t) (purge_ke
 
 pub purges_keep_code : PurgesKeepCode
 purges_keep_code = record {
-  removes = λ n m t kept. removed_by n m t (index_of n m.entries) kept refl;
+  removes = λ n post m t kept. removed_by n post m t (index_of n m.entries) kept refl;
   purges = all_keep;
 }

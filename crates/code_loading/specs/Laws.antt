@@ -23,6 +23,7 @@ use Rattle.process_table.specs.Commit.{committed}
 use Rattle.process_table.specs.States.{all_resumed, all_suspended}
 use Rattle.process_table.specs.Steps.{IsCodeOf, after_arrival, taken}
 use Rattle.process_table.specs.declared.body.ClientMessage.{ClientMessage}
+use Rattle.release_words.specs.declared.purge.Purge.{Purge}
 use Rattle.code_loading.specs.Current.{current_code}
 use Rattle.code_loading.specs.Consistent.{IsConsistent, RestsAt}
 use Rattle.code_loading.specs.Loading.{spared}
@@ -31,15 +32,15 @@ use Rattle.code_loading.specs.Purging.{all_purged, all_spared}
 pub record LoadingKeepsCode : Type 0 where
   pub purges : (name : List ℕ) (modules : Loaded Forms) (t : Table) → IsConsistent modules t →
       IsConsistent (purged name modules) (spared name modules t)
-  pub loads : (name : List ℕ) (code : Forms) (modules : Loaded Forms) (t : Table) → IsConsistent modules t →
-      load_refusal name modules ≡ None → IsConsistent (loaded name code modules) t
-  pub deletes : (name : List ℕ) (modules : Loaded Forms) (t : Table) → IsConsistent modules t →
-      delete_refusal name modules ≡ None → IsConsistent (deleted name modules) t
+  pub loads : (name : List ℕ) (code : Forms) (post : Option Purge) (modules : Loaded Forms) (t : Table) → IsConsistent modules t →
+      load_refusal name modules ≡ None → IsConsistent (loaded name code post modules) t
+  pub deletes : (name : List ℕ) (post : Option Purge) (modules : Loaded Forms) (t : Table) → IsConsistent modules t →
+      delete_refusal name modules ≡ None → IsConsistent (deleted name post modules) t
 
 -- Nor does a removal, or several purges at once.
 pub record PurgesKeepCode : Type 0 where
-  pub removes : (name : List ℕ) (modules : Loaded Forms) (t : Table) → IsConsistent modules t →
-      IsConsistent (removed name modules) (spared name modules t)
+  pub removes : (name : List ℕ) (post : Option Purge) (modules : Loaded Forms) (t : Table) → IsConsistent modules t →
+      IsConsistent (removed name post modules) (spared name modules t)
   pub purges : (names : List (List ℕ)) (modules : Loaded Forms) (t : Table) → IsConsistent modules t →
       IsConsistent (all_purged names modules) (all_spared names modules t)
 

@@ -14,6 +14,7 @@ use erl_ir::Module;
 use erl_term::Atom;
 use process_effects::{Reply, uses};
 use process_table::Processes;
+use release_words::Purge;
 use std::alloc::{AllocError, Global};
 use values::{Duplicate, Failure};
 
@@ -131,8 +132,8 @@ pub fn purge(
     })
 }
 
-/// Loads a module: it becomes current under the next serial, and its current code becomes old. Where it has old code, that
-/// is purged first. What clients are told is asked of [`downs_of_purge`] before.
+/// Loads a module: it becomes current under the next serial, and its current code becomes old, and is purged later so. If it has
+/// old code, that is purged first. What clients are told is asked of [`downs_of_purge`] before.
 ///
 /// # Errors
 ///
@@ -142,9 +143,10 @@ pub fn load(
     processes: &mut Processes,
     alloc: Global,
     code: Module,
+    post: Option<Purge>,
 ) -> Result<LoadUndo, Failure<CodeError>>
     ensures ok { OnOk result (load_refusal code.name (purged code.name modules.old) ≡ None) }
-    ensures modules { OnOk result (modules.new ≡ loaded code.name code (purged code.name modules.old)) }
+    ensures modules { OnOk result (modules.new ≡ loaded code.name code post (purged code.name modules.old)) }
     ensures processes { OnOk result (processes.new ≡ spared code.name modules.old processes.old) }
     ensures inverse { IfOk result (λ undo. TakesBack undo modules.old processes.old modules.new processes.new) }
     ensures refused { IfErr result (λ failure. TellsFailure failure (load_refusal code.name (purged code.name modules.old))) }
@@ -159,7 +161,7 @@ pub fn load(
     let Ok(killed) = kill_lingering(modules, processes, &name) else {
         return Err(Failure::Memory);
     };
-    match modules.purge_and_load(&name, code) {
+    match modules.purge_and_load(&name, code, post) {
         Ok(modules) => Ok(LoadUndo { modules, killed }),
         Err(failure) => Err(failure),
     }

@@ -1,6 +1,6 @@
 -- Code is replaced under processes, and under the children of supervisors that they are (Erlang Reference Manual, Compilation and
 -- Code Loading, Code Replacement; supervisor(3)).
-use Rattle.std.specs.Prelude.{List, [], ◌∷◌, ℕ}
+use Rattle.std.specs.Prelude.{List, [], ◌∷◌, ℕ, Option}
 use Rattle.erl_ir.specs.Module.{Forms}
 use Rattle.app_table.specs.Applications.{Application, all_ended}
 use Rattle.code_loading.specs.Loading.{lingering, spared}
@@ -8,6 +8,7 @@ use Rattle.code_server.specs.Modules.{IsModuleTable, Table as Loaded, loaded, pu
 use Rattle.process_effects.specs.Ends.{AllStand}
 use Rattle.process_effects.specs.Told.{killed}
 use Rattle.process_store.specs.Table.{Table}
+use Rattle.release_words.specs.declared.purge.Purge.{Purge}
 
 -- What runs: modules, processes in their code, and applications, whose children are processes.
 pub record RunningSystem : Type 0 where
@@ -37,10 +38,11 @@ abbrev pub all_without : List (List ℕ) → RunningSystem → RunningSystem
 all_without [] p = p
 all_without (n ∷ ns) p = all_without ns (without_lingering n p)
 
--- A module is loaded, or removed, once it was purged: its current code, if it has any, is old then.
+-- A module is loaded, or removed, once it was purged: its current code, if it has any, is old then, and is purged later as
+-- PostPurge says, where that is given.
 
-abbrev pub code_loaded : Forms → RunningSystem → RunningSystem
-code_loaded m p = record (without_lingering m.name p) { modules = loaded m.name m (purged m.name p.modules) }
+abbrev pub code_loaded : Forms → Option Purge → RunningSystem → RunningSystem
+code_loaded m post p = record (without_lingering m.name p) { modules = loaded m.name m post (purged m.name p.modules) }
 
-abbrev pub code_removed : List ℕ → RunningSystem → RunningSystem
-code_removed name p = record (without_lingering name p) { modules = removed name p.modules }
+abbrev pub code_removed : List ℕ → Option Purge → RunningSystem → RunningSystem
+code_removed name post p = record (without_lingering name p) { modules = removed name post p.modules }

@@ -13,12 +13,13 @@ use code_server::{CodeError, Modules};
 use erl_ir::Module;
 use erl_term::Atom;
 use process_table::Processes;
+use release_words::Purge;
 use std::alloc::{AllocError, Global};
 use values::Failure;
 
-/// Loads a module: it becomes current under the next serial, and its current code becomes old. Where it has old code, that is
-/// purged first: those who linger in it are killed, and their children are due, or not. What clients are told is asked of
-/// [`code_loading::downs_of_purge`] before.
+/// Loads a module: it becomes current under the next serial, and its current code becomes old, and is purged later so. If it has
+/// old code, that is purged first: those who linger in it are killed, and their children are due, or not. What clients are told
+/// is asked of [`code_loading::downs_of_purge`] before.
 ///
 /// # Errors
 ///
@@ -29,10 +30,11 @@ pub fn load(
     apps: &mut AppTable,
     alloc: Global,
     code: Module,
+    post: Option<Purge>,
 ) -> Result<ReplacementUndo, Failure<CodeError>>
     ensures ok { OnOk result (load_refusal code.name (purged code.name modules.old) ≡ None) }
     ensures loaded { OnOk result (running modules.new processes.new apps.new
-        ≡ code_loaded code (running modules.old processes.old apps.old)) }
+        ≡ code_loaded code post (running modules.old processes.old apps.old)) }
     ensures inverse { IfOk result (λ undo. TakesBack undo (running modules.old processes.old apps.old)
         (running modules.new processes.new apps.new)) }
     ensures refused { IfErr result (λ failure. TellsFailure failure (load_refusal code.name (purged code.name modules.old))) }
@@ -47,7 +49,7 @@ pub fn load(
     let Ok(ended) = end_children(apps, pids.as_slice()) else {
         return Err(Failure::Memory);
     };
-    match code_loading::load(modules, processes, alloc, code) {
+    match code_loading::load(modules, processes, alloc, code, post) {
         Ok(code) => Ok(ReplacementUndo { code, ended }),
         Err(failure) => {
             unend(apps, ended);
@@ -86,8 +88,8 @@ pub fn purge(
     }
 }
 
-/// Removes a module (appup(4), remove): it is purged, as by [`purge`], and its current code becomes old, if it has any. What
-/// clients are told is asked of [`code_loading::downs_of_purge`] before.
+/// Removes a module (appup(4), remove): it is purged, as by [`purge`], and its current code becomes old, if it has any, and is
+/// purged later so. What clients are told is asked of [`code_loading::downs_of_purge`] before.
 ///
 /// # Errors
 ///
@@ -98,16 +100,17 @@ pub fn remove(
     apps: &mut AppTable,
     alloc: Global,
     name: &Atom,
+    post: Option<Purge>,
 ) -> Result<ReplacementUndo, AllocError>
     ensures removed { OnOk result (running modules.new processes.new apps.new
-        ≡ code_removed name.now (running modules.old processes.old apps.old)) }
+        ≡ code_removed name.now post (running modules.old processes.old apps.old)) }
     ensures inverse { IfOk result (λ undo. TakesBack undo (running modules.old processes.old apps.old)
         (running modules.new processes.new apps.new)) }
     ensures err { OnErr result (running modules.new processes.new apps.new ≡ running modules.old processes.old apps.old) }
 {
     let pids = lingering(modules, processes, alloc, name)?;
     let ended = end_children(apps, pids.as_slice())?;
-    match code_loading::remove(modules, processes, name) {
+    match code_loading::remove(modules, processes, name, post) {
         Ok(code) => Ok(ReplacementUndo { code, ended }),
         Err(error) => {
             unend(apps, ended);

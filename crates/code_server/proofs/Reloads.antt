@@ -12,12 +12,13 @@ use Rattle.code_server.specs.declared.error.CodeError.TheVariants.{NotPurged, Co
 use Rattle.code_server.specs.declared.modules.Instance.{Instance}
 use Rattle.code_server.specs.declared.modules.Slots.{Slots}
 use Rattle.code_server.specs.declared.undo.ModulesUndo.TheVariants.{Moved}
-use Rattle.code_server.specs.Modules.{Entry, Table, IsModuleTable, current_of, old_of, index_of, with_slots, load_refusal, stacked, loaded_at, loaded, purged_slots, purged}
-use Rattle.code_server.specs.Indices.{former_at}
+use Rattle.code_server.specs.Modules.{Entry, Table, IsModuleTable, current_of, old_of, index_of, new_slots, noted, with_slots, load_refusal, stacked, loaded_at, loaded, purged_slots, purged}
+use Rattle.code_server.specs.Indices.{former_at, post_at}
 use Rattle.code_server.specs.Undo.{Fits, moved_back, undone}
 use Rattle.code_server.proofs.Changes.{none_from_test, old_of-slots, purged-absent, purged-gone, purged-kept, same_slots, taken_back}
 use Rattle.code_server.proofs.Sound.{IsModuleTable-added, IsModuleTable-removed}
 use Rattle.code_server.proofs.Standing.{Stands, Stands-index, absent_from_index, keys-with_slots, last_is, move_index-end}
+use Rattle.release_words.specs.declared.purge.Purge as words
 
 module _ {C : Type 0} where
   -- No old code stays
@@ -67,52 +68,56 @@ module _ {C : Type 0} where
 
   -- A module with current code stays
 
-  pub loaded-kept : (name : List ℕ) (code : C) (t : Table C) (index : ℕ) → index_of name t.entries ≡ Some index → is_some (current_of name t) ≡ true → loaded name code (purged name t) ≡ record { entries = with_slots (stacked (record { serial = t.next; code = code })) t.entries index; next = t.next + 1 }
-  loaded-kept name code t index found there =
+  pub loaded-kept : (name : List ℕ) (code : C) (post : Option words.Purge) (t : Table C) (index : ℕ) → index_of name t.entries ≡ Some index → is_some (current_of name t) ≡ true → loaded name code post (purged name t) ≡ record { entries = with_slots (stacked post (record { serial = t.next; code = code })) t.entries index; next = t.next + 1 }
+  loaded-kept name code post t index found there =
       let instance : Instance C = record { serial = t.next; code = code } in
       let kept = with_slots purged_slots t.entries index in
       let at = Stands-index name t.entries index found in
       let stays = index_of-with_slots purged_slots name t.entries index found in
-      let once = changed_at-twice (λ e. (e.0, purged_slots e.1)) (λ e. (e.0, stacked instance e.1)) (λ e. (e.0, stacked instance e.1)) t.entries index (name, at.slots) at.entry refl in
-      ap (loaded name code) (purged-kept name t index found there)
-      ∙ (λ j. record { entries = loaded_at (stays j) name instance kept; next = t.next + 1 })
+      let once = changed_at-twice (λ e. (e.0, purged_slots e.1)) (λ e. (e.0, stacked post instance e.1)) (λ e. (e.0, stacked post instance e.1)) t.entries index (name, at.slots) at.entry refl in
+      ap (loaded name code post) (purged-kept name t index found there)
+      ∙ (λ j. record { entries = loaded_at (stays j) name post instance kept; next = t.next + 1 })
       ∙ (λ j. record { entries = once j; next = t.next + 1 })
 
   -- A module with old code alone goes last
 
-  pub stacked-last : (name : List ℕ) (es : List (Entry C)) (index : ℕ) (instance : Instance C) (at : Stands name es index) → at.slots.current ≡ None → with_slots (stacked instance) (move_index es index (length es - 1)) (length es - 1) ≡ remove es index ++ (name, record { current = Some instance; former = None }) ∷ []
+  pub stacked-last : (name : List ℕ) (es : List (Entry C)) (index : ℕ) (instance : Instance C) (at : Stands name es index) → at.slots.current ≡ None → with_slots (stacked None instance) (move_index es index (length es - 1)) (length es - 1) ≡ remove es index ++ (name, new_slots instance) ∷ []
   stacked-last name es index instance at none =
       let others = remove es index in
-      (λ j. with_slots (stacked instance) (move_index-end es index (name, at.slots) at.within at.entry j) (last_is es index at.within j))
-      ∙ changed_at-end (λ e. (e.0, stacked instance e.1)) others (name, at.slots)
-      ∙ (λ j. others ++ (name, record { current = Some instance; former = none j }) ∷ [])
+      (λ j. with_slots (stacked None instance) (move_index-end es index (name, at.slots) at.within at.entry j) (last_is es index at.within j))
+      ∙ changed_at-end (λ e. (e.0, stacked None instance e.1)) others (name, at.slots)
+      ∙ (λ j. others ++ (name, record { current = Some instance; former = none j; post = noted {C = C} None (none j) }) ∷ [])
 
   pub former-last : (name : List ℕ) (es : List (Entry C)) (index : ℕ) (at : Stands name es index) → former_at (move_index es index (length es - 1)) (length es - 1) ≡ at.slots.former
   former-last name es index at =
       (λ j. former_at (move_index-end es index (name, at.slots) at.within at.entry j) (last_is es index at.within j)) ∙ ap (option_and_then (λ entry. entry.1.former)) (slice_get-end (remove es index) (name, at.slots))
 
-  pub loaded-gone : (name : List ℕ) (code : C) (t : Table C) (index : ℕ) → IsModuleTable t → index_of name t.entries ≡ Some index → is_some (current_of name t) ≡ false → loaded name code (purged name t) ≡ record { entries = remove t.entries index ++ (name, record { current = Some (record { serial = t.next; code = code }); former = None }) ∷ []; next = t.next + 1 }
-  loaded-gone name code t index sound found there =
+  pub post-last : (name : List ℕ) (es : List (Entry C)) (index : ℕ) (at : Stands name es index) → post_at (move_index es index (length es - 1)) (length es - 1) ≡ at.slots.post
+  post-last name es index at =
+      (λ j. post_at (move_index-end es index (name, at.slots) at.within at.entry j) (last_is es index at.within j)) ∙ ap (option_and_then (λ entry. entry.1.post)) (slice_get-end (remove es index) (name, at.slots))
+
+  pub loaded-gone : (name : List ℕ) (code : C) (post : Option words.Purge) (t : Table C) (index : ℕ) → IsModuleTable t → index_of name t.entries ≡ Some index → is_some (current_of name t) ≡ false → loaded name code post (purged name t) ≡ record { entries = remove t.entries index ++ (name, new_slots (record { serial = t.next; code = code })) ∷ []; next = t.next + 1 }
+  loaded-gone name code post t index sound found there =
       let instance : Instance C = record { serial = t.next; code = code } in
       let others = remove t.entries index in
       let at = Stands-index name t.entries index found in
       let nowhere = none_from_test (index_of name others) (some_index (bytes_eq name) others ∙ ap is_some (at.gone sound.distinct)) in
-      ap (loaded name code) (purged-gone name t index found there) ∙ (λ j. record { entries = loaded_at (nowhere j) name instance others; next = t.next + 1 })
+      ap (loaded name code post) (purged-gone name t index found there) ∙ (λ j. record { entries = loaded_at (nowhere j) name post instance others; next = t.next + 1 })
 
-  pub IsModuleTable-reloaded : (name : List ℕ) (t : Table C) (index : ℕ) (instance : Instance C) → IsModuleTable t → Stands name t.entries index → instance.serial ≡ t.next → t.next < 2 ^ 64 → IsModuleTable (record { entries = remove t.entries index ++ (name, record { current = Some instance; former = None }) ∷ []; next = t.next + 1 })
+  pub IsModuleTable-reloaded : (name : List ℕ) (t : Table C) (index : ℕ) (instance : Instance C) → IsModuleTable t → Stands name t.entries index → instance.serial ≡ t.next → t.next < 2 ^ 64 → IsModuleTable (record { entries = remove t.entries index ++ (name, new_slots instance) ∷ []; next = t.next + 1 })
   IsModuleTable-reloaded name t index instance sound at is below =
       IsModuleTable-added (record { entries = remove t.entries index; next = t.next }) name instance (IsModuleTable-removed t index sound) (at.gone sound.distinct) is below
 
-  pub Moved-back : (name : List ℕ) (t now : Table C) (index : ℕ) (es : List (Entry C)) (instance former : Instance C) (at : Stands name t.entries index) → at.slots.current ≡ None → at.slots.former ≡ Some former → es ≡ remove t.entries index ++ (name, record { current = Some instance; former = None }) ∷ [] → IsModuleTable t → t ≡ now → Fits (Moved index former) (record { entries = es; next = t.next + 1 }) × (undone (Moved index former) (record { entries = es; next = t.next + 1 }) ≡ now)
-  Moved-back name t now index es instance former at none some is sound same =
+  pub Moved-back : (name : List ℕ) (t now : Table C) (index : ℕ) (es : List (Entry C)) (instance former : Instance C) (post : Option words.Purge) (at : Stands name t.entries index) → at.slots.current ≡ None → at.slots.former ≡ Some former → at.slots.post ≡ post → es ≡ remove t.entries index ++ (name, new_slots instance) ∷ [] → IsModuleTable t → t ≡ now → Fits (Moved index former post) (record { entries = es; next = t.next + 1 }) × (undone (Moved index former post) (record { entries = es; next = t.next + 1 }) ≡ now)
+  Moved-back name t now index es instance former post at none some note is sound same =
       let others = remove t.entries index in
-      let entry : Entry C = (name, record { current = Some instance; former = None }) in
-      let slots = same_slots None (Some former) at.slots none some in
+      let entry : Entry C = (name, new_slots instance) in
+      let slots = same_slots None (Some former) post at.slots none some note in
       let long = length-append others (entry ∷ []) in
       let shorter = length-remove t.entries index at.within in
       let last : length es - 1 ≡ length others = (λ j. length (is j) - 1) ∙ last_index others entry in
       let found : slice_get es (length es - 1) ≡ Some entry = (λ j. slice_get (is j) (last j)) ∙ slice_get-end others entry in
       let taken : take (length es - 1) es ≡ others = (λ j. take (last j) (is j)) ∙ take-end others entry in
-      let back : moved_back index former (slice_get es (length es - 1)) (take (length es - 1) es) ≡ t.entries = (λ j. moved_back index former (found j) (taken j)) ∙ (λ j. insert others index (name, slots j)) ∙ insert-remove t.entries index (name, at.slots) at.entry in
+      let back : moved_back index former post (slice_get es (length es - 1)) (take (length es - 1) es) ≡ t.entries = (λ j. moved_back index former post (found j) (taken j)) ∙ (λ j. insert others index (name, slots j)) ∙ insert-remove t.entries index (name, at.slots) at.entry in
       let count : t.next + 1 - 1 ≡ t.next = omega arith in
-      taken_back (Moved index former) (record { entries = es; next = t.next + 1 }) t now (omega (arith, ap length is, at.within, long, shorter)) (λ j. record { entries = back j; next = count j }) sound same
+      taken_back (Moved index former post) (record { entries = es; next = t.next + 1 }) t now (omega (arith, ap length is, at.within, long, shorter)) (λ j. record { entries = back j; next = count j }) sound same

@@ -19,8 +19,9 @@ use Rattle.values.proofs.Edits.{changed_at-end, changed_at-insert, map-changed_a
 use Rattle.code_server.specs.declared.modules.Instance.{Instance}
 use Rattle.code_server.specs.declared.modules.Slots.{Slots}
 use Rattle.code_server.specs.Modules.{Entry, index_of, with_slots}
-use Rattle.code_server.specs.Indices.{former_at, old_alone}
+use Rattle.code_server.specs.Indices.{former_at, old_alone, post_at}
 use Rattle.code_server.specs.Undo.{moved_back, moved_last}
+use Rattle.release_words.specs.declared.purge.Purge as words
 
 module _ {C : Type 0} where
   -- a write through what the map lent at an index
@@ -32,7 +33,7 @@ module _ {C : Type 0} where
       ap (λ rest. e ∷ rest) (with_slots_from_write f es i v w at is)
 
   -- what the map lent at an index
-  pub at_lent : (h : Slots C → Option (Instance C)) (es : List (Entry C)) (i : ℕ) (v : Slots C) → slice_get (values_of es) i ≡ Some v → h v ≡ option_and_then (λ entry. h entry.1) (slice_get es i)
+  pub at_lent : {A : Type 0} (h : Slots C → Option A) (es : List (Entry C)) (i : ℕ) (v : Slots C) → slice_get (values_of es) i ≡ Some v → h v ≡ option_and_then (λ entry. h entry.1) (slice_get es i)
   at_lent h [] i v at = absurd (none-some v at)
   at_lent h (e ∷ es) zero v at = ap h (sym (same_Some e.1 v at))
   at_lent h (e ∷ es) (suc i) v at = at_lent h es i v at
@@ -45,8 +46,8 @@ module _ {C : Type 0} where
       (λ j. move_index (pushed j) (last j) index) ∙ push_moved m.entries (name, slots) index within
 
   -- the last module, moved to an index and left there with old code alone
-  pub moved_back_from_move : (es : List (Entry C)) (index : ℕ) (instance : Instance C) → index < length es → with_slots (old_alone instance) (move_index es (length es - 1) index) index ≡ moved_back index instance (slice_get es (length es - 1)) (take (length es - 1) es)
-  moved_back_from_move es index instance within =
+  pub moved_back_from_move : (es : List (Entry C)) (index : ℕ) (instance : Instance C) (post : Option words.Purge) → index < length es → with_slots (λ _. old_alone instance post) (move_index es (length es - 1) index) index ≡ moved_back index instance post (slice_get es (length es - 1)) (take (length es - 1) es)
+  moved_back_from_move es index instance post within =
       let last = length es - 1 in
       let others = take last es in
       elim (slice_get_cases es last).1 [
@@ -55,7 +56,7 @@ module _ {C : Type 0} where
             let is : es ≡ others ++ entry ∷ [] = sym (take_all (last + 1) es (omega arith)) ∙ take_more es last entry (omega arith) ∙ ap (λ e. others ++ e ∷ []) there.3 in
             let count : length others ≡ last = length-take-le last es (omega arith) in
             let moved : move_index es last index ≡ insert others index entry = (λ j. move_index (is j) (sym count j) index) ∙ push_moved others entry index (omega arith) in
-            ap (λ l. with_slots (old_alone instance) l index) moved ∙ changed_at-insert (λ e. (e.0, old_alone instance e.1)) others index entry (omega arith) ∙ ap (λ o. moved_back index instance o others) (sym there.2)
+            ap (λ l. with_slots (λ _. old_alone instance post) l index) moved ∙ changed_at-insert (λ e. (e.0, old_alone instance post)) others index entry (omega arith) ∙ ap (λ o. moved_back index instance post o others) (sym there.2)
         | inr past ↦ absurd (omega (arith, past.0))
       ]
 
@@ -109,6 +110,15 @@ module _ {C : Type 0} where
       at_lent (λ slots. slots.former) (move_index es index (length es - 1)) (length es - 1) v at
       ∙ (λ j. former_at (move_index-end es index there.0 within there.1 j) (last_is es index within j))
       ∙ ap (option_and_then (λ entry. entry.1.former)) (slice_get-end others there.0 ∙ sym there.1)
+
+  -- and how that is purged later
+  pub post_from_move : (es : List (Entry C)) (index : ℕ) (v : Slots C) → index < length es → slice_get (values_of (move_index es index (length es - 1))) (length es - 1) ≡ Some v → v.post ≡ post_at es index
+  post_from_move es index v within at =
+      let there = entry_at es index within in
+      let others = remove es index in
+      at_lent (λ slots. slots.post) (move_index es index (length es - 1)) (length es - 1) v at
+      ∙ (λ j. post_at (move_index-end es index there.0 within there.1 j) (last_is es index within j))
+      ∙ ap (option_and_then (λ entry. entry.1.post)) (slice_get-end others there.0 ∙ sym there.1)
 
   -- no change of instances touches a name
   pub keys-with_slots : (f : Slots C → Slots C) (es : List (Entry C)) (i : ℕ) → keys_of (with_slots f es i) ≡ keys_of es

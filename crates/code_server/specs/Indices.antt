@@ -4,7 +4,8 @@ use Rattle.code_server.specs.declared.modules.Instance.{Instance}
 use Rattle.code_server.specs.declared.modules.Slots.{Slots}
 use Rattle.code_server.specs.declared.indices.SlotChange.{SlotChange}
 use Rattle.code_server.specs.declared.indices.SlotChange.TheVariants.{Stack, Unstack, ReplaceOld}
-use Rattle.code_server.specs.Modules.{Entry}
+use Rattle.code_server.specs.Modules.{Entry, noted}
+use Rattle.release_words.specs.declared.purge.Purge.{Purge}
 
 -- the current code of the module at an index
 abbrev pub current_at : {C : Type 0} → List (Entry C) → ℕ → Option (Instance C)
@@ -14,18 +15,22 @@ current_at entries index = option_and_then (λ entry. entry.1.current) (slice_ge
 abbrev pub former_at : {C : Type 0} → List (Entry C) → ℕ → Option (Instance C)
 former_at entries index = option_and_then (λ entry. entry.1.former) (slice_get entries index)
 
--- this old code alone
-abbrev pub old_alone : {C : Type 0} → Instance C → Slots C → Slots C
-old_alone instance slots = record { current = None; former = Some instance }
+-- how that is purged later
+abbrev pub post_at : {C : Type 0} → List (Entry C) → ℕ → Option Purge
+post_at entries index = option_and_then (λ entry. entry.1.post) (slice_get entries index)
+
+-- this old code alone, which is purged later so
+abbrev pub old_alone : {C : Type 0} → Instance C → Option Purge → Slots C
+old_alone instance post = record { current = None; former = Some instance; post = post }
 
 -- a module's instances after a change, and the instance that went
 
 abbrev pub changed_slots : {C : Type 0} → SlotChange C → Slots C → Slots C
-changed_slots (Stack instance) slots = record { current = instance; former = slots.current }
-changed_slots (Unstack instance) slots = record { current = slots.former; former = instance }
-changed_slots (ReplaceOld instance) slots = record { current = slots.current; former = instance }
+changed_slots (Stack instance post) slots = record { current = instance; former = slots.current; post = noted post slots.current }
+changed_slots (Unstack instance post) slots = record { current = slots.former; former = instance; post = post }
+changed_slots (ReplaceOld instance post) slots = record { current = slots.current; former = instance; post = post }
 
 abbrev pub gone_slot : {C : Type 0} → SlotChange C → Slots C → Option (Instance C)
-gone_slot (Stack instance) slots = slots.former
-gone_slot (Unstack instance) slots = slots.current
-gone_slot (ReplaceOld instance) slots = slots.former
+gone_slot (Stack instance post) slots = slots.former
+gone_slot (Unstack instance post) slots = slots.current
+gone_slot (ReplaceOld instance post) slots = slots.former

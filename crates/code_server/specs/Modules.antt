@@ -1,6 +1,6 @@
 -- The code server's table: a module has one or two instances of code, the current one and the old one
 -- (Erlang Reference Manual, Compilation and Code Loading, Code Replacement; code(3)).
-use Rattle.std.specs.Prelude.{ℕ, ◌+◌, ◌^◌, ◌<◌, ◌≤◌, ◌==◌, Bool, ◌&&◌, ◌||◌, if◌then◌else◌, IsTrue, List, [], ◌∷◌, ◌++◌}
+use Rattle.std.specs.Prelude.{◌≡◌, ℕ, ◌+◌, ◌^◌, ◌<◌, ◌≤◌, ◌==◌, Bool, ◌&&◌, ◌||◌, if◌then◌else◌, IsTrue, List, [], ◌∷◌, ◌++◌}
 use Rattle.std.specs.Prelude.{All, remove, position, Option, None, Some, is_some, option_and_then}
 use Rattle.std.specs.List.{IsDistinct, sum_by}
 use Rattle.std.specs.Map.{keys_of, lookup}
@@ -10,6 +10,7 @@ use Rattle.code_server.specs.declared.modules.Instance.{Instance}
 use Rattle.code_server.specs.declared.modules.Slots.{Slots}
 use Rattle.code_server.specs.declared.error.CodeError.{CodeError}
 use Rattle.code_server.specs.declared.error.CodeError.TheVariants.{NotLoaded, NotPurged, OldInUse, CounterEnd}
+use Rattle.release_words.specs.declared.purge.Purge.{Purge}
 
 -- A module as the table has it: its name, and its instances. A name is the list of its characters.
 abbrev pub Entry : Type 0 → Type 0
@@ -40,6 +41,10 @@ current_of name t = option_and_then (λ slots. slots.current) (slots_of name t)
 abbrev pub old_of : {C : Type 0} → List ℕ → Table C → Option (Instance C)
 old_of name t = option_and_then (λ slots. slots.former) (slots_of name t)
 
+-- how its old code is purged later, if a script has left it (appup(4), PostPurge)
+abbrev pub post_of : {C : Type 0} → List ℕ → Table C → Option Purge
+post_of name t = option_and_then (λ slots. slots.post) (slots_of name t)
+
 -- where it stands
 abbrev pub index_of : {C : Type 0} → List ℕ → List (Entry C) → Option ℕ
 index_of name entries = position (bytes_eq name) (keys_of entries)
@@ -55,17 +60,25 @@ abbrev pub load_refusal : {C : Type 0} → List ℕ → Table C → Option CodeE
 load_refusal name t =
     if is_some (old_of name t) then Some NotPurged else (if t.next == 2 ^ 64 then Some CounterEnd else None)
 
--- the instances with a new one on top: what was current is old
-abbrev pub stacked : {C : Type 0} → Instance C → Slots C → Slots C
-stacked instance slots = record { current = Some instance; former = slots.current }
+-- How code that is no longer current is purged later: as PostPurge says, if there is such code.
+abbrev pub noted : {C : Type 0} → Option Purge → Option (Instance C) → Option Purge
+noted post current = option_and_then (λ _. post) current
 
-abbrev pub loaded_at : {C : Type 0} → Option ℕ → List ℕ → Instance C → List (Entry C) → List (Entry C)
-loaded_at None name instance entries = entries ++ (name, record { current = Some instance; former = None }) ∷ []
-loaded_at (Some index) name instance entries = with_slots (stacked instance) entries index
+-- the instances of a module that has this one alone
+abbrev pub new_slots : {C : Type 0} → Instance C → Slots C
+new_slots instance = record { current = Some instance; former = None; post = None }
 
-abbrev pub loaded : {C : Type 0} → List ℕ → C → Table C → Table C
-loaded name code t = record {
-  entries = loaded_at (index_of name t.entries) name (record { serial = t.next; code = code }) t.entries;
+-- the instances with a new one on top: what was current is old, and is purged later as PostPurge says
+abbrev pub stacked : {C : Type 0} → Option Purge → Instance C → Slots C → Slots C
+stacked post instance slots = record { current = Some instance; former = slots.current; post = noted post slots.current }
+
+abbrev pub loaded_at : {C : Type 0} → Option ℕ → List ℕ → Option Purge → Instance C → List (Entry C) → List (Entry C)
+loaded_at None name post instance entries = entries ++ (name, new_slots instance) ∷ []
+loaded_at (Some index) name post instance entries = with_slots (stacked post instance) entries index
+
+abbrev pub loaded : {C : Type 0} → List ℕ → C → Option Purge → Table C → Table C
+loaded name code post t = record {
+  entries = loaded_at (index_of name t.entries) name post (record { serial = t.next; code = code }) t.entries;
   next = t.next + 1;
 }
 
@@ -76,20 +89,21 @@ abbrev pub delete_refusal : {C : Type 0} → List ℕ → Table C → Option Cod
 delete_refusal name t =
     if is_some (current_of name t) then (if is_some (old_of name t) then Some NotPurged else None) else Some NotLoaded
 
-abbrev pub retired : {C : Type 0} → Slots C → Slots C
-retired slots = record { current = None; former = slots.current }
+abbrev pub retired : {C : Type 0} → Option Purge → Slots C → Slots C
+retired post slots = record { current = None; former = slots.current; post = noted post slots.current }
 
-abbrev pub deleted_at : {C : Type 0} → Option ℕ → List (Entry C) → List (Entry C)
-deleted_at None entries = entries
-deleted_at (Some index) entries = with_slots retired entries index
+abbrev pub deleted_at : {C : Type 0} → Option ℕ → Option Purge → List (Entry C) → List (Entry C)
+deleted_at None post entries = entries
+deleted_at (Some index) post entries = with_slots (retired post) entries index
 
-abbrev pub deleted : {C : Type 0} → List ℕ → Table C → Table C
-deleted name t = record { entries = deleted_at (index_of name t.entries) t.entries; next = t.next }
+abbrev pub deleted : {C : Type 0} → List ℕ → Option Purge → Table C → Table C
+deleted name post t = record { entries = deleted_at (index_of name t.entries) post t.entries; next = t.next }
 
--- Purge: the old code is gone, if there is any. A module that is left without code leaves the table.
+-- Purge: the old code is gone, if there is any, and so is how it is purged later. A module that is left without code leaves the
+-- table.
 
 abbrev pub purged_slots : {C : Type 0} → Slots C → Slots C
-purged_slots slots = record { current = slots.current; former = None }
+purged_slots slots = record { current = slots.current; former = None; post = None }
 
 abbrev pub purged_at : {C : Type 0} → Option ℕ → Bool → List (Entry C) → List (Entry C)
 purged_at None has_current entries = entries
@@ -103,8 +117,8 @@ purged name t = record {
 }
 
 -- Remove: a purge, and then a delete where there is current code. A module that has old code alone leaves the table.
-abbrev pub removed : {C : Type 0} → List ℕ → Table C → Table C
-removed name t = deleted name (purged name t)
+abbrev pub removed : {C : Type 0} → List ℕ → Option Purge → Table C → Table C
+removed name post t = deleted name post (purged name t)
 
 -- Soft purge: a purge that is refused where there is old code and somebody uses it.
 abbrev pub soft_purge_refusal : {C : Type 0} → List ℕ → Bool → Table C → Option CodeError
@@ -115,6 +129,10 @@ soft_purge_refusal name in_use t = if is_some (old_of name t) && in_use then Som
 -- a module has an instance (and no more than two, by its type)
 abbrev pub HasCode : {C : Type 0} → Entry C → Type 0
 HasCode entry = IsTrue (is_some entry.1.current || is_some entry.1.former)
+
+-- only old code is purged later
+abbrev pub NotesOldCode : {C : Type 0} → Entry C → Type 0
+NotesOldCode entry = entry.1.former ≡ None → entry.1.post ≡ None
 
 -- an instance's serial was given by a load
 abbrev pub IsGiven : {C : Type 0} → ℕ → Option (Instance C) → Type 0
@@ -133,11 +151,12 @@ in_entry serial entry = in_slot serial entry.1.current + in_slot serial entry.1.
 abbrev pub in_entries : {C : Type 0} → ℕ → List (Entry C) → ℕ
 in_entries serial entries = sum_by (in_entry serial) entries
 
--- Modules differ in name, and each has code; the instances' serials were given by loads, and no two instances have
--- one serial; the next serial is one that a load can give, or one past the last.
+-- Modules differ in name, and each has code; nothing is purged later where there is no old code; the instances' serials were
+-- given by loads, and no two instances have one serial; the next serial is one that a load can give, or one past the last.
 pub record IsModuleTable {C : Type 0} (t : Table C) : Type 0 where
   pub distinct : IsDistinct bytes_eq (keys_of t.entries)
   pub with_code : All HasCode t.entries
+  pub notes : All NotesOldCode t.entries
   pub given : All (λ entry. IsGiven t.next entry.1.current × IsGiven t.next entry.1.former) t.entries
   pub once : (serial : ℕ) → in_entries serial t.entries ≤ 1
   pub counted : (1 ≤ t.next) × (t.next ≤ 2 ^ 64)

@@ -14,6 +14,7 @@ use crate::indices::{
 use crate::undo::ModulesUndo;
 use erl_term::Atom;
 use indexmap::IndexMap;
+use release_words::Purge;
 use std::alloc::Global;
 use std::hash::RandomState;
 use std::marker::Model;
@@ -35,6 +36,8 @@ pub struct Slots<C> {
     pub current: Option<Instance<C>>,
     /// The old code.
     pub former: Option<Instance<C>>,
+    /// How the old code is purged later, if there is any, and a script has left it (appup(4), PostPurge).
+    pub post: Option<Purge>,
 }
 
 /// Modules by their names, which are hashed by keys that nobody outside knows: so nobody can pick names that collide.
@@ -202,8 +205,8 @@ impl<C: Drop> Modules<C> {
         }
     }
 
-    /// Loads code: it becomes current under the next serial, and the current code becomes old. A module
-    /// that is not in the table goes last, under a copy of the name, and only then is memory asked for.
+    /// Loads code: it becomes current under the next serial, and the current code becomes old; it isn't said how that is purged
+    /// later. A module that is not in the table goes last, under a copy of the name, and only then is memory asked for.
     ///
     /// # Errors
     ///
@@ -211,7 +214,7 @@ impl<C: Drop> Modules<C> {
     /// `Memory`. The table is then as it was; the code is dropped.
     pub fn load(&mut self, name: &Atom, code: C) -> Result<ModulesUndo<C>, Failure<CodeError>>
         ensures ok { OnOk result (load_refusal name.now self.old ≡ None) }
-        ensures loaded { OnOk result (self.new ≡ loaded name.now code self.old) }
+        ensures loaded { OnOk result (self.new ≡ loaded name.now code None self.old) }
         ensures inverse { IfOk result (λ undo. Fits undo self.new × (undone undo self.new ≡ self.old)) }
         ensures pieces { IfOk result (λ undo. held undo ≡ None) }
         ensures refused { IfErr result (λ failure. TellsFailure failure (load_refusal name.now self.old)) }
@@ -226,7 +229,11 @@ impl<C: Drop> Modules<C> {
         let instance = Instance { serial, code };
         match self.table.get_index_of(name) {
             Some(index) => {
-                let _ = change_at(&mut self.table, index, SlotChange::Stack(Some(instance)));
+                let _ = change_at(
+                    &mut self.table,
+                    index,
+                    SlotChange::Stack(Some(instance), None),
+                );
                 self.last = serial;
                 Ok(ModulesUndo::Stacked(index))
             }
@@ -238,9 +245,9 @@ impl<C: Drop> Modules<C> {
         }
     }
 
-    /// Purges what is old, and loads: as [`Modules::purge`] and then [`Modules::load`], in one change. So a
-    /// module that has old code alone leaves its index and goes last. Memory is asked for only where the
-    /// module is not in the table. Who uses the old code is the caller's to see to.
+    /// Purges what is old, and loads: as [`Modules::purge`] and then [`Modules::load`], in one change, but that the code which
+    /// becomes old is purged later so. A module that has old code alone leaves its index and goes last. Memory is asked for
+    /// only where the module is not in the table. Who uses the old code is the caller's to see to.
     ///
     /// # Errors
     ///
@@ -250,9 +257,10 @@ impl<C: Drop> Modules<C> {
         &mut self,
         name: &Atom,
         code: C,
+        post: Option<Purge>,
     ) -> Result<ModulesUndo<C>, Failure<CodeError>>
         ensures ok { OnOk result (load_refusal name.now (purged name.now self.old) ≡ None) }
-        ensures loaded { OnOk result (self.new ≡ loaded name.now code (purged name.now self.old)) }
+        ensures loaded { OnOk result (self.new ≡ loaded name.now code post (purged name.now self.old)) }
         ensures inverse { IfOk result (λ undo. Fits undo self.new × (undone undo self.new ≡ self.old)) }
         ensures pieces { IfOk result (λ undo. held undo ≡ old_of name.now self.old) }
         ensures refused { IfErr result (λ failure. TellsFailure failure (load_refusal name.now (purged name.now self.old))) }
@@ -272,26 +280,28 @@ impl<C: Drop> Modules<C> {
         };
         self.last = serial;
         if has_current(&self.table, index) {
-            let change = SlotChange::Stack(Some(instance));
-            let Some(former) = change_at(&mut self.table, index, change) else {
+            let change = SlotChange::Stack(Some(instance), post);
+            let (gone, noted) = change_at(&mut self.table, index, change);
+            let Some(former) = gone else {
                 return Ok(ModulesUndo::Stacked(index));
             };
-            return Ok(ModulesUndo::Replaced(index, former));
+            return Ok(ModulesUndo::Replaced(index, former, noted));
         }
-        match stack_last(&mut self.table, index, instance) {
-            Some(former) => Ok(ModulesUndo::Moved(index, former)),
+        let (old, noted) = stack_last(&mut self.table, index, instance);
+        match old {
+            Some(former) => Ok(ModulesUndo::Moved(index, former, noted)),
             None => unreachable!(),
         }
     }
 
-    /// Deletes a module: its current code becomes old. Takes no memory.
+    /// Deletes a module: its current code becomes old; it isn't said how that is purged later. Takes no memory.
     ///
     /// # Errors
     ///
     /// In this order: `NotLoaded` where there is no current code, `NotPurged` where there is old code. The
     /// table is then as it was.
     pub fn delete(&mut self, name: &Atom) -> Result<ModulesUndo<C>, CodeError>
-        ensures deleted { OnOk result (self.new ≡ deleted name.now self.old) }
+        ensures deleted { OnOk result (self.new ≡ deleted name.now None self.old) }
         ensures inverse { IfOk result (λ undo. Fits undo self.new × (undone undo self.new ≡ self.old)) }
         ensures pieces { IfOk result (λ undo. held undo ≡ None) }
         ensures refused { MatchResult result (λ _. delete_refusal name.now self.old ≡ None)
@@ -303,7 +313,7 @@ impl<C: Drop> Modules<C> {
         }
         match self.table.get_index_of(name) {
             Some(index) => {
-                let _ = change_at(&mut self.table, index, SlotChange::Stack(None));
+                let _ = change_at(&mut self.table, index, SlotChange::Stack(None, None));
                 Ok(ModulesUndo::Retired(index))
             }
             None => Err(CodeError::NotLoaded),
@@ -322,14 +332,15 @@ impl<C: Drop> Modules<C> {
             return ModulesUndo::Nothing;
         };
         if has_current(&self.table, index) {
-            let change = SlotChange::ReplaceOld(None);
-            let Some(former) = change_at(&mut self.table, index, change) else {
+            let change = SlotChange::ReplaceOld(None, None);
+            let (gone, noted) = change_at(&mut self.table, index, change);
+            let Some(former) = gone else {
                 return ModulesUndo::Nothing;
             };
-            return ModulesUndo::Purged(index, former);
+            return ModulesUndo::Purged(index, former, noted);
         }
         match take_out(&mut self.table, index) {
-            Some((name, former)) => ModulesUndo::Removed(index, name, former),
+            Some((name, former, noted)) => ModulesUndo::Removed(index, name, former, noted),
             None => unreachable!(),
         }
     }
@@ -373,12 +384,12 @@ impl<C: Drop> Modules<C> {
                 Ok(())
             }
             ModulesUndo::Stacked(index) => {
-                let _ = change_at(&mut self.table, index, SlotChange::Unstack(None));
+                let _ = change_at(&mut self.table, index, SlotChange::Unstack(None, None));
                 self.last -= 1;
                 Ok(())
             }
             ModulesUndo::Retired(index) => {
-                let _ = change_at(&mut self.table, index, SlotChange::Unstack(None));
+                let _ = change_at(&mut self.table, index, SlotChange::Unstack(None, None));
                 Ok(())
             }
             ModulesUndo::Replaced(..) | ModulesUndo::Moved(..) | ModulesUndo::Demoted(..) => {

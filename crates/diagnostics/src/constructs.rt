@@ -42,7 +42,7 @@ fn of_mark(mark: Mark) -> Option<&'static str> {
     match mark {
         Mark::OpenBinary => Some("a binary"),
         Mark::Hash => Some("a map or a record"),
-        Mark::Question => Some("a macro other than ?MODULE"),
+        Mark::Question => Some("a macro other than ?MODULE; tools/expand expands it"),
         Mark::BarBar | Mark::OpenBracket => Some("a comprehension"),
         Mark::OpenParen | Mark::Colon => Some("a call whose module or function is no atom"),
         Mark::Bar => Some("a list with a tail that is no list"),

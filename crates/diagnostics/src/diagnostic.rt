@@ -77,11 +77,23 @@ fn finding_of(
     }
 }
 
-/// That a file is missing, or a release's `.rel`, whose folder may be there.
+/// Says that a file is missing, or a release's `.rel`, whose folder may be there.
 fn missing_words(files: &Files, path: &str) -> &'static str {
-    if !path.starts_with("releases/") {
-        "there is no such file"
-    } else if files
+    if path.starts_with("releases/") {
+        return missing_release_words(files, path);
+    }
+    match FileKind::of_path(path) {
+        FileKind::App => {
+            "there is no such file; for an application of OTP's own {application,App,[{vsn,Vsn}]}. is enough"
+        }
+        FileKind::Source => "there is no such file; the application's .app lists this module",
+        FileKind::Rel | FileKind::Appup | FileKind::Relup => "there is no such file",
+    }
+}
+
+/// Says that a release's `.rel` is missing, whose folder may be there.
+fn missing_release_words(files: &Files, path: &str) -> &'static str {
+    if files
         .paths()
         .iter()
         .any(|other| is_below(other.as_str(), path))

@@ -1,9 +1,10 @@
-//! What is told of a fault of a file, for the one who is to mend it: where it stands, and what is wrong in words.
+//! What is told of a fault of a file, or of an application that doesn't start, for the one who is to mend it: where the fault
+//! stands, what is wrong in words, and what to write.
 //!
 //! The readers of files tell a fault by a kind and a byte, an element or an instruction. [`diagnose`] looks at the bytes
 //! again and makes a [`Diagnostic`] of it: the offset as a line and a column, which element must be what and what it is, and
-//! which construct of Erlang is not supported. [`push_shown`] writes a text that comes from a file so that it is one line
-//! on a terminal.
+//! which construct of Erlang is not supported. [`not_started`] says why an application doesn't start, and what it lacks.
+//! [`push_shown`] writes a text that comes from a file so that it is one line on a terminal.
 //!
 //! # What is proved
 //!
@@ -16,6 +17,7 @@
 //! The words, and which token of a text it is that is told by elements: these are tried by whole sessions of the program.
 #![tactic(auto)]
 
+mod boot;
 mod constructs;
 mod diagnostic;
 mod excerpt;
@@ -28,6 +30,7 @@ mod shown;
 mod spans;
 mod words;
 
+pub use boot::not_started;
 pub use diagnostic::{Diagnostic, diagnose};
 pub use excerpt::Excerpt;
 pub use hidden::{HiddenRel, hidden_rel};

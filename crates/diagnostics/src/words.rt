@@ -121,7 +121,10 @@ impl<'a> Looked<'a> {
             // Of an attribute its name is told too.
             None => {
                 let is_attribute = rest.starts_with('-') && !rest.starts_with("--");
-                push_token(self.alloc, rest, is_attribute, &mut message)?
+                push_token(self.alloc, rest, is_attribute, &mut message)?;
+                if is_attribute {
+                    message.push_str("; tools/expand writes the sources without it")?;
+                }
             }
         }
         Ok(Finding {

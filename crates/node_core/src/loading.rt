@@ -63,6 +63,7 @@ pub(crate) fn load(parts: &mut NodeParts, alloc: Global, code: &Module, n: usize
         &mut parts.apps,
         alloc,
         copy,
+        None,
     ) {
         Ok(undo) => Ok(Stepped {
             told,

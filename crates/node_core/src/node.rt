@@ -68,7 +68,7 @@ impl Node {
     pub fn boot(alloc: Global, hashing: RandomState, release: &Release) -> Result<Node, BootError>
         ensures booted { IfOk result (λ n. Boots release.now n.modules n.processes n.apps) }
         ensures releases { IfOk result (λ n. n.releases ≡ booted release.now) }
-        ensures idle { IfOk result (λ n. (n.unpurged ≡ []) × (n.runner ≡ None)) }
+        ensures idle { IfOk result (λ n. n.runner ≡ None) }
         ensures failed { IfErr result (λ e. BootFails e release.now) }
     {
         let Booted {
@@ -85,7 +85,6 @@ impl Node {
                 processes,
                 apps,
                 releases,
-                unpurged: Vec::new(alloc),
                 runner: None,
             },
         })

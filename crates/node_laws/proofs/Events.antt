@@ -171,7 +171,7 @@ permanent_by vsn n kept None is =
 
 sweeps : (n : NodeState) → IsSoundNode n → SomeOutcome (Sweeps n)
 sweeps n kept =
-    let names = swept n.modules n.processes n.unpurged kept.consistent.sound in
+    let names = swept n.modules n.processes kept.consistent.sound in
     (Ok (swept_as names.0 n), (names.0, names.1, refl))
 
 -- A restart
@@ -183,7 +183,7 @@ restarts : (r : Release) (releases : List Listed) (n : NodeState) → restart_re
 restarts r releases n unrefused =
     let told = tells_restart n.processes in
     let boots = restarts_as r n.modules n.processes in (
-      record { modules = boots.0; processes = boots.1; apps = boots.2; releases = releases; unpurged = []; runner = None },
+      record { modules = boots.0; processes = boots.1; apps = boots.2; releases = releases; runner = None },
       told.0,
       record {
         unrefused = unrefused;

@@ -32,7 +32,7 @@ use Rattle.script_children.specs.Calls.{start_failed}
 use Rattle.script_children.specs.Children.{Supervised}
 use Rattle.script_runner.specs.Failures.{code_change_failed, no_object_code}
 use Rattle.script_runner.specs.Instructions.{RunsInstruction, Fails, IsAtEnd, all_resumed_in, all_stopped_in, all_suspended_in, running_of, script_of}
-use Rattle.script_runner.specs.Instructions.{supervised_of, with_running, with_supervised, with_unpurged}
+use Rattle.script_runner.specs.Instructions.{supervised_of, with_running, with_supervised}
 use Rattle.script_runner.specs.Parts.{Parts}
 use Rattle.script_state.specs.ObjectCode.{all_noted, code_at_hand, files_of, missing_object_code}
 use Rattle.suspensions.specs.Suspending.{names, to_suspend}
@@ -57,7 +57,7 @@ loads_by : (r : Release) (m : List ℕ) (pre post : Kind) (p : Parts) (source : 
     (b : Bool) → load_refusal source.name (purged source.name p.modules) ≡ (if b then Some code_error.CounterEnd else None) →
     Comes r (Load m pre post) p
 loads_by r m pre post p source is false unrefused = inl (
-  with_unpurged source.name post (with_running (code_loaded source (running_of p)) p),
+  with_running (code_loaded source (Some post) (running_of p)) p,
   downs_of_purge source.name p.modules p.processes,
   (source, is, unrefused, refl, refl),
 )
@@ -126,7 +126,7 @@ comes r PointOfNoReturn p sound = inl (p, [], (refl, refl))
 comes r (Load m pre post) p sound = loads r m pre post p sound (code_at_hand m p.versions r) refl
 comes r (Remove m pre post) p sound =
     inl (
-      with_unpurged m post (with_running (code_removed m (running_of p)) p),
+      with_running (code_removed m (Some post) (running_of p)) p,
       downs_of_purge m p.modules p.processes,
       (refl, refl),
     )

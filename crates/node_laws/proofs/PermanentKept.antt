@@ -102,7 +102,7 @@ keeps n (Load m) a is has =
     (λ unrefused. has)
 keeps n (Delete name) a is has =
     let made : Acceptance = record {
-      node = with_modules (deleted name n.modules) n;
+      node = with_modules (deleted name None n.modules) n;
       answer = answer.Unit;
       note =
           reporting [];

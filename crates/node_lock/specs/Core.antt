@@ -37,7 +37,7 @@ pub record SeatState : Type 0 where
 -- the node is one that this release boots
 abbrev pub IsBooted : Release → NodeState → Type 0
 IsBooted release n = Boots release n.modules n.processes n.apps × (n.releases ≡ booted_with release) ×
-    (n.unpurged ≡ []) × (n.runner ≡ None)
+    (n.runner ≡ None)
 
 -- The release has booted the node, and the history has led from that to where it stands.
 pub record HasLegalHistory (release : Release) (c : CoreState) : Type 0 where

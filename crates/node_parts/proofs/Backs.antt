@@ -35,7 +35,6 @@ code_back u undo before now r same (kept, (takes, others)) gives =
       processes = (ran i).processes;
       apps = (ran i).apps;
       releases = (others i).releases;
-      unpurged = (others i).unpurged;
       runner = (others i).runner;
     })
 
@@ -54,7 +53,6 @@ purges_back u undo statuses before now r releases same (kept, (takes, of_release
       processes = (ran i).processes;
       apps = (ran i).apps;
       releases = listed i;
-      unpurged = (others i).unpurged;
       runner = (others i).runner;
     })
 
@@ -78,7 +76,6 @@ pub instruction_back : (u undo : instructions_undo.InstructionUndo) (before now 
       processes = p.processes;
       apps = p.apps;
       releases = now.releases;
-      unpurged = p.unpurged;
       runner = Some (record here {
         progress = record { next = next; suspended = p.suspended; stopped = p.stopped; versions = p.versions };
       });
@@ -113,7 +110,6 @@ instruction_back u undo before now here p next same runs (kept, (s, at, back)) g
       processes = (stood i).processes;
       apps = (stood i).apps;
       releases = back.releases i;
-      unpurged = (stood i).unpurged;
       runner = runner i;
     })
 
@@ -125,7 +121,6 @@ pub instruction_stays : (now : NodeState) (here : RunnerState) (p : Parts) (next
       processes = p.processes;
       apps = p.apps;
       releases = now.releases;
-      unpurged = p.unpurged;
       runner = Some (record here {
         progress = record { next = next; suspended = p.suspended; stopped = p.stopped; versions = p.versions };
       });
@@ -152,6 +147,5 @@ instruction_stays now here p next runs same stays =
       processes = (same i).processes;
       apps = (same i).apps;
       releases = now.releases;
-      unpurged = (same i).unpurged;
       runner = runner i;
     })

@@ -23,7 +23,6 @@ state_of p = record {
   processes = p.processes;
   apps = p.apps;
   releases = p.releases;
-  unpurged = p.unpurged.items;
   runner = option_map runner_of p.runner;
 }
 

@@ -57,7 +57,6 @@ pub record RestartBack (d : Displaced) (before after : NodeState) : Type 0 where
   pub modules : d.modules ≡ before.modules
   pub processes : d.processes ≡ before.processes
   pub apps : d.apps ≡ before.apps
-  pub unpurged : d.unpurged.items ≡ before.unpurged
   pub runner : option_map runner_of d.runner ≡ before.runner
   pub stopped : after.runner ≡ None
   pub releases : of_releases.TakesBack d.statuses before.releases after.releases

@@ -3,7 +3,7 @@ use code_server::Modules;
 use erl_ir::Module;
 use process_table::Processes;
 use release_statuses::Releases;
-use script_state::{Runner, Unpurged};
+use script_state::Runner;
 use sys_protocol::AppTable;
 
 /// What a node is made of. Contracts see it as a `NodeState` (`state_of`).
@@ -17,8 +17,6 @@ pub struct NodeParts {
     pub apps: AppTable,
     /// Its releases.
     pub releases: Releases,
-    /// The old code that scripts have left, and that is to be purged later.
-    pub unpurged: Vec<Unpurged>,
     /// The script that it runs, if it runs one.
     pub runner: Option<Runner>,
 }

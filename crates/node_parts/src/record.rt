@@ -6,7 +6,7 @@ use erl_ir::Module;
 use node_types::{Answer, Note, Refusal};
 use process_table::Processes;
 use script_ends::{Finish, Recovery};
-use script_state::{Runner, Unpurged};
+use script_state::Runner;
 use sys_protocol::AppTable;
 use undo_journal::Stepped;
 use values::{Boxed, Failure};
@@ -23,8 +23,6 @@ pub struct Displaced {
     pub processes: Processes,
     /// The applications.
     pub apps: AppTable,
-    /// The old code that was to be purged later.
-    pub unpurged: Vec<Unpurged>,
     /// The script that ran, if one did.
     pub runner: Option<Runner>,
     /// What takes the change of statuses back.

@@ -140,7 +140,6 @@ fn revert_instruction(
         &mut parts.modules,
         &mut parts.processes,
         &mut parts.apps,
-        &mut parts.unpurged,
         &mut runner.progress,
         alloc,
         undo,
@@ -230,7 +229,6 @@ fn revert_restart(parts: &mut NodeParts, displaced: Boxed<Displaced>) -> Result<
         modules,
         processes,
         apps,
-        unpurged,
         runner,
         statuses,
     } = displaced;
@@ -241,7 +239,6 @@ fn revert_restart(parts: &mut NodeParts, displaced: Boxed<Displaced>) -> Result<
     parts.modules = modules;
     parts.processes = processes;
     parts.apps = apps;
-    parts.unpurged = unpurged;
     parts.runner = runner;
     Ok(())
 }

@@ -89,7 +89,6 @@ started_node m t apps releases = record {
   processes = t;
   apps = apps;
   releases = releases;
-  unpurged = [];
   runner = None;
 }
 

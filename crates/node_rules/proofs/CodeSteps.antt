@@ -40,7 +40,7 @@ load_keeps m n a none is kept =
     let mid = purged m.name n.modules in
     let t = spared m.name n.modules n.processes in
     accepted (load_refused m n) OfModules made a is (λ unrefused. record {
-      consistent = loading_keeps_code.loads m.name m mid t runs.consistent unrefused;
+      consistent = loading_keeps_code.loads m.name m None mid t runs.consistent unrefused;
       children = runs.children;
       script = no_script n.runner n.releases made.node.apps none;
     })
@@ -60,10 +60,10 @@ purge_keeps name n a none is kept =
 
 pub delete_keeps : (name : List ℕ) (n : NodeState) (a : Acceptance) → accepts a ≡ deletes name n → IsSoundNode n → IsSoundNode a.node
 delete_keeps name n a is kept =
-    let node = with_modules (deleted name n.modules) n in
+    let node = with_modules (deleted name None n.modules) n in
     let made : Acceptance = record { node = node; answer = answer.Unit; note = reporting [] } in
     accepted (delete_refusal name n.modules) OfModules made a is (λ unrefused. record {
-      consistent = loading_keeps_code.deletes name n.modules n.processes kept.consistent unrefused;
+      consistent = loading_keeps_code.deletes name None n.modules n.processes kept.consistent unrefused;
       children = kept.children;
       script = kept.script;
     })

@@ -51,18 +51,18 @@ unrefused : (o : Option (held.Instance Forms)) (at_end : Bool) → o ≡ None �
     (if is_some o then Some NotPurged else (if at_end then Some CounterEnd else None)) ≡ None
 unrefused o at_end no_old left = (λ i. if is_some (no_old i) then Some NotPurged else (if left i then Some CounterEnd else None))
 
-loaded_is_sound : (m : Forms) (t : Loaded Forms) → IsModuleTable t → t.next < 2 ^ 64 → IsModuleTable (loaded m.name m (purged m.name t))
+loaded_is_sound : (m : Forms) (t : Loaded Forms) → IsModuleTable t → t.next < 2 ^ 64 → IsModuleTable (loaded m.name m None (purged m.name t))
 loaded_is_sound m t sound below =
     let mid = purged m.name t in
     let kept = vacant_is_consistent mid no_processes nobody (sound_purged m.name t (index_of m.name t.entries) sound refl) in
     let left = ne_eqb t.next (2 ^ 64) (λ same. omega (arith, same, below)) in
     let fine = unrefused (old_of m.name mid) (t.next == 2 ^ 64) (own_purged m.name t sound) left in
-    (load_keeps m.name m mid no_processes kept fine).sound
+    (load_keeps m.name m None mid no_processes kept fine).sound
 
 all_loaded_is_sound : (ms : List Forms) (t : Loaded Forms) → IsModuleTable t → t.next + length ms ≤ 2 ^ 64 → IsModuleTable (all_loaded ms t)
 all_loaded_is_sound [] t sound room = sound
 all_loaded_is_sound (m ∷ ms) t sound room =
-    let next = loaded m.name m (purged m.name t) in
+    let next = loaded m.name m None (purged m.name t) in
     all_loaded_is_sound ms next (loaded_is_sound m t sound (omega (arith, room))) (omega (arith, room))
 
 within : (n max : ℕ) → (if nat_lt max n then Some CounterEnd else None) ≡ None → n ≤ max
@@ -77,6 +77,7 @@ emptied_is_sound : (m : Loaded Forms) → IsModuleTable m → IsModuleTable (cod
 emptied_is_sound m sound = record {
   distinct = IsDistinct-from_apart bytes_eq [] (λ i j d below within. absurd (omega (arith, within)));
   with_code = λ k d below. absurd (omega (arith, below));
+  notes = λ k d below. absurd (omega (arith, below));
   given = λ k d below. absurd (omega (arith, below));
   once = λ serial. omega arith;
   counted = sound.counted;

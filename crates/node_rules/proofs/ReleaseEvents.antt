@@ -10,7 +10,7 @@ use Rattle.unpurged_code.proofs.Gathering.{one_noted, one_swept}
 
 purged-once : (was : Bool) (n : NodeState) (xs ys : List (List ℕ)) → ArePurged was n xs → ArePurged was n ys → xs ≡ ys
 purged-once true n xs ys first second = first ∙ sym second
-purged-once false n xs ys first second = one_noted Brutal n.modules n.unpurged xs ys first second
+purged-once false n xs ys first second = one_noted Brutal n.modules xs ys first second
 
 pub one_permanent : (vsn : List ℕ) (n : NodeState) (r s : Outcome) → MakesPermanent vsn n r → MakesPermanent vsn n s → r ≡ s
 one_permanent vsn n (Err e) (Err f) (it, refused, is) (other, refused_too, also) =
@@ -26,5 +26,5 @@ pub one_sweep : (n : NodeState) (r s : Outcome) → Sweeps n r → Sweeps n s �
 one_sweep n (Err e) s first second = absurd first
 one_sweep n (Ok a) (Err f) first second = absurd second
 one_sweep n (Ok a) (Ok b) first second =
-    let names = one_swept n.modules n.processes n.unpurged first.0 second.0 first.1 second.1 in
+    let names = one_swept n.modules n.processes first.0 second.0 first.1 second.1 in
     ap Ok (first.2 ∙ ap (λ (xs : List (List ℕ)). swept_as xs n) names ∙ sym second.2)

@@ -29,7 +29,6 @@ restarted_node releases modules t apps = record {
   processes = t;
   apps = apps;
   releases = releases;
-  unpurged = [];
   runner = None;
 }
 

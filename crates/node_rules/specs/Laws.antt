@@ -23,6 +23,6 @@ pub record StepsHaveOneOutcome : Type 0 where
 pub record StepsKeep : Type 0 where
   pub boots : (r : Release) (modules : Loaded Forms) (t : Table) (apps : List Application) (releases : List Listed) →
       Boots r modules t apps → IsModuleTable modules →
-      IsSoundNode (record { modules = modules; processes = t; apps = apps; releases = releases; unpurged = []; runner = None })
+      IsSoundNode (record { modules = modules; processes = t; apps = apps; releases = releases; runner = None })
   pub steps : (n : NodeState) (e : Event) (a : Accepted NodeState Answer Note) → Step n e (Ok a) → IsSoundNode n →
       IsSoundNode a.node

@@ -1,5 +1,5 @@
--- A node: its modules, its processes, its applications and its releases; the old code that is to be purged later, and the script
--- that it runs, if it runs one.
+-- A node: its modules, its processes, its applications and its releases; and the script that it runs, if it runs one. How old
+-- code is purged later stands beside that code, among the modules.
 use Rattle.std.specs.Prelude.{◌≡◌, false, IsSome, List, take, Option, None, Some}
 use Rattle.erl_ir.specs.Module.{Forms}
 use Rattle.children_live.specs.Children.{ChildrenLive}
@@ -12,7 +12,6 @@ use Rattle.release_statuses.specs.Statuses.{index_of}
 use Rattle.release_statuses.specs.declared.listed.Listed.{Listed}
 use Rattle.script_checks.specs.Checks.{bad_script, has_point}
 use Rattle.script_state.specs.Runner.{RunnerState}
-use Rattle.script_state.specs.declared.unpurged.Unpurged.{Unpurged}
 
 -- The next serial of a load stands in the table of modules, and the next pid in that of processes.
 pub record NodeState : Type 0 where
@@ -20,7 +19,6 @@ pub record NodeState : Type 0 where
   pub processes : Table
   pub apps : List Application
   pub releases : List Listed
-  pub unpurged : List Unpurged
   pub runner : Option RunnerState
 
 -- A script that runs: the release that it installs is known, the script is one that can be installed, and before its point of no

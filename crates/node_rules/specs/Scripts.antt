@@ -89,7 +89,6 @@ parts_in s n = record {
   modules = n.modules;
   processes = n.processes;
   apps = n.apps;
-  unpurged = n.unpurged;
   suspended = s.progress.suspended;
   stopped = s.progress.stopped;
   versions = s.progress.versions;
@@ -110,7 +109,6 @@ with_parts p s n = record n {
   modules = p.modules;
   processes = p.processes;
   apps = p.apps;
-  unpurged = p.unpurged;
   runner = Some (gone_on p s);
 }
 
@@ -122,8 +120,8 @@ next_in s = slice_get s.script s.progress.next
 abbrev pub target_in : RunnerState → NodeState → Option Release
 target_in s n = option_map (λ it. it.release) (listed s.target n.releases)
 
--- Restarted: a release boots in place of what runs, behind the serials and the pids that were given. No code is left to be
--- purged, and no script runs. The statuses of the releases are these.
+-- Restarted: a release boots in place of what runs, behind the serials and the pids that were given. No
+-- script runs. The statuses of the releases are these.
 pub record IsRestarted (r : Release) (releases : List Listed) (n after : NodeState) (told : List Reply) : Type 0 where
   pub unrefused : restart_refusal r n.modules ≡ None
   pub tells : TellsRestart n.processes told
@@ -133,7 +131,6 @@ pub record IsRestarted (r : Release) (releases : List Listed) (n after : NodeSta
     processes = after.processes;
     apps = after.apps;
     releases = releases;
-    unpurged = [];
     runner = None;
   }
 
@@ -277,7 +274,7 @@ with_running s n = record n { modules = s.modules; processes = s.processes; apps
 
 abbrev pub ArePurged : Bool → NodeState → List (List ℕ) → Type 0
 ArePurged true n names = names ≡ []
-ArePurged false n names = AreNoted Brutal n.modules n.unpurged names
+ArePurged false n names = AreNoted Brutal n.modules names
 
 abbrev pub permanent_as : List ℕ → List (List ℕ) → NodeState → Accepted NodeState Answer Note
 permanent_as vsn names n = record {
@@ -303,7 +300,7 @@ swept_as names n = record {
 
 abbrev pub Sweeps : NodeState → Outcome → Type 0
 Sweeps n (Err e) = ⊥
-Sweeps n (Ok a) = (names : List (List ℕ)) × AreSwept n.modules n.processes n.unpurged names × (a ≡ swept_as names n)
+Sweeps n (Ok a) = (names : List (List ℕ)) × AreSwept n.modules n.processes names × (a ≡ swept_as names n)
 
 -- Reboot old: the node restarts with an old release, which is permanent then; what was permanent or current is old.
 

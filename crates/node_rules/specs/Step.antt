@@ -103,14 +103,15 @@ abbrev pub Revives : List ℕ → Term → NodeState → Outcome → Type 0
 Revives app id n (Err e) = (it : SysError) × RefusesRevive it (current_code n.modules) app id n.apps n.processes × (e ≡ OfApps it)
 Revives app id n (Ok a) = IsRevived app id n a
 
--- Load and purge: those who linger in what is purged are killed, and their children are due, or not.
+-- Load and purge: those who linger in what is purged are killed, and their children are due, or not. It isn't said how code is
+-- purged later that a load makes old.
 
 abbrev pub load_refused : Forms → NodeState → Option CodeError
 load_refused m n = load_refusal m.name (purged m.name n.modules)
 
 abbrev pub loaded_as : Forms → NodeState → Accepted NodeState Answer Note
 loaded_as m n = record {
-  node = with_running (code_loaded m (running_in n)) n;
+  node = with_running (code_loaded m None (running_in n)) n;
   answer = answer.Unit;
   note = reporting (downs_of_purge m.name n.modules n.processes);
 }
@@ -125,11 +126,12 @@ purges name n = Ok (record {
   note = reporting (downs_of_purge name n.modules n.processes);
 })
 
--- Delete: current code becomes old. Soft purge: a purge that is refused where somebody lingers.
+-- Delete: current code becomes old; it isn't said how that is purged later. Soft purge: a purge that is refused where somebody
+-- lingers.
 
 abbrev pub deletes : List ℕ → NodeState → Outcome
 deletes name n = unless (delete_refusal name n.modules) OfModules (record {
-  node = with_modules (deleted name n.modules) n;
+  node = with_modules (deleted name None n.modules) n;
   answer = answer.Unit;
   note = reporting [];
 })

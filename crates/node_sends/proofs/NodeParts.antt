@@ -17,7 +17,6 @@ use Rattle.node_sends.proofs.ScriptEnds as script_ends
 use Rattle.node_sends.proofs.ScriptRunner as script_runner
 use Rattle.node_sends.proofs.ScriptState as script_state
 use Rattle.node_sends.proofs.Values as values
-use Rattle.script_state.proofs.unpurged.Unpurged.TheSendSync as unpurged
 
 pub node_parts_send : IsSend NodeParts.the_row
 node_parts_send = declared_send NodeParts.the_type (
@@ -33,10 +32,7 @@ node_parts_send = declared_send NodeParts.the_type (
       app_table.app_table_send,
       (
         release_statuses.releases_send,
-        (
-          search (unpurged.the_send, crosses, sendable) depth 60 fits 20000,
-          (search (script_state.runner_send, crosses, sendable) depth 60 fits 20000, tt),
-        ),
+        (search (script_state.runner_send, crosses, sendable) depth 60 fits 20000, tt),
       ),
     ),
   ),
@@ -56,10 +52,7 @@ node_parts_sync = declared_sync NodeParts.the_type (
       app_table.app_table_sync,
       (
         release_statuses.releases_sync,
-        (
-          search (unpurged.the_sync, crosses, sendable) depth 60 fits 20000,
-          (search (script_state.runner_sync, crosses, sendable) depth 60 fits 20000, tt),
-        ),
+        (search (script_state.runner_sync, crosses, sendable) depth 60 fits 20000, tt),
       ),
     ),
   ),
@@ -78,15 +71,8 @@ displaced_send = declared_send Displaced.the_type (
     (
       app_table.app_table_send,
       (
-        search (
-          unpurged.the_send,
-          crosses,
-          sendable,
-        ) depth 60 fits 20000,
-        (
-          search (script_state.runner_send, crosses, sendable) depth 60 fits 20000,
-          (release_statuses.undo_send, tt),
-        ),
+        search (script_state.runner_send, crosses, sendable) depth 60 fits 20000,
+        (release_statuses.undo_send, tt),
       ),
     ),
   ),
@@ -105,15 +91,8 @@ displaced_sync = declared_sync Displaced.the_type (
     (
       app_table.app_table_sync,
       (
-        search (
-          unpurged.the_sync,
-          crosses,
-          sendable,
-        ) depth 60 fits 20000,
-        (
-          search (script_state.runner_sync, crosses, sendable) depth 60 fits 20000,
-          (release_statuses.undo_sync, tt),
-        ),
+        search (script_state.runner_sync, crosses, sendable) depth 60 fits 20000,
+        (release_statuses.undo_sync, tt),
       ),
     ),
   ),

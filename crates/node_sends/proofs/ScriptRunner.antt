@@ -13,7 +13,7 @@ undo_send = variants_send InstructionUndo.enum (
   (
     (search sendable, tt),
     (
-      (code_replacement.undo_send, (search sendable, tt)),
+      (code_replacement.undo_send, tt),
       (
         (code_replacement.purges_send, tt),
         (
@@ -34,7 +34,7 @@ undo_sync = variants_sync InstructionUndo.enum (
   (
     (search sendable, tt),
     (
-      (code_replacement.undo_sync, (search sendable, tt)),
+      (code_replacement.undo_sync, tt),
       (
         (code_replacement.purges_sync, tt),
         (

@@ -1,3 +1,3 @@
 mod Led
-mod Replays
+pub mod Replays
 mod Exchanges

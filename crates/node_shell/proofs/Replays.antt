@@ -10,14 +10,13 @@ use Rattle.undo_journal.proofs.Forgets.{cut_to-below, forgotten_to-mark, here-fo
 use Rattle.undo_journal.proofs.Histories.{Makes-live, FoldsTo-live, RunsCommands-of, AreAfter-append, IsOrdered-opened, IsOrdered-after, node_at-after, node_at-forgotten}
 use Rattle.undo_journal.proofs.Timelines.{cut_to-here}
 use Rattle.line_server.specs.declared.ended.ServeEnd.{ServeEnd}
-use Rattle.line_server.specs.Lines.{heard}
 use Rattle.line_server.specs.Serving.{Serves, ServesWhole}
 use Rattle.line_server.specs.Session.{Answered, lines_in, text_of}
 use Rattle.shell_exec.specs.Node.{NodeState}
 use Rattle.shell_exec.specs.Step.{MayRunOut, Step}
 use Rattle.node_types.specs.declared.event.Event.{Event}
 use Rattle.release_files.specs.Files.{Contents}
-use Rattle.shell_requests.specs.Request.{asks, forget, spoken, undo}
+use Rattle.shell_requests.specs.Request.{asks, forget, undo}
 use Rattle.shell_answers.specs.Answers.{fixed}
 use Rattle.shell_answers.specs.declared.fixed.Fixed.TheVariants as words
 use Rattle.shell_exec.specs.State.{Effect, NodeTimeline, ShellState, answered, opened_shell}
@@ -33,7 +32,7 @@ use Rattle.node_shell.proofs.Exchanges.{executed-from_answered, unrefused-execut
 after-executed : (s : ShellState) (executed : List Executed) → AreExecuted s executed → AreAfter Step (commands_in executed) s.timeline (timeline_behind s executed)
 after-executed s [] in_turn = refl
 after-executed s (o ∷ others) in_turn =
-    AreAfter-append Step (option_to_list o.effect.command) (commands_in others) s.timeline o.effect.after.timeline (timeline_behind o.effect.after others) (Does-led o.fate s (spoken (heard o.line)) o.effect in_turn.0) (after-executed o.effect.after others in_turn.1)
+    AreAfter-append Step (option_to_list o.effect.command) (commands_in others) s.timeline o.effect.after.timeline (timeline_behind o.effect.after others) (Does-led o.fate s o.said o.effect in_turn.0) (after-executed o.effect.after others in_turn.1)
 
 -- a journal that carries commands out, none of them missed
 carried-all : (cs : List (Command Event)) (t u : NodeTimeline) → AreAfter Step cs t u → CarriedOut Step MayRunOut 0 cs cs t u
@@ -102,16 +101,16 @@ module _ (node : NodeState) (start : ShellState) (begun : start.timeline ≡ ope
       let ordered = IsOrdered-after Step (commands_in front) (opened node) t (led front in_turn) (IsOrdered-opened node) in
       ap (λ o. option_map (λ (u : NodeTimeline). (here u).node) o) (cut_to-here t ordered)
 
-  undo-stops : (front others : List Executed) (o : Executed) (mark reached : ℕ) → AreExecuted start (front ++ o ∷ others) → o.fate ≡ Some (StoppedAt reached) → spoken (heard o.line) ≡ asks (undo mark) → Stops (timeline_behind start front) o.effect mark reached
+  undo-stops : (front others : List Executed) (o : Executed) (mark reached : ℕ) → AreExecuted start (front ++ o ∷ others) → o.fate ≡ Some (StoppedAt reached) → o.said ≡ asks (undo mark) → Stops (timeline_behind start front) o.effect mark reached
   undo-stops front others o mark reached in_turn is says =
       let does = (AreExecuted-parts start front (o ∷ others) in_turn).1.0 in
-      Does-stops (shell_behind start front) mark reached o.fate (spoken (heard o.line)) o.effect is says does
+      Does-stops (shell_behind start front) mark reached o.fate o.said o.effect is says does
 
-  undo-undoes : (front others : List Executed) (o : Executed) (mark : ℕ) (end : NodeTimeline) → AreExecuted start (front ++ o ∷ others) → o.fate ≡ None → spoken (heard o.line) ≡ asks (undo mark) → cut_to mark (timeline_behind start front) ≡ Some end → Undoes (timeline_behind start front) o.effect mark end
+  undo-undoes : (front others : List Executed) (o : Executed) (mark : ℕ) (end : NodeTimeline) → AreExecuted start (front ++ o ∷ others) → o.fate ≡ None → o.said ≡ asks (undo mark) → cut_to mark (timeline_behind start front) ≡ Some end → Undoes (timeline_behind start front) o.effect mark end
   undo-undoes front others o mark end in_turn whole says is =
       let s = shell_behind start front in
       let does = (AreExecuted-parts start front (o ∷ others) in_turn).1.0 in
-      let done = Does-cuts s mark end o.fate (spoken (heard o.line)) o.effect whole says is does in
+      let done = Does-cuts s mark end o.fate o.said o.effect whole says is does in
       record {
         leads = ap (λ (d : Effect). d.after.timeline) done;
         node = ap (λ t. option_map (λ (u : NodeTimeline). (here u).node) t) is;
@@ -122,13 +121,13 @@ module _ (node : NodeState) (start : ShellState) (begun : start.timeline ≡ ope
   ordered-behind front in_turn =
       IsOrdered-after Step (commands_in front) (opened node) (timeline_behind start front) (led front in_turn) (IsOrdered-opened node)
 
-  forget-floors : (front others : List Executed) (o : Executed) (mark : ℕ) (end : NodeTimeline) → AreExecuted start (front ++ o ∷ others) → spoken (heard o.line) ≡ asks (forget mark) → forgotten_to mark (timeline_behind start front) ≡ Some end → Forgets node (commands_in front) (timeline_behind start front) o.effect mark end
+  forget-floors : (front others : List Executed) (o : Executed) (mark : ℕ) (end : NodeTimeline) → AreExecuted start (front ++ o ∷ others) → o.said ≡ asks (forget mark) → forgotten_to mark (timeline_behind start front) ≡ Some end → Forgets node (commands_in front) (timeline_behind start front) o.effect mark end
   forget-floors front others o mark end in_turn says is =
       let s = shell_behind start front in
       let t = timeline_behind start front in
       let parts = AreExecuted-parts start front (o ∷ others) in_turn in
       let ordered = ordered-behind front parts.0 in
-      let done = Does-floors s mark end o.fate (spoken (heard o.line)) o.effect says is parts.1.0 in
+      let done = Does-floors s mark end o.fate o.said o.effect says is parts.1.0 in
       let at = forgotten_to-mark mark t end is in
       record {
         leads = ap (λ (d : Effect). d.after.timeline) done;
@@ -148,14 +147,14 @@ module _ (node : NodeState) (start : ShellState) (begun : start.timeline ≡ ope
       let behind : timeline_behind start (front ++ more) ≡ timeline_behind s more = ap (λ (u : ShellState). u.timeline) (shell_behind-more start front more) in
       subst (λ (u : NodeTimeline). (timeline_behind start front).first.serial ≤ u.first.serial) (sym behind) (floor-after Step (commands_in more) s.timeline (timeline_behind s more) (after-executed s more parts.1) (ordered-behind front parts.0))
 
-  told-forgotten : (front others : List Executed) (o : Executed) (mark : ℕ) → AreExecuted start (front ++ o ∷ others) → NamesMark mark (spoken (heard o.line)) → mark < (timeline_behind start front).first.serial → o.effect ≡ answered (shell_behind start front) (fixed words.Forgotten)
+  told-forgotten : (front others : List Executed) (o : Executed) (mark : ℕ) → AreExecuted start (front ++ o ∷ others) → NamesMark mark o.said → mark < (timeline_behind start front).first.serial → o.effect ≡ answered (shell_behind start front) (fixed words.Forgotten)
   told-forgotten front others o mark in_turn names below =
       let parts = AreExecuted-parts start front (o ∷ others) in_turn in
-      Does-forgotten (shell_behind start front) mark o.fate (spoken (heard o.line)) o.effect (ordered-behind front parts.0) names below parts.1.0
+      Does-forgotten (shell_behind start front) mark o.fate o.said o.effect (ordered-behind front parts.0) names below parts.1.0
 
-  told-dead : (front others : List Executed) (o : Executed) (mark : ℕ) → AreExecuted start (front ++ o ∷ others) → NamesMark mark (spoken (heard o.line)) → IsDead mark (timeline_behind start front) → o.effect ≡ answered (shell_behind start front) (fixed words.DeadMark)
+  told-dead : (front others : List Executed) (o : Executed) (mark : ℕ) → AreExecuted start (front ++ o ∷ others) → NamesMark mark o.said → IsDead mark (timeline_behind start front) → o.effect ≡ answered (shell_behind start front) (fixed words.DeadMark)
   told-dead front others o mark in_turn names dead =
-      Does-dead (shell_behind start front) mark o.fate (spoken (heard o.line)) o.effect names dead (AreExecuted-parts start front (o ∷ others) in_turn).1.0
+      Does-dead (shell_behind start front) mark o.fate o.said o.effect names dead (AreExecuted-parts start front (o ∷ others) in_turn).1.0
 
   -- the headline of any lines that a shell over the node executed
   pub executed-headline : (executed : List Executed) → AreExecuted start executed → IsHeadline node start executed
@@ -184,6 +183,7 @@ module _ (files : Contents) (vsn : List ℕ) (node : NodeState) (starts : BootsF
         serves = serves;
         executed = were.executed;
         answered = were.same;
+        said = were.said;
         in_turn = were.in_turn;
         headline = executed-headline node (opened_shell files node) refl were.executed were.in_turn;
       }
@@ -195,6 +195,7 @@ module _ (files : Contents) (vsn : List ℕ) (node : NodeState) (starts : BootsF
         node = node;
         starts = starts;
         executed = were.executed;
+        said = were.said;
         in_turn = were.in_turn;
         headline = executed-headline node (opened_shell files node) refl were.executed were.in_turn;
         unrefused = unrefused-executed were.executed (subst (λ all. All (λ (a : Answered ShellState Fate). a.fate ≡ None) all) were.same serves.unrefused);

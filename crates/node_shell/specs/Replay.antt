@@ -20,16 +20,21 @@ use Rattle.shell_exec.specs.Fate.{Fate}
 use Rattle.shell_exec.specs.Fate.TheVariants.{StoppedAt}
 use Rattle.node_shell.specs.Shell.{exchange_of}
 
--- A line that was executed, what became of it for lack of memory, and what it did.
+-- A line that was executed, what it said, what became of it for lack of memory, and what it did.
 pub record Executed : Type 0 where
   pub line : List ℕ
+  pub said : Spoken
   pub fate : Option Fate
   pub effect : Effect
 
 -- each of these lines was executed by the shell that those before it leave
 abbrev pub AreExecuted : ShellState → List Executed → Type 0
 AreExecuted s [] = Unit {0}
-AreExecuted s (o ∷ others) = ExecutesLine o.fate s (spoken (heard o.line)) o.effect × AreExecuted o.effect.after others
+AreExecuted s (o ∷ others) = ExecutesLine o.fate s (o.said) o.effect × AreExecuted o.effect.after others
+
+-- it said what its bytes say
+abbrev pub SaysItsBytes : Executed → Type 0
+SaysItsBytes o = o.said ≡ spoken (heard o.line)
 
 -- as the line server sees it
 abbrev pub answered_as : Executed → Answered ShellState Fate
@@ -115,19 +120,19 @@ pub record IsHeadline (node : NodeState) (start : ShellState) (executed : List E
   pub marks : (front more others : List Executed) → executed ≡ (front ++ more) ++ others
       → MarksName (timeline_behind start front) (timeline_behind start (front ++ more))
   pub undos : (front others : List Executed) (o : Executed) (mark : ℕ) (end : NodeTimeline) → executed ≡ front ++ o ∷ others
-      → o.fate ≡ None → spoken (heard o.line) ≡ asks (undo mark) → cut_to mark (timeline_behind start front) ≡ Some end
+      → o.fate ≡ None → o.said ≡ asks (undo mark) → cut_to mark (timeline_behind start front) ≡ Some end
       → Undoes (timeline_behind start front) o.effect mark end
   pub stops : (front others : List Executed) (o : Executed) (mark reached : ℕ) → executed ≡ front ++ o ∷ others
-      → o.fate ≡ Some (StoppedAt reached) → spoken (heard o.line) ≡ asks (undo mark)
+      → o.fate ≡ Some (StoppedAt reached) → o.said ≡ asks (undo mark)
       → Stops (timeline_behind start front) o.effect mark reached
   pub forgets : (front others : List Executed) (o : Executed) (mark : ℕ) (end : NodeTimeline) → executed ≡ front ++ o ∷ others
-      → spoken (heard o.line) ≡ asks (forget mark) → forgotten_to mark (timeline_behind start front) ≡ Some end
+      → o.said ≡ asks (forget mark) → forgotten_to mark (timeline_behind start front) ≡ Some end
       → Forgets node (commands_in front) (timeline_behind start front) o.effect mark end
   pub floor_rises : (front more others : List Executed) → executed ≡ (front ++ more) ++ others
       → (timeline_behind start front).first.serial ≤ (timeline_behind start (front ++ more)).first.serial
   pub forgotten : (front others : List Executed) (o : Executed) (mark : ℕ) → executed ≡ front ++ o ∷ others
-      → NamesMark mark (spoken (heard o.line)) → mark < (timeline_behind start front).first.serial
+      → NamesMark mark (o.said) → mark < (timeline_behind start front).first.serial
       → o.effect ≡ answered (shell_behind start front) (fixed words.Forgotten)
   pub dead : (front others : List Executed) (o : Executed) (mark : ℕ) → executed ≡ front ++ o ∷ others
-      → NamesMark mark (spoken (heard o.line)) → IsDead mark (timeline_behind start front)
+      → NamesMark mark (o.said) → IsDead mark (timeline_behind start front)
       → o.effect ≡ answered (shell_behind start front) (fixed words.DeadMark)

@@ -13,7 +13,7 @@ use Rattle.release_boot.specs.Boot.{BootFails, Boots}
 use Rattle.release_statuses.specs.Statuses.{booted}
 use Rattle.shell_exec.specs.Node.{NodeState}
 use Rattle.shell_exec.specs.State.{ShellState, opened_shell}
-use Rattle.node_shell.specs.Replay.{Executed, AreExecuted, IsHeadline, answered_as}
+use Rattle.node_shell.specs.Replay.{Executed, AreExecuted, IsHeadline, SaysItsBytes, answered_as}
 use Rattle.node_shell.specs.Shell.{shell_exchange}
 use Rattle.node_shell.specs.declared.fault.StartFault.{StartFault}
 use Rattle.node_shell.specs.declared.fault.StartFault.TheVariants as fault
@@ -43,6 +43,7 @@ pub record RunsShell (files : Contents) (vsn : List ℕ) (left rest held holds :
   pub serves : Serves shell_exchange (opened_shell files node) end left rest held holds ended
   pub executed : List Executed
   pub answered : serves.answered ≡ map answered_as executed
+  pub said : All SaysItsBytes executed
   pub in_turn : AreExecuted (opened_shell files node) executed
   pub headline : IsHeadline node (opened_shell files node) executed
 
@@ -52,6 +53,7 @@ pub record RunsWhole (files : Contents) (vsn input before : List ℕ) (holds : O
   pub node : NodeState
   pub starts : BootsFiles files vsn node
   pub executed : List Executed
+  pub said : All SaysItsBytes executed
   pub in_turn : AreExecuted (opened_shell files node) executed
   pub headline : IsHeadline node (opened_shell files node) executed
   pub unrefused : All (λ o. o.fate ≡ None) executed

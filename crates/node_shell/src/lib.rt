@@ -13,7 +13,7 @@
 //!
 //! - [`run`], `ran`: a run that has started is the one of the rules (`RunsShell`), and its headline holds (`IsHeadline`).
 //! - [`run`], `whole`: one without fault or lack of memory executed all lines of the input, and wrote their text (`RunsWhole`).
-//! - [`run`], `failed`: why nothing has started (`StartFails`). Nothing was read and nothing written then.
+//! - [`run`], `failed`: why nothing has started (`StartFails`). Nothing was read and nothing written then. So [`boot_files`].
 //!
 //! # What no contract says
 //!
@@ -26,4 +26,4 @@ mod shell;
 
 pub use fault::StartFault;
 pub use release_files::Files;
-pub use running::run;
+pub use running::{Booted, boot_files, run};

@@ -1,6 +1,6 @@
 // From the bytes of commands to the bytes of answers.
 ghost use Rattle.std.specs.Prelude.{◌≡◌, ℕ, List, IfErr, IfOk, None, Some, false};
-ghost use Rattle.node_shell.specs.Run.{RunsShell, RunsWhole, StartFails};
+ghost use Rattle.node_shell.specs.Run.{BootsFiles, RunsShell, RunsWhole, StartFails};
 ghost use Rattle.shell_exec.specs.State.{opened_shell};
 
 use crate::fault::StartFault;
@@ -11,7 +11,42 @@ use shell_exec::Node;
 use std::alloc::Global;
 use std::hash::RandomState;
 use std::io::{Read, Write};
-use std::mem::{drop, forget};
+use std::mem::forget;
+
+/// A node that has booted, and the files that it has booted from.
+#[derive(Drop)]
+pub struct Booted {
+    /// The node.
+    pub node: Node,
+    /// All files, as they were given.
+    pub files: Files,
+}
+
+/// Boots the release of a version that files say. Names are hashed by `hashing`.
+///
+/// # Errors
+///
+/// Why no node has started: `OfFiles` with the first fault of the release's files, and all files, and `OfBoot` with why it doesn't
+/// boot.
+pub fn boot_files(
+    alloc: Global,
+    hashing: RandomState,
+    files: Files,
+    vsn: &str,
+) -> Result<Booted, StartFault>
+    ensures booted { IfOk result (λ it. BootsFiles files vsn.now it.node) }
+    ensures files { IfOk result (λ it. it.files ≡ files) }
+    ensures failed { IfErr result (λ fault. StartFails fault files vsn.now) }
+{
+    let release = match read_release(alloc, &files, vsn) {
+        Ok(release) => release,
+        Err(fault) => return Err(StartFault::OfFiles { fault, files }),
+    };
+    match Node::boot(alloc, hashing, &release) {
+        Ok(node) => Ok(Booted { node, files }),
+        Err(error) => Err(StartFault::OfBoot(error)),
+    }
+}
 
 /// Boots the release of a version that files say, reads commands, one a line, and writes their answers.
 ///
@@ -48,16 +83,7 @@ pub fn run<R: Read, W: Write>(
     ensures unread { IfErr result (λ fault. (R.remaining reader.new ≡ R.remaining reader.old) ×
         (W.contents writer.new ≡ W.contents writer.old)) }
 {
-    let release = match read_release(alloc, &files, vsn) {
-        Ok(release) => release,
-        Err(fault) => return Err(StartFault::OfFiles { fault, files }),
-    };
-    let node = match Node::boot(alloc, hashing, &release) {
-        Ok(node) => node,
-        Err(error) => return Err(StartFault::OfBoot(error)),
-    };
-    // What the node keeps of the release it has a copy of.
-    drop(release);
+    let Booted { node, files } = boot_files(alloc, hashing, files, vsn)?;
     let Ok(mut shell) = ShellSession::new(alloc, hashing, files, node) else {
         return Err(StartFault::NoMemory);
     };

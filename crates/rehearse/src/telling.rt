@@ -1,11 +1,10 @@
 // What is told of a fault, for the one who is to mend it.
 use crate::ending::Fault;
-use diagnostics::{diagnose, push_shown};
-use erl_term::print;
+use diagnostics::{diagnose, not_started, push_shown};
 use release_boot::BootError;
 use release_files::{Files, ReleaseFault};
+use relup_make::MakeError;
 use std::alloc::{AllocError, Global};
-use std::str;
 use upgrade_files::UnreadFaults;
 use upgrade_rehearsal::Fault as RehearsalFault;
 
@@ -25,18 +24,29 @@ fn describe(alloc: Global, fault: &Fault) -> Result<String, AllocError> {
     match fault {
         Fault::Releases(unread) => push_unread(alloc, unread, &mut told)?,
         Fault::Rehearsal(RehearsalFault::Boot(BootError::NotStarted { app, reason })) => {
-            let mut shown = Vec::new(alloc);
-            print(reason, &mut shown)?;
-            let shown = str::from_utf8(shown.as_slice()).unwrap_or("");
-            let text = format!(in alloc; "{} doesn't start: {shown}", app.as_str())?;
-            push_line(text.as_str(), &mut told)?;
+            push_line(not_started(alloc, app, reason)?.as_str(), &mut told)?;
         }
         fault => {
-            let text = format!(in alloc; "{fault}")?;
+            let mut text = format!(in alloc; "{fault}")?;
+            push_help(fault, &mut text)?;
             push_line(text.as_str(), &mut told)?;
         }
     }
     Ok(told)
+}
+
+/// Appends what to write so that a relup can be made, if that is known.
+fn push_help(fault: &Fault, text: &mut String) -> Result<(), AllocError> {
+    let help = match fault {
+        Fault::NoRelup(MakeError::NoAppup(_)) => {
+            "; write one for its version V in TO, lib/APP-V/ebin/APP.appup, or write releases/TO/relup"
+        }
+        Fault::NoRelup(MakeError::ErtsChanged | MakeError::BaseChanged(_)) => {
+            "; both .rel must name one version of it"
+        }
+        _ => "",
+    };
+    text.push_str(help)
 }
 
 /// Appends a line of the program's.

@@ -30,7 +30,7 @@ use Rattle.release_boot.specs.declared.error.BootError.TheVariants.{NotStarted, 
 
 abbrev pub all_loaded : List Forms → Loaded Forms → Loaded Forms
 all_loaded [] t = t
-all_loaded (m ∷ ms) t = all_loaded ms (loaded m.name m (purged m.name t))
+all_loaded (m ∷ ms) t = all_loaded ms (loaded m.name m None (purged m.name t))
 
 abbrev pub modules_of : List AppFiles → List Forms
 modules_of files = flat_map (λ f. f.modules) files

@@ -1,5 +1,5 @@
 // A release boots.
-ghost use Rattle.std.specs.Prelude.{◌≡◌, ◌⊎◌, ◌∷◌, [], IfErr, IfOk, IsTrue, OnOk, length, ◌≤◌};
+ghost use Rattle.std.specs.Prelude.{◌≡◌, ◌⊎◌, ◌∷◌, [], IfErr, IfOk, IsTrue, None, OnOk, length, ◌≤◌};
 ghost use Rattle.code_server.specs.Modules.{loaded, purged};
 ghost use Rattle.erl_term.specs.Ascii.{is_ascii_text};
 ghost use Rattle.release_boot.specs.Boot.{AllStart, BootFails, Boots, Fails, FailsFor, BootsApp, all_loaded, boot_apps, boot_modules, is_started_as, modules_of, of_word, reason_of, start_failed, to_start};
@@ -32,11 +32,11 @@ pub struct Booted {
 
 /// Loads a module; where it has old code, that goes.
 fn load(modules: &mut Modules<Module>, alloc: Global, code: &Module) -> Result<(), AllocError>
-    ensures { OnOk result (modules.new ≡ loaded code.now.name code.now (purged code.now.name modules.old)) }
+    ensures { OnOk result (modules.new ≡ loaded code.now.name code.now None (purged code.now.name modules.old)) }
 {
     let code = code.copy(alloc)?;
     let name = code.name().copy(alloc)?;
-    match modules.purge_and_load(&name, code) {
+    match modules.purge_and_load(&name, code, None) {
         Ok(_) => Ok(()),
         Err(_) => Err(AllocError),
     }

@@ -6,6 +6,7 @@ use Rattle.relnode.specs.declared.ending.Fault.{Fault}
 use Rattle.relnode.specs.declared.ending.Fault.TheVariants.{CommandLine, NoRandomBytes, Files, Start, Commands, Workers, Output}
 use Rattle.program_words.specs.Status.{status_of_words}
 use Rattle.release_files.specs.Files.{Contents}
+use Rattle.node_console.specs.Run.{RunsConsole}
 use Rattle.node_shell.specs.Run.{RunsShell, StartFails}
 use Rattle.node_shell.specs.declared.fault.StartFault.{StartFault}
 use Rattle.worker_shell.specs.Run.{RunsWorkers, WorkersFail}
@@ -24,6 +25,14 @@ pub data EndsSo (files : Contents) (vsn : List ℕ) (left rest held holds : Opti
       EndsSo files vsn left rest held holds end
   not_started : (fault : StartFault) → StartFails fault files vsn → rest ≡ left → holds ≡ held → end ≡ Err (Start fault) →
       EndsSo files vsn left rest held holds end
+
+-- A run with a console over files ended the program so; or it ends before anything is read or written.
+pub data EndsConsole (files : Contents) (vsn : List ℕ) (left rest held holds : Option (List ℕ)) (end : Result (Unit {0}) Fault)
+    : Type 0 where
+  console_ran : (ended : ServeEnd) → RunsConsole files vsn left rest held holds ended → end ≡ end_by ended.fault →
+      EndsConsole files vsn left rest held holds end
+  no_console : (fault : StartFault) → StartFails fault files vsn → rest ≡ left → holds ≡ held → end ≡ Err (Start fault) →
+      EndsConsole files vsn left rest held holds end
 
 -- the end of the program where there is no run with workers
 abbrev pub end_without : WorkersFault → Result (Unit {0}) Fault

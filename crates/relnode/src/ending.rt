@@ -1,9 +1,10 @@
 // How the program ends.
 ghost use Rattle.std.specs.Prelude.{◌≡◌};
 ghost use Rattle.std.specs.Process.{exit_status};
-ghost use Rattle.relnode.specs.Ending.{EndsServing, EndsSo, end_by, end_without, status_of};
+ghost use Rattle.relnode.specs.Ending.{EndsConsole, EndsServing, EndsSo, end_by, end_without, status_of};
 
 use file_tree::TreeError;
+use node_console::run_console;
 use node_shell::{Files, StartFault, run};
 use relnode_options::WordsError;
 use std::alloc::Global;
@@ -60,6 +61,28 @@ pub fn run_to_end<R: Read, W: Write>(
         (W.contents writer.old) (W.contents writer.new) result }
 {
     match run(alloc, hashing, files, vsn, reader, writer) {
+        Ok(ended) => end_by(ended.fault),
+        Err(fault) => Err(Fault::Start(fault)),
+    }
+}
+
+/// Runs the lines of a reader at a console over a release of files, and ends as the run ended.
+///
+/// # Errors
+///
+/// As [`run_to_end`].
+pub fn console_to_end<R: Read, W: Write>(
+    alloc: Global,
+    hashing: RandomState,
+    files: Files,
+    vsn: &str,
+    reader: &mut R,
+    writer: &mut W,
+) -> Result<(), Fault>
+    ensures { EndsConsole files vsn.now (R.remaining reader.old) (R.remaining reader.new)
+        (W.contents writer.old) (W.contents writer.new) result }
+{
+    match run_console(alloc, hashing, files, vsn, reader, writer) {
         Ok(ended) => end_by(ended.fault),
         Err(fault) => Err(Fault::Start(fault)),
     }

@@ -13,10 +13,10 @@ mod ending;
 mod telling;
 
 use diagnostics::hidden_rel;
-use ending::{Fault, exit_code, run_to_end, serve_to_end};
+use ending::{Fault, console_to_end, exit_code, run_to_end, serve_to_end};
 use file_tree::read_tree;
 use release_files::Files;
-use relnode_options::{Invocation, Options, read_invocation};
+use relnode_options::{Invocation, Options, Way, read_invocation};
 use std::hash::RandomState;
 use std::io;
 use std::io::IsTerminal;
@@ -38,7 +38,7 @@ fn start<R: Runtime + RandomSource + AllocGlobal + Threads + Wait + Sync>(
     }
 }
 
-/// Boots the release, and runs the commands of the standard input, with workers where they are asked for.
+/// Boots the release, and runs the commands of the standard input, at a console or with workers if these are asked for.
 fn execute<R: Runtime + RandomSource + AllocGlobal + Threads + Wait + Sync>(
     rt: &R,
     options: &Options,
@@ -49,9 +49,10 @@ fn execute<R: Runtime + RandomSource + AllocGlobal + Threads + Wait + Sync>(
     let mut reader = rt.reader();
     let mut writer = io::writer(rt);
     let vsn = options.vsn.as_str();
-    match options.workers {
-        None => run_to_end(rt.alloc(), hashing, files, vsn, &mut reader, &mut writer),
-        Some(workers) => serve_to_end(
+    match options.way {
+        Way::Stepped => run_to_end(rt.alloc(), hashing, files, vsn, &mut reader, &mut writer),
+        Way::Console => console_to_end(rt.alloc(), hashing, files, vsn, &mut reader, &mut writer),
+        Way::Workers(workers) => serve_to_end(
             rt,
             rt.alloc(),
             hashing,

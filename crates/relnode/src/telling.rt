@@ -4,12 +4,10 @@ ghost use Rattle.std.specs.Str.{chars};
 ghost use Rattle.diagnostics.specs.Shown.{IsOneLine};
 
 use crate::ending::Fault;
-use diagnostics::{Diagnostic, HiddenRel, diagnose, push_shown};
-use erl_term::{Atom, Term, print};
+use diagnostics::{Diagnostic, HiddenRel, diagnose, not_started, push_shown};
 use node_shell::StartFault;
 use release_boot::BootError;
 use std::alloc::{AllocError, Global};
-use std::str;
 
 /// What is told of a fault.
 #[derive(Drop)]
@@ -60,14 +58,6 @@ fn of_text(alloc: Global, text: &str) -> Result<FaultText, AllocError>
         line,
         excerpt: None,
     })
-}
-
-/// That an application doesn't start, and why.
-fn not_started(alloc: Global, app: &Atom, reason: &Term) -> Result<String, AllocError> {
-    let mut shown = Vec::new(alloc);
-    print(reason, &mut shown)?;
-    let shown = str::from_utf8(shown.as_slice()).unwrap_or("");
-    format!(in alloc; "{} doesn't start: {shown}", app.as_str())
 }
 
 /// What is told where a file with a hidden name counts as the release.

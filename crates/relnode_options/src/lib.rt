@@ -1,14 +1,15 @@
-//! The command line of the program `relnode`: `relnode [--workers N] ROOT VSN`, `--help` and `--version`.
+//! The command line of the program `relnode`: `relnode [--console | --workers N] ROOT VSN`, `--help` and `--version`.
 //!
 //! [`read_invocation`] reads the words that the program was started with. No contract says which words are good: that is
-//! [`clap`]'s, and is tried by hand. It is proved that there are 1 to 15 workers, where there are any, and which word of N
+//! [`clap`]'s, and is tried by hand. It is proved that there are 1 to 15 workers, if there are any, and which word of N
 //! asks for them. What is told of words that are no text is [`program_words`]'.
 #![tactic(auto)]
 
-ghost use Rattle.std.specs.Prelude.{◌≡◌, ◌≤◌, IfNone, IfOk, IfSome};
+ghost use Rattle.std.specs.Prelude.{◌≡◌, ◌≤◌, IfNone, IfOk, IfSome, false, true};
 ghost use Rattle.std.specs.Option.{ForSome};
 ghost use Rattle.std.specs.Str.Parse.{digits_value, without_leading_plus};
 ghost use Rattle.clap.specs.Words.{IsUnsignedIn};
+ghost use Rattle.relnode_options.specs.Ways.{begins_with_plus, workers_in};
 
 use clap::{Arg, ArgAction, Command};
 pub use program_words::WordsError;
@@ -29,6 +30,9 @@ const VSN_HELP: &str = "The version of the release that the node boots";
 
 const WORKERS_HELP: &str =
     "Serve the processes by N threads, 1 to 15, and have calls and installs come to their end";
+
+const CONSOLE_HELP: &str =
+    "Show what the node has and does: help lists the commands that show, and answers have comments after them";
 
 const AFTER_HELP: &str =
     "A session (< is a command, > its answer), on the tree data/tree of the sources:
@@ -53,16 +57,27 @@ boot, of the input or of the output, and 2 after a bad command line.";
 /// The greatest number of workers.
 const MOST_WORKERS: u64 = 15;
 
+/// How the node is run.
+#[derive(Clone, Copy, Debug)]
+pub enum Way {
+    /// By commands alone.
+    Stepped,
+    /// By commands, at a console that shows how it is.
+    Console,
+    /// By so many threads, 1 to 15, beside commands.
+    Workers(u64),
+}
+
 /// What a run of the program is asked to work on.
 #[derive(Debug, Drop)]
 pub struct Options {
-    /// The folder of the node's files, as the word stands.
+    /// The folder of the node's files, as the word is.
     pub root: String,
-    /// The version of the release, as the word stands.
+    /// The version of the release, as the word is.
     pub vsn: String,
-    /// How many threads serve the processes, 1 to 15; none where commands do.
-    pub workers: Option<u64>,
-    ghost few: { ForSome workers (λ n. (1 ≤ n) × (n ≤ 15)) },
+    /// How the node is run.
+    pub way: Way,
+    ghost few: { ForSome (workers_in way) (λ n. (1 ≤ n) × (n ≤ 15)) },
 }
 
 /// What a good command line asks for.
@@ -92,7 +107,8 @@ fn invocation_of(alloc: Global, words: &[String]) -> Result<Invocation, WordsErr
             let root = owned(alloc, matches.get_str("ROOT"))?;
             let vsn = owned(alloc, matches.get_str("VSN"))?;
             let workers = workers_asked(alloc, matches.get_str("workers"))?;
-            Ok(Invocation::Run(asked_options(root, vsn, workers)))
+            let way = way_asked(alloc, matches.get_flag("console"), workers)?;
+            Ok(Invocation::Run(Options { root, vsn, way }))
         }
         Err(error) => match asked_text(alloc, &error)? {
             Some(text) => Ok(Invocation::Show(text)),
@@ -110,12 +126,20 @@ fn refusal_of(alloc: Global, words: &[String]) -> Result<WordsError, AllocError>
     }
 }
 
-/// What the program is asked to work on.
-fn asked_options(root: String, vsn: String, workers: Option<u64>) -> Options
+/// Returns how the node is run. A console and workers are not asked for at once.
+fn way_asked(alloc: Global, console: bool, workers: Option<u64>) -> Result<Way, WordsError>
     requires { ForSome workers (λ n. (1 ≤ n) × (n ≤ 15)) }
-    ensures { result.workers ≡ workers }
+    ensures { IfOk result (λ way. ForSome (workers_in way) (λ n. (1 ≤ n) × (n ≤ 15))) }
 {
-    Options { root, vsn, workers }
+    match (console, workers) {
+        (false, None) => Ok(Way::Stepped),
+        (true, None) => Ok(Way::Console),
+        (false, Some(count)) => Ok(Way::Workers(count)),
+        (true, Some(_)) => Err(WordsError::Words(String::from_str(
+            alloc,
+            "--console and --workers are not used together",
+        )?)),
+    }
 }
 
 /// How many workers the word behind `--workers` asks for; none where it does not stand there.
@@ -131,14 +155,28 @@ fn workers_asked(alloc: Global, word: Option<&str>) -> Result<Option<u64>, Words
     }
 }
 
-/// The number of workers that a word writes, where there may be so many.
+/// Returns the number of workers that a word writes, if there may be so many. It is written in digits alone.
 fn worker_count(word: &str) -> Option<u64>
     ensures some { IfSome result (λ n. IsUnsignedIn 1 15 word.now × (n ≡ digits_value 10 (without_leading_plus word.now))) }
-    ensures none { IfNone result (IsUnsignedIn 1 15 word.now → ⊥) }
+    ensures none { IfNone result (IsUnsignedIn 1 15 word.now → begins_with_plus word.now ≡ true) }
+    ensures digits { IfSome result (λ n. begins_with_plus word.now ≡ false) }
 {
+    if begins_with_plus(word) {
+        return None;
+    }
     match word.parse::<u64>() {
         Ok(count) if 1 <= count && count <= MOST_WORKERS => Some(count),
         _ => None,
+    }
+}
+
+/// Whether a word begins with a plus sign.
+fn begins_with_plus(word: &str) -> bool
+    ensures { result ≡ begins_with_plus word.now }
+{
+    match word.as_bytes() {
+        [first, ..] => *first == b'+',
+        [] => false,
     }
 }
 
@@ -163,11 +201,16 @@ fn command<'a>(alloc: Global) -> Result<Command<'a>, AllocError> {
         .value_name("N")
         .action(ArgAction::Set)
         .help(WORKERS_HELP);
+    let console = Arg::new(alloc, "console")
+        .long("console")
+        .action(ArgAction::SetTrue)
+        .help(CONSOLE_HELP);
     Command::new(alloc, NAME)
         .bin_name(NAME)?
         .version(VERSION)
         .about(ABOUT)
         .after_help(AFTER_HELP)
+        .arg(console)?
         .arg(workers)?
         .arg(root)?
         .arg(vsn)

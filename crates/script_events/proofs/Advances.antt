@@ -94,13 +94,13 @@ pub record IsSame (s now : RunnerState) (n mid : NodeState) : Type 0 where
   pub runner : now ≡ s
   pub node : mid ≡ n
 
-pub stays : (s now : RunnerState) (n mid : NodeState) → now ≡ record s { progress = now.progress } → script_in now mid ≡ script_in s n → mid ≡ record n { modules = mid.modules; processes = mid.processes; apps = mid.apps; unpurged = mid.unpurged; runner = Some now } → n.runner ≡ Some s → IsSame s now n mid
+pub stays : (s now : RunnerState) (n mid : NodeState) → now ≡ record s { progress = now.progress } → script_in now mid ≡ script_in s n → mid ≡ record n { modules = mid.modules; processes = mid.processes; apps = mid.apps; runner = Some now } → n.runner ≡ Some s → IsSame s now n mid
 stays s now n mid same st is ran =
     let runner : now ≡ s = same ∙ (λ i. record s { progress = record { next = (st i).next; suspended = (st i).parts.suspended; stopped = (st i).parts.stopped; versions = (st i).parts.versions } }) in
     let runs : Some now ≡ n.runner = ap (λ x. Some x) runner ∙ sym ran in
     record {
       runner = runner;
-      node = is ∙ (λ i. record n { modules = (st i).parts.modules; processes = (st i).parts.processes; apps = (st i).parts.apps; unpurged = (st i).parts.unpurged; runner = runs i });
+      node = is ∙ (λ i. record n { modules = (st i).parts.modules; processes = (st i).parts.processes; apps = (st i).parts.apps; runner = runs i });
     }
 
 -- The rule of an advance, where a script runs and its release is known.
@@ -114,14 +114,14 @@ pub record IsOneOn (give_up : Bool) (k : ℕ) (s now : RunnerState) (n after : N
   pub accepted : Accepts (Advances give_up n.runner n) after k it.told.items
   pub back : InstructionBack it.undo s now n after
 
-pub one_on : (r : Release) (give_up : Bool) (k : ℕ) (s now : RunnerState) (n after : NodeState) (it : CarriedOn) → IsCarriedOn r give_up k (script_in s n) (script_in now after) it → now ≡ record s { progress = now.progress } → after ≡ record n { modules = after.modules; processes = after.processes; apps = after.apps; unpurged = after.unpurged; runner = Some now } → target_in s n ≡ Some r → n.runner ≡ Some s → IsOneOn give_up k s now n after it
+pub one_on : (r : Release) (give_up : Bool) (k : ℕ) (s now : RunnerState) (n after : NodeState) (it : CarriedOn) → IsCarriedOn r give_up k (script_in s n) (script_in now after) it → now ≡ record s { progress = now.progress } → after ≡ record n { modules = after.modules; processes = after.processes; apps = after.apps; runner = Some now } → target_in s n ≡ Some r → n.runner ≡ Some s → IsOneOn give_up k s now n after it
 one_on r give_up k s now n after it c same is target ran =
     let q = parts_in now after in
     let a : Accepted NodeState Answer Note = record { node = with_parts q s n; answer = answer.Ran c.instruction; note = reporting c.told } in
     let goes : GoesOnBy (slice_get s.script s.progress.next) r give_up s n (Ok a) =
     subst (λ x. GoesOnBy x r give_up s n (Ok a)) (sym c.next) (c.waits, inl (record { parts = q; told = c.told; does = c.does; is = refl })) in
     let gone : gone_on q s ≡ now = (λ i. record s { progress = record { next = sym c.goes_on i; suspended = now.progress.suspended; stopped = now.progress.stopped; versions = now.progress.versions } }) ∙ sym same in
-    let node : with_parts q s n ≡ after = ap (λ x. record n { modules = after.modules; processes = after.processes; apps = after.apps; unpurged = after.unpurged; runner = Some x }) gone ∙ sym is in
+    let node : with_parts q s n ≡ after = ap (λ x. record n { modules = after.modules; processes = after.processes; apps = after.apps; runner = Some x }) gone ∙ sym is in
     record {
       accepted = (a, advances give_up r s n (Ok a) ran target goes, node, c.tells);
       back = record {

@@ -13,7 +13,7 @@ use Rattle.node_parts.specs.Scripts.{IsRestarted}
 
 pub is_restarted : (r : Release) (releases : List Listed) (n after : NodeState) (told : List Reply) (modules : Loaded Forms) (t : Table) (apps : List Application) →
     restart_refusal r n.modules ≡ None → TellsRestart n.processes told → RestartsAs r n.modules n.processes modules t apps →
-    after ≡ record { modules = modules; processes = t; apps = apps; releases = releases; unpurged = []; runner = None } → IsRestarted r releases n after told
+    after ≡ record { modules = modules; processes = t; apps = apps; releases = releases; runner = None } → IsRestarted r releases n after told
 is_restarted r releases n after told modules t apps unrefused tells boots is = record {
   unrefused = unrefused;
   tells = tells;
@@ -23,7 +23,6 @@ is_restarted r releases n after told modules t apps unrefused tells boots is = r
     processes = (sym is i).processes;
     apps = (sym is i).apps;
     releases = releases;
-    unpurged = [];
     runner = None;
   });
 }

@@ -137,7 +137,6 @@ pub fn advance(parts: &mut NodeParts, alloc: Global, give_up: bool, n: usize) ->
         &mut parts.modules,
         &mut parts.processes,
         &mut parts.apps,
-        &mut parts.unpurged,
         &mut runner,
         alloc,
         &target.release,

@@ -12,7 +12,7 @@ use node_types::{Answer, Note};
 use process_table::Processes;
 use release_table::Release;
 use script_runner::InstructionUndo;
-use script_state::{Runner, Unpurged, instruction_at};
+use script_state::{Runner, instruction_at};
 use script_steps::{NoStep, Stepped, step};
 use std::alloc::{AllocError, Global};
 use sys_protocol::AppTable;
@@ -49,7 +49,6 @@ pub(crate) fn carry_on(
     modules: &mut Modules<Module>,
     processes: &mut Processes,
     apps: &mut AppTable,
-    unpurged: &mut Vec<Unpurged>,
     runner: &mut Runner,
     alloc: Global,
     release: &Release,
@@ -58,8 +57,8 @@ pub(crate) fn carry_on(
 ) -> Result<CarriedOn, Failure<NoStep>>
     ensures runner { runner_of runner.new ≡ record (runner_of runner.old) { progress = progress_of runner.new.progress } }
     ensures goes_on { CarriesOnOrStops release.now give_up n
-        (script_of runner.old (parts_of modules.old processes.old apps.old unpurged.old.items runner.old.progress))
-        (script_of runner.new (parts_of modules.new processes.new apps.new unpurged.new.items runner.new.progress)) result }
+        (script_of runner.old (parts_of modules.old processes.old apps.old runner.old.progress))
+        (script_of runner.new (parts_of modules.new processes.new apps.new runner.new.progress)) result }
 {
     let script = runner.script.as_slice();
     let Some(next) = instruction_at(script, runner.progress.next) else {
@@ -79,7 +78,6 @@ pub(crate) fn carry_on(
         modules,
         processes,
         apps,
-        unpurged,
         &mut runner.progress,
         alloc,
         release,

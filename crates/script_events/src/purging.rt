@@ -28,12 +28,7 @@ fn to_purge(parts: &NodeParts, alloc: Global, vsn: &Vsn) -> Result<Vec<Atom>, Al
 {
     match parts.releases.get(vsn.as_str()) {
         Some(listed) if listed.status == Status::Permanent => Ok(Vec::new(alloc)),
-        _ => noted(
-            &parts.modules,
-            parts.unpurged.as_slice(),
-            alloc,
-            Purge::Brutal,
-        ),
+        _ => noted(&parts.modules, alloc, Purge::Brutal),
     }
 }
 
@@ -109,12 +104,7 @@ pub fn make_permanent(parts: &mut NodeParts, alloc: Global, vsn: &Vsn, n: usize)
 pub fn sweep(parts: &mut NodeParts, alloc: Global, n: usize) -> Step
     ensures { IsStep event.Sweep n (state_of parts.old) (state_of parts.new) result }
 {
-    let names = to_sweep(
-        &parts.modules,
-        &parts.processes,
-        parts.unpurged.as_slice(),
-        alloc,
-    )?;
+    let names = to_sweep(&parts.modules, &parts.processes, alloc)?;
     let told = swept_told(parts, alloc, names.as_slice(), n)?;
     let purges = Reserved::new(alloc)?;
     match purge_all(

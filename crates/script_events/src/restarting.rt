@@ -1,5 +1,5 @@
 // The node restarts.
-ghost use Rattle.std.specs.Prelude.{◌≡◌, List, None, Some, [], IfErr, IfOk, OnOk, replicate};
+ghost use Rattle.std.specs.Prelude.{◌≡◌, List, None, Some, IfErr, IfOk, OnOk, replicate};
 ghost use Rattle.code_server.specs.declared.error.CodeError.TheVariants.{CounterEnd as AtEnd};
 ghost use Rattle.node_parts.specs.Changes.{IsStep, IsStepOf, state_of};
 ghost use Rattle.node_parts.specs.Node.{NodeState};
@@ -71,7 +71,6 @@ fn make_ready(
 /// What has booted is put in place of what ran, and no script runs. Takes no memory.
 fn put_in_place(
     parts: &mut NodeParts,
-    alloc: Global,
     ready: Ready,
     statuses: ReleasesUndo,
 ) -> Stepped<Answer, Note, Record>
@@ -81,7 +80,6 @@ fn put_in_place(
       processes = ready.booted.processes;
       apps = ready.booted.apps;
       releases = (state_of parts.old).releases;
-      unpurged = [];
       runner = None;
     } }
     ensures displaced { (before : NodeState) → (state_of parts.old ≡ record before { releases = (state_of parts.old).releases }) →
@@ -101,7 +99,6 @@ fn put_in_place(
         modules: mem::replace(&mut parts.modules, modules),
         processes: mem::replace(&mut parts.processes, processes),
         apps: mem::replace(&mut parts.apps, apps),
-        unpurged: mem::replace(&mut parts.unpurged, Vec::new(alloc)),
         runner: parts.runner.take(),
         statuses,
     };
@@ -120,7 +117,7 @@ pub(crate) fn fall_back(parts: &mut NodeParts, alloc: Global, reason: Term, n: u
     let permanent = &parts.releases.permanent().release;
     let ready = make_ready(parts, alloc, permanent, Answer::Restarted(reason), n)?;
     match parts.releases.restarted() {
-        Ok(statuses) => Ok(put_in_place(parts, alloc, ready, statuses)),
+        Ok(statuses) => Ok(put_in_place(parts, ready, statuses)),
         Err(_) => Err(Failure::Memory),
     }
 }
@@ -135,7 +132,7 @@ pub fn reboot_old(parts: &mut NodeParts, alloc: Global, vsn: &Vsn, n: usize) -> 
     };
     let ready = make_ready(parts, alloc, &old.release, Answer::Unit, n)?;
     match parts.releases.reboot_old(vsn.as_str()) {
-        Ok(statuses) => Ok(put_in_place(parts, alloc, ready, statuses)),
+        Ok(statuses) => Ok(put_in_place(parts, ready, statuses)),
         Err(_) => Err(Failure::Memory),
     }
 }

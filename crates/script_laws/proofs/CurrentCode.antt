@@ -178,10 +178,10 @@ does_keep r (LoadObjectCode app vsn ms) p q told does kept = subst Consistent (s
 does_keep r PointOfNoReturn p q told does kept = subst Consistent (sym does.0) kept
 does_keep r (Load m pre post) p q told (source, at, unrefused, is, tells) kept =
     subst Consistent (sym is)
-    (loading_keeps_code.loads source.name source (purged source.name p.modules) (spared source.name p.modules p.processes)
+    (loading_keeps_code.loads source.name source (Some post) (purged source.name p.modules) (spared source.name p.modules p.processes)
     (loading_keeps_code.purges source.name p.modules p.processes kept) unrefused)
 does_keep r (Remove m pre post) p q told does kept =
-    subst Consistent (sym does.0) (purges_keep_code.removes m p.modules p.processes kept)
+    subst Consistent (sym does.0) (purges_keep_code.removes m (Some post) p.modules p.processes kept)
 does_keep r (Purge ms) p q told does kept = subst Consistent (sym does.0) (all_without_keeps ms (running_of p) kept)
 does_keep r (Suspend ms) p q told does kept =
     let pids = to_suspend (names ms) p.apps p.processes in

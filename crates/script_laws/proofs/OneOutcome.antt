@@ -1,5 +1,5 @@
 -- An instruction has one outcome at most.
-use Rattle.std.proofs.Common.{◌≡◌, ℕ, Bool, List, None, refl, sym, ap, ◌∙◌}
+use Rattle.std.proofs.Common.{◌≡◌, ℕ, Bool, List, None, Some, refl, sym, ap, ◌∙◌}
 use Rattle.std.proofs.lemmas.Option.{none-some, same_Some}
 use Rattle.app_table.specs.Applications.{Application}
 use Rattle.app_table.specs.Changes.{all_run, at_spots}
@@ -26,7 +26,7 @@ use Rattle.script_children.specs.Children.{Supervised}
 use Rattle.script_laws.proofs.Applying.{applied-once, applied_or_not, not_applied-once}
 use Rattle.script_laws.specs.Laws.{InstructionsHaveOneOutcome}
 use Rattle.script_runner.specs.Failures.{no_object_code}
-use Rattle.script_runner.specs.Instructions.{RunsInstruction, Fails, Halts, IsAtEnd, busy_of, running_of, script_of, supervised_of, with_running, with_supervised, with_unpurged}
+use Rattle.script_runner.specs.Instructions.{RunsInstruction, Fails, Halts, IsAtEnd, busy_of, running_of, script_of, supervised_of, with_running, with_supervised}
 use Rattle.script_runner.specs.Parts.{Parts}
 use Rattle.script_runner.specs.Suspending.{HaltsChange, halt_of}
 use Rattle.script_runner.specs.declared.halt.Halt.{Halt}
@@ -57,7 +57,7 @@ does-once r (LoadObjectCode app vsn ms) p q s told said first second = (first.1 
 does-once r PointOfNoReturn p q s told said first second = (first.0 ∙ sym second.0, first.1 ∙ sym second.1)
 does-once r (Load m pre post) p q s told said (one, at, unrefused, is, tells) (other, there, also_unrefused, also, says) =
     let same : one ≡ other = same_Some one other (sym at ∙ there) in (
-      is ∙ ap (λ (x : Forms). with_unpurged x.name post (with_running (code_loaded x (running_of p)) p)) same ∙ sym also,
+      is ∙ ap (λ (x : Forms). with_running (code_loaded x (Some post) (running_of p)) p) same ∙ sym also,
       tells ∙ ap (λ (x : Forms). downs_of_purge x.name p.modules p.processes) same ∙ sym says,
     )
 does-once r (Remove m pre post) p q s told said first second = (first.0 ∙ sym second.0, first.1 ∙ sym second.1)

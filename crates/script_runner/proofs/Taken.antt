@@ -20,7 +20,7 @@ no_instance before after serial some = absurd (omega (arith, some))
 pub processes_taken : (u : InstructionUndo) (p q : Parts) → TakesBack u p q → HoldsLost (held_processes u q.processes) p.processes q.processes
 processes_taken Nothing p q takes = no_process p.processes q.processes
 processes_taken (Read count) p q takes = no_process p.processes q.processes
-processes_taken (Replaced u noted) p q takes = takes.0.code.pieces
+processes_taken (Replaced u) p q takes = takes.0.code.pieces
 processes_taken (Purged u) p q takes = takes.0.code.pieces
 processes_taken (Suspended count) p q takes = no_process p.processes q.processes
 processes_taken (Resumed u) p q takes = no_process p.processes q.processes
@@ -30,7 +30,7 @@ processes_taken (Children u count) p q takes = takes.4
 pub instances_taken : (u : InstructionUndo) (p q : Parts) → TakesBack u p q → CodeLost (held_instances u) p.modules q.modules
 instances_taken Nothing p q takes = no_instance p.modules q.modules
 instances_taken (Read count) p q takes = no_instance p.modules q.modules
-instances_taken (Replaced u noted) p q takes = takes.0.code.instances
+instances_taken (Replaced u) p q takes = takes.0.code.instances
 instances_taken (Purged u) p q takes = takes.0.code.instances
 instances_taken (Suspended count) p q takes = no_instance p.modules q.modules
 instances_taken (Resumed u) p q takes = no_instance p.modules q.modules
@@ -40,7 +40,7 @@ instances_taken (Children u count) p q takes = no_instance p.modules q.modules
 pub specs_taken : (u : InstructionUndo) (p q : Parts) → TakesBack u p q → SpecsLost u p.apps q.apps
 specs_taken Nothing p q takes = tt
 specs_taken (Read count) p q takes = tt
-specs_taken (Replaced u noted) p q takes = takes.0.specs
+specs_taken (Replaced u) p q takes = takes.0.specs
 specs_taken (Purged u) p q takes = takes.0.specs
 specs_taken (Suspended count) p q takes = tt
 specs_taken (Resumed u) p q takes = tt

@@ -22,14 +22,13 @@ use Rattle.process_effects.specs.declared.told.Reply.{Reply}
 use Rattle.process_store.specs.Table.{Table}
 use Rattle.process_table.specs.States.{all_resumed, all_suspended}
 use Rattle.release_table.specs.declared.table.Release.{Release}
-use Rattle.release_words.specs.declared.purge.Purge.{Purge as Kind}
 use Rattle.script_children.specs.Applying.{Applied, NotApplied}
 use Rattle.script_children.specs.Calls.{start_failed}
 use Rattle.script_children.specs.Children.{Supervised}
 use Rattle.script_state.specs.ObjectCode.{all_noted, code_at_hand, files_of, missing_object_code}
 use Rattle.script_runner.specs.Failures.{no_object_code}
 use Rattle.script_runner.specs.Parts.{Parts}
-use Rattle.script_runner.specs.Replacing.{HaltsLoad, unpurged_of}
+use Rattle.script_runner.specs.Replacing.{HaltsLoad}
 use Rattle.script_runner.specs.Suspending.{HaltsChange}
 use Rattle.script_runner.specs.declared.halt.Halt.{Halt}
 use Rattle.script_runner.specs.declared.halt.Halt.TheVariants.{Busy, Failed, CounterEnd}
@@ -37,10 +36,6 @@ use Rattle.suspensions.specs.Suspending.{names, still_suspended, suspend_refusal
 use Rattle.sys_protocol.specs.Stopping.{FailToStartAgain, StartAgain, shutdown, to_stop}
 use Rattle.sys_protocol.specs.declared.start_failed.StartFailed.{StartFailed}
 use Rattle.upgrade_calls.specs.Changing.{AreCounted}
-
--- Old code that an instruction has left is noted with how it is purged later, where it has left any.
-abbrev pub with_unpurged : List ℕ → Kind → Parts → Parts
-with_unpurged m purge p = record p { unpurged = p.unpurged ++ unpurged_of m purge p.modules }
 
 -- What runs, of the parts; and the applications with the processes.
 
@@ -88,10 +83,10 @@ RunsInstruction r (LoadObjectCode app vsn ms) p q told = (missing_object_code ap
 RunsInstruction r PointOfNoReturn p q told = (q ≡ p) × (told ≡ [])
 RunsInstruction r (Load m pre post) p q told = (source : Forms) × (code_at_hand m p.versions r ≡ Some source) ×
     (load_refusal source.name (purged source.name p.modules) ≡ None) ×
-    (q ≡ with_unpurged source.name post (with_running (code_loaded source (running_of p)) p)) ×
+    (q ≡ with_running (code_loaded source (Some post) (running_of p)) p) ×
     (told ≡ downs_of_purge source.name p.modules p.processes)
 RunsInstruction r (Remove m pre post) p q told =
-    (q ≡ with_unpurged m post (with_running (code_removed m (running_of p)) p)) × (told ≡ downs_of_purge m p.modules p.processes)
+    (q ≡ with_running (code_removed m (Some post) (running_of p)) p) × (told ≡ downs_of_purge m p.modules p.processes)
 RunsInstruction r (Purge ms) p q told = (q ≡ with_running (all_without ms (running_of p)) p) ×
     (told ≡ downs_of_purges ms p.modules p.processes)
 RunsInstruction r (Suspend ms) p q told = (q ≡ all_suspended_in (to_suspend (names ms) p.apps p.processes) p) × (told ≡ [])

@@ -1,5 +1,5 @@
 -- What the instructions of a script change (appup(4), Low-Level Instructions): the modules, the processes and the applications
--- of the node; what is noted of old code; the processes that the script has suspended and not resumed since, the children that
+-- of the node; the processes that the script has suspended and not resumed since, the children that
 -- it has stopped, and what is noted of the modules whose object code it has read.
 use Rattle.std.specs.Prelude.{ℕ, List}
 use Rattle.app_table.specs.Applications.{Application}
@@ -9,23 +9,20 @@ use Rattle.erl_ir.specs.Module.{Forms}
 use Rattle.process_store.specs.Table.{Table}
 use Rattle.script_state.specs.declared.noted.NotedVersion.{NotedVersion}
 use Rattle.script_state.specs.declared.runner.Progress.{Progress}
-use Rattle.script_state.specs.declared.unpurged.Unpurged.{Unpurged}
 
 pub record Parts : Type 0 where
   pub modules : Loaded Forms
   pub processes : Table
   pub apps : List Application
-  pub unpurged : List Unpurged
   pub suspended : List ℕ
   pub stopped : List ChildName
   pub versions : List NotedVersion
 
-abbrev pub parts_of : Loaded Forms → Table → List Application → List Unpurged → Progress → Parts
-parts_of modules t apps unpurged progress = record {
+abbrev pub parts_of : Loaded Forms → Table → List Application → Progress → Parts
+parts_of modules t apps progress = record {
   modules = modules;
   processes = t;
   apps = apps;
-  unpurged = unpurged;
   suspended = progress.suspended.items;
   stopped = progress.stopped.items;
   versions = progress.versions.items;

@@ -21,7 +21,7 @@ use Rattle.upgrade_calls.specs.Changing.{held_changed}
 abbrev pub held_processes : InstructionUndo → Table → ℕ → List Piece
 held_processes Nothing t = no_pieces
 held_processes (Read count) t = no_pieces
-held_processes (Replaced u noted) t = held_killed u.code.killed t
+held_processes (Replaced u) t = held_killed u.code.killed t
 held_processes (Purged u) t = held u.code.killed t
 held_processes (Suspended count) t = no_pieces
 held_processes (Resumed u) t = no_pieces
@@ -32,7 +32,7 @@ held_processes (Children u count) t = children.held_processes u t
 abbrev pub held_instances : InstructionUndo → List (Instance Forms)
 held_instances Nothing = []
 held_instances (Read count) = []
-held_instances (Replaced u noted) = option_to_list (code.held u.code.modules)
+held_instances (Replaced u) = option_to_list (code.held u.code.modules)
 held_instances (Purged u) = all_held u.code.modules
 held_instances (Suspended count) = []
 held_instances (Resumed u) = []
@@ -44,7 +44,7 @@ held_instances (Children u count) = []
 abbrev pub SpecsLost : InstructionUndo → List Application → List Application → Type 0
 SpecsLost Nothing before after = Unit {0}
 SpecsLost (Read count) before after = Unit {0}
-SpecsLost (Replaced u noted) before after = replacing.held_of u.ended after ≡ []
+SpecsLost (Replaced u) before after = replacing.held_of u.ended after ≡ []
 SpecsLost (Purged u) before after = replacing.held_of u.ended after ≡ []
 SpecsLost (Suspended count) before after = Unit {0}
 SpecsLost (Resumed u) before after = Unit {0}

@@ -1,7 +1,7 @@
 -- What takes an instruction back: from the parts after the instruction it gives those before, and it holds no piece of a
 -- process, no instance of code and no specification but what the instruction has taken. Parts that it doesn't name weren't
 -- changed.
-use Rattle.std.specs.Prelude.{◌≡◌, ◌≤◌, ◌-◌, Bool, if◌then◌else◌, List, length, take}
+use Rattle.std.specs.Prelude.{◌≡◌, ◌≤◌, ◌-◌, length, take}
 use Rattle.code_changes.specs.Undo as changes
 use Rattle.code_replacement.specs.Undo as code
 use Rattle.process_store.specs.Pieces.{HoldsLost}
@@ -16,16 +16,12 @@ use Rattle.script_runner.specs.declared.undo.InstructionUndo.TheVariants.{Nothin
 use Rattle.suspensions.specs.Suspending.{but_last, last_of}
 use Rattle.upgrade_calls.specs.Changing.{held_changed}
 
--- without the last item, where one was added
-abbrev pub without_note : {A : Type 0} → Bool → List A → List A
-without_note noted items = if noted then take (length items - 1) items else items
-
 abbrev pub TakesBack : InstructionUndo → Parts → Parts → Type 0
 TakesBack Nothing p q = q ≡ p
 TakesBack (Read count) p q = (count ≤ length q.versions) × (but_last_noted count q.versions ≡ p.versions) ×
     (q ≡ record p { versions = q.versions })
-TakesBack (Replaced u noted) p q = code.TakesBack u (running_of p) (running_of q) × (without_note noted q.unpurged ≡ p.unpurged) ×
-    (q ≡ record p { modules = q.modules; processes = q.processes; apps = q.apps; unpurged = q.unpurged })
+TakesBack (Replaced u) p q = code.TakesBack u (running_of p) (running_of q) ×
+    (q ≡ record p { modules = q.modules; processes = q.processes; apps = q.apps })
 TakesBack (Purged u) p q = code.PurgesBack u (running_of p) (running_of q) ×
     (q ≡ record p { modules = q.modules; processes = q.processes; apps = q.apps })
 TakesBack (Suspended count) p q = (count ≤ length q.suspended) ×

@@ -16,7 +16,7 @@ use low_instructions::Low;
 use process_effects::Reply;
 use process_table::Processes;
 use release_table::Release;
-use script_state::{Progress, Unpurged};
+use script_state::Progress;
 use std::alloc::Global;
 use values::{Failure, Row};
 
@@ -43,7 +43,6 @@ pub fn carry_out(
     modules: &mut Modules<Module>,
     processes: &mut Processes,
     apps: &mut AppTable,
-    unpurged: &mut Vec<Unpurged>,
     progress: &mut Progress,
     alloc: Global,
     release: &Release,
@@ -51,8 +50,8 @@ pub fn carry_out(
     n: usize,
 ) -> Result<Carried, Failure<Halt>>
     ensures carried { Carries release.now give_up instruction.now n
-        (parts_of modules.old processes.old apps.old unpurged.old.items progress.old)
-        (parts_of modules.new processes.new apps.new unpurged.new.items progress.new) result }
+        (parts_of modules.old processes.old apps.old progress.old)
+        (parts_of modules.new processes.new apps.new progress.new) result }
     ensures next { progress.new.next ≡ progress.old.next }
 {
     match instruction {
@@ -64,7 +63,6 @@ pub fn carry_out(
             modules,
             processes,
             apps,
-            unpurged,
             progress,
             alloc,
             release,
@@ -75,7 +73,7 @@ pub fn carry_out(
             n,
         ),
         Low::PointOfNoReturn => code::pass_point(
-            modules, processes, apps, unpurged, progress, alloc, release, give_up, n,
+            modules, processes, apps, progress, alloc, release, give_up, n,
         ),
         Low::Load {
             name,
@@ -85,7 +83,6 @@ pub fn carry_out(
             modules,
             processes,
             apps,
-            unpurged,
             progress,
             alloc,
             release,
@@ -103,7 +100,6 @@ pub fn carry_out(
             modules,
             processes,
             apps,
-            unpurged,
             progress,
             alloc,
             release,
@@ -114,31 +110,30 @@ pub fn carry_out(
             n,
         ),
         Low::Purge { modules: names } => code::purge(
-            modules, processes, apps, unpurged, progress, alloc, release, give_up, names, n,
+            modules, processes, apps, progress, alloc, release, give_up, names, n,
         ),
         Low::Suspend { modules: names } => processes::suspend(
-            modules, processes, apps, unpurged, progress, alloc, release, give_up, names, n,
+            modules, processes, apps, progress, alloc, release, give_up, names, n,
         ),
         Low::Resume { modules: names } => processes::resume(
-            modules, processes, apps, unpurged, progress, alloc, release, give_up, names, n,
+            modules, processes, apps, progress, alloc, release, give_up, names, n,
         ),
         Low::CodeChange { direction, changes } => processes::change_code(
-            modules, processes, apps, unpurged, progress, alloc, release, give_up, *direction,
-            changes, n,
+            modules, processes, apps, progress, alloc, release, give_up, *direction, changes, n,
         ),
         Low::Stop { modules: names } => children::stop(
-            modules, processes, apps, unpurged, progress, alloc, release, give_up, names, n,
+            modules, processes, apps, progress, alloc, release, give_up, names, n,
         ),
         Low::Start { modules: names } => children::start(
-            modules, processes, apps, unpurged, progress, alloc, release, give_up, names, n,
+            modules, processes, apps, progress, alloc, release, give_up, names, n,
         ),
         Low::Apply {
             name,
             function,
             arguments,
         } => children::apply_function(
-            modules, processes, apps, unpurged, progress, alloc, release, give_up, name, function,
-            arguments, n,
+            modules, processes, apps, progress, alloc, release, give_up, name, function, arguments,
+            n,
         ),
     }
 }

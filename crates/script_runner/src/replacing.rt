@@ -1,13 +1,12 @@
 // Code is loaded, removed and purged.
-ghost use Rattle.std.specs.Prelude.{◌≡◌, ◌++◌, ◌<◌, List, IfErr, IfOk, None, OnErr, OnOk, Some, option_map, option_to_list, replicate, vec_capacity, vec_len};
+ghost use Rattle.std.specs.Prelude.{◌≡◌, IfErr, IfOk, None, OnErr, OnOk, Some, replicate};
 ghost use Rattle.code_loading.specs.Loading.{downs_of_purge};
 ghost use Rattle.code_loading.specs.Purging.{downs_of_purges};
 ghost use Rattle.code_replacement.specs.Replacing.{all_without, code_loaded, code_removed, running};
 ghost use Rattle.code_replacement.specs.Undo.{PurgesBack, TakesBack};
-ghost use Rattle.code_server.specs.Modules.{load_refusal, old_of, purged};
+ghost use Rattle.code_server.specs.Modules.{load_refusal, purged};
 ghost use Rattle.erl_ir.specs.Module.{Forms};
-ghost use Rattle.script_runner.specs.Replacing.{HaltsLoad, unpurged_of};
-ghost use Rattle.script_runner.specs.Undo.{without_note};
+ghost use Rattle.script_runner.specs.Replacing.{HaltsLoad};
 ghost use Rattle.script_state.specs.ObjectCode.{code_at_hand};
 ghost use Rattle.values.specs.Failure.{Fails};
 
@@ -23,17 +22,16 @@ use process_effects::Reply;
 use process_table::Processes;
 use release_table::Release;
 use release_words::Purge;
-use script_state::{NotedVersion, Unpurged, code_at_hand};
+use script_state::{NotedVersion, code_at_hand};
 use std::alloc::{AllocError, Global};
 use std::slice;
 use values::{Duplicate, Failure, Row};
 
-/// What a load or a removal has come to: what clients are told, what takes it back, and whether old code was noted.
+/// What a load or a removal has come to: what clients are told, and what takes it back.
 #[derive(Drop)]
 pub(crate) struct CodeReplaced {
     pub(crate) told: Vec<Row<Reply>>,
     pub(crate) undo: ReplacementUndo,
-    pub(crate) noted: bool,
 }
 
 /// What purges have come to: what clients are told, and what takes them back.
@@ -41,29 +39,6 @@ pub(crate) struct CodeReplaced {
 pub(crate) struct CodePurged {
     pub(crate) told: Vec<Row<Reply>>,
     pub(crate) undo: Purges,
-}
-
-/// Notes how the old code of a module is purged later, if it has any: whether it has is handed out. There is room for it.
-fn note_old(
-    modules: &Modules<Module>,
-    name: &Atom,
-    purge: Purge,
-    unpurged: &mut Vec<Unpurged>,
-) -> bool
-    requires { vec_len unpurged.old < vec_capacity unpurged.old }
-    ensures noted { unpurged.new.items ≡ unpurged.old.items ++ unpurged_of name.now purge modules.now }
-    ensures back { without_note result unpurged.new.items ≡ unpurged.old.items }
-{
-    match modules.old(name) {
-        Some(old) => {
-            unpurged.push_reserved(Unpurged {
-                serial: old.serial,
-                purge,
-            });
-            true
-        }
-        None => false,
-    }
 }
 
 /// What clients are told where a module is purged, in `n` equal values.
@@ -84,7 +59,6 @@ fn load_source(
     modules: &mut Modules<Module>,
     processes: &mut Processes,
     apps: &mut AppTable,
-    unpurged: &mut Vec<Unpurged>,
     alloc: Global,
     source: &Module,
     purge: Purge,
@@ -92,23 +66,16 @@ fn load_source(
 ) -> Result<CodeReplaced, AllocError>
     requires { load_refusal source.now.name (purged source.now.name modules.old) ≡ None }
     ensures loaded { OnOk result (running modules.new processes.new apps.new ≡
-        code_loaded source.now (running modules.old processes.old apps.old)) }
-    ensures noted { OnOk result (unpurged.new.items ≡ unpurged.old.items ++ unpurged_of source.now.name purge modules.new) }
+        code_loaded source.now (Some purge) (running modules.old processes.old apps.old)) }
     ensures told { IfOk result (λ it. it.told.items ≡ replicate n (downs_of_purge source.now.name modules.old processes.old)) }
     ensures back { IfOk result (λ it.
         TakesBack it.undo (running modules.old processes.old apps.old) (running modules.new processes.new apps.new)) }
-    ensures unnoted { IfOk result (λ it. without_note it.noted unpurged.new.items ≡ unpurged.old.items) }
     ensures err { OnErr result (running modules.new processes.new apps.new ≡ running modules.old processes.old apps.old) }
-    ensures kept { OnErr result (unpurged.new.items ≡ unpurged.old.items) }
 {
     let code = source.copy(alloc)?;
     let told = downs_of_purge(modules, processes, alloc, source.name(), n)?;
-    unpurged.reserve(1)?;
-    match load(modules, processes, apps, alloc, code) {
-        Ok(undo) => {
-            let noted = note_old(modules, source.name(), purge, unpurged);
-            Ok(CodeReplaced { told, undo, noted })
-        }
+    match load(modules, processes, apps, alloc, code, Some(purge)) {
+        Ok(undo) => Ok(CodeReplaced { told, undo }),
         Err(_) => Err(AllocError),
     }
 }
@@ -119,7 +86,6 @@ pub(crate) fn load_code(
     modules: &mut Modules<Module>,
     processes: &mut Processes,
     apps: &mut AppTable,
-    unpurged: &mut Vec<Unpurged>,
     alloc: Global,
     release: &Release,
     versions: &[NotedVersion],
@@ -129,22 +95,20 @@ pub(crate) fn load_code(
 ) -> Result<CodeReplaced, Failure<Halt>>
     ensures loaded { IfOk result (λ it. (source : Forms) × (code_at_hand name.now versions.now release.now ≡ Some source) ×
         (load_refusal source.name (purged source.name modules.old) ≡ None) ×
-        (running modules.new processes.new apps.new ≡ code_loaded source (running modules.old processes.old apps.old)) ×
-        (unpurged.new.items ≡ unpurged.old.items ++ unpurged_of source.name purge modules.new) ×
+        (running modules.new processes.new apps.new ≡
+        code_loaded source (Some purge) (running modules.old processes.old apps.old)) ×
         (it.told.items ≡ replicate n (downs_of_purge source.name modules.old processes.old))) }
     ensures back { IfOk result (λ it.
         TakesBack it.undo (running modules.old processes.old apps.old) (running modules.new processes.new apps.new)) }
-    ensures unnoted { IfOk result (λ it. without_note it.noted unpurged.new.items ≡ unpurged.old.items) }
     ensures halted { IfErr result (Fails (λ halt. HaltsLoad halt release.now name.now versions.now modules.old)
         (HaltsLoad Halt.CounterEnd release.now name.now versions.now modules.old → ⊥)) }
     ensures err { OnErr result (running modules.new processes.new apps.new ≡ running modules.old processes.old apps.old) }
-    ensures kept { OnErr result (unpurged.new.items ≡ unpurged.old.items) }
 {
     let Some(source) = code_at_hand(release, versions, name) else {
         return Err(Failure::Refused(Halt::Failed(no_object_code(alloc, name)?)));
     };
     match modules.purge_and_load_refusal() {
-        None => match load_source(modules, processes, apps, unpurged, alloc, source, purge, n) {
+        None => match load_source(modules, processes, apps, alloc, source, purge, n) {
             Ok(replaced) => Ok(replaced),
             Err(_) => Err(Failure::Memory),
         },
@@ -158,27 +122,21 @@ pub(crate) fn remove_code(
     modules: &mut Modules<Module>,
     processes: &mut Processes,
     apps: &mut AppTable,
-    unpurged: &mut Vec<Unpurged>,
     alloc: Global,
     name: &Atom,
     purge: Purge,
     n: usize,
 ) -> Result<CodeReplaced, AllocError>
     ensures removed { OnOk result (running modules.new processes.new apps.new ≡
-        code_removed name.now (running modules.old processes.old apps.old)) }
-    ensures noted { OnOk result (unpurged.new.items ≡ unpurged.old.items ++ unpurged_of name.now purge modules.new) }
+        code_removed name.now (Some purge) (running modules.old processes.old apps.old)) }
     ensures told { IfOk result (λ it. it.told.items ≡ replicate n (downs_of_purge name.now modules.old processes.old)) }
     ensures back { IfOk result (λ it.
         TakesBack it.undo (running modules.old processes.old apps.old) (running modules.new processes.new apps.new)) }
-    ensures unnoted { IfOk result (λ it. without_note it.noted unpurged.new.items ≡ unpurged.old.items) }
     ensures err { OnErr result (running modules.new processes.new apps.new ≡ running modules.old processes.old apps.old) }
-    ensures kept { OnErr result (unpurged.new.items ≡ unpurged.old.items) }
 {
     let told = downs_of_purge(modules, processes, alloc, name, n)?;
-    unpurged.reserve(1)?;
-    let undo = remove(modules, processes, apps, alloc, name)?;
-    let noted = note_old(modules, name, purge, unpurged);
-    Ok(CodeReplaced { told, undo, noted })
+    let undo = remove(modules, processes, apps, alloc, name, Some(purge))?;
+    Ok(CodeReplaced { told, undo })
 }
 
 /// Modules are purged, one after the other.

@@ -9,8 +9,8 @@ pub enum InstructionUndo {
     Nothing,
     /// So many modules are new among those whose object code was read.
     Read(usize),
-    /// Code was loaded or removed; and whether old code was noted.
-    Replaced(code_replacement::ReplacementUndo, bool),
+    /// Code was loaded or removed.
+    Replaced(code_replacement::ReplacementUndo),
     /// Old code was purged.
     Purged(code_replacement::Purges),
     /// So many processes were suspended.

@@ -27,11 +27,9 @@ mod finding;
 mod noted;
 mod object_code;
 mod runner;
-mod unpurged;
 
 pub use beginning::begin;
 pub use finding::script_for;
 pub use noted::NotedVersion;
 pub use object_code::{code_at_hand, forget_versions, missing_object_code, note_versions};
 pub use runner::{Progress, Runner, instruction_at};
-pub use unpurged::Unpurged;

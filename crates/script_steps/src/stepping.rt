@@ -14,7 +14,7 @@ use process_table::Processes;
 use release_table::Release;
 use script_checks::has_point;
 use script_runner::{Carried, Halt, InstructionUndo, carry_out};
-use script_state::{Progress, Unpurged, instruction_at};
+use script_state::{Progress, instruction_at};
 use std::alloc::Global;
 use std::fmt;
 use thiserror::Error;
@@ -105,7 +105,6 @@ pub fn step(
     modules: &mut Modules<Module>,
     processes: &mut Processes,
     apps: &mut AppTable,
-    unpurged: &mut Vec<Unpurged>,
     progress: &mut Progress,
     alloc: Global,
     release: &Release,
@@ -114,12 +113,12 @@ pub fn step(
 ) -> Result<Stepped, Failure<NoStep>>
     ensures { StepsOrStops release.now give_up n
         (record {
-          parts = parts_of modules.old processes.old apps.old unpurged.old.items progress.old;
+          parts = parts_of modules.old processes.old apps.old progress.old;
           script = script.now;
           next = progress.old.next;
         })
         (record {
-          parts = parts_of modules.new processes.new apps.new unpurged.new.items progress.new;
+          parts = parts_of modules.new processes.new apps.new progress.new;
           script = script.now;
           next = progress.new.next;
         }) result }
@@ -129,7 +128,7 @@ pub fn step(
         return Err(Failure::Refused(NoStep::AtEnd));
     };
     match carry_out(
-        next, modules, processes, apps, unpurged, progress, alloc, release, give_up, n,
+        next, modules, processes, apps, progress, alloc, release, give_up, n,
     ) {
         Ok(carried) => {
             let Carried { told, undo } = carried;

@@ -10,7 +10,7 @@ use code_server::Modules;
 use erl_ir::Module;
 use process_table::Processes;
 use script_runner::{InstructionUndo, revert};
-use script_state::{Progress, Unpurged};
+use script_state::Progress;
 use std::alloc::Global;
 
 /// Takes a step of a script back, the newest change: all parts are as before it, and its instruction is next again.
@@ -22,24 +22,23 @@ pub fn unstep(
     modules: &mut Modules<Module>,
     processes: &mut Processes,
     apps: &mut AppTable,
-    unpurged: &mut Vec<Unpurged>,
     progress: &mut Progress,
     alloc: Global,
     undo: InstructionUndo,
 ) -> Result<(), InstructionUndo>
     requires stepped { 0 < progress.old.next }
     requires before { (before : Parts) × HasItsCode (running_of before) × TakesBack undo before
-        (parts_of modules.old processes.old apps.old unpurged.old.items progress.old) }
+        (parts_of modules.old processes.old apps.old progress.old) }
     ensures ok { OnOk result ((before : Parts) → HasItsCode (running_of before) → TakesBack undo before
-        (parts_of modules.old processes.old apps.old unpurged.old.items progress.old) →
-        parts_of modules.new processes.new apps.new unpurged.new.items progress.new ≡ before) }
+        (parts_of modules.old processes.old apps.old progress.old) →
+        parts_of modules.new processes.new apps.new progress.new ≡ before) }
     ensures next { OnOk result (progress.new.next + 1 ≡ progress.old.next) }
     ensures back { IfErr result (λ it. it ≡ undo) }
-    ensures err { OnErr result (parts_of modules.new processes.new apps.new unpurged.new.items progress.new ≡
-        parts_of modules.old processes.old apps.old unpurged.old.items progress.old) }
+    ensures err { OnErr result (parts_of modules.new processes.new apps.new progress.new ≡
+        parts_of modules.old processes.old apps.old progress.old) }
     ensures stays { OnErr result (progress.new.next ≡ progress.old.next) }
 {
-    match revert(modules, processes, apps, unpurged, progress, alloc, undo) {
+    match revert(modules, processes, apps, progress, alloc, undo) {
         Ok(()) => {
             progress.next -= 1;
             Ok(())

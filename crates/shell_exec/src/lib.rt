@@ -28,6 +28,7 @@ mod reviving;
 pub use changing::{change_event, tell_truth};
 pub use lines::execute;
 pub use loading::{Unloaded, source_in, tell_loaded};
+pub use naming::pid_meant;
 pub use reviving::{revive_event, tell_revived};
 pub use shell_relups::{tell_relup_in, tell_unread};
 pub use shell_upgrades::{

@@ -17,14 +17,17 @@ use shell_requests::Name;
 use shell_upgrades::{Said, Shell, refuse, say_file_fault, tell_halt};
 use std::alloc::Global;
 use std::hash::RandomState;
+use thiserror::Error;
 use values::{Duplicate, Failure};
 
 /// Why no module was read.
-#[derive(Clone, Copy)]
+#[derive(Clone, Copy, Debug, Error)]
 pub enum Unloaded {
     /// This stands against the file.
+    #[error("{0}")]
     Faulted(FileFault),
     /// An allocation failed while its source was read.
+    #[error("out of memory")]
     Unread,
 }
 

@@ -17,8 +17,8 @@ fn pid_of(held: &Shell, name: Name<'_>) -> Option<u64>
     held.processes().pid_of(name.as_str())
 }
 
-/// The pid that is meant, if it is one's.
-pub(crate) fn pid_meant(held: &Shell, process: Proc<'_>) -> Option<u64>
+/// Returns the pid that is meant, if a name is registered or a number is given. Takes no memory.
+pub fn pid_meant(held: &Shell, process: Proc<'_>) -> Option<u64>
     ensures { result ≡ pid_meant (who_is process.entry) (node_of held.now) }
 {
     match process {

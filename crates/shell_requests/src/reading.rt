@@ -14,16 +14,6 @@ use crate::words::{
     word_and_rest,
 };
 
-/// The operands of the command that a word is, or none: a table, a command a line.
-macro_rules! shape_in {
-    ($word:expr; $($command:literal => $operands:expr,)*) => {{
-        $(if $word == $command {
-            return Some($operands);
-        })*
-        None
-    }};
-}
-
 /// What follows the word of a command.
 fn operands_of(verb: &str) -> Option<CommandOperands>
     ensures { result ≡ operands_of verb.now }
@@ -183,7 +173,7 @@ fn of_process(service: Service, rest: &str) -> Option<Request<'_>>
 }
 
 /// The process that a word names: its pid where the word is digits, and else its name.
-fn process_of(word: &str) -> Option<Proc<'_>>
+pub(crate) fn process_of(word: &str) -> Option<Proc<'_>>
     ensures { option_map who_is result ≡ process_of word.now }
 {
     if has_digits_alone(word) {

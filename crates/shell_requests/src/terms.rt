@@ -8,15 +8,19 @@ use erl_consult::read_terms;
 use erl_scan::{Fault, ReadError};
 use erl_term::Term;
 use std::alloc::{AllocError, Global};
+use thiserror::Error;
 
 /// Why no term was read.
-#[derive(Clone, Copy)]
+#[derive(Clone, Copy, Debug, Error)]
 pub enum Misread {
     /// There is none, or there are several.
+    #[error("the text is not one term")]
     NotOne,
     /// The text is faulty.
+    #[error("{0}")]
     Faulty(ReadError),
     /// An allocation failed while it was read.
+    #[error("out of memory")]
     NoMemory,
 }
 

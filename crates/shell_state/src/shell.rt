@@ -119,6 +119,20 @@ impl Shell {
         self.node().processes()
     }
 
+    /// The journal of the node.
+    pub fn journal(&self) -> &Journal<Node>
+        ensures { result.now ≡ self.now.timeline }
+    {
+        &self.journal
+    }
+
+    /// The jobs whose results can be committed, in the order of their numbers, from 1 on.
+    pub fn jobs(&self) -> &[Job]
+        ensures { result.now ≡ self.now.jobs }
+    {
+        self.jobs.as_slice()
+    }
+
     /// The number of the next call.
     pub fn next_number(&self) -> u64
         ensures { result ≡ next_number self.now }

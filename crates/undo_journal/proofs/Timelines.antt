@@ -13,7 +13,7 @@ use Rattle.undo_journal.specs.Reversible.{Accepted, Accepts, Refuses, told_of}
 use Rattle.values.specs.declared.failure.Failure.{Failure}
 use Rattle.values.specs.declared.failure.Failure.TheVariants as failure
 use Rattle.undo_journal.specs.Timeline.{Station, Timeline, newest, here, appended, kept_to, from_mark, cut_to, forgotten_to, cut_stations, notes_of, report_of, Rises, IsFront, IsOrdered}
-use Rattle.undo_journal.specs.Journal.{FailsBy, IsOutOfMemoryAt, Performs, PerformFails, UndoFails, Stopped, stopped_reports}
+use Rattle.undo_journal.specs.Journal.{FailsBy, IsOutOfMemoryAt, IsReportOf, Performs, PerformFails, UndoFails, Stopped, stopped_reports}
 use Rattle.undo_journal.proofs.Chains.{Chained-push, Chained-behind}
 use Rattle.undo_journal.proofs.Forgets.{IsOrdered-forgotten, from_mark-front}
 use Rattle.undo_journal.proofs.Stations.{newest-push, Rises-push, Rises-take, newest-take, newest-take-le, newest-take-lt, kept_to-newest, kept_to-names, notes_of-stations}
@@ -158,6 +158,18 @@ pub reported-front : {S R N : Type 0} (floor : ℕ) (node : S) (noted : Option N
 reported-front floor node noted past items last keep n reports within front told =
     let count : length (stations items) ≡ keep = rw front (simp length-map (length-take-le keep past within)) in
     told ∙ ap (λ ss. replicate n (report_of ss)) (sym (drop-map station_of keep past) ∙ ap (λ i. drop i (stations past)) (sym count))
+
+-- what an undo would report, were it done
+pub report-kept : {S R N : Type 0} (floor : ℕ) (node : S) (noted : Option N) (past lent : List (Entry S R N)) (last mark keep : ℕ) (report : Report N) (t : Timeline S N) → timeline_of floor node noted past last ≡ t → kept_to mark t.first t.later ≡ Some (take keep t.later) → keep ≤ length t.later → lent ≡ past → report ≡ report_of (stations (take (length lent - keep) (drop keep lent))) → IsReportOf mark t report
+report-kept {S} {R} {N} floor node noted past lent last mark keep report t is kept within same told =
+    let later : stations past ≡ t.later = ap (λ (u : Timeline S N). u.later) is in
+    let count = length-take-le keep t.later within in (
+      record { first = t.first; later = take keep t.later; last = t.last },
+      ap (λ (o : Option (List (Station S N))). option_map (λ ks. record { first = t.first; later = ks; last = t.last }) o) kept,
+      told
+          ∙ ap (λ (ps : List (Entry S R N)). report_of (stations ps)) (take_rest lent keep ∙ ap (λ (ps : List (Entry S R N)). drop keep ps) same)
+          ∙ ap (λ (ss : List (Station S N)). report_of ss) (sym (drop-map station_of keep past) ∙ ap (λ (ss : List (Station S N)). drop keep ss) later ∙ ap (λ (i : ℕ). drop i t.later) (sym count)),
+    )
 
 -- the reports of an undo that stopped
 pub reported-stopped : {S R N : Type 0} (past : List (Entry S R N)) (keep k n cut : ℕ) (all reports : List (Report N)) → keep ≤ k → k ≤ length past → cut ≡ length past - k → all ≡ replicate n (report_of (stations (drop keep past))) → (cut ≡ 0 → reports ≡ []) → (0 < cut → reports ≡ map (λ r. shortened cut r) all) → reports ≡ stopped_reports n (drop k (stations past))

@@ -72,3 +72,16 @@ UndoFails mark n old new Forgotten = IsForgotten mark old × (new ≡ old)
 UndoFails mark n old new DeadMark = IsDead mark old × (new ≡ old)
 UndoFails mark n old new SerialEnd = ⊥
 UndoFails mark n old new (Memory reached reports) = Stopped mark n old new reached reports.items
+
+-- what an undo to a mark would report, were it done: of the stations that it would cut
+abbrev pub IsReportOf : {S N : Type 0} → ℕ → Timeline S N → Report N → Type 0
+IsReportOf {S} {N} mark t report =
+    (end : Timeline S N) × (cut_to mark t ≡ Some end) × (report ≡ report_of (cut_stations t end))
+
+-- why there is no such report: the mark has no station, or memory was refused
+abbrev pub HasNoReport : {S N F : Type 0} → ℕ → Timeline S N → JournalError F N → Type 0
+HasNoReport mark t (Step refusal) = ⊥
+HasNoReport mark t Forgotten = IsForgotten mark t
+HasNoReport mark t DeadMark = IsDead mark t
+HasNoReport mark t SerialEnd = ⊥
+HasNoReport mark t (Memory reached reports) = (reached ≡ (here t).serial) × (reports.items ≡ [])

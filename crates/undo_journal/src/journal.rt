@@ -2,14 +2,15 @@
 ghost use Rattle.std.specs.Prelude.{◌≡◌, ◌≤◌, ◌<◌, ◌↔◌, ◌-◌, ◌^◌, [], is_some, length, take, replicate};
 ghost use Rattle.std.specs.Prelude.{Some, Err, IfOk, IfErr, IfSome, IsTrue, OnOk, OnErr};
 ghost use Rattle.std.specs.Option.{option_copied};
-ghost use Rattle.undo_journal.specs.Journal.{FailsBy, Performs, PerformFails, UndoFails, HasNoStation, IsOutOfMemoryAt};
+ghost use Rattle.undo_journal.specs.Journal.{FailsBy, Performs, PerformFails, UndoFails, HasNoReport, HasNoStation, IsOutOfMemoryAt, IsReportOf};
 ghost use Rattle.undo_journal.specs.Past.{IsRecordAt};
 ghost use Rattle.undo_journal.specs.Timeline.{here, opened, kept_to, cut_to, forgotten_to, cut_stations, node_at};
 ghost use Rattle.undo_journal.specs.Timeline.{notes_of, report_of, IsFront, IsOrdered};
 
 use crate::error::JournalError;
 use crate::past::{
-    Entry, drop_before, enter, keep_newest, kept_entries, newest_serial, reports_on, take_back_to,
+    Entry, drop_before, enter, keep_newest, kept_entries, newest_serial, report_on, reports_on,
+    take_back_to,
 };
 use crate::report::Report;
 use crate::reversible::{Reversible, Stepped, Told};
@@ -111,6 +112,31 @@ impl<S: Reversible> Journal<S> {
     {
         let entry = self.past.get(index)?;
         Some(&entry.trace)
+    }
+
+    /// Returns the mark of the first station: no undo goes back to before it. Takes no memory.
+    pub fn floor(&self) -> Mark
+        ensures { result ≡ self.now.first.serial }
+    {
+        self.floor
+    }
+
+    /// Returns what an undo to the mark would report: how many steps it would cut, and their notes, oldest first. Nothing is
+    /// undone. It costs a binary search, and a copy of those notes.
+    ///
+    /// # Errors
+    ///
+    /// In this order: `Forgotten` if the mark is below the first station's, `DeadMark` if it is any other without a station,
+    /// and `Memory`, which names the mark where the journal stands, if an allocation fails.
+    pub fn report(&self, mark: Mark) -> Result<Report<S::Note>, JournalError<S::Refusal, S::Note>>
+        ensures reported { IfOk result (IsReportOf mark self.now) }
+        ensures err { IfErr result (HasNoReport mark self.now) }
+    {
+        let keep = self.entries_to(mark)?;
+        match report_on(self.alloc, &self.past[keep..]) {
+            Ok(report) => Ok(report),
+            Err(_) => Err(self.out_of_memory()),
+        }
     }
 
     /// Whether no serial is left for another step. Takes no memory.

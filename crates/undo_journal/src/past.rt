@@ -141,7 +141,7 @@ pub(crate) fn take_back_to<S: Reversible>(
 }
 
 /// The report of an undo that cuts these stations.
-fn report_on<S, R, N: Duplicate>(
+pub(crate) fn report_on<S, R, N: Duplicate>(
     alloc: Global,
     cut: &[Entry<S, R, N>],
 ) -> Result<Report<N>, AllocError>

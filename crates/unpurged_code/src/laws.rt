@@ -1,12 +1,12 @@
-// What holds of notes, and of those that are told.
+// What holds of how old code is purged later, and of the modules that are told.
 ghost use Rattle.unpurged_code.specs.Laws.{ChangesNote, OneList, PurgesDropNotes};
 
-/// A purge takes away what is noted of the old code of a module, and of no other module.
+/// Once a module is purged nothing of it is purged later, and each other module is purged later as before.
 pub fn purges_drop_notes()
     ensures { PurgesDropNotes }
 {}
 
-/// A load or a removal makes current code old, and the note that is put down of it then says how it is purged.
+/// A load or a removal makes current code old, and that is purged later as PostPurge says, if one is given.
 pub fn changes_note()
     ensures { ChangesNote }
 {}

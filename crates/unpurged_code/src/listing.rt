@@ -4,14 +4,13 @@ ghost use Rattle.std.specs.List.{filter};
 ghost use Rattle.unpurged_code.specs.Unpurged.{AreNoted, AreSwept, is_left_alone, with_entry};
 
 use crate::names::put_by_name;
-use crate::notes::is_noted;
+use crate::notes::is_kind;
 use code_loading::is_lingered_in;
 use code_server::Modules;
 use erl_ir::Module;
 use erl_term::Atom;
 use process_table::Processes;
 use release_words::Purge;
-use script_state::Unpurged;
 use std::alloc::{AllocError, Global};
 use values::Duplicate;
 
@@ -19,18 +18,17 @@ use values::Duplicate;
 fn put_entry(
     names: &mut Vec<Atom>,
     modules: &Modules<Module>,
-    unpurged: &[Unpurged],
     alloc: Global,
     kind: Purge,
     index: usize,
 ) -> Result<(), AllocError>
     ensures { OnOk result (names.new.items ≡
-        with_entry kind unpurged.now (slice_get modules.now.entries index) names.old.items) }
+        with_entry kind (slice_get modules.now.entries index) names.old.items) }
 {
     let Some((name, slots)) = modules.entry(index) else {
         return Ok(());
     };
-    if is_noted(slots.former.as_ref(), unpurged, kind) {
+    if is_kind(slots.post, kind) {
         put_by_name(names, name.copy(alloc)?)?;
     }
     Ok(())
@@ -41,18 +39,13 @@ fn put_entry(
 /// # Errors
 ///
 /// `AllocError` where memory is refused.
-pub fn noted(
-    modules: &Modules<Module>,
-    unpurged: &[Unpurged],
-    alloc: Global,
-    kind: Purge,
-) -> Result<Vec<Atom>, AllocError>
-    ensures { IfOk result (λ it. AreNoted kind modules.now unpurged.now it.items) }
+pub fn noted(modules: &Modules<Module>, alloc: Global, kind: Purge) -> Result<Vec<Atom>, AllocError>
+    ensures { IfOk result (λ it. AreNoted kind modules.now it.items) }
 {
     let count = modules.len();
     let mut names = Vec::new(alloc);
     for index in 0..count {
-        put_entry(&mut names, modules, unpurged, alloc, kind, index)?;
+        put_entry(&mut names, modules, alloc, kind, index)?;
     }
     Ok(names)
 }
@@ -80,12 +73,11 @@ fn keep_left_alone(names: &mut Vec<Atom>, modules: &Modules<Module>, processes: 
 pub fn to_sweep(
     modules: &Modules<Module>,
     processes: &Processes,
-    unpurged: &[Unpurged],
     alloc: Global,
 ) -> Result<Vec<Atom>, AllocError>
-    ensures { IfOk result (λ it. AreSwept modules.now processes.now unpurged.now it.items) }
+    ensures { IfOk result (λ it. AreSwept modules.now processes.now it.items) }
 {
-    let mut names = noted(modules, unpurged, alloc, Purge::Soft)?;
+    let mut names = noted(modules, alloc, Purge::Soft)?;
     keep_left_alone(&mut names, modules, processes);
     Ok(names)
 }

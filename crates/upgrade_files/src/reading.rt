@@ -7,6 +7,8 @@ ghost use Rattle.release_files.specs.Releases.{IsRelease};
 use release_files::{Files, ReleaseFault, all_faults, read_release};
 use release_table::Release;
 use std::alloc::{AllocError, Global};
+use std::fmt;
+use thiserror::Error;
 
 /// Two releases.
 #[derive(Drop)]
@@ -27,12 +29,21 @@ pub struct UnreadFaults {
 }
 
 /// Why there are no two releases.
-#[derive(Drop)]
+#[derive(Drop, Error)]
 pub enum Unread {
     /// The files are none.
+    #[error("the files are no two releases")]
     Faults(UnreadFaults),
     /// Memory was refused.
+    #[error("out of memory")]
     Memory,
+}
+
+/// As it is displayed.
+impl fmt::Debug for Unread {
+    fn fmt<W: fmt::Write>(&self, f: &mut fmt::Formatter<W>) -> fmt::Result {
+        write!(f, "{self}")
+    }
 }
 
 /// Reads two releases.

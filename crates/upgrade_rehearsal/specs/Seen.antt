@@ -188,7 +188,6 @@ IsReturned false begin up_to down_to seen = seen ≡ quiet.Untried
 pub record HasBooted (r : Release) (n : NodeState) : Type 0 where
   pub boots : Boots r n.modules n.processes n.apps
   pub releases : n.releases ≡ booted r
-  pub unpurged : n.unpurged ≡ []
   pub runner : n.runner ≡ None
 
 -- What was seen of an upgrade from where the release that is left has booted, which has this version: the node is told of the

@@ -1,9 +1,20 @@
 // A change that has purged old code, taken back so that it can be made again without memory.
-ghost use Rattle.std.specs.Prelude.{◌≡◌, IfErr, IfOk, OnErr, OnOk};
+ghost use Rattle.std.specs.Prelude.{◌≡◌, IfErr, IfOk, IsSome, OnErr, OnOk, Some};
 
 use crate::indices::{SlotChange, change_at, move_back, move_last, put_back, take_out};
-use crate::modules::Modules;
+use crate::modules::{Instance, Modules};
 use crate::undo::{ModulesUndo, Redo};
+
+/// Returns the old code that went, which was there.
+fn there<C>(former: Option<Instance<C>>) -> Instance<C>
+    requires { IsSome former }
+    ensures { Some result ≡ former }
+{
+    match former {
+        Some(instance) => instance,
+        None => unreachable!(),
+    }
+}
 
 impl<C: Drop> Modules<C> {
     ghost use Rattle.code_server.specs.Modules.{Table};
@@ -25,29 +36,31 @@ impl<C: Drop> Modules<C> {
         ensures err { OnErr result (self.new ≡ self.old) }
     {
         match undo {
-            ModulesUndo::Replaced(index, instance) => {
-                let gone = change_at(&mut self.table, index, SlotChange::Unstack(Some(instance)));
+            ModulesUndo::Replaced(index, instance, post) => {
+                let change = SlotChange::Unstack(Some(instance), post);
+                let (gone, noted) = change_at(&mut self.table, index, change);
                 self.last -= 1;
-                Ok(Redo::Replace(index, gone))
+                Ok(Redo::Replace(index, gone, noted))
             }
-            ModulesUndo::Demoted(index, instance) => {
-                let gone = change_at(&mut self.table, index, SlotChange::Unstack(Some(instance)));
-                Ok(Redo::Demote(index, gone))
+            ModulesUndo::Demoted(index, instance, post) => {
+                let change = SlotChange::Unstack(Some(instance), post);
+                let (gone, noted) = change_at(&mut self.table, index, change);
+                Ok(Redo::Demote(index, gone, noted))
             }
-            ModulesUndo::Moved(index, instance) => {
-                let gone = move_back(&mut self.table, index, instance);
+            ModulesUndo::Moved(index, instance, post) => {
+                let gone = move_back(&mut self.table, index, instance, post);
                 self.last -= 1;
                 Ok(Redo::Move(index, gone))
             }
-            ModulesUndo::Purged(index, instance) => {
-                let change = SlotChange::ReplaceOld(Some(instance));
-                let gone = change_at(&mut self.table, index, change);
-                Ok(Redo::Purge(index, gone))
+            ModulesUndo::Purged(index, instance, post) => {
+                let change = SlotChange::ReplaceOld(Some(instance), post);
+                let (gone, noted) = change_at(&mut self.table, index, change);
+                Ok(Redo::Purge(index, gone, noted))
             }
-            ModulesUndo::Removed(index, name, instance) => {
-                match put_back(&mut self.table, index, name, instance) {
+            ModulesUndo::Removed(index, name, instance, post) => {
+                match put_back(&mut self.table, index, name, instance, post) {
                     Ok(()) => Ok(Redo::Remove(index)),
-                    Err((name, instance)) => Err(ModulesUndo::Removed(index, name, instance)),
+                    Err((name, instance)) => Err(ModulesUndo::Removed(index, name, instance, post)),
                 }
             }
             ModulesUndo::Nothing
@@ -63,34 +76,29 @@ impl<C: Drop> Modules<C> {
         ensures { (undo : ModulesUndo C) (t : Table C) → Redoes redo undo t self.old → (result ≡ undo) × (self.new ≡ t) }
     {
         match redo {
-            Redo::Replace(index, instance) => {
+            Redo::Replace(index, instance, post) => {
                 self.last += 1;
-                match change_at(&mut self.table, index, SlotChange::Stack(instance)) {
-                    Some(former) => ModulesUndo::Replaced(index, former),
-                    None => unreachable!(),
-                }
+                let change = SlotChange::Stack(instance, post);
+                let (former, noted) = change_at(&mut self.table, index, change);
+                ModulesUndo::Replaced(index, there(former), noted)
             }
-            Redo::Demote(index, instance) => {
-                match change_at(&mut self.table, index, SlotChange::Stack(instance)) {
-                    Some(former) => ModulesUndo::Demoted(index, former),
-                    None => unreachable!(),
-                }
+            Redo::Demote(index, instance, post) => {
+                let change = SlotChange::Stack(instance, post);
+                let (former, noted) = change_at(&mut self.table, index, change);
+                ModulesUndo::Demoted(index, there(former), noted)
             }
             Redo::Move(index, slots) => {
                 self.last += 1;
-                match move_last(&mut self.table, index, slots) {
-                    Some(former) => ModulesUndo::Moved(index, former),
-                    None => unreachable!(),
-                }
+                let (former, noted) = move_last(&mut self.table, index, slots);
+                ModulesUndo::Moved(index, there(former), noted)
             }
-            Redo::Purge(index, instance) => {
-                match change_at(&mut self.table, index, SlotChange::ReplaceOld(instance)) {
-                    Some(former) => ModulesUndo::Purged(index, former),
-                    None => unreachable!(),
-                }
+            Redo::Purge(index, instance, post) => {
+                let change = SlotChange::ReplaceOld(instance, post);
+                let (former, noted) = change_at(&mut self.table, index, change);
+                ModulesUndo::Purged(index, there(former), noted)
             }
             Redo::Remove(index) => match take_out(&mut self.table, index) {
-                Some((name, former)) => ModulesUndo::Removed(index, name, former),
+                Some((name, former, noted)) => ModulesUndo::Removed(index, name, former, noted),
                 None => unreachable!(),
             },
         }

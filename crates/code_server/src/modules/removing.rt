@@ -5,15 +5,17 @@ use crate::indices::{SlotChange, change_at, has_current, take_out};
 use crate::modules::Modules;
 use crate::undo::ModulesUndo;
 use erl_term::Atom;
+use release_words::Purge;
 
 impl<C: Drop> Modules<C> {
     ghost use Rattle.code_server.specs.Modules.{old_of, removed};
     ghost use Rattle.code_server.specs.Undo.{Fits, HasPurged, held, undone};
 
-    /// Removes a module: its old code is gone, if it has any, and its current code becomes old (appup(4), remove). A module
-    /// that has old code alone leaves the table. Who uses the old code is the caller's to see to. Takes no memory.
-    pub fn remove(&mut self, name: &Atom) -> ModulesUndo<C>
-        ensures removed { self.new ≡ removed name.now self.old }
+    /// Removes a module: its old code is gone, if it has any, and its current code becomes old (appup(4), remove), and is
+    /// purged later so. A module that has old code alone leaves the table. Who uses the old code is the caller's to see to.
+    /// Takes no memory.
+    pub fn remove(&mut self, name: &Atom, post: Option<Purge>) -> ModulesUndo<C>
+        ensures removed { self.new ≡ removed name.now post self.old }
         ensures inverse { Fits result self.new × (undone result self.new ≡ self.old) }
         ensures pieces { held result ≡ old_of name.now self.old }
         ensures old_code { IsSome (old_of name.now self.old) → HasPurged result }
@@ -22,13 +24,15 @@ impl<C: Drop> Modules<C> {
             return ModulesUndo::Nothing;
         };
         if has_current(&self.table, index) {
-            let Some(former) = change_at(&mut self.table, index, SlotChange::Stack(None)) else {
+            let change = SlotChange::Stack(None, post);
+            let (gone, noted) = change_at(&mut self.table, index, change);
+            let Some(former) = gone else {
                 return ModulesUndo::Retired(index);
             };
-            return ModulesUndo::Demoted(index, former);
+            return ModulesUndo::Demoted(index, former, noted);
         }
         match take_out(&mut self.table, index) {
-            Some((name, former)) => ModulesUndo::Removed(index, name, former),
+            Some((name, former, noted)) => ModulesUndo::Removed(index, name, former, noted),
             None => unreachable!(),
         }
     }

@@ -16,7 +16,7 @@ use erl_term::{Atom, Terms};
 use process_table::Processes;
 use release_table::Release;
 use script_children::apply;
-use script_state::{Progress, Unpurged};
+use script_state::Progress;
 use std::alloc::Global;
 use values::{Failure, Row};
 
@@ -25,7 +25,6 @@ pub(crate) fn stop(
     modules: &mut Modules<Module>,
     processes: &mut Processes,
     apps: &mut AppTable,
-    unpurged: &mut Vec<Unpurged>,
     progress: &mut Progress,
     alloc: Global,
     release: &Release,
@@ -34,8 +33,8 @@ pub(crate) fn stop(
     n: usize,
 ) -> Result<Carried, Failure<Halt>>
     ensures carried { Carries release.now give_up (low.Stop names.now) n
-        (parts_of modules.old processes.old apps.old unpurged.old.items progress.old)
-        (parts_of modules.new processes.new apps.new unpurged.new.items progress.new) result }
+        (parts_of modules.old processes.old apps.old progress.old)
+        (parts_of modules.new processes.new apps.new progress.new) result }
     ensures next { progress.new.next ≡ progress.old.next }
 {
     let stopped = &mut progress.stopped;
@@ -53,7 +52,6 @@ pub(crate) fn start(
     modules: &mut Modules<Module>,
     processes: &mut Processes,
     apps: &mut AppTable,
-    unpurged: &mut Vec<Unpurged>,
     progress: &mut Progress,
     alloc: Global,
     release: &Release,
@@ -62,8 +60,8 @@ pub(crate) fn start(
     n: usize,
 ) -> Result<Carried, Failure<Halt>>
     ensures carried { Carries release.now give_up (low.Start names.now) n
-        (parts_of modules.old processes.old apps.old unpurged.old.items progress.old)
-        (parts_of modules.new processes.new apps.new unpurged.new.items progress.new) result }
+        (parts_of modules.old processes.old apps.old progress.old)
+        (parts_of modules.new processes.new apps.new progress.new) result }
     ensures next { progress.new.next ≡ progress.old.next }
 {
     let noted = progress.stopped.as_slice();
@@ -82,7 +80,6 @@ pub(crate) fn apply_function(
     modules: &mut Modules<Module>,
     processes: &mut Processes,
     apps: &mut AppTable,
-    unpurged: &mut Vec<Unpurged>,
     progress: &mut Progress,
     alloc: Global,
     release: &Release,
@@ -93,8 +90,8 @@ pub(crate) fn apply_function(
     n: usize,
 ) -> Result<Carried, Failure<Halt>>
     ensures carried { Carries release.now give_up (low.Apply name.now function.now arguments.now) n
-        (parts_of modules.old processes.old apps.old unpurged.old.items progress.old)
-        (parts_of modules.new processes.new apps.new unpurged.new.items progress.new) result }
+        (parts_of modules.old processes.old apps.old progress.old)
+        (parts_of modules.new processes.new apps.new progress.new) result }
     ensures next { progress.new.next ≡ progress.old.next }
 {
     let Ok(code) = current_code(alloc, modules) else {

@@ -17,7 +17,7 @@ use process_table::Processes;
 use release_table::Release;
 use release_words::{Purge, Version};
 use script_children::nothing_told;
-use script_state::{Progress, Unpurged};
+use script_state::Progress;
 use std::alloc::Global;
 use values::{Failure, Row};
 
@@ -26,7 +26,6 @@ pub(crate) fn pass_point(
     modules: &mut Modules<Module>,
     processes: &mut Processes,
     apps: &mut AppTable,
-    unpurged: &mut Vec<Unpurged>,
     progress: &mut Progress,
     alloc: Global,
     release: &Release,
@@ -34,8 +33,8 @@ pub(crate) fn pass_point(
     n: usize,
 ) -> Result<Carried, Failure<Halt>>
     ensures carried { Carries release.now give_up (low.PointOfNoReturn) n
-        (parts_of modules.old processes.old apps.old unpurged.old.items progress.old)
-        (parts_of modules.new processes.new apps.new unpurged.new.items progress.new) result }
+        (parts_of modules.old processes.old apps.old progress.old)
+        (parts_of modules.new processes.new apps.new progress.new) result }
     ensures next { progress.new.next ≡ progress.old.next }
 {
     let Ok(told) = nothing_told(alloc, n) else {
@@ -52,7 +51,6 @@ pub(crate) fn read(
     modules: &mut Modules<Module>,
     processes: &mut Processes,
     apps: &mut AppTable,
-    unpurged: &mut Vec<Unpurged>,
     progress: &mut Progress,
     alloc: Global,
     release: &Release,
@@ -63,8 +61,8 @@ pub(crate) fn read(
     n: usize,
 ) -> Result<Carried, Failure<Halt>>
     ensures carried { Carries release.now give_up (low.LoadObjectCode application.now version.now names.now) n
-        (parts_of modules.old processes.old apps.old unpurged.old.items progress.old)
-        (parts_of modules.new processes.new apps.new unpurged.new.items progress.new) result }
+        (parts_of modules.old processes.old apps.old progress.old)
+        (parts_of modules.new processes.new apps.new progress.new) result }
     ensures next { progress.new.next ≡ progress.old.next }
 {
     let versions = &mut progress.versions;
@@ -92,7 +90,6 @@ pub(crate) fn load(
     modules: &mut Modules<Module>,
     processes: &mut Processes,
     apps: &mut AppTable,
-    unpurged: &mut Vec<Unpurged>,
     progress: &mut Progress,
     alloc: Global,
     release: &Release,
@@ -103,17 +100,17 @@ pub(crate) fn load(
     n: usize,
 ) -> Result<Carried, Failure<Halt>>
     ensures carried { Carries release.now give_up (low.Load name.now pre_purge post_purge) n
-        (parts_of modules.old processes.old apps.old unpurged.old.items progress.old)
-        (parts_of modules.new processes.new apps.new unpurged.new.items progress.new) result }
+        (parts_of modules.old processes.old apps.old progress.old)
+        (parts_of modules.new processes.new apps.new progress.new) result }
     ensures next { progress.new.next ≡ progress.old.next }
 {
     let versions = progress.versions.as_slice();
     match load_code(
-        modules, processes, apps, unpurged, alloc, release, versions, name, post_purge, n,
+        modules, processes, apps, alloc, release, versions, name, post_purge, n,
     ) {
         Ok(it) => Ok(Carried {
             told: it.told,
-            undo: InstructionUndo::Replaced(it.undo, it.noted),
+            undo: InstructionUndo::Replaced(it.undo),
         }),
         Err(failure) => Err(failure),
     }
@@ -124,7 +121,6 @@ pub(crate) fn remove(
     modules: &mut Modules<Module>,
     processes: &mut Processes,
     apps: &mut AppTable,
-    unpurged: &mut Vec<Unpurged>,
     progress: &mut Progress,
     alloc: Global,
     release: &Release,
@@ -135,16 +131,14 @@ pub(crate) fn remove(
     n: usize,
 ) -> Result<Carried, Failure<Halt>>
     ensures carried { Carries release.now give_up (low.Remove name.now pre_purge post_purge) n
-        (parts_of modules.old processes.old apps.old unpurged.old.items progress.old)
-        (parts_of modules.new processes.new apps.new unpurged.new.items progress.new) result }
+        (parts_of modules.old processes.old apps.old progress.old)
+        (parts_of modules.new processes.new apps.new progress.new) result }
     ensures next { progress.new.next ≡ progress.old.next }
 {
-    match remove_code(
-        modules, processes, apps, unpurged, alloc, name, post_purge, n,
-    ) {
+    match remove_code(modules, processes, apps, alloc, name, post_purge, n) {
         Ok(it) => Ok(Carried {
             told: it.told,
-            undo: InstructionUndo::Replaced(it.undo, it.noted),
+            undo: InstructionUndo::Replaced(it.undo),
         }),
         Err(_) => Err(Failure::Memory),
     }
@@ -155,7 +149,6 @@ pub(crate) fn purge(
     modules: &mut Modules<Module>,
     processes: &mut Processes,
     apps: &mut AppTable,
-    unpurged: &mut Vec<Unpurged>,
     progress: &mut Progress,
     alloc: Global,
     release: &Release,
@@ -164,8 +157,8 @@ pub(crate) fn purge(
     n: usize,
 ) -> Result<Carried, Failure<Halt>>
     ensures carried { Carries release.now give_up (low.Purge names.now) n
-        (parts_of modules.old processes.old apps.old unpurged.old.items progress.old)
-        (parts_of modules.new processes.new apps.new unpurged.new.items progress.new) result }
+        (parts_of modules.old processes.old apps.old progress.old)
+        (parts_of modules.new processes.new apps.new progress.new) result }
     ensures next { progress.new.next ≡ progress.old.next }
 {
     match purge_code(modules, processes, apps, alloc, names.as_slice(), n) {

@@ -15,7 +15,7 @@ use erl_term::Atom;
 use low_instructions::{Direction, ModuleChange, Suspension};
 use process_table::Processes;
 use release_table::Release;
-use script_state::{Progress, Unpurged};
+use script_state::Progress;
 use std::alloc::Global;
 use values::{Failure, Row};
 
@@ -24,7 +24,6 @@ pub(crate) fn suspend(
     modules: &mut Modules<Module>,
     processes: &mut Processes,
     apps: &mut AppTable,
-    unpurged: &mut Vec<Unpurged>,
     progress: &mut Progress,
     alloc: Global,
     release: &Release,
@@ -33,8 +32,8 @@ pub(crate) fn suspend(
     n: usize,
 ) -> Result<Carried, Failure<Halt>>
     ensures carried { Carries release.now give_up (low.Suspend names.now) n
-        (parts_of modules.old processes.old apps.old unpurged.old.items progress.old)
-        (parts_of modules.new processes.new apps.new unpurged.new.items progress.new) result }
+        (parts_of modules.old processes.old apps.old progress.old)
+        (parts_of modules.new processes.new apps.new progress.new) result }
     ensures next { progress.new.next ≡ progress.old.next }
 {
     let suspended = &mut progress.suspended;
@@ -61,7 +60,6 @@ pub(crate) fn resume(
     modules: &mut Modules<Module>,
     processes: &mut Processes,
     apps: &mut AppTable,
-    unpurged: &mut Vec<Unpurged>,
     progress: &mut Progress,
     alloc: Global,
     release: &Release,
@@ -70,8 +68,8 @@ pub(crate) fn resume(
     n: usize,
 ) -> Result<Carried, Failure<Halt>>
     ensures carried { Carries release.now give_up (low.Resume names.now) n
-        (parts_of modules.old processes.old apps.old unpurged.old.items progress.old)
-        (parts_of modules.new processes.new apps.new unpurged.new.items progress.new) result }
+        (parts_of modules.old processes.old apps.old progress.old)
+        (parts_of modules.new processes.new apps.new progress.new) result }
     ensures next { progress.new.next ≡ progress.old.next }
 {
     let suspended = &mut progress.suspended;
@@ -89,7 +87,6 @@ pub(crate) fn change_code(
     modules: &mut Modules<Module>,
     processes: &mut Processes,
     apps: &mut AppTable,
-    unpurged: &mut Vec<Unpurged>,
     progress: &mut Progress,
     alloc: Global,
     release: &Release,
@@ -99,8 +96,8 @@ pub(crate) fn change_code(
     n: usize,
 ) -> Result<Carried, Failure<Halt>>
     ensures carried { Carries release.now give_up (low.CodeChange direction changes.now) n
-        (parts_of modules.old processes.old apps.old unpurged.old.items progress.old)
-        (parts_of modules.new processes.new apps.new unpurged.new.items progress.new) result }
+        (parts_of modules.old processes.old apps.old progress.old)
+        (parts_of modules.new processes.new apps.new progress.new) result }
     ensures next { progress.new.next ≡ progress.old.next }
 {
     match change_children(

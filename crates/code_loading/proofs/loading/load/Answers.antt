@@ -25,5 +25,5 @@ returns-in-Ok-purge_and_load-clause-inverse c =
     let u = c.in-Ok-purge_and_load.modules in
     let it = c.in-Ok-purge_and_load.ensures in
     let kill = c.in-Ok-kill_lingering.ensures in
-    let lost = load_taken name c.args.code u m after it.inverse it.loaded it.pieces in
+    let lost = load_taken name c.args.code c.args.post u m after it.inverse it.loaded it.pieces in
     takes_back name u c.in-Ok-kill_lingering.killed m after c.args.processes.now c.kill_lingering.new.processes it.inverse kill.inverse it.old_code lost kill.pieces

@@ -9,9 +9,9 @@ use Rattle.code_server.proofs.indices.move_back.Goals as goal
 
 pub returns-clause-moved : goal.returns-clause-moved
 returns-clause-moved g c =
-    let written = with_slots_from_write (old_alone c.args.instance) c.move_index.new.self.entries c.args.index c.index_mut.result.now c.replace.new.dest c.index_mut.ensures.value c.replace.ensures.after in
+    let written = with_slots_from_write (λ _. old_alone c.args.instance c.args.post) c.move_index.new.self.entries c.args.index c.index_mut.result.now c.replace.new.dest c.index_mut.ensures.value c.replace.ensures.after in
     let moved : c.move_index.new.self.entries ≡ move_index c.args.table.now.entries (length c.args.table.now.entries - 1) c.args.index = c.move_index.ensures.entries ∙ ap (λ n. move_index c.args.table.now.entries (n - 1) c.args.index) c.len-last.ensures.len in
-    written ∙ ap (λ es. with_slots (old_alone c.args.instance) es c.args.index) moved ∙ moved_back_from_move c.args.table.now.entries c.args.index c.args.instance c.requires
+    written ∙ ap (λ es. with_slots (λ _. old_alone c.args.instance c.args.post) es c.args.index) moved ∙ moved_back_from_move c.args.table.now.entries c.args.index c.args.instance c.args.post c.requires
 
 pub returns-clause-gone : goal.returns-clause-gone
 returns-clause-gone g c =

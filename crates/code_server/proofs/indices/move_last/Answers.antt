@@ -3,7 +3,7 @@ use Rattle.std.proofs.Common.{◌≡◌, ◌-◌, length, slice_get, sym, ap, �
 use Rattle.std.specs.Map.{values_of}
 use Rattle.indexmap.specs.IndexMap.{move_index}
 use Rattle.code_server.specs.Modules.{with_slots}
-use Rattle.code_server.proofs.Standing.{former_from_move, moved_last_from_move, with_slots_from_write}
+use Rattle.code_server.proofs.Standing.{former_from_move, moved_last_from_move, post_from_move, with_slots_from_write}
 use Rattle.code_server.proofs.indices.move_last.Goals as goal
 
 pub returns-clause-moved : goal.returns-clause-moved
@@ -22,3 +22,11 @@ returns-clause-former g c =
     let moved : c.move_index.new.self.entries ≡ move_index es c.args.index (length es - 1) = c.move_index.ensures.entries ∙ ap (λ n. move_index es c.args.index (n - 1)) count in
     let lent = sym (λ j. slice_get (values_of (moved j)) (count j - 1)) ∙ c.index_mut.ensures.value in
     ap (λ slots. slots.former) c.replace-gone.ensures.value ∙ former_from_move es c.args.index c.index_mut.result.now c.requires lent
+
+pub returns-clause-post : goal.returns-clause-post
+returns-clause-post g c =
+    let es = c.args.table.now.entries in
+    let count = c.len-end.ensures.len in
+    let moved : c.move_index.new.self.entries ≡ move_index es c.args.index (length es - 1) = c.move_index.ensures.entries ∙ ap (λ n. move_index es c.args.index (n - 1)) count in
+    let lent = sym (λ j. slice_get (values_of (moved j)) (count j - 1)) ∙ c.index_mut.ensures.value in
+    ap (λ slots. slots.post) c.replace-gone.ensures.value ∙ post_from_move es c.args.index c.index_mut.result.now c.requires lent

@@ -21,7 +21,7 @@ returns c =
     let n = state_of c.args.parts.now in
     let name = c.args.name.now in
     let after = c.delete.new.self in
-    let a : Accepted NodeState Answer Note = record { node = with_modules (deleted name n.modules) n; answer = answer.Unit; note = reporting [] } in
+    let a : Accepted NodeState Answer Note = record { node = with_modules (deleted name None n.modules) n; answer = answer.Unit; note = reporting [] } in
     let ruled = while_idle n.runner (λ (it : Outcome). it ≡ deletes name n) (Ok a) c.requires.0 (unless_none (delete_refusal name n.modules) OfModules a c.requires.1) in
     let back = subst (λ (u : ModulesUndo Forms). Fits u after × (undone u after ≡ n.modules)) (sym c.fill.ensures) c.in-Ok-delete.ensures.inverse in
     let none = subst (λ (u : ModulesUndo Forms). held u ≡ None) (sym c.fill.ensures) c.in-Ok-delete.ensures.pieces in

@@ -1,5 +1,5 @@
 -- The module is current, and those who lingered in its old code are gone.
-use Rattle.std.proofs.Common.{◌≡◌, ◌∙◌, ℕ, List, replicate, Ok, refl, sym, ap, subst}
+use Rattle.std.proofs.Common.{◌≡◌, ◌∙◌, ℕ, List, None, replicate, Ok, refl, sym, ap, subst}
 use Rattle.undo_journal.specs.Reversible.{Accepted}
 use Rattle.script_events.specs.Changes.{state_of}
 use Rattle.script_events.specs.Node.{NodeState}
@@ -24,7 +24,7 @@ returns-in-Ok-replace c =
     let after = running c.load.new.modules c.load.new.processes c.load.new.apps in
     let a : Accepted NodeState Answer Note = loaded_as m n in
     let ruled = while_idle n.runner (λ (it : Outcome). it ≡ loads m n) (Ok a) c.requires.0 (unless_none (load_refused m n) OfModules a c.requires.1) in
-    let loaded = c.in-Ok-replace.ensures.loaded ∙ ap (λ (x : Forms). code_loaded x (running_in n)) c.in-Ok-copy.ensures in
+    let loaded = c.in-Ok-replace.ensures.loaded ∙ ap (λ (x : Forms). code_loaded x None (running_in n)) c.in-Ok-copy.ensures in
     let told = c.in-Ok.ensures ∙ ap (λ (name : List ℕ). replicate c.args.n (record { answer = answer.Unit; note = reporting (downs_of_purge name n.modules n.processes) })) c.name-name.ensures in
     let back = subst (λ (u : ReplacementUndo). TakesBack u (running_in n) after) (sym c.fill.ensures) c.in-Ok-replace.ensures.inverse in
     ((a, ruled, ap (λ s. with_running s n) (sym loaded), told), (back, refl))

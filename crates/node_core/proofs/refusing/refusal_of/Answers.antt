@@ -68,7 +68,7 @@ returns c =
           let name = w.in-Delete.name in
           let refused = delete_refusal name n.modules in
           let same = w.refusal-is ∙ w.of_modules-refusal-in-Delete.ensures ∙ ap (option_map OfModules) w.delete_refusal.ensures in
-          idle_same n e (event.Delete name) r x (option_map OfModules refused) (λ (it : Outcome). it ≡ deletes name n) (refused ≡ None) w.in-Delete.is told same (told_or_not OfModules refused (record { node = with_modules (deleted name n.modules) n; answer = answer.Unit; note = reporting [] })) (λ t. t)
+          idle_same n e (event.Delete name) r x (option_map OfModules refused) (λ (it : Outcome). it ≡ deletes name n) (refused ≡ None) w.in-Delete.is told same (told_or_not OfModules refused (record { node = with_modules (deleted name None n.modules) n; answer = answer.Unit; note = reporting [] })) (λ t. t)
       | in-Purge w ↦
           let name = w.in-Purge.field-0 in
           of_same n e (event.Purge name) r w.in-Purge.is (told_as r (unless_installing n.runner None) (n.runner ≡ None) (λ (it : Refusal). Step n (event.Purge name) (Err it)) (told ∙ ap (unless_installing n.runner) w.refusal-is) (only_idle n.runner (λ (it : Outcome). it ≡ purges name n)))

@@ -39,7 +39,7 @@ halt-requires c =
     let s = runner_of c.in-Some.runner in
     let now = runner_of c.carry_on-carried.new.runner in
     let runs = ran c.args.parts.now.runner c.take.result c.in-Some.runner c.take.ensures.value c.in-Some.is in
-    let mid : NodeState = record n { modules = c.carry_on-carried.new.modules; processes = c.carry_on-carried.new.processes; apps = c.carry_on-carried.new.apps; unpurged = c.carry_on-carried.new.unpurged.items; runner = Some now } in
+    let mid : NodeState = record n { modules = c.carry_on-carried.new.modules; processes = c.carry_on-carried.new.processes; apps = c.carry_on-carried.new.apps; runner = Some now } in
     let kept : IsInstalling s n.releases n.apps = subst (λ o. RunsScript o n.releases n.apps) runs c.requires.kept in
     let (stops, same) = refused_as c.in-Err-Refused.field-0 c.in-Err-Refused.stop c.in-Some-get.target.now.release c.args.give_up (script_in s n) (script_in now mid) c.in-Err-Refused.field-0-is c.in-Err-Refused.ensures.goes_on in
     let is = stays s now n mid c.in-Err-Refused.ensures.runner same refl runs in
@@ -52,7 +52,7 @@ returns-in-Ok c =
     let s = runner_of c.in-Some.runner in
     let now = runner_of c.carry_on-carried.new.runner in
     let runs = ran c.args.parts.now.runner c.take.result c.in-Some.runner c.take.ensures.value c.in-Some.is in
-    let after : NodeState = record n { modules = c.carry_on-carried.new.modules; processes = c.carry_on-carried.new.processes; apps = c.carry_on-carried.new.apps; unpurged = c.carry_on-carried.new.unpurged.items; runner = Some now } in
+    let after : NodeState = record n { modules = c.carry_on-carried.new.modules; processes = c.carry_on-carried.new.processes; apps = c.carry_on-carried.new.apps; runner = Some now } in
     let found : listed s.target n.releases ≡ Some c.in-Some-get.target.now = ap (λ (v : List ℕ). listed v n.releases) (sym c.as_str.ensures.chars) ∙ sym c.in-Some-get.ensures in
     let target = ap (option_map (λ (it : Listed). it.release)) found in
     let it = one_on c.in-Some-get.target.now.release c.args.give_up c.args.n s now n after c.in-Ok.field-0 c.in-Ok.ensures.goes_on c.in-Ok.ensures.runner refl target runs in
@@ -64,7 +64,7 @@ returns-in-Err-Refused c =
     let s = runner_of c.in-Some.runner in
     let now = runner_of c.carry_on-carried.new.runner in
     let runs = ran c.args.parts.now.runner c.take.result c.in-Some.runner c.take.ensures.value c.in-Some.is in
-    let mid : NodeState = record n { modules = c.carry_on-carried.new.modules; processes = c.carry_on-carried.new.processes; apps = c.carry_on-carried.new.apps; unpurged = c.carry_on-carried.new.unpurged.items; runner = Some now } in
+    let mid : NodeState = record n { modules = c.carry_on-carried.new.modules; processes = c.carry_on-carried.new.processes; apps = c.carry_on-carried.new.apps; runner = Some now } in
     let final = state_of c.halt.new.parts in
     let stop = c.in-Err-Refused.stop in
     let (stops, same) = refused_as c.in-Err-Refused.field-0 c.in-Err-Refused.stop c.in-Some-get.target.now.release c.args.give_up (script_in s n) (script_in now mid) c.in-Err-Refused.field-0-is c.in-Err-Refused.ensures.goes_on in
@@ -83,6 +83,6 @@ returns-in-Err-Memory c =
     let s = runner_of c.in-Some.runner in
     let now = runner_of c.carry_on-carried.new.runner in
     let runs = ran c.args.parts.now.runner c.take.result c.in-Some.runner c.take.ensures.value c.in-Some.is in
-    let mid : NodeState = record n { modules = c.carry_on-carried.new.modules; processes = c.carry_on-carried.new.processes; apps = c.carry_on-carried.new.apps; unpurged = c.carry_on-carried.new.unpurged.items; runner = Some now } in
+    let mid : NodeState = record n { modules = c.carry_on-carried.new.modules; processes = c.carry_on-carried.new.processes; apps = c.carry_on-carried.new.apps; runner = Some now } in
     let same = memory_as c.in-Err-Memory.field-0 c.in-Some-get.target.now.release c.args.give_up (script_in s n) (script_in now mid) c.in-Err-Memory.field-0-is c.in-Err-Memory.ensures.goes_on in
     (c.requires.wants, (stays s now n mid c.in-Err-Memory.ensures.runner same refl runs).node)

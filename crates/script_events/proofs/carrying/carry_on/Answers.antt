@@ -17,8 +17,8 @@ returns-in-Ok-step-clause-goes_on c =
     let i = c.in-Some.next.now in
     let runner = c.args.runner.now in
     let said : List Reply → Told Answer Note = λ rs. record { answer = answer.Ran i; note = record { replies = rs; arrival = None } } in
-    let before = parts_of c.args.modules.now c.args.processes.now c.args.apps.now c.args.unpurged.now.items runner.progress in
-    let after = parts_of c.step.new.modules c.step.new.processes c.step.new.apps c.step.new.unpurged.items c.step.new.progress in
+    let before = parts_of c.args.modules.now c.args.processes.now c.args.apps.now runner.progress in
+    let after = parts_of c.step.new.modules c.step.new.processes c.step.new.apps c.step.new.progress in
     carried c.args.release.now c.args.give_up n before after runner.script c.as_slice-script.result.now runner.progress.next c.step.new.progress.next c.in-Ok-step.field-0
     (record { told = c.tell_ran.result; undo = c.fill.result }) i c.as_slice-script.ensures c.in-Ok-step.ensures (sym c.in-Some.ensures) c.fill.ensures
     (λ told are.

@@ -21,7 +21,7 @@ returns-in-Ok c =
     let booted = c.in_ok-ready.ready.booted in
     let (told, tells, said) = c.in_ok-ready.ensures.told in
     let a : Accepted NodeState Answer Note = record { node = after; answer = answer.Restarted c.args.reason; note = reporting told } in
-    let stands = c.put_in_place.ensures.stands ∙ ap (λ (rs : List Listed). record { modules = booted.modules; processes = booted.processes; apps = booted.apps; releases = rs; unpurged = []; runner = None }) c.in-Ok.ensures.ok in
+    let stands = c.put_in_place.ensures.stands ∙ ap (λ (rs : List Listed). record { modules = booted.modules; processes = booted.processes; apps = booted.apps; releases = rs; runner = None }) c.in-Ok.ensures.ok in
     let ruled : FallsBack c.args.reason n a = record {
       permanent = permanent;
       found = ap (option_map (λ (it : Listed). it.release)) c.permanent.ensures;

@@ -24,7 +24,7 @@ returns-in-Ok c =
     let (told, tells, said) = c.in_ok-ready.ensures.told in
     let a : Accepted NodeState Answer Note = record { node = after; answer = answer.Unit; note = reporting told } in
     let statuses = c.in-Ok.ensures.ok ∙ ap (λ (v : List ℕ). rebooted v n.releases) c.as_str-2.ensures in
-    let stands = c.put_in_place.ensures.stands ∙ ap (λ (rs : List Listed). record { modules = booted.modules; processes = booted.processes; apps = booted.apps; releases = rs; unpurged = []; runner = None }) statuses in
+    let stands = c.put_in_place.ensures.stands ∙ ap (λ (rs : List Listed). record { modules = booted.modules; processes = booted.processes; apps = booted.apps; releases = rs; runner = None }) statuses in
     let ruled : Reboots vsn n a = record {
       unrefused = ap (λ (v : List ℕ). reboot_refusal v n.releases) (sym c.as_str-2.ensures) ∙ c.in-Ok.ensures.unrefused;
       old = old;

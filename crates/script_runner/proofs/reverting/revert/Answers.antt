@@ -9,8 +9,8 @@ use Rattle.script_runner.proofs.reverting.revert.Goals as goal
 
 pub returns-in-Children-clause-ok : goal.returns-in-Children-clause-ok
 returns-in-Children-clause-ok c =
-    let now = parts_of c.args.modules.now c.args.processes.now c.args.apps.now c.args.unpurged.now.items c.args.progress.now in
+    let now = parts_of c.args.modules.now c.args.processes.now c.args.apps.now c.args.progress.now in
     let new = c.revert_children.new in
-    let then = parts_of new.modules new.processes new.apps new.unpurged.items new.progress in
+    let then = parts_of new.modules new.processes new.apps new.progress in
     let Back : InstructionUndo → Type 0 = λ u. OnOk c.revert_children.result ((before : Parts) → HasItsCode (running_of before) → TakesBack u before now → then ≡ before) in
     subst Back (sym c.in-Children.is) c.revert_children.ensures.ok

@@ -1,4 +1,4 @@
--- The code that becomes old is the code that was current.
+-- The code that becomes old is the code that was current, and is purged later as the change says.
 use Rattle.unpurged_code.proofs.Aging.{loads_note, removes_note}
 use Rattle.unpurged_code.proofs.laws.changes_note.Goals as goal
 

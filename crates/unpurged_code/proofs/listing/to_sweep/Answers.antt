@@ -4,5 +4,5 @@ use Rattle.unpurged_code.proofs.listing.to_sweep.Goals as goal
 
 pub returns : goal.returns
 returns c =
-    left_alone c.args.modules.now c.args.processes.now c.args.unpurged.now c.in_ok-names.names.items c.keep_left_alone.new.names.items
+    left_alone c.args.modules.now c.args.processes.now c.in_ok-names.names.items c.keep_left_alone.new.names.items
     c.in_ok-names.ensures c.keep_left_alone.ensures

@@ -11,7 +11,6 @@ returns-in-Ok-new-clause-node c =
     let booted : HasBooted c.args.from.now c.in-Ok.node = record {
       boots = c.in-Ok.ensures.booted;
       releases = c.in-Ok.ensures.releases;
-      unpurged = c.in-Ok.ensures.idle.0;
-      runner = c.in-Ok.ensures.idle.1;
+      runner = c.in-Ok.ensures.idle;
     } in
     subst (λ (j : Timeline NodeState Note). HasBooted c.args.from.now (here j).node) (sym c.in-Ok-new.ensures.journal) booted

@@ -14,7 +14,7 @@ invariant_of-self g c =
     let able = IsDeletable-unrefused c.args.name.now t unrefused in
     let at = Stands-index c.args.name.now t.entries index (sym c.get_index_of.ensures.index ∙ c.in-Some-get_index_of.is) in
     let there = ap is_some (current_at-slots c.args.name.now t.entries index at ∙ sym (current_of-slots c.args.name.now t index at)) ∙ able.has_current in
-    rw c.change_at.ensures.changed (IsModuleTable-retired t index c.self.invariant there)
+    rw c.change_at.ensures.changed (IsModuleTable-retired t index None c.self.invariant there)
 
 pub returns-in-Some-get_index_of-clause-inverse : goal.returns-in-Some-get_index_of-clause-inverse
 returns-in-Some-get_index_of-clause-inverse g c =
@@ -23,4 +23,4 @@ returns-in-Some-get_index_of-clause-inverse g c =
     let unrefused : delete_refusal c.args.name.now t ≡ None = ap (delete_refusal c.args.name.now) c.self.view_is ∙ sym c.delete_refusal.ensures ∙ none_unless c.delete_refusal.result c.in_default.not-Some in
     let able = IsDeletable-unrefused c.args.name.now t unrefused in
     let at = Stands-index c.args.name.now t.entries index (sym c.get_index_of.ensures.index ∙ c.in-Some-get_index_of.is) in
-    Retired-back c.args.name.now t c.args.self.now index c.change_at.new.table.entries at (sym (old_of-slots c.args.name.now t index at) ∙ able.no_old) c.change_at.ensures.changed c.self.invariant c.self.view_is
+    Retired-back c.args.name.now t c.args.self.now index c.change_at.new.table.entries None at (sym (old_of-slots c.args.name.now t index at) ∙ able.no_old) c.change_at.ensures.changed c.self.invariant c.self.view_is

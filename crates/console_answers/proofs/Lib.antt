@@ -1,0 +1,3 @@
+pub mod Commenting
+pub mod Names
+pub mod Taken

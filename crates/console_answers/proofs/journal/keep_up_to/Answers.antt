@@ -1,0 +1,7 @@
+-- What stays is what passes the test.
+use Rattle.std.proofs.Common.{rules, nat_le}
+use Rattle.std.proofs.lemmas.Fn.{filter_same}
+use Rattle.console_answers.proofs.journal.keep_up_to.Goals as goal
+
+pub returns : goal.returns
+returns c = filter_same _ (λ s. nat_le s.serial c.args.mark) _ (λ x b f' k. search rules) _ _ c.retain.ensures.filtered

@@ -1,0 +1,4 @@
+pub mod Comments
+pub mod Help
+pub mod Journal
+pub mod Rows
