@@ -110,5 +110,6 @@ not_named c new name fate old appended same told =
 
 -- the console with other steps of the same items
 pub same_console : (shell : ShellState) (steps steps_new : List LoggedStep) (marks marks_new : List NamedMark) → steps_new ≡ steps →
-    marks_new ≡ marks → record { shell = shell; steps = steps_new; marks = marks_new } ≡ record { shell = shell; steps = steps; marks = marks }
+    marks_new ≡ marks → ◌≡◌ {A = ConsoleState} (record { shell = shell; steps = steps_new; marks = marks_new })
+    (record { shell = shell; steps = steps; marks = marks })
 same_console shell steps steps_new marks marks_new one other = λ i. record { shell = shell; steps = one i; marks = other i }

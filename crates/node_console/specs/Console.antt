@@ -59,9 +59,19 @@ TellsRows may (Some Refused) text = text ≡ line_of (fixed words.Memory)
 TellsRows may (Some (StoppedAt mark)) text = ⊥
 
 -- the process that the next step of a script would wait for, if it would wait
+abbrev pub busy_in : Refusal → Option ℕ
+busy_in (refusals.OfProcesses why) = None
+busy_in (refusals.OfModules why) = None
+busy_in (refusals.OfApps why) = None
+busy_in (refusals.OfReleases why) = None
+busy_in (refusals.OfInstall why) = None
+busy_in refusals.Installing = None
+busy_in refusals.NotInstalling = None
+busy_in (refusals.Busy pid) = Some pid
+busy_in refusals.CounterEnd = None
+
 pub data Awaits (n : NodeState) : Option ℕ → Type 0 where
-  waits : (pid : ℕ) → Step n (Advance false) (Err (refusals.Busy pid)) → Awaits n (Some pid)
-  is_refused : (why : Refusal) → ((pid : ℕ) → why ≡ refusals.Busy pid → ⊥) → Step n (Advance false) (Err why) → Awaits n None
+  is_refused : (why : Refusal) → Step n (Advance false) (Err why) → Awaits n (busy_in why)
   goes : MayRunOut n (Advance false) → Awaits n None
 
 abbrev pub AreScriptRows : NodeState → Option RunnerState → List Term → Type 0

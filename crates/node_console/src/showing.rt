@@ -3,7 +3,7 @@ ghost use Rattle.std.specs.Prelude.{◌≡◌, ◌++◌, ◌-◌, IfOk, None};
 ghost use Rattle.console_answers.specs.Rows.{rows_text};
 ghost use Rattle.console_answers.specs.Journal.{step_rows};
 ghost use Rattle.node_console.specs.Console.{AreListed, AreScriptRows, Awaits, Comments, Previews, PreviewsMark, SaysHelp, Shows, ShowsQueue, TellsRows};
-ghost use Rattle.node_console.specs.Console.{mark_meant, queue_of};
+ghost use Rattle.node_console.specs.Console.{busy_in, mark_meant, queue_of};
 ghost use Rattle.undo_journal.specs.Journal.{IsReportOf};
 ghost use Rattle.node_console.specs.Held.{IsShown, console_of};
 ghost use Rattle.console_answers.specs.Help.{is_command};
@@ -111,11 +111,19 @@ fn script_rows(alloc: Global, node: &Node) -> Result<Vec<Term>, AllocError>
 fn awaited(node: &Node) -> Option<u64>
     ensures { Awaits node.now result }
 {
-    let refusal = node.refusal(&Event::Advance { give_up: false });
-    match &refusal {
-        Some(Refusal::Busy(pid)) => Some(*pid),
-        Some(_) => None,
+    match node.refusal(&Event::Advance { give_up: false }) {
+        Some(refusal) => busy_in(&refusal),
         None => None,
+    }
+}
+
+/// Returns the process that a step of the script would wait for, which is refused so.
+fn busy_in(refusal: &Refusal) -> Option<u64>
+    ensures { result ≡ busy_in refusal.now }
+{
+    match refusal {
+        Refusal::Busy(pid) => Some(*pid),
+        _ => None,
     }
 }
 

@@ -9,8 +9,8 @@ use Rattle.undo_journal.specs.Timeline.{here}
 use Rattle.shell_exec.specs.State.{NodeTimeline}
 use Rattle.node_console.proofs.obeying.give_name.Goals as goal
 
-pub returns-in-Ok : goal.returns-in-Ok
-returns-in-Ok c =
+pub returns-in_ok-write_mark-in-Ok : goal.returns-in_ok-write_mark-in-Ok
+returns-in_ok-write_mark-in-Ok c =
     let mark = c.mark.ensures.serial ∙ ap (λ (t : NodeTimeline). (here t).serial) c.journal.ensures in (
       _,
       has_name,

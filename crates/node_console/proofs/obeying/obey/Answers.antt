@@ -8,9 +8,9 @@ use Rattle.node_console.proofs.obeying.obey.Goals as goal
 
 pub returns-in-Ok : goal.returns-in-Ok
 returns-in-Ok c =
-    subst (λ (l : List ℕ). IfOk c.obey_noted.result (λ fate. IsExchange (Obeys (console_of c.args.held.now c.args.books.now) l (order_said c.args.order.entry) fate) (console_of c.obey_noted.new.held c.obey_noted.new.books) c.args.out.now.items c.obey_noted.new.out.items))
+    subst (λ (l : List ℕ). IfOk c.obey_noted.result (λ fate. IsExchange (Obeys (console_of c.args.held.now c.args.books.now) l (order_said c.args.order) fate) (console_of c.obey_noted.new.held c.obey_noted.new.books) c.args.out.now.items c.obey_noted.new.out.items))
     c.in-Ok.ensures c.obey_noted.ensures
 
 pub returns-in-Err : goal.returns-in-Err
 returns-in-Err c =
-    IfOk-then c.refuse.result _ _ c.refuse.ensures (λ fate told. not_noted _ _ c.args.line.now (order_said c.args.order.entry) fate c.args.out.now.items c.refuse.new.out.items refl told)
+    IfOk-then c.refuse.result _ _ c.refuse.ensures (λ fate told. not_noted _ _ c.args.line.now (order_said c.args.order) fate c.args.out.now.items c.refuse.new.out.items refl told)

@@ -1,9 +1,11 @@
--- By what stands against the next step.
-use Rattle.node_console.specs.Console.{goes, is_refused, waits}
+-- The step is refused so, or it would go.
+use Rattle.std.proofs.Common.{ℕ, Option, subst, sym}
+use Rattle.node_console.specs.Console.{Awaits, goes, is_refused}
 use Rattle.node_console.proofs.showing.awaited.Goals as goal
 
-pub returns-in-Some-Busy : goal.returns-in-Some-Busy
-returns-in-Some-Busy c = waits _ c.in-Some-Busy.ensures
+pub returns-in-Some : goal.returns-in-Some
+returns-in-Some c =
+    subst (λ (o : Option ℕ). Awaits c.args.node.now o) (sym c.busy_in.ensures) (is_refused c.in-Some.refusal c.in-Some.ensures)
 
 pub returns-in-None : goal.returns-in-None
 returns-in-None c = goes c.in-None.ensures

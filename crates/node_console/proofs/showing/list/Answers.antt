@@ -1,6 +1,5 @@
 -- Each list is of the node where it is.
 use Rattle.std.proofs.Common.{ℕ, List, IfOk, ap, subst, sym, ◌∙◌}
-use Rattle.app_table.specs.Applications.{Application}
 use Rattle.console_answers.specs.Rows.{AreJobRows, child_rows, process_rows, release_rows}
 use Rattle.erl_semantics.specs.declared.jobs.Job.{Job}
 use Rattle.node_console.proofs.Answering.{IfOk-then}

@@ -6,12 +6,12 @@ use Rattle.node_console.specs.Held.{IsShown}
 use Rattle.shell_answers.specs.declared.fixed.Fixed.TheVariants as words
 use Rattle.node_console.proofs.showing.show_help.Goals as goal
 
-pub returns-else-is_command : goal.returns-else-is_command
-returns-else-is_command c =
-    subst (λ (b : Bool). IfOk c.say.result (λ fate. IsShown (SaysHelp b fate) c.args.out.now.items c.say.new.out.items)) (sym c.if-is_command.false ∙ c.is_command.ensures)
+pub returns-then-not-is_command : goal.returns-then-not-is_command
+returns-then-not-is_command c =
+    subst (λ (b : Bool). IfOk c.say.result (λ fate. IsShown (SaysHelp b fate) c.args.out.now.items c.say.new.out.items)) (sym c.if-not-is_command.true ∙ c.is_command.ensures)
     (IfOk-then c.say.result _ _ c.say.ensures (λ fate told. word_said words.BadCommand fate _ _ told))
 
 pub returns : goal.returns
 returns c =
-    subst (λ (b : Bool). IsShown (SaysHelp b _) c.args.out.now.items c.put_comment.new.out.items) (sym c.if-is_command.true ∙ c.is_command.ensures)
+    subst (λ (b : Bool). IsShown (SaysHelp b _) c.args.out.now.items c.put_comment.new.out.items) (sym c.if-not-is_command.false ∙ c.is_command.ensures)
     (comments_said _ c.args.out.now.items c.put_comment.new.out.items refl c.in_ok-put_comment.ensures)

@@ -18,6 +18,7 @@ pub returns : goal.returns
 returns c =
     let old = c.args.out.now.items in
     let line = line_of (undone_steps c.args.report.now) in
-    let rows = c.as_slice.ensures.value ∙ c.in-Ok.ensures in
+    let rows = c.as_slice.ensures.value ∙ c.in-Ok.ensures
+    ∙ (λ i. step_rows c.args.mark (c.as_slice-marks.ensures.value i) (c.as_slice-steps.ensures.value i)) in
     IfOk-then c.say_rows.result _ _ c.say_rows.ensures (λ fate told. λ is. subst (λ (f : Option Fate). IsShown (PreviewsMark (console_of c.args.held.now c.args.books.now) c.args.mark f) old c.say_rows.new.out.items) (sym told.0)
     (_, shown c.args.report.now is, told.1 ∙ ap (λ b. b ++ rows_text _) c.in_ok-write_undone.ensures ∙ append_assoc old line (rows_text _) ∙ ap (λ rs. old ++ (line ++ rows_text rs)) rows))
