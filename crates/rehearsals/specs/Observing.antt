@@ -1,5 +1,5 @@
 -- What a rehearsal shows that is likely wrong with an upgrade (appup(4); release_handler(3)).
-use Rattle.std.specs.Prelude.{◌≡◌, ◌⊎◌, ℕ, zero, suc, Bool, true, false, IsSome, List, Contains, Option, None, Some, slice_get}
+use Rattle.std.specs.Prelude.{◌≡◌, ◌⊎◌, ℕ, zero, suc, Bool, true, false, IsSome, List, [], Contains, Option, None, Some, slice_get}
 use Rattle.erl_semantics.specs.declared.acts.Place.{Place}
 use Rattle.erl_semantics.specs.declared.acts.Place.TheVariants.{Server, Loop}
 use Rattle.low_instructions.specs.declared.low.Low.{Low}
@@ -10,8 +10,16 @@ use Rattle.low_instructions.specs.declared.modules.Direction.TheVariants.{Up, Do
 use Rattle.node_views.specs.Changes.{process_of}
 use Rattle.node_views.specs.declared.node_view.NodeView.{NodeView}
 use Rattle.node_views.specs.declared.process_view.ProcessView.{ProcessView}
+use Rattle.process_effects.specs.declared.told.Reply.{Reply as ToClient}
+use Rattle.process_effects.specs.declared.told.ReplyBody.{ReplyBody}
+use Rattle.process_effects.specs.declared.told.ReplyBody.TheVariants.{Reply, Down as DownReply}
+use Rattle.rehearsals.specs.declared.happening.Exit.{Exit}
+use Rattle.rehearsals.specs.declared.happening.Happening.{Happening}
+use Rattle.rehearsals.specs.declared.observing.Moment.{Moment}
+use Rattle.rehearsals.specs.declared.observing.Moment.TheVariants.{At, Before}
 use Rattle.rehearsals.specs.declared.observing.Observation.{Observation}
-use Rattle.rehearsals.specs.declared.observing.Observation.TheVariants.{SuspendsNobody, Kills, Lingers, NotRestored, FailsWithoutTraffic}
+use Rattle.rehearsals.specs.declared.observing.Observation.TheVariants.{SuspendsNobody, Kills, Ends, CallsDown, Unheard, Lingers}
+use Rattle.rehearsals.specs.declared.observing.Observation.TheVariants.{NotRestored, Vanishes, FailsWithoutTraffic}
 use Rattle.rehearsals.specs.declared.station.Station.{Station}
 use Rattle.rehearsals.specs.declared.way.Rehearsal.{Rehearsal}
 use Rattle.rehearsals.specs.declared.way.Returned.{Returned}
@@ -54,11 +62,46 @@ IsOneState (Server m s) (Loop n j g us) = ⊥
 IsOneState (Loop m i f ts) (Server n t) = ⊥
 IsOneState (Loop m i f ts) (Loop n j g us) = (m ≡ n) × (f ≡ g) × (ts ≡ us)
 
--- a process has the state that it had, if there was one
-abbrev pub IsRestored : Option ProcessView → Option ProcessView → Type 0
-IsRestored None after = Unit {0}
-IsRestored (Some before) None = ⊥
-IsRestored (Some before) (Some after) = IsOneState before.place after.place
+-- a process lives on, and has another state
+abbrev pub HasOtherState : Option ProcessView → Option ProcessView → Type 0
+HasOtherState None after = ⊥
+HasOtherState (Some before) None = ⊥
+HasOtherState (Some before) (Some after) = IsOneState before.place after.place → ⊥
+
+-- What came of the messages that were served: a process has ended by its job; a call got the exit reason of a process, and no
+-- reply; or nobody had the name that a message was sent to, though that was not so at first (gen_server(3), call/2).
+
+abbrev pub IsExitOf : Moment → Happening → Observation → Type 0
+IsExitOf when h o = (e : Exit) × (h.exit ≡ Some e) × (o ≡ Ends when e)
+
+abbrev pub IsExit : Moment → List Happening → Observation → Type 0
+IsExit when happened o = (h : Happening) × Contains happened h × IsExitOf when h o
+
+abbrev pub IsDown : ReplyBody → Type 0
+IsDown (Reply term) = ⊥
+IsDown (DownReply reason) = Unit {0}
+
+abbrev pub HasDown : Happening → Type 0
+HasDown h = (r : ToClient) × Contains h.replies r × IsDown r.body
+
+abbrev pub IsCallDown : Moment → List Happening → Observation → Type 0
+IsCallDown when happened o = (h : Happening) × Contains happened h × HasDown h × (o ≡ CallsDown when)
+
+abbrev pub IsUnheardIn : List Happening → List ℕ → Type 0
+IsUnheardIn happened name = (h : Happening) × Contains happened h × (h.unheard ≡ Some name)
+
+abbrev pub IsNewName : Moment → List Happening → List ℕ → Observation → Type 0
+IsNewName when first name o = (IsUnheardIn first name → ⊥) × (o ≡ Unheard when name)
+
+abbrev pub IsUnheardOf : Moment → List Happening → Happening → Observation → Type 0
+IsUnheardOf when first h o = (name : List ℕ) × (h.unheard ≡ Some name) × IsNewName when first name o
+
+abbrev pub IsNewlyUnheard : Moment → List Happening → List Happening → Observation → Type 0
+IsNewlyUnheard when first happened o = (h : Happening) × Contains happened h × IsUnheardOf when first h o
+
+abbrev pub IsServedBadly : Moment → List Happening → List Happening → Observation → Type 0
+IsServedBadly when first happened o =
+    IsExit when happened o ⊎ (IsCallDown when happened o ⊎ IsNewlyUnheard when first happened o)
 
 -- What is seen of an instruction: a module of which nobody is suspended, or a process that is killed by a purge.
 
@@ -69,35 +112,49 @@ abbrev pub IsKill : Direction → ℕ → NodeView → Station → Observation �
 IsKill way i before s o = (pid : ℕ) × Purges s.instruction × IsSome (process_of pid before)
     × (process_of pid s.behind ≡ None) × (o ≡ Kills way i pid)
 
-abbrev pub IsAtStation : Direction → Way → ℕ → Station → Observation → Type 0
-IsAtStation way w i s o = IsNobody way i s o ⊎ IsKill way i (before_of w i) s o
+abbrev pub IsOfInstruction : Direction → ℕ → NodeView → Station → Observation → Type 0
+IsOfInstruction way i before s o = IsNobody way i s o ⊎ IsKill way i before s o
+
+-- The same, or what came of the messages that were served with it, after this had happened before the way up.
+abbrev pub IsAtStation : Direction → List Happening → Way → ℕ → Station → Observation → Type 0
+IsAtStation way first w i s o = IsOfInstruction way i (before_of w i) s o ⊎ IsServedBadly (At way i) first s.happened o
 
 -- What is seen on a way: of one of its instructions; or a process that still uses old code at its end.
 
 abbrev pub IsLingering : Direction → Way → Observation → Type 0
 IsLingering way w o = (m : List ℕ) × (pid : ℕ) × Contains w.lingering (m, pid) × (o ≡ Lingers way m pid)
 
-abbrev pub IsOnWay : Direction → Way → Observation → Type 0
-IsOnWay way w o = ((i : ℕ) × (s : Station) × (slice_get w.stations.items i ≡ Some s) × IsAtStation way w i s o)
+abbrev pub IsOnWay : Direction → List Happening → Way → Observation → Type 0
+IsOnWay way first w o = ((i : ℕ) × (s : Station) × (slice_get w.stations.items i ≡ Some s) × IsAtStation way first w i s o)
     ⊎ IsLingering way w o
 
--- behind both ways a process has not the state that it had
-abbrev pub IsUnrestored : NodeView → NodeView → Observation → Type 0
-IsUnrestored before after o =
-    (pid : ℕ) × (IsRestored (process_of pid before) (process_of pid after) → ⊥) × (o ≡ NotRestored pid)
+-- After both ways a process lives on and has another state, or lives no more.
 
--- What is seen on the way down, if it was gone.
+abbrev pub IsNotRestored : NodeView → NodeView → Observation → Type 0
+IsNotRestored before after o = (pid : ℕ) × HasOtherState (process_of pid before) (process_of pid after) × (o ≡ NotRestored pid)
 
-abbrev pub IsOnWayDown : Option Way → Observation → Type 0
-IsOnWayDown down o = (w : Way) × (down ≡ Some w) × IsOnWay Down w o
+abbrev pub HasVanished : NodeView → NodeView → Observation → Type 0
+HasVanished before after o =
+    (pid : ℕ) × IsSome (process_of pid before) × (process_of pid after ≡ None) × (o ≡ Vanishes pid)
+
+abbrev pub IsOtherwise : NodeView → NodeView → Observation → Type 0
+IsOtherwise before after o = IsNotRestored before after o ⊎ HasVanished before after o
+
+-- What is seen on the way down, if it was gone; and on both ways.
+
+abbrev pub IsOnWayDown : List Happening → Option Way → Observation → Type 0
+IsOnWayDown first down o = (w : Way) × (down ≡ Some w) × IsOnWay Down first w o
+
+abbrev pub IsOnWays : List Happening → Rehearsal → Observation → Type 0
+IsOnWays first r o = IsOnWay Up first r.up o ⊎ IsOnWayDown first r.down o
 
 -- What is seen where both ways were gone without traffic: that one of them fails, or which process has not the state that it had.
 
 abbrev pub IsOnReturn : NodeView → Returned → Observation → Type 0
 IsOnReturn before Untried o = ⊥
 IsOnReturn before Failed o = o ≡ FailsWithoutTraffic
-IsOnReturn before (Behind after) o = IsUnrestored before after o
+IsOnReturn before (Behind after) o = IsOtherwise before after o
 
--- What a rehearsal shows: of one of its ways, or of both without traffic.
+-- What a rehearsal shows: of the traffic before the way up; of one of its ways; or of both without traffic.
 abbrev pub IsObserved : Rehearsal → Observation → Type 0
-IsObserved r o = IsOnWay Up r.up o ⊎ (IsOnWayDown r.down o ⊎ IsOnReturn r.before r.returned o)
+IsObserved r o = IsServedBadly Before [] r.happened o ⊎ (IsOnWays r.happened r o ⊎ IsOnReturn r.before r.returned o)

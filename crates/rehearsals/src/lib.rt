@@ -7,10 +7,13 @@
 //! is `upgrade_review`'s; how an upgrade is carried out is `upgrade_rehearsal`'s.
 #![tactic(auto)]
 
+mod happening;
 mod observing;
+mod serving;
 mod station;
 mod way;
 
-pub use observing::{Observation, observe};
+pub use happening::{Exit, Happening};
+pub use observing::{Moment, Observation, observe};
 pub use station::{JobsRun, Outcome, Station};
 pub use way::{Rehearsal, Returned, Way, is_down};

@@ -2,12 +2,16 @@
 ghost use Rattle.std.specs.Prelude.{◌≡◌, ◌↔◌, ◌⊎◌, Contains, IfOk, IsSome, IsTrue, None, OnOk};
 ghost use Rattle.std.specs.Option.{option_copied};
 ghost use Rattle.node_views.specs.Changes.{process_of};
-ghost use Rattle.rehearsals.specs.Observing.{IsAtStation, IsKill, IsLingering, IsNobody, IsObserved, IsOnWay, IsOnWayDown, IsOneState, IsRestored, IsUnrestored};
+ghost use Rattle.rehearsals.specs.Observing.{HasOtherState, HasVanished, IsAtStation, IsKill, IsLingering, IsNobody};
+ghost use Rattle.rehearsals.specs.Observing.{IsNotRestored, IsObserved, IsOfInstruction, IsOnWay, IsOnWayDown, IsOnWays};
+ghost use Rattle.rehearsals.specs.Observing.{IsOneState, IsOtherwise};
 ghost use Rattle.rehearsals.specs.Observing.{IsOnReturn, Purges};
 ghost use Rattle.rehearsals.specs.declared.observing.Observation.TheVariants.{Lingers, SuspendsNobody};
 ghost use Rattle.upgrade_review.specs.Findings.{AreDifferent};
 ghost use Rattle.upgrade_review.specs.Gathering.{Adds, FromEach};
 
+use crate::happening::{Exit, Happening};
+use crate::serving::note_served;
 use crate::station::Station;
 use crate::way::{Rehearsal, Returned, Way};
 use erl_semantics::Place;
@@ -18,6 +22,26 @@ use release_words::same_variants;
 use std::alloc::{AllocError, Global};
 use upgrade_review::note;
 use values::{Duplicate, Same};
+
+/// When something was seen.
+#[derive(Clone, Copy, Drop)]
+pub enum Moment {
+    /// Before the way up, while the release that is left served the traffic.
+    Before,
+    /// At an instruction of a way, by its index from 0, or while the traffic after it was served.
+    At {
+        /// Whether it is on the way up.
+        way: Direction,
+        /// The index of the instruction.
+        index: usize,
+    },
+}
+
+impl Same for Moment {
+    fn same(&self, other: &Moment) -> bool {
+        same_variants!(self, other, Moment, Before {} At { way: w, index: i })
+    }
+}
 
 /// What a rehearsal has shown that is likely wrong, and where. An index is that of an instruction of the script, from 0.
 #[derive(Drop)]
@@ -41,6 +65,26 @@ pub enum Observation {
         /// The process.
         pid: u64,
     },
+    /// A process has ended by the job that it ran. Before the way up, the traffic is wrong, or the release that is left: what
+    /// follows is rehearsed without the process.
+    Ends {
+        /// When.
+        when: Moment,
+        /// The process, its message and its exit reason.
+        exit: Exit,
+    },
+    /// A client that had called a process got its exit reason, and no reply.
+    CallsDown {
+        /// When.
+        when: Moment,
+    },
+    /// A message was sent to this name, and no process had it; before the way up one had, unless it was seen then.
+    Unheard {
+        /// When.
+        when: Moment,
+        /// The name.
+        name: Atom,
+    },
     /// This process still uses the old code of a module when the script has ended. The next upgrade of the module that purges
     /// softly can't begin before it leaves that code, and one that doesn't kills it.
     Lingers {
@@ -51,9 +95,15 @@ pub enum Observation {
         /// The process.
         pid: u64,
     },
-    /// The state of this process is another one behind the way up and the way down than before, or it has ended, though nobody
-    /// has sent it a message. `code_change/3` down is no inverse of the one up.
+    /// The state of this process is another one after the way up and the way down than before, though nobody has sent it a
+    /// message. `code_change/3` down is no inverse of the one up.
     NotRestored {
+        /// The process.
+        pid: u64,
+    },
+    /// This process lives no more after the way up and the way down, though nobody has sent it a message: it was stopped or
+    /// killed, and its state is lost, whether its child runs again or not.
+    Vanishes {
         /// The process.
         pid: u64,
     },
@@ -67,8 +117,12 @@ impl Same for Observation {
             self, other, Observation,
             SuspendsNobody { way: w, index: i, module: m }
             Kills { way: w, index: i, pid: p }
+            Ends { when: w, exit: e }
+            CallsDown { when: w }
+            Unheard { when: w, name: n }
             Lingers { way: w, module: m, pid: p }
             NotRestored { pid: p }
+            Vanishes { pid: p }
             FailsWithoutTraffic {}
         )
     }
@@ -93,23 +147,38 @@ pub fn observe(alloc: Global, rehearsal: &Rehearsal) -> Result<Vec<Observation>,
     ensures observed { IfOk result (λ found. (o : Observation) → Contains found.items o ↔ IsObserved rehearsal.now o) }
     ensures once { IfOk result (λ found. AreDifferent found.items) }
 {
+    let first = rehearsal.happened.as_slice();
     let mut found = Vec::new(alloc);
-    note_way(alloc, Direction::Up, &rehearsal.up, &mut found)?;
-    note_way_down(alloc, &rehearsal.down, &mut found)?;
+    note_served(alloc, Moment::Before, &[], first, &mut found)?;
+    note_ways(alloc, first, rehearsal, &mut found)?;
     note_return(&rehearsal.before, &rehearsal.returned, &mut found)?;
     Ok(found)
+}
+
+/// Notes what is seen on both ways, after this has happened before the way up.
+fn note_ways(
+    alloc: Global,
+    first: &[Happening],
+    rehearsal: &Rehearsal,
+    found: &mut Vec<Observation>,
+) -> Result<(), AllocError>
+    ensures { OnOk result (Adds (IsOnWays first.now rehearsal.now) found.old.items found.new.items) }
+{
+    note_way(alloc, Direction::Up, first, &rehearsal.up, found)?;
+    note_way_down(alloc, first, &rehearsal.down, found)
 }
 
 /// Notes what is seen on the way down, if it was gone.
 fn note_way_down(
     alloc: Global,
+    first: &[Happening],
     down: &Option<Way>,
     found: &mut Vec<Observation>,
 ) -> Result<(), AllocError>
-    ensures { OnOk result (Adds (IsOnWayDown down.now) found.old.items found.new.items) }
+    ensures { OnOk result (Adds (IsOnWayDown first.now down.now) found.old.items found.new.items) }
 {
     match down {
-        Some(way) => note_way(alloc, Direction::Down, way, found),
+        Some(way) => note_way(alloc, Direction::Down, first, way, found),
         None => Ok(()),
     }
 }
@@ -133,12 +202,13 @@ fn note_return(
 fn note_way(
     alloc: Global,
     direction: Direction,
+    first: &[Happening],
     way: &Way,
     found: &mut Vec<Observation>,
 ) -> Result<(), AllocError>
-    ensures { OnOk result (Adds (IsOnWay direction way.now) found.old.items found.new.items) }
+    ensures { OnOk result (Adds (IsOnWay direction first.now way.now) found.old.items found.new.items) }
 {
-    note_stations(alloc, direction, way, found)?;
+    note_stations(alloc, direction, first, way, found)?;
     note_lingering(alloc, direction, way, found)
 }
 
@@ -146,32 +216,53 @@ fn note_way(
 fn note_stations(
     alloc: Global,
     direction: Direction,
+    first: &[Happening],
     way: &Way,
     found: &mut Vec<Observation>,
 ) -> Result<(), AllocError>
-    ensures { OnOk result (Adds (FromEach (IsAtStation direction way.now) way.now.stations.items) found.old.items
+    ensures { OnOk result (Adds (FromEach (IsAtStation direction first.now way.now) way.now.stations.items) found.old.items
         found.new.items) }
 {
     let stations = way.stations.as_slice();
     for index in 0..stations.len() {
-        note_station(alloc, direction, index, way, &stations[index], found)?;
+        note_station(alloc, direction, index, first, way, &stations[index], found)?;
     }
     Ok(())
 }
 
-/// Notes what is seen of an instruction.
+/// Notes what is seen of an instruction, and of the messages that were served with it.
 fn note_station(
     alloc: Global,
     direction: Direction,
     index: usize,
+    first: &[Happening],
     way: &Way,
     station: &Station,
     found: &mut Vec<Observation>,
 ) -> Result<(), AllocError>
-    ensures { OnOk result (Adds (IsAtStation direction way.now index station.now) found.old.items found.new.items) }
+    ensures { OnOk result (Adds (IsAtStation direction first.now way.now index station.now) found.old.items found.new.items) }
+{
+    let when = Moment::At {
+        way: direction,
+        index,
+    };
+    note_instruction(alloc, direction, index, way.before(index), station, found)?;
+    note_served(alloc, when, first, station.happened.as_slice(), found)
+}
+
+/// Notes what is seen of an instruction itself.
+fn note_instruction(
+    alloc: Global,
+    direction: Direction,
+    index: usize,
+    before: &NodeView,
+    station: &Station,
+    found: &mut Vec<Observation>,
+) -> Result<(), AllocError>
+    ensures { OnOk result (Adds (IsOfInstruction direction index before.now station.now) found.old.items found.new.items) }
 {
     note_nobody(alloc, direction, index, station, found)?;
-    note_killed(direction, index, way.before(index), station, found)
+    note_killed(direction, index, before, station, found)
 }
 
 /// Notes the modules of which nobody is suspended.
@@ -299,35 +390,62 @@ fn is_one_state(before: &Place, after: &Place) -> bool
     }
 }
 
-/// Whether a process has the state that it had, if there was one.
-fn is_restored(before: Option<&ProcessView>, after: Option<&ProcessView>) -> bool
-    ensures { IsTrue result ↔ IsRestored (option_copied before.entry) (option_copied after.entry) }
+/// Whether a process lives on, and has another state.
+fn has_changed(before: Option<&ProcessView>, after: Option<&ProcessView>) -> bool
+    ensures { IsTrue result ↔ HasOtherState (option_copied before.entry) (option_copied after.entry) }
 {
     match (before, after) {
-        (Some(before), Some(after)) => is_one_state(&before.place, &after.place),
-        (Some(_), None) => false,
-        (None, _) => true,
+        (Some(before), Some(after)) => !is_one_state(&before.place, &after.place),
+        (_, _) => false,
     }
 }
 
-/// Whether the process of a pid, if there was one, has not the state that it had.
-fn is_lost(before: &NodeView, after: &NodeView, pid: u64) -> bool
-    ensures { IsTrue result ↔ (IsRestored (process_of pid before.now) (process_of pid after.now) → ⊥) }
-{
-    !is_restored(before.process(pid), after.process(pid))
-}
-
-/// Notes the processes that have not the state that they had.
+/// Notes the processes that are not as they were before both ways.
 fn note_returned(
     before: &NodeView,
     after: &NodeView,
     found: &mut Vec<Observation>,
 ) -> Result<(), AllocError>
-    ensures { OnOk result (Adds (IsUnrestored before.now after.now) found.old.items found.new.items) }
+    ensures { OnOk result (Adds (IsOtherwise before.now after.now) found.old.items found.new.items) }
+{
+    note_changed(before, after, found)?;
+    note_vanished(before, after, found)
+}
+
+/// Whether the process of a pid lives on, and has another state.
+fn is_changed(before: &NodeView, after: &NodeView, pid: u64) -> bool
+    ensures { IsTrue result ↔ HasOtherState (process_of pid before.now) (process_of pid after.now) }
+{
+    has_changed(before.process(pid), after.process(pid))
+}
+
+/// Notes the processes that have another state than they had.
+fn note_changed(
+    before: &NodeView,
+    after: &NodeView,
+    found: &mut Vec<Observation>,
+) -> Result<(), AllocError>
+    ensures { OnOk result (Adds (IsNotRestored before.now after.now) found.old.items found.new.items) }
 {
     for pid in 0..before.processes.as_slice().len() as u64 {
-        if is_lost(before, after, pid) {
+        if is_changed(before, after, pid) {
             note(found, Observation::NotRestored { pid })?;
+        }
+    }
+    Ok(())
+}
+
+/// Notes the processes that live no more.
+fn note_vanished(
+    before: &NodeView,
+    after: &NodeView,
+    found: &mut Vec<Observation>,
+) -> Result<(), AllocError>
+    ensures { OnOk result (Adds (HasVanished before.now after.now) found.old.items found.new.items) }
+{
+    for pid in 0..before.processes.as_slice().len() as u64 {
+        if has_ended(before, after, pid) {
+            note(found, Observation::Vanishes { pid })?;
         }
     }
     Ok(())

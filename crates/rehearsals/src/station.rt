@@ -2,11 +2,11 @@
 ghost use Rattle.std.specs.Prelude.{◌≡◌};
 ghost use Rattle.rehearsals.specs.Ways.{is_carried_out, is_end};
 
+use crate::happening::Happening;
 use erl_term::{Atom, Term};
 use low_instructions::Low;
 use node_types::Refusal;
 use node_views::NodeView;
-use process_effects::Reply;
 use values::Row;
 
 /// What an advance of a script came to.
@@ -56,8 +56,8 @@ pub struct Station {
     pub jobs: Option<JobsRun>,
     /// The node behind the traffic that was played behind it.
     pub view: NodeView,
-    /// The replies that were sent with it and with that traffic.
-    pub replies: Row<Row<Reply>>,
+    /// What it and the events of that traffic have brought about, an item for each event.
+    pub happened: Row<Happening>,
 }
 
 /// It is taken apart here, so that who drops one above has nothing to prove of its parts.
@@ -71,7 +71,7 @@ impl Drop for Station {
             nobody: _nobody,
             jobs: _jobs,
             view: _view,
-            replies: _replies,
+            happened: _happened,
         } = self;
     }
 }

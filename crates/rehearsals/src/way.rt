@@ -3,6 +3,7 @@ ghost use Rattle.std.specs.Prelude.{◌≡◌};
 ghost use Rattle.rehearsals.specs.Observing.{before_of};
 ghost use Rattle.rehearsals.specs.Ways.{has_failed, is_down, is_finished, would_go};
 
+use crate::happening::Happening;
 use crate::station::Station;
 use erl_term::Atom;
 use node_types::Refusal;
@@ -91,6 +92,8 @@ impl Returned {
 
 /// What was seen of an upgrade that was rehearsed.
 pub struct Rehearsal {
+    /// What the traffic before the way up has brought about, an item for each event.
+    pub happened: Row<Happening>,
     /// The node before the way up, behind the traffic.
     pub before: NodeView,
     /// The way up.
@@ -107,6 +110,7 @@ pub struct Rehearsal {
 impl Drop for Rehearsal {
     fn drop(self) {
         let Rehearsal {
+            happened: _happened,
             before: _before,
             up: _up,
             down: _down,

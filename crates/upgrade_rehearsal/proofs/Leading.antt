@@ -2,7 +2,7 @@
 use Rattle.std.proofs.Common.{◌≡◌, ◌∙◌, ◌<◌, ◌≤◌, ℕ, ◌+◌, List, [], ◌∷◌, ◌++◌, Some, Result, Ok, Err, OnOk, refl, sym, ap, subst, length, take, get_or}
 use Rattle.std.proofs.lemmas.List.{append-nil, append_assoc, take_all, take_more}
 use Rattle.node_core.specs.Node.{NodeState}
-use Rattle.process_effects.specs.declared.told.Reply.{Reply}
+use Rattle.rehearsals.specs.declared.happening.Happening.{Happening}
 use Rattle.undo_journal.specs.Timeline.{cut_to, here}
 use Rattle.upgrade_rehearsal.proofs.Going.{back_both, back_to, goes_both, goes_from, here_again, mark_again, stays}
 use Rattle.upgrade_rehearsal.proofs.Sequences.{once_more}
@@ -60,7 +60,7 @@ back_same old between new one journal arrivals = record {
 
 -- the same scenes by other words
 pub leads_as : (S T : Scene) (old new : Player) →
-    ((sent : List (List Reply)) → S (stage_of old) sent (stage_of new) → T (stage_of old) sent (stage_of new)) → Leads S old new →
+    ((sent : List Happening) → S (stage_of old) sent (stage_of new) → T (stage_of old) sent (stage_of new)) → Leads S old new →
     Leads T old new
 leads_as S T old new then l = record { journal = l.journal; sent = l.sent; scene = then l.sent l.scene; kept = l.kept }
 

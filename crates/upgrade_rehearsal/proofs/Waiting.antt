@@ -7,7 +7,7 @@ use Rattle.node_types.specs.declared.event.Event.{Event}
 use Rattle.node_types.specs.declared.event.Event.TheVariants.{Advance}
 use Rattle.node_types.specs.declared.event.Refusal.{Refusal}
 use Rattle.node_types.specs.declared.event.Refusal.TheVariants as refusal
-use Rattle.process_effects.specs.declared.told.Reply.{Reply}
+use Rattle.rehearsals.specs.declared.happening.Happening.{Happening}
 use Rattle.rehearsals.specs.declared.station.Outcome.{Outcome}
 use Rattle.rehearsals.specs.declared.station.Outcome.TheVariants as outcome
 use Rattle.upgrade_rehearsal.specs.Players.{Leads, stage_of}
@@ -52,7 +52,7 @@ abbrev stage : NodeState → ℕ → Stage
 stage node arrivals = record { node = node; arrivals = arrivals }
 
 -- what is refused leaves all as it was
-refused_stays : (e : Event) (why : Refusal) (old : Stage) (sent : List (List Reply)) (new : Stage) →
+refused_stays : (e : Event) (why : Refusal) (old : Stage) (sent : List Happening) (new : Stage) →
     ComesTo e (outcome.Refused why) old sent new → new ≡ old
 refused_stays e why old sent new comes = by comes.answer comes.tells comes.occurs
   where

@@ -7,7 +7,7 @@ use Rattle.rehearsals.specs.Ways.{is_carried_out}
 use Rattle.rehearsals.specs.declared.station.JobsRun.{JobsRun}
 use Rattle.rehearsals.specs.declared.station.Station.{Station as Seen}
 use Rattle.rehearsals.specs.declared.way.Way.{Way}
-use Rattle.process_effects.specs.declared.told.Reply.{Reply}
+use Rattle.rehearsals.specs.declared.happening.Happening.{Happening}
 use Rattle.rehearsals.specs.declared.station.Outcome.{Outcome}
 use Rattle.node_types.specs.declared.event.Answer.{Answer}
 use Rattle.node_types.specs.declared.event.Event.TheVariants.{Advance, Install}
@@ -71,7 +71,7 @@ gone_through ss more s is all end = record { before = ss; last = s; parts = is; 
 -- What has come of an instruction, by what was done: the replies of trials were cleared away, the script went on, and the traffic was
 -- played.
 pub has_come : (traffic : List Arrival) (old cleared gone played new : Player) (told : Outcome) (seen_behind seen_after : NodeView)
-    (replies : List (List Reply)) → cleared.journal ≡ old.journal → cleared.arrivals ≡ old.arrivals → cleared.sent.items ≡ [] →
+    (replies : List Happening) → cleared.journal ≡ old.journal → cleared.arrivals ≡ old.arrivals → cleared.sent.items ≡ [] →
     Leads (ComesTo (Advance false) told) cleared gone → seen_behind ≡ node_view (stage_of gone).node → Leads (Plays traffic) gone played →
     seen_after ≡ node_view (stage_of played).node → replies ≡ played.sent.items → new.journal ≡ played.journal →
     new.arrivals ≡ played.arrivals →

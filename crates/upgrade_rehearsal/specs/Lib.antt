@@ -1,4 +1,5 @@
 pub mod Going
+pub mod Happenings
 pub mod Parts
 pub mod Players
 pub mod Seen

@@ -7,7 +7,7 @@ use Rattle.node_types.specs.declared.event.Answer.{Answer}
 use Rattle.node_types.specs.declared.event.Event.TheVariants.{Advance, Install}
 use Rattle.node_types.specs.declared.event.Refusal.{Refusal}
 use Rattle.node_views.specs.declared.node_view.NodeView.{NodeView}
-use Rattle.process_effects.specs.declared.told.Reply.{Reply}
+use Rattle.rehearsals.specs.declared.happening.Happening.{Happening}
 use Rattle.rehearsals.specs.declared.station.JobsRun.{JobsRun}
 use Rattle.rehearsals.specs.declared.station.Outcome.{Outcome}
 use Rattle.rehearsals.specs.declared.way.Way.{Way}
@@ -25,15 +25,19 @@ pub record IsAhead (traffic : List Arrival) (s : Stage) (instruction : Option Lo
 
 -- what has come of it
 pub record HasCome (traffic : List Arrival) (old : Stage) (told : Outcome) (seen_behind seen_after : NodeView)
-    (replies : List (List Reply)) (new : Stage) : Type 0 where
+    (happened : List Happening) (new : Stage) : Type 0 where
   pub behind : Stage
-  pub with_it : List (List Reply)
+  pub with_it : List Happening
   pub step : ComesTo (Advance false) told old with_it behind
   pub behind_is : seen_behind ≡ node_view behind.node
-  pub with_traffic : List (List Reply)
+  pub with_traffic : List Happening
   pub plays : Plays traffic behind with_traffic new
   pub after_is : seen_after ≡ node_view new.node
-  pub replies_are : replies ≡ with_it ++ with_traffic
+  pub happened_are : happened ≡ with_it ++ with_traffic
+
+-- the traffic was played, with what it has brought about and the node as it is seen then
+abbrev pub IsPlayed : List Arrival → Stage → List Happening → NodeView → Stage → Type 0
+IsPlayed traffic old happened view new = Plays traffic old happened new × (view ≡ node_view new.node)
 
 -- an install begins, or is refused
 abbrev pub Begins : List ℕ → Option Refusal → Scene

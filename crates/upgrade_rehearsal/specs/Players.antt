@@ -6,10 +6,11 @@ use Rattle.node_types.specs.declared.event.Answer.{Answer}
 use Rattle.node_types.specs.declared.event.Event.{Event}
 use Rattle.node_types.specs.declared.event.Refusal.{Refusal}
 use Rattle.node_types.specs.Note.{Note}
-use Rattle.process_effects.specs.declared.told.Reply.{Reply}
+use Rattle.rehearsals.specs.declared.happening.Happening.{Happening}
 use Rattle.undo_journal.specs.Reversible.{Accepted}
 use Rattle.undo_journal.specs.Timeline.{appended, cut_to, here}
 use Rattle.upgrade_rehearsal.specs.Going.{Extends, IsBack}
+use Rattle.upgrade_rehearsal.specs.Happenings.{accepted, refused}
 use Rattle.upgrade_rehearsal.specs.Stages.{Scene, Stage}
 use Rattle.upgrade_rehearsal.specs.declared.player.Bookmark.{Bookmark}
 use Rattle.upgrade_rehearsal.specs.declared.player.Player.{Player}
@@ -24,10 +25,10 @@ pub record IsAlike (old new : Player) : Type 0 where
   pub sent : new.sent.items ≡ old.sent.items
   pub arrivals : new.arrivals ≡ old.arrivals
 
--- It goes on so, and keeps the replies behind those that it has.
+-- It goes on so, and keeps what that brings about after what it has.
 pub record Leads (S : Scene) (old new : Player) : Type 0 where
   pub journal : Extends old.journal new.journal
-  pub sent : List (List Reply)
+  pub sent : List Happening
   pub scene : S (stage_of old) sent (stage_of new)
   pub kept : new.sent.items ≡ old.sent.items ++ sent
 
@@ -35,9 +36,10 @@ pub record Leads (S : Scene) (old new : Player) : Type 0 where
 -- refuses it.
 abbrev pub Performed : Player → Event → Result Answer Refusal → Player → Type 0
 Performed old e (Ok told) new = (a : Accepted NodeState Answer Note) × Step (here old.journal).node e (Ok a) × (told ≡ a.answer)
-    × (new.journal ≡ appended old.journal a.node a.note) × (new.sent.items ≡ old.sent.items ++ a.note.replies ∷ [])
+    × (new.journal ≡ appended old.journal a.node a.note) × (new.sent.items ≡ old.sent.items ++ accepted e a.note.replies ∷ [])
     × (new.arrivals ≡ old.arrivals)
-Performed old e (Err why) new = Step (here old.journal).node e (Err why) × IsAlike old new
+Performed old e (Err why) new = Step (here old.journal).node e (Err why) × (new.journal ≡ old.journal)
+    × (new.sent.items ≡ old.sent.items ++ refused e ∷ []) × (new.arrivals ≡ old.arrivals)
 
 -- A bookmark names the place where it stands.
 pub record IsBookmark (b : Bookmark) (p : Player) : Type 0 where

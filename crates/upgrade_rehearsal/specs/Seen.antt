@@ -14,7 +14,7 @@ use Rattle.node_types.specs.declared.event.Refusal.{Refusal}
 use Rattle.node_types.specs.declared.event.Refusal.TheVariants as refusal
 use Rattle.node_views.specs.Views as views
 use Rattle.node_views.specs.declared.node_view.NodeView.{NodeView}
-use Rattle.process_effects.specs.declared.told.Reply.{Reply}
+use Rattle.rehearsals.specs.declared.happening.Happening.{Happening}
 use Rattle.rehearsals.specs.Ways.{is_carried_out, is_down, is_finished}
 use Rattle.rehearsals.specs.declared.station.JobsRun.{JobsRun}
 use Rattle.rehearsals.specs.declared.station.Outcome.{Outcome}
@@ -58,7 +58,7 @@ advance_outcome (Ok told) = outcome_by told
 advance_outcome (Err why) = outcome.Refused why
 
 -- an event is performed, and comes to this
-pub record ComesTo (e : Event) (told : Outcome) (old : Stage) (sent : List (List Reply)) (new : Stage) : Type 0 where
+pub record ComesTo (e : Event) (told : Outcome) (old : Stage) (sent : List Happening) (new : Stage) : Type 0 where
   pub answer : Result Answer Refusal
   pub occurs : Occurs e answer old sent new
   pub tells : told ≡ advance_outcome answer
@@ -89,7 +89,7 @@ waiting_for (outcome.Refused why) = busy_in why
 
 -- an event comes to this, wherever that leads
 abbrev pub EndsAs : Event → Outcome → Stage → Type 0
-EndsAs e told s = (sent : List (List Reply)) × (new : Stage) × ComesTo e told s sent new
+EndsAs e told s = (sent : List Happening) × (new : Stage) × ComesTo e told s sent new
 
 -- An instruction while jobs run: it waits for nobody, and comes to this; or it waits for a process that runs, and comes to
 -- this where it is told to wait for none.
@@ -100,26 +100,26 @@ GoesWithJobs (Some pid) told s = EndsAs (Advance false) (outcome.Refused (refusa
 -- What was seen of an instruction while jobs run: all of the traffic has come, and whoever could take a message that waits has
 -- taken one; nothing where nobody could.
 abbrev pub IsTried : List Arrival → Stage → Option JobsRun → Type 0
-IsTried traffic s None = (sent : List (List Reply)) × (new : Stage) × Then (AllCome traffic) (AllTake 0) s sent new
-IsTried traffic s (Some run) = (sent : List (List Reply)) × (new : Stage) × Then (AllCome traffic) (AllTake run.jobs) s sent new
+IsTried traffic s None = (sent : List Happening) × (new : Stage) × Then (AllCome traffic) (AllTake 0) s sent new
+IsTried traffic s (Some run) = (sent : List Happening) × (new : Stage) × Then (AllCome traffic) (AllTake run.jobs) s sent new
     × (0 < run.jobs) × GoesWithJobs run.waits_for run.outcome new
 
 -- What was seen of an instruction: it is the next one of the node before, with the modules that nobody is suspended for, and
 -- how it goes while jobs run; the written rule makes of it what is told; behind it the traffic is played; the node is seen
--- directly behind it and behind the traffic, and the replies of both are told; and it is told that where it was undone the
+-- directly behind it and behind the traffic, and what both bring about is told; and it is told that where it was undone the
 -- node was as before.
 pub record IsSeen (traffic : List Arrival) (before : Stage) (s : Seen) (after : Stage) : Type 0 where
   pub instruction : s.instruction ≡ next_of before.node
   pub nobody : s.nobody ≡ nobody_of before.node.apps (next_of before.node)
   pub jobs : IsTried traffic before s.jobs
   pub behind : Stage
-  pub with_it : List (List Reply)
+  pub with_it : List Happening
   pub step : ComesTo (Advance false) s.outcome before with_it behind
   pub seen_behind : s.behind ≡ node_view behind.node
-  pub with_traffic : List (List Reply)
+  pub with_traffic : List Happening
   pub plays : Plays traffic behind with_traffic after
   pub seen_after : s.view ≡ node_view after.node
-  pub replies : s.replies ≡ with_it ++ with_traffic
+  pub happened : s.happened ≡ with_it ++ with_traffic
   pub undone : s.is_as_before ≡ true
 
 -- what was seen of instructions, one after the other
@@ -146,7 +146,7 @@ IsWayBy (Ok told) traffic begun w after = (w.refusal ≡ None) × AreSeen traffi
 
 pub record IsWay (traffic : List Arrival) (before : Stage) (vsn : List ℕ) (w : Way) (after : Stage) : Type 0 where
   pub told : Result Answer Refusal
-  pub sent : List (List Reply)
+  pub sent : List Happening
   pub begun : Stage
   pub install : Occurs (Install vsn) told before sent begun
   pub seen : w.begun ≡ node_view begun.node
@@ -194,11 +194,12 @@ pub record HasBooted (r : Release) (n : NodeState) : Type 0 where
 -- other one, and the traffic is played; then come both ways, and when they are undone the node is as it was seen before.
 pub record IsShown (start : Stage) (down_to : List ℕ) (to : Release) (traffic : List Arrival) (r : Rehearsal) : Type 0 where
   pub known : Stage
-  pub with_release : List (List Reply)
+  pub with_release : List Happening
   pub knows : Undergoes (SetUnpacked to) start with_release known
   pub begin : Stage
-  pub with_traffic : List (List Reply)
+  pub with_traffic : List Happening
   pub played : Plays traffic known with_traffic begin
+  pub happened : r.happened ≡ with_traffic
   pub before : r.before ≡ node_view begin.node
   pub end : Stage
   pub ways : AreWays traffic begin to.rel.vsn down_to r.up r.down end

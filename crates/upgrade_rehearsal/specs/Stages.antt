@@ -11,7 +11,7 @@ use Rattle.node_types.specs.declared.event.Event.{Event}
 use Rattle.node_types.specs.declared.event.Event.TheVariants.{Arrive, Commit, Take}
 use Rattle.node_types.specs.declared.event.Refusal.{Refusal}
 use Rattle.node_types.specs.Note.{Note}
-use Rattle.process_effects.specs.declared.told.Reply.{Reply}
+use Rattle.rehearsals.specs.declared.happening.Happening.{Happening}
 use Rattle.process_table.specs.Steps.{IsNextRunnable}
 use Rattle.process_table.specs.declared.body.ClientMessage.{ClientMessage}
 use Rattle.process_table.specs.declared.body.ClientMessage.TheVariants.{Call, Cast, Info}
@@ -19,6 +19,7 @@ use Rattle.shell_requests.specs.declared.request.ArrivalKind.{ArrivalKind}
 use Rattle.shell_requests.specs.declared.request.ArrivalKind.TheVariants as kind
 use Rattle.erl_term.specs.declared.term.Term.{Term}
 use Rattle.undo_journal.specs.Reversible.{Accepted}
+use Rattle.upgrade_rehearsal.specs.Happenings.{accepted, refused}
 use Rattle.upgrade_rehearsal.specs.Sequences.{Goes, InTurn, Then}
 use Rattle.upgrade_rehearsal.specs.declared.arrival.Arrival.{Arrival}
 
@@ -27,18 +28,19 @@ pub record Stage : Type 0 where
   pub node : NodeState
   pub arrivals : ℕ
 
--- From a stage to another, with the replies that are sent meanwhile: a row for each event that the node accepts.
+-- From a stage to another, with what the events meanwhile bring about, an item for each.
 abbrev pub Scene : Type 1
-Scene = Goes Stage (List Reply)
+Scene = Goes Stage Happening
 
 -- An event comes to this: as the written rule accepts it, or as it refuses it, and then the node is as it was.
-abbrev pub Happens : NodeState → Event → Result Answer Refusal → List (List Reply) → NodeState → Type 0
+abbrev pub Happens : NodeState → Event → Result Answer Refusal → List Happening → NodeState → Type 0
 Happens n e (Ok told) sent after =
-    (a : Accepted NodeState Answer Note) × Step n e (Ok a) × (told ≡ a.answer) × (after ≡ a.node) × (sent ≡ a.note.replies ∷ [])
-Happens n e (Err why) sent after = Step n e (Err why) × (after ≡ n) × (sent ≡ [])
+    (a : Accepted NodeState Answer Note) × Step n e (Ok a) × (told ≡ a.answer) × (after ≡ a.node)
+    × (sent ≡ accepted e a.note.replies ∷ [])
+Happens n e (Err why) sent after = Step n e (Err why) × (after ≡ n) × (sent ≡ refused e ∷ [])
 
 -- An event comes to this, and no client has sent anything with it.
-pub record Occurs (e : Event) (told : Result Answer Refusal) (old : Stage) (sent : List (List Reply)) (new : Stage) : Type 0 where
+pub record Occurs (e : Event) (told : Result Answer Refusal) (old : Stage) (sent : List Happening) (new : Stage) : Type 0 where
   pub happens : Happens old.node e told sent new.node
   pub arrivals : new.arrivals ≡ old.arrivals
 
@@ -57,7 +59,7 @@ message_by kind.Info number term = Info term
 abbrev pub event_of : Arrival → ℕ → Event
 event_of a number = Arrive 0 a.name (message_by a.kind number a.term)
 
-pub record Comes (a : Arrival) (old : Stage) (sent : List (List Reply)) (new : Stage) : Type 0 where
+pub record Comes (a : Arrival) (old : Stage) (sent : List Happening) (new : Stage) : Type 0 where
   pub told : Result Answer Refusal
   pub happens : Happens old.node (event_of a new.arrivals) told sent new.node
   pub arrivals : new.arrivals ≡ old.arrivals + 1
@@ -85,7 +87,7 @@ job_in (Err why) = None
 abbrev pub Runs : Job → Scene
 Runs job old sent new = (done : Done) × (done.job ≡ job) × Undergoes (Commit done) old sent new
 
-pub record IsServed (pid : ℕ) (old : Stage) (sent : List (List Reply)) (new : Stage) : Type 0 where
+pub record IsServed (pid : ℕ) (old : Stage) (sent : List Happening) (new : Stage) : Type 0 where
   pub job : Job
   pub serves : Then (Occurs (Take pid) (Ok (answer.Job job))) (Runs job) old sent new
 

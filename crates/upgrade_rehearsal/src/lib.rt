@@ -29,6 +29,7 @@
 mod advancing;
 mod arrival;
 mod halting;
+mod happenings;
 mod jobs;
 mod player;
 mod rehearsing;

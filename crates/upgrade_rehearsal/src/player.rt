@@ -1,5 +1,5 @@
 // A node that is rehearsed with, and its journal.
-ghost use Rattle.std.specs.Prelude.{◌≡◌, ◌∷◌, ◌++◌, ◌<◌, [], true, IfOk, OnErr, OnOk, Some, length, vec_capacity, vec_len};
+ghost use Rattle.std.specs.Prelude.{◌≡◌, ◌∷◌, ◌++◌, ◌<◌, [], true, IfOk, None, OnErr, OnOk, Some, length, vec_capacity, vec_len};
 ghost use Rattle.node_types.specs.declared.event.Event.TheVariants.{SetUnpacked};
 ghost use Rattle.undo_journal.specs.Timeline.{cut_to, here, opened};
 ghost use Rattle.process_store.specs.Living.{is_runnable};
@@ -11,13 +11,14 @@ ghost use Rattle.upgrade_rehearsal.specs.Stages.{AllCome, AllTake, Comes, IsServ
 
 use crate::arrival::Arrival;
 use crate::halting::Halt;
+use crate::happenings::{Ahead, accepted, refused};
 use crate::traffic::event_of;
 use callback_lang::run;
 use erl_semantics::Job;
 use node_core::Node;
 use node_types::{Answer, Event, Note, Refusal};
 use node_views::NodeView;
-use process_effects::Reply;
+use rehearsals::{Exit, Happening};
 use release_table::Release;
 use std::alloc::{AllocError, Global};
 use std::mem;
@@ -27,13 +28,13 @@ use values::Row;
 /// How many messages are taken one after another before it is said that there is no end of them.
 const MOST_TAKEN: u32 = 100_000;
 
-/// A node that is rehearsed with and its journal, the replies that were sent since they were asked for, and how many messages
+/// A node that is rehearsed with and its journal, what events have brought about since it was asked for, and how many messages
 /// clients have sent.
 #[derive(Drop)]
 pub(crate) struct Player {
     alloc: Global,
     journal: Journal<Node>,
-    sent: Vec<Row<Reply>>,
+    sent: Vec<Happening>,
     arrivals: u64,
 }
 
@@ -94,7 +95,7 @@ impl Player {
         )
     }
 
-    /// Performs an event, and keeps its replies. The answer is handed out, or why the node refuses it.
+    /// Performs an event, and keeps what it brings about. Returns the answer, or why the node refuses it.
     ///
     /// # Errors
     ///
@@ -103,10 +104,14 @@ impl Player {
         ensures performed { IfOk result (λ done. Performed self.old event.now done self.new) }
         ensures err { OnErr result (IsAlike self.old self.new) }
     {
+        let ahead = Ahead::of(self.alloc, event)?;
         self.sent.reserve(1)?;
         match self.journal.perform(event, 1) {
-            Ok(told) => Ok(Ok(send(self.alloc, &mut self.sent, only_told(told)))),
-            Err(JournalError::Step(why)) => Ok(Err(why)),
+            Ok(told) => Ok(Ok(keep(self.alloc, &mut self.sent, ahead.exit, only_told(told)))),
+            Err(JournalError::Step(why)) => {
+                self.sent.push_reserved(refused(self.alloc, ahead.receiver));
+                Ok(Err(why))
+            }
             Err(JournalError::SerialEnd) => Err(Halt::Full),
             Err(_) => Err(Halt::Memory(AllocError)),
         }
@@ -149,9 +154,9 @@ impl Player {
         }
     }
 
-    /// The replies that were sent since they were asked for.
-    pub(crate) fn replies(&mut self) -> Row<Row<Reply>>
-        ensures replies { result ≡ self.old.sent.items }
+    /// Returns what events have brought about since it was asked for.
+    pub(crate) fn happened(&mut self) -> Row<Happening>
+        ensures happened { result ≡ self.old.sent.items }
         ensures none { self.new.sent.items ≡ [] }
         ensures journal { self.new.journal ≡ self.old.journal }
         ensures arrivals { self.new.arrivals ≡ self.old.arrivals }
@@ -277,14 +282,19 @@ fn job_in(done: Result<Answer, Refusal>) -> Option<Job>
     }
 }
 
-/// Keeps the replies of what tells of an event, for whose row there is room, and hands the answer out.
-fn send(alloc: Global, sent: &mut Vec<Row<Reply>>, told: Told<Answer, Note>) -> Answer
+/// Keeps what an event of this exit has brought about, for which there is room, and hands the answer out.
+fn keep(
+    alloc: Global,
+    sent: &mut Vec<Happening>,
+    exit: Option<Exit>,
+    told: Told<Answer, Note>,
+) -> Answer
     requires { vec_len sent.old < vec_capacity sent.old }
     ensures answer { result ≡ told.answer }
-    ensures sent { sent.new.items ≡ sent.old.items ++ told.note.replies ∷ [] }
+    ensures sent { sent.new.items ≡ sent.old.items ++ record { replies = told.note.replies; exit = exit; unheard = None } ∷ [] }
 {
     let Told { answer, note } = told;
-    sent.push_reserved(note.into_replies(alloc));
+    sent.push_reserved(accepted(alloc, exit, note));
     answer
 }
 

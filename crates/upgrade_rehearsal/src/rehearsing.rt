@@ -2,6 +2,7 @@
 ghost use Rattle.std.specs.Prelude.{◌≡◌, IfErr, IfOk, MatchResult, OnOk};
 ghost use Rattle.std.specs.Str.{chars};
 ghost use Rattle.upgrade_rehearsal.specs.Going.{Extends};
+ghost use Rattle.upgrade_rehearsal.specs.Parts.{IsPlayed};
 ghost use Rattle.upgrade_rehearsal.specs.Players.{stage_of};
 ghost use Rattle.upgrade_rehearsal.specs.Seen.{AreWays, HasBooted, IsHalted, IsRehearsal, IsReturn, IsReturned, IsShown, IsWayDown};
 
@@ -11,11 +12,12 @@ use crate::player::Player;
 use crate::watching::Watch;
 use crate::way::go;
 use node_core::Node;
-use rehearsals::{Rehearsal, Returned, Way, is_down};
+use node_views::NodeView;
+use rehearsals::{Happening, Rehearsal, Returned, Way, is_down};
 use release_table::Release;
 use std::alloc::Global;
 use std::hash::RandomState;
-use values::{Duplicate, Same};
+use values::{Duplicate, Row, Same};
 
 /// Rehearses the upgrade from a release to another, and has `watch` told of each instruction.
 ///
@@ -67,8 +69,7 @@ fn show<W: Watch>(
 {
     let up_to = to.rel.vsn.copy(player.alloc())?;
     player.know(to)?;
-    player.play(traffic)?;
-    let before = player.view()?;
+    let (happened, before) = play_before(&mut player, traffic)?;
     let begin = player.bookmark();
     let (up, down) = go_both(&mut player, up_to.as_str(), down_to, traffic, watch)?;
     player.undo(begin)?;
@@ -76,12 +77,26 @@ fn show<W: Watch>(
     let was_down = is_down(&down);
     let returned = return_if(was_down, &mut player, up_to.as_str(), down_to, watch)?;
     Ok(Rehearsal {
+        happened,
         before,
         up,
         down,
         is_as_before,
         returned,
     })
+}
+
+/// Plays the traffic before the way up. Returns what it has brought about, and what is seen of the node then.
+fn play_before(
+    player: &mut Player,
+    traffic: &[Arrival],
+) -> Result<(Row<Happening>, NodeView), Halt>
+    ensures { IfOk result (λ it. IsPlayed traffic.now (stage_of player.old) it.0 it.1 (stage_of player.new)) }
+{
+    let _ = player.happened();
+    player.play(traffic)?;
+    let happened = player.happened();
+    Ok((happened, player.view()?))
 }
 
 /// Goes up to a version, and where that comes to its end, down to another.

@@ -23,8 +23,7 @@ use node_core::Node;
 use node_questions::{lingerers, nobody_of};
 use node_types::{Event, Refusal};
 use node_views::NodeView;
-use process_effects::Reply;
-use rehearsals::{JobsRun, Outcome, Station, Way};
+use rehearsals::{Happening, JobsRun, Outcome, Station, Way};
 use release_statuses::Vsn;
 use script_state::instruction_at;
 use std::alloc::{AllocError, Global};
@@ -65,8 +64,8 @@ struct Done {
     behind: NodeView,
     /// The node behind the traffic.
     view: NodeView,
-    /// The replies that were sent with it and with the traffic.
-    replies: Row<Row<Reply>>,
+    /// What it and the events of the traffic have brought about.
+    happened: Row<Happening>,
 }
 
 /// Goes on by one instruction. It is tried while jobs run; then it is carried out and undone on purpose, and the node is
@@ -86,7 +85,7 @@ fn go_on(player: &mut Player, traffic: &[Arrival], before: &NodeView) -> Result<
         nobody: ahead.nobody,
         jobs: ahead.jobs,
         view: done.view,
-        replies: done.replies,
+        happened: done.happened,
     })
 }
 
@@ -137,18 +136,18 @@ fn try_out(
 
 /// Carries the next instruction out, and plays the traffic.
 fn carry_out(player: &mut Player, traffic: &[Arrival]) -> Result<Done, Halt>
-    ensures done { IfOk result (λ it. HasCome traffic.now (stage_of player.old) it.outcome it.behind it.view it.replies
+    ensures done { IfOk result (λ it. HasCome traffic.now (stage_of player.old) it.outcome it.behind it.view it.happened
         (stage_of player.new)) }
     ensures journal { OnOk result (Extends player.old.journal player.new.journal) }
 {
-    let _ = player.replies();
+    let _ = player.happened();
     let (outcome, behind) = step(player)?;
     let view = settle(player, traffic)?;
     Ok(Done {
         outcome,
         behind,
         view,
-        replies: player.replies(),
+        happened: player.happened(),
     })
 }
 

@@ -1,0 +1,56 @@
+// What an event has brought about.
+use erl_term::{Atom, Term};
+use process_effects::Reply;
+use std::alloc::{AllocError, Global};
+use values::{Duplicate, Row, Same};
+
+/// The exit of a process that has ended by the job that it ran (Erlang Reference Manual, Processes).
+#[derive(Drop)]
+pub struct Exit {
+    /// The process.
+    pub pid: u64,
+    /// The message that it took.
+    pub message: Term,
+    /// The exit reason.
+    pub reason: Term,
+}
+
+impl Same for Exit {
+    fn same(&self, other: &Exit) -> bool {
+        self.pid == other.pid
+            && self.message.same(&other.message)
+            && self.reason.same(&other.reason)
+    }
+}
+
+impl Duplicate for Exit {
+    fn copy(&self, alloc: Global) -> Result<Exit, AllocError> {
+        let message = self.message.copy(alloc)?;
+        Ok(Exit {
+            pid: self.pid,
+            message,
+            reason: self.reason.copy(alloc)?,
+        })
+    }
+}
+
+/// What an event has brought about that clients and supervisors see.
+pub struct Happening {
+    /// The replies that were sent, in order.
+    pub replies: Row<Reply>,
+    /// The exit of the process whose job was committed, if it has ended by it.
+    pub exit: Option<Exit>,
+    /// The name that a message was sent to, if the node refused the message: no process has the name then.
+    pub unheard: Option<Atom>,
+}
+
+/// It is taken apart here, so that the caller that drops one has nothing to prove of its parts.
+impl Drop for Happening {
+    fn drop(self) {
+        let Happening {
+            replies: _replies,
+            exit: _exit,
+            unheard: _unheard,
+        } = self;
+    }
+}

@@ -1,0 +1,93 @@
+// What events bring about, as clients and supervisors see it.
+ghost use Rattle.std.specs.Prelude.{◌≡◌, [], IfOk, None};
+ghost use Rattle.upgrade_rehearsal.specs.Happenings.{exit_by, exit_of, receiver_of};
+
+use erl_semantics::{Done, End};
+use erl_term::Atom;
+use node_types::{Event, Note};
+use rehearsals::{Exit, Happening};
+use std::alloc::{AllocError, Global};
+use values::{Duplicate, Row};
+
+/// What is kept of an event before it is performed: what it brings about if the node accepts it, and if the node refuses it.
+#[derive(Drop)]
+pub(crate) struct Ahead {
+    /// The exit of the process whose job it commits, if that ends by it.
+    pub(crate) exit: Option<Exit>,
+    /// The name that it sends a message to, if it does.
+    pub(crate) receiver: Option<Atom>,
+}
+
+impl Ahead {
+    /// Returns what is kept of an event.
+    pub(crate) fn of(alloc: Global, event: &Event) -> Result<Ahead, AllocError>
+        ensures exit { IfOk result (λ ahead. ahead.exit ≡ exit_of event.now) }
+        ensures receiver { IfOk result (λ ahead. ahead.receiver ≡ receiver_of event.now) }
+    {
+        let exit = exit_of(alloc, event)?;
+        let receiver = receiver_of(alloc, event)?;
+        Ok(Ahead { exit, receiver })
+    }
+}
+
+/// Returns the exit of the process whose job an event commits, if it ends by it.
+fn exit_of(alloc: Global, event: &Event) -> Result<Option<Exit>, AllocError>
+    ensures { IfOk result (λ exit. exit ≡ exit_of event.now) }
+{
+    match event {
+        Event::Commit(done) => exit_by(alloc, done),
+        _ => Ok(None),
+    }
+}
+
+/// Returns the exit of the process of a job, if it ends by it.
+fn exit_by(alloc: Global, done: &Done) -> Result<Option<Exit>, AllocError>
+    ensures { IfOk result (λ exit. exit ≡ exit_by done.now.job done.now.outcome.end) }
+{
+    match &done.outcome().end {
+        End::Exit(reason) => {
+            let message = done.job().message.copy(alloc)?;
+            let reason = reason.copy(alloc)?;
+            let pid = done.job().pid;
+            Ok(Some(Exit {
+                pid,
+                message,
+                reason,
+            }))
+        }
+        _ => Ok(None),
+    }
+}
+
+/// Returns the name that an event sends a message to, if it does.
+fn receiver_of(alloc: Global, event: &Event) -> Result<Option<Atom>, AllocError>
+    ensures { IfOk result (λ name. name ≡ receiver_of event.now) }
+{
+    match event {
+        Event::Arrive { name, .. } => Ok(Some(name.copy(alloc)?)),
+        _ => Ok(None),
+    }
+}
+
+/// Returns what an event of this exit has brought about, of whose replies the note tells. Takes no memory.
+pub(crate) fn accepted(alloc: Global, exit: Option<Exit>, note: Note) -> Happening
+    ensures { result ≡ record { replies = note.replies; exit = exit; unheard = None } }
+{
+    Happening {
+        replies: note.into_replies(alloc),
+        exit,
+        unheard: None,
+    }
+}
+
+/// Returns what an event has brought about that the node has refused, and that sent a message to this name, if it did. Takes
+/// no memory.
+pub(crate) fn refused(alloc: Global, receiver: Option<Atom>) -> Happening
+    ensures { result ≡ record { replies = []; exit = None; unheard = receiver } }
+{
+    Happening {
+        replies: Row::new(Vec::new(alloc)),
+        exit: None,
+        unheard: receiver,
+    }
+}
