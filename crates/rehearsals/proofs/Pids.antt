@@ -1,8 +1,8 @@
 -- What is noted of pids, one after the other, and of the members of a list.
-use Rattle.std.proofs.Common.{◌≡◌, ◌∙◌, ◌⊎◌, inl, inr, ℕ, ◌+◌, ◌<◌, ◌≤◌, List, Contains, Option, Some, Result, OnOk, length, refl, sym, ap, subst, arith}
+use Rattle.std.proofs.Common.{◌≡◌, ◌∙◌, ◌⊎◌, inl, inr, ℕ, ◌+◌, ◌<◌, ◌≤◌, List, Contains, Option, None, Some, Result, OnOk, length, refl, sym, ap, subst, arith}
 use Rattle.std.proofs.lemmas.Bool.{cases_lt}
 use Rattle.std.proofs.lemmas.Option.{get_or_from_slice_get, slice_get_read, slice_get_within}
-use Rattle.upgrade_review.proofs.Adding.{adds_alike, adds_both}
+use Rattle.upgrade_review.proofs.Adding.{adds_alike, adds_both, adds_nothing}
 use Rattle.upgrade_review.proofs.Noting.{on_ok}
 use Rattle.upgrade_review.specs.Gathering.{Adds, FromEach}
 use Rattle.node_views.specs.declared.node_view.NodeView.{NodeView}
@@ -57,6 +57,18 @@ on_some {T} {E} {X} {F} r R o x old new is on =
     on_ok r (Adds (R x) old new) (Adds (λ f. (y : X) × (o ≡ Some y) × R y f) old new)
     (λ adds. adds_alike (R x) (λ f. (y : X) × (o ≡ Some y) × R y f) old new (λ f w. (x, is, w))
     (λ f w. let same : w.0 ≡ x = (let both : Some w.0 ≡ Some x = sym w.1 ∙ is in cc) in subst (λ y. R y f) same w.2) adds) on
+
+pub on_none : {X F : Type 0} (R : X → F → Type 0) (o : Option X) (found : List F) → o ≡ None →
+    Adds (λ f. (y : X) × (o ≡ Some y) × R y f) found found
+on_none {X} {F} R o found is = adds_nothing (λ f. (y : X) × (o ≡ Some y) × R y f) found
+    (λ f w. let clash : Some w.0 ≡ None = sym w.1 ∙ is in cc)
+
+-- one is noted if this holds, and else nothing
+
+pub noted_if : {T E F : Type 0} (r : Result T E) (D : F → Type 0) (P : Type 0) (one : F) (old new : List F) → P →
+    ((f : F) → D f → f ≡ one) → ((f : F) → f ≡ one → P → D f) → OnOk r (Adds (λ f. f ≡ one) old new) → OnOk r (Adds D old new)
+noted_if {T} {E} {F} r D P one old new holds only is on = on_ok r (Adds (λ f. f ≡ one) old new) (Adds D old new)
+    (λ adds. adds_alike (λ f. f ≡ one) D old new (λ f same. is f same holds) only adds) on
 
 -- of what was seen where both ways were gone without traffic
 pub on_return : {T E : Type 0} (r : Result T E) (before : NodeView) (seen returned : Returned) (old new : List Observation) →

@@ -1,39 +1,18 @@
--- Each pid has its turn.
-use Rattle.std.proofs.Common.{◌∙◌, ℕ, ◌+◌, ◌≤◌, Option, ap, sym, subst, length, arith}
-use Rattle.std.proofs.lemmas.Bool.{false≢true}
-use Rattle.node_views.proofs.Found.{nobody_past}
-use Rattle.node_views.specs.Changes.{process_of}
-use Rattle.node_views.specs.declared.process_view.ProcessView.{ProcessView}
+-- First those that have another state, and then those that live no more.
+use Rattle.upgrade_review.proofs.Adding.{adds_both}
+use Rattle.upgrade_review.proofs.Noting.{on_ok}
 use Rattle.upgrade_review.specs.Gathering.{Adds}
-use Rattle.rehearsals.proofs.Pids.{Below, pid_noted, pid_passed, pids_noted}
-use Rattle.rehearsals.specs.Observing.{IsRestored}
-use Rattle.rehearsals.specs.declared.observing.Observation.{Observation}
-use Rattle.rehearsals.specs.declared.observing.Observation.TheVariants.{NotRestored}
+use Rattle.rehearsals.specs.Observing.{HasVanished, IsNotRestored, IsOtherwise}
 use Rattle.rehearsals.proofs.observing.note_returned.Goals as goal
-use Rattle.rehearsals.proofs.observing.note_returned.Goals.{then-is_lost+in_ok-note, else-is_lost}
-
-pub loop-pid-preserved : goal.loop-pid-preserved
-loop-pid-preserved c =
-    let D : ℕ → Type 0 = λ p. IsRestored (process_of p c.args.before.now) (process_of p c.args.after.now) → ⊥ in
-    let make : ℕ → Observation = NotRestored in
-    let pid = c.loop-pid.pid in
-    let old = c.args.found.now.items in
-    elim c.if-is_lost.branch [
-      | then-is_lost+in_ok-note w ↦ subst (λ items. Adds (Below D make (pid + 1)) old items) (sym (ap (λ v. v.items) w.found-is))
-          (pid_noted D make pid old c.loop-pid.found.items w.note.new.found.items (c.is_lost.ensures.0 w.if-is_lost.true)
-          c.loop-pid.invariant w.in_ok-note.ensures)
-      | else-is_lost w ↦ subst (λ items. Adds (Below D make (pid + 1)) old items) (sym (ap (λ v. v.items) w.found-is))
-          (pid_passed D make pid old c.loop-pid.found.items
-          (λ holds. false≢true (sym w.if-is_lost.false ∙ c.is_lost.ensures.1 holds)) c.loop-pid.invariant)
-    ]
 
 pub returns : goal.returns
 returns c =
     let before = c.args.before.now in
     let after = c.args.after.now in
-    let D : ℕ → Type 0 = λ p. IsRestored (process_of p before) (process_of p after) → ⊥ in
-    let size = ap length c.as_slice.ensures in
-    pids_noted D NotRestored c.loop-pid.pid c.args.found.now.items c.loop-pid.found.items (λ p above holds.
-    let past : length before.processes ≤ p = omega (arith, above, c.loop-pid-test.false, size) in
-    holds (subst (λ (o : Option ProcessView). IsRestored o (process_of p after)) (sym (nobody_past before p past)) tt))
-    c.loop-pid.invariant
+    let old = c.args.found.now.items in
+    let between = c.note_changed.new.found.items in
+    let new = c.note_vanished.new.found.items in
+    on_ok c.note_vanished.result (Adds (HasVanished before after) between new) (Adds (IsOtherwise before after) old new)
+    (λ vanished. adds_both (IsNotRestored before after) (HasVanished before after) old between new c.in_ok-note_changed.ensures
+    vanished)
+    c.note_vanished.ensures

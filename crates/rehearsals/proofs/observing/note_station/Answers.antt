@@ -1,10 +1,12 @@
--- First one kind, and then the other.
-use Rattle.std.proofs.Common.{subst}
+-- First the instruction itself, and then the messages that were served with it.
+use Rattle.std.proofs.Common.{List, subst}
 use Rattle.node_views.specs.declared.node_view.NodeView.{NodeView}
 use Rattle.upgrade_review.proofs.Adding.{adds_both}
 use Rattle.upgrade_review.proofs.Noting.{on_ok}
 use Rattle.upgrade_review.specs.Gathering.{Adds}
-use Rattle.rehearsals.specs.Observing.{IsAtStation, IsKill, IsNobody, before_of}
+use Rattle.rehearsals.specs.Observing.{IsAtStation, IsOfInstruction, IsServedBadly, before_of}
+use Rattle.rehearsals.specs.declared.happening.Happening.{Happening}
+use Rattle.rehearsals.specs.declared.observing.Moment.TheVariants.{At}
 use Rattle.rehearsals.proofs.observing.note_station.Goals as goal
 
 pub returns : goal.returns
@@ -13,10 +15,14 @@ returns c =
     let i = c.args.index in
     let s = c.args.station.now in
     let w = c.args.way.now in
+    let first = c.args.first.now in
     let old = c.args.found.now.items in
-    let between = c.note_nobody.new.found.items in
-    let new = c.note_killed.new.found.items in
-    on_ok c.note_killed.result (Adds (IsKill way i c.before-2.result.now s) between new) (Adds (IsAtStation way w i s) old new)
-    (λ kills. adds_both (IsNobody way i s) (IsKill way i (before_of w i) s) old between new c.in_ok-note_nobody.ensures
-    (subst (λ (v : NodeView). Adds (IsKill way i v s) between new) c.before-2.ensures kills))
-    c.note_killed.ensures
+    let between = c.note_instruction.new.found.items in
+    let new = c.note_served.new.found.items in
+    let instruction = subst (λ (v : NodeView). Adds (IsOfInstruction way i v s) old between) c.before.ensures
+    c.in_ok-note_instruction.ensures in
+    on_ok c.note_served.result (Adds (IsServedBadly (At way i) first c.as_slice.result.now) between new)
+    (Adds (IsAtStation way first w i s) old new)
+    (λ served. adds_both (IsOfInstruction way i (before_of w i) s) (IsServedBadly (At way i) first s.happened) old between new
+    instruction (subst (λ (hs : List Happening). Adds (IsServedBadly (At way i) first hs) between new) c.as_slice.ensures served))
+    c.note_served.ensures

@@ -15,7 +15,7 @@ loop-index-preserved c =
     let within : n < length xs = omega (arith, c.loop-index-test.true, size) in
     let item : s ≡ get_or xs n s =
     c.index-stations-index.is ∙ ap (λ (ys : List Station). get_or ys n s) c.as_slice-stations.ensures.value in
-    goes_on (IsAtStation c.args.direction w) xs _ _ _ _ _ within item c.loop-index.invariant c.in_ok-note_station.ensures
+    goes_on (IsAtStation c.args.direction c.args.first.now w) xs _ _ _ _ _ within item c.loop-index.invariant c.in_ok-note_station.ensures
 
 pub returns : goal.returns
 returns c =
@@ -23,4 +23,4 @@ returns c =
     let xs : List Station = w.stations.items in
     let size = ap length c.as_slice-stations.ensures.value in
     let past : length xs ≤ c.loop-index.index = omega (arith, c.loop-index-test.false, size) in
-    ends (IsAtStation c.args.direction w) xs _ _ _ past c.loop-index.invariant
+    ends (IsAtStation c.args.direction c.args.first.now w) xs _ _ _ past c.loop-index.invariant

@@ -1,0 +1,10 @@
+-- What is noted so far.
+use Rattle.std.proofs.Common.{◌≡◌, ◌<◌, ℕ, IsSome, None}
+use Rattle.node_views.specs.Changes.{process_of}
+use Rattle.upgrade_review.specs.Gathering.{Adds}
+use Rattle.rehearsals.specs.declared.observing.Observation.TheVariants.{Vanishes}
+use Rattle.rehearsals.proofs.observing.note_vanished.Given as goal
+
+abbrev pub invariant-loop-pid : goal.invariant-loop-pid
+invariant-loop-pid l = Adds (λ o. (p : ℕ) × (p < l.pid) × (IsSome (process_of p l.before) × (process_of p l.after ≡ None))
+    × (o ≡ Vanishes p)) l.fn.found.items l.found.items

@@ -1,0 +1,9 @@
+-- What is noted so far.
+use Rattle.upgrade_review.proofs.Adding.{UpTo}
+use Rattle.upgrade_review.specs.Gathering.{Adds}
+use Rattle.rehearsals.specs.Observing.{IsExitOf}
+use Rattle.rehearsals.proofs.serving.note_exits.Given as goal
+
+abbrev pub invariant-loop-happening : goal.invariant-loop-happening
+invariant-loop-happening l =
+    Adds (UpTo (λ i h o. IsExitOf l.when h o) l.happening-items l.happening-index) l.fn.found.items l.found.items
