@@ -84,8 +84,11 @@ IsDown (DownReply reason) = Unit {0}
 abbrev pub HasDown : Happening → Type 0
 HasDown h = (r : ToClient) × Contains h.replies r × IsDown r.body
 
+abbrev pub HasCallDown : List Happening → Type 0
+HasCallDown happened = (h : Happening) × Contains happened h × HasDown h
+
 abbrev pub IsCallDown : Moment → List Happening → Observation → Type 0
-IsCallDown when happened o = (h : Happening) × Contains happened h × HasDown h × (o ≡ CallsDown when)
+IsCallDown when happened o = HasCallDown happened × (o ≡ CallsDown when)
 
 abbrev pub IsUnheardIn : List Happening → List ℕ → Type 0
 IsUnheardIn happened name = (h : Happening) × Contains happened h × (h.unheard ≡ Some name)

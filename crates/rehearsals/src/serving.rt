@@ -1,6 +1,6 @@
 // What came of the messages that were served, as far as it is likely wrong.
 ghost use Rattle.std.specs.Prelude.{◌≡◌, ◌↔◌, IsTrue, OnOk, Some};
-ghost use Rattle.rehearsals.specs.Observing.{HasDown, IsCallDown, IsDown, IsExit, IsExitOf, IsNewName, IsNewlyUnheard};
+ghost use Rattle.rehearsals.specs.Observing.{HasCallDown, HasDown, IsCallDown, IsDown, IsExit, IsExitOf, IsNewName, IsNewlyUnheard};
 ghost use Rattle.rehearsals.specs.Observing.{IsServedBadly, IsUnheardIn, IsUnheardOf};
 ghost use Rattle.rehearsals.specs.declared.observing.Observation.TheVariants.{Ends, Unheard};
 ghost use Rattle.upgrade_review.specs.Gathering.{Adds};
@@ -86,6 +86,13 @@ fn has_down(happening: &Happening) -> bool
     happening.replies.as_slice().iter().any(|reply| is_down(reply))
 }
 
+/// Returns whether a call got an exit reason, with any of these events.
+fn has_call_down(happened: &[Happening]) -> bool
+    ensures { IsTrue result ↔ HasCallDown happened.now }
+{
+    happened.iter().any(|happening| has_down(happening))
+}
+
 /// Notes that a call got an exit reason, if one did.
 fn note_downs(
     when: Moment,
@@ -94,7 +101,7 @@ fn note_downs(
 ) -> Result<(), AllocError>
     ensures { OnOk result (Adds (IsCallDown when happened.now) found.old.items found.new.items) }
 {
-    if happened.iter().any(|happening| has_down(happening)) {
+    if has_call_down(happened) {
         return note(found, Observation::CallsDown { when });
     }
     Ok(())
