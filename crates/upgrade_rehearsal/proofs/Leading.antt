@@ -106,7 +106,7 @@ module _ {X : Type 0} (R : X → Scene) where
       Leads (InTurn R xs) old new
   leads_all xs n old new past so_far = subst (λ ys. Leads (InTurn R ys) old new) (take_all n xs past) so_far
 
--- where nothing is different but the replies that are kept, it goes on as before
+-- if nothing is different but what is kept of events, it goes on as before
 pub goes_same : (old new : Player) → new.journal ≡ old.journal → Extends old.journal new.journal
 goes_same old new same = subst (λ j. Extends old.journal j) (sym same) (stays old.journal)
 

@@ -1,6 +1,5 @@
 -- What comes of events that are performed.
 use Rattle.std.proofs.Common.{◌≡◌, ◌∙◌, ℕ, ◌+◌, true, false, [], ◌∷◌, Option, None, Some, is_some, Result, Ok, Err, OnOk, refl, sym, ap, subst}
-use Rattle.std.proofs.lemmas.List.{append-nil}
 use Rattle.erl_semantics.specs.declared.jobs.Done.{Done}
 use Rattle.erl_semantics.specs.declared.jobs.Job.{Job}
 use Rattle.node_core.specs.Node.{NodeState}
@@ -21,6 +20,7 @@ use Rattle.undo_journal.specs.Timeline.{here}
 use Rattle.upgrade_rehearsal.proofs.Going.{at_new, goes_by, stays}
 use Rattle.upgrade_rehearsal.proofs.Leading.{leads_as, leads_then, on_ok}
 use Rattle.upgrade_rehearsal.specs.Going.{Extends}
+use Rattle.upgrade_rehearsal.specs.Happenings.{accepted, refused}
 use Rattle.upgrade_rehearsal.specs.Players.{Leads, Performed, stage_of}
 use Rattle.upgrade_rehearsal.specs.Seen.{ComesTo, advance_outcome}
 use Rattle.upgrade_rehearsal.specs.Stages.{Comes, Happens, IsNext, IsServed, Occurs, Undergoes, Runs, Scene, event_of, job_by, job_in}
@@ -33,7 +33,7 @@ pub performed_occurs : (old new : Player) (e : Event) (done : Result Answer Refu
     Leads (Occurs e done) old new
 performed_occurs old new e (Ok told) w = record {
   journal = subst (λ j. Extends old.journal j) (sym w.3) (goes_by old.journal w.0.node w.0.note);
-  sent = w.0.note.replies ∷ [];
+  sent = accepted e w.0.note.replies ∷ [];
   scene = record {
     happens = (w.0, w.1, w.2, ap (λ j. (here j).node) w.3 ∙ at_new old.journal w.0.node w.0.note, refl);
     arrivals = w.5;
@@ -41,10 +41,10 @@ performed_occurs old new e (Ok told) w = record {
   kept = w.4;
 }
 performed_occurs old new e (Err why) w = record {
-  journal = subst (λ j. Extends old.journal j) (sym w.1.journal) (stays old.journal);
-  sent = [];
-  scene = record { happens = (w.0, ap (λ j. (here j).node) w.1.journal, refl); arrivals = w.1.arrivals };
-  kept = w.1.sent ∙ sym (append-nil old.sent.items);
+  journal = subst (λ j. Extends old.journal j) (sym w.1) (stays old.journal);
+  sent = refused e ∷ [];
+  scene = record { happens = (w.0, ap (λ j. (here j).node) w.1, refl); arrivals = w.3 };
+  kept = w.2;
 }
 
 -- whatever it comes to

@@ -68,15 +68,15 @@ pub gone_through : (ss more : List Seen) (s : Seen) → more ≡ ss ++ s ∷ [] 
     is_carried_out s.outcome ≡ false → IsGoneThrough more
 gone_through ss more s is all end = record { before = ss; last = s; parts = is; carried_out = all; ended = end }
 
--- What has come of an instruction, by what was done: the replies of trials were cleared away, the script went on, and the traffic was
+-- What has come of an instruction, by what was done: what trials had brought about was cleared away, the script went on, and the traffic was
 -- played.
 pub has_come : (traffic : List Arrival) (old cleared gone played new : Player) (told : Outcome) (seen_behind seen_after : NodeView)
-    (replies : List Happening) → cleared.journal ≡ old.journal → cleared.arrivals ≡ old.arrivals → cleared.sent.items ≡ [] →
+    (happened : List Happening) → cleared.journal ≡ old.journal → cleared.arrivals ≡ old.arrivals → cleared.sent.items ≡ [] →
     Leads (ComesTo (Advance false) told) cleared gone → seen_behind ≡ node_view (stage_of gone).node → Leads (Plays traffic) gone played →
-    seen_after ≡ node_view (stage_of played).node → replies ≡ played.sent.items → new.journal ≡ played.journal →
+    seen_after ≡ node_view (stage_of played).node → happened ≡ played.sent.items → new.journal ≡ played.journal →
     new.arrivals ≡ played.arrivals →
-    HasCome traffic (stage_of old) told seen_behind seen_after replies (stage_of new)
-has_come traffic old cleared gone played new told seen_behind seen_after replies same_journal same_count empty step behind plays after sent
+    HasCome traffic (stage_of old) told seen_behind seen_after happened (stage_of new)
+has_come traffic old cleared gone played new told seen_behind seen_after happened same_journal same_count empty step behind plays after sent
     journal arrivals =
     let same : stage_of new ≡ stage_of played = one_stage played new journal arrivals in
     let before : stage_of cleared ≡ stage_of old = one_stage old cleared same_journal same_count in
@@ -88,13 +88,13 @@ has_come traffic old cleared gone played new told seen_behind seen_after replies
       with_traffic = plays.sent;
       plays = subst (λ st. Plays traffic (stage_of gone) plays.sent st) (sym same) plays.scene;
       after_is = after ∙ ap (λ (st : Stage). node_view st.node) (sym same);
-      replies_are = sent ∙ plays.kept ∙ ap (λ ms. ms ++ plays.sent) (step.kept ∙ ap (λ ms. ms ++ step.sent) empty);
+      happened_are = sent ∙ plays.kept ∙ ap (λ ms. ms ++ plays.sent) (step.kept ∙ ap (λ ms. ms ++ step.sent) empty);
     }
 
 -- An instruction as it was seen, by its parts.
 pub seen_by : (traffic : List Arrival) (old back new : Stage) (s : Seen) → back ≡ old →
     IsAhead traffic old s.instruction s.nobody s.jobs s.is_as_before →
-    HasCome traffic back s.outcome s.behind s.view s.replies new → IsSeen traffic old s new
+    HasCome traffic back s.outcome s.behind s.view s.happened new → IsSeen traffic old s new
 seen_by traffic old back new s same ahead come = record {
   instruction = ahead.next;
   nobody = ahead.unsuspended;
@@ -106,7 +106,7 @@ seen_by traffic old back new s same ahead come = record {
   with_traffic = come.with_traffic;
   plays = come.plays;
   seen_after = come.after_is;
-  replies = come.replies_are;
+  happened = come.happened_are;
   undone = ahead.undone;
 }
 

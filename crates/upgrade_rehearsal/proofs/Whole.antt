@@ -1,15 +1,18 @@
 -- A whole rehearsal, by its parts.
-use Rattle.std.proofs.Common.{◌≡◌, ◌∙◌, ℕ, Bool, true, false, List, [], Option, None, Some, Result, IfOk, refl, sym, ap, subst}
+use Rattle.std.proofs.Common.{◌≡◌, ◌∙◌, ℕ, Bool, true, false, List, [], ◌++◌, Option, None, Some, Result, IfOk, refl, sym, ap, subst}
 use Rattle.node_core.specs.Node.{NodeState}
 use Rattle.node_types.specs.declared.event.Event.TheVariants.{SetUnpacked}
 use Rattle.node_views.specs.declared.node_view.NodeView.{NodeView}
 use Rattle.rehearsals.specs.Ways.{is_down, is_finished}
+use Rattle.rehearsals.specs.declared.happening.Happening.{Happening}
 use Rattle.rehearsals.specs.declared.way.Rehearsal.{Rehearsal}
 use Rattle.rehearsals.specs.declared.way.Returned.{Returned}
 use Rattle.rehearsals.specs.declared.way.Returned.TheVariants as quiet
 use Rattle.rehearsals.specs.declared.way.Way.{Way}
 use Rattle.release_table.specs.declared.table.Release.{Release}
 use Rattle.upgrade_rehearsal.specs.declared.arrival.Arrival.{Arrival}
+use Rattle.upgrade_rehearsal.proofs.Leading.{one_stage}
+use Rattle.upgrade_rehearsal.specs.Parts.{IsPlayed}
 use Rattle.upgrade_rehearsal.specs.Players.{Leads, stage_of}
 use Rattle.upgrade_rehearsal.specs.Seen.{AreWays, HaltsOn, HasBooted, IsRehearsal, IsReturn, IsReturned, IsShown, IsWay, IsWayDown, node_view, returned_by}
 use Rattle.upgrade_rehearsal.specs.Stages.{Plays, Stage, Undergoes}
@@ -72,23 +75,38 @@ pub is_untried : (was_down : Bool) (begin : Stage) (up_to down_to : List ℕ) �
     IsReturned was_down begin up_to down_to quiet.Untried
 is_untried was_down begin up_to down_to is = subst (λ b. IsReturned b begin up_to down_to quiet.Untried) (sym is) refl
 
+-- The traffic was played, by what was done: what had been kept of events was cleared away, and then it was played.
+pub played_by : (traffic : List Arrival) (old cleared played new : Player) (happened : List Happening) (view : NodeView) →
+    cleared.journal ≡ old.journal → cleared.arrivals ≡ old.arrivals → cleared.sent.items ≡ [] → Leads (Plays traffic) cleared played →
+    happened ≡ played.sent.items → new.journal ≡ played.journal → new.arrivals ≡ played.arrivals →
+    view ≡ node_view (stage_of new).node → IsPlayed traffic (stage_of old) happened view (stage_of new)
+played_by traffic old cleared played new happened view same_journal same_count empty plays sent journal arrivals seen =
+    let same : stage_of new ≡ stage_of played = one_stage played new journal arrivals in
+    let before : stage_of cleared ≡ stage_of old = one_stage old cleared same_journal same_count in
+    let all : happened ≡ plays.sent = sent ∙ plays.kept ∙ ap (λ ms. ms ++ plays.sent) empty in
+    let scene : Plays traffic (stage_of old) plays.sent (stage_of new) =
+    subst (λ st. Plays traffic (stage_of old) plays.sent st) (sym same)
+    (subst (λ st. Plays traffic st plays.sent (stage_of played)) before plays.scene) in
+    (subst (λ hs. Plays traffic (stage_of old) hs (stage_of new)) (sym all) scene, seen)
+
 -- What was seen of an upgrade, by what was done: the player was told of the release, the traffic was played, both ways were gone, and it
 -- went back, and then up and down once more.
 pub shown_by : (down_to up_to up_again : List ℕ) (to : Release) (traffic : List Arrival) (r : Rehearsal)
     (first known begin : Player) (end back : Stage) (was_down : Bool) → up_to ≡ to.rel.vsn → up_again ≡ to.rel.vsn →
-    Leads (Undergoes (SetUnpacked to)) first known → Leads (Plays traffic) known begin → r.before ≡ node_view (stage_of begin).node →
+    Leads (Undergoes (SetUnpacked to)) first known → IsPlayed traffic (stage_of known) r.happened r.before (stage_of begin) →
     AreWays traffic (stage_of begin) up_to down_to r.up r.down end → r.is_as_before ≡ true → back ≡ stage_of begin →
     was_down ≡ is_down r.down → IsReturned was_down back up_again down_to r.returned →
     IsShown (stage_of first) down_to to traffic r
-shown_by down_to up_to up_again to traffic r first known begin end back was_down same same_again knows plays before ways undone stands
+shown_by down_to up_to up_again to traffic r first known begin end back was_down same same_again knows played ways undone stands
     is returned = record {
       known = stage_of known;
       with_release = knows.sent;
       knows = knows.scene;
       begin = stage_of begin;
-      with_traffic = plays.sent;
-      played = plays.scene;
-      before = before;
+      with_traffic = r.happened;
+      played = played.0;
+      happened = refl;
+      before = played.1;
       end = end;
       ways = subst (λ v. AreWays traffic (stage_of begin) v down_to r.up r.down end) same ways;
       undone = undone;
