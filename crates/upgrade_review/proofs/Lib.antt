@@ -1,3 +1,4 @@
 pub mod Adding
 pub mod Noting
+pub mod Otp
 pub mod Whole

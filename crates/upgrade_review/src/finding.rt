@@ -67,6 +67,38 @@ pub enum Finding {
         /// The module.
         module: Atom,
     },
+    /// The processes of this module are suspended, and no instruction after it resumes them: this node resumes them at the end
+    /// of the script, and OTP leaves them suspended for ever, though the install succeeds. Resume the module.
+    NotResumedOnOtp {
+        /// Where they are suspended.
+        index: usize,
+        /// The module.
+        module: Atom,
+    },
+    /// The processes of this module are resumed, and were not suspended by its name: this node resumes the processes whose
+    /// children name it, and OTP nobody. Resume them by the names that they are suspended by.
+    ResumesNobodyOnOtp {
+        /// Where they are resumed.
+        index: usize,
+        /// The module.
+        module: Atom,
+    },
+    /// The processes of this module are to change their state, and were not suspended by its name: this node changes the state
+    /// of those that are suspended and whose children name it, and OTP nobody's. Suspend them by the name that changes them.
+    ChangesNobodyOnOtp {
+        /// Where their state is changed.
+        index: usize,
+        /// The module.
+        module: Atom,
+    },
+    /// The children of this module are started, and were not stopped by its name, or are started already: this node starts
+    /// those that were stopped and name it, and OTP nobody. Start them by the names that they are stopped by.
+    StartsNobodyOnOtp {
+        /// Where they are started.
+        index: usize,
+        /// The module.
+        module: Atom,
+    },
 }
 
 impl Same for Finding {
@@ -81,6 +113,10 @@ impl Same for Finding {
             Stops { index: i, application: a }
             NoWayDown {}
             NotUndone { index: i, module: m }
+            NotResumedOnOtp { index: i, module: m }
+            ResumesNobodyOnOtp { index: i, module: m }
+            ChangesNobodyOnOtp { index: i, module: m }
+            StartsNobodyOnOtp { index: i, module: m }
         )
     }
 }
@@ -97,6 +133,10 @@ impl Duplicate for Finding {
             Stops { index, application }
             NoWayDown {}
             NotUndone { index, module }
+            NotResumedOnOtp { index, module }
+            ResumesNobodyOnOtp { index, module }
+            ChangesNobodyOnOtp { index, module }
+            StartsNobodyOnOtp { index, module }
         )
     }
 }

@@ -1,0 +1,16 @@
+-- It is the one finding of its kind.
+use Rattle.std.proofs.Common.{◌≡◌, ◌∙◌, false, sym, ap, take}
+use Rattle.upgrade_review.proofs.Noting.{noted}
+use Rattle.upgrade_review.specs.Otp.{ChangesNobody, has_suspended}
+use Rattle.upgrade_review.specs.declared.finding.Finding.TheVariants.{ChangesNobodyOnOtp}
+use Rattle.upgrade_review.proofs.otp.note_changed.Goals as goal
+
+pub returns : goal.returns
+returns c =
+    let script = c.args.script.now in
+    let index = c.args.index in
+    let name = c.args.name.now in
+    let told = ChangesNobodyOnOtp index c.in_ok-module.«module» in
+    let none : has_suspended name (take index script) ≡ false = sym c.has_suspended.ensures ∙ c.if-has_suspended.false in
+    let same : told ≡ ChangesNobodyOnOtp index name = ap (ChangesNobodyOnOtp index) c.in_ok-module.ensures in
+    noted _ (ChangesNobody script index name) told _ _ (none, same) (λ f w. w.1 ∙ sym same) c.note.ensures

@@ -1,0 +1,13 @@
+-- The next one has its turn, and then none is left.
+use Rattle.upgrade_review.proofs.Adding.{ends, goes_on}
+use Rattle.upgrade_review.specs.Otp.{DiffersAt}
+use Rattle.upgrade_review.proofs.otp.note_script.Goals as goal
+
+pub loop-index-preserved : goal.loop-index-preserved
+loop-index-preserved c =
+    let script = c.args.script.now in
+    goes_on (DiffersAt script) script _ _ _ _ _ c.loop-index-test.true c.index-script-index.is c.loop-index.invariant
+    c.in_ok-note_instruction.ensures
+
+pub returns : goal.returns
+returns c = ends (DiffersAt c.args.script.now) c.args.script.now _ _ _ c.loop-index-test.false c.loop-index.invariant

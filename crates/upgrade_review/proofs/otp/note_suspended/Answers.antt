@@ -1,0 +1,20 @@
+-- It is the one finding of its kind.
+use Rattle.std.proofs.Common.{◌≡◌, ◌+◌, ◌-◌, ◌∙◌, false, sym, ap}
+use Rattle.std.proofs.Common.{drop, length, length-drop, le_of_eq, take, take_all}
+use Rattle.upgrade_review.proofs.Noting.{noted}
+use Rattle.upgrade_review.specs.Otp.{IsNotResumed, is_resumed}
+use Rattle.upgrade_review.specs.declared.finding.Finding.TheVariants.{NotResumedOnOtp}
+use Rattle.upgrade_review.proofs.otp.note_suspended.Goals as goal
+
+pub returns : goal.returns
+returns c =
+    let script = c.args.script.now in
+    let index = c.args.index in
+    let name = c.args.name.now in
+    let told = NotResumedOnOtp index c.in_ok-module.«module» in
+    let rest = drop (index + 1) script in
+    let left = length script - (index + 1) in
+    let all : take left rest ≡ rest = take_all left rest (le_of_eq (length-drop (index + 1) script)) in
+    let gone : is_resumed name rest ≡ false = ap (is_resumed name) (sym all) ∙ sym c.is_resumed.ensures ∙ c.if-is_resumed.false in
+    let same : told ≡ NotResumedOnOtp index name = ap (NotResumedOnOtp index) c.in_ok-module.ensures in
+    noted _ (IsNotResumed script index name) told _ _ (gone, same) (λ f w. w.1 ∙ sym same) c.note.ensures
