@@ -1,8 +1,8 @@
 -- The modules that an instruction suspends, and nobody for them (appup(4), suspend).
-use Rattle.std.specs.Prelude.{ℕ, Bool, true, false, not, ◌&&◌, List, [], ◌∷◌, map, filter, Option, None, Some}
+use Rattle.std.specs.Prelude.{ℕ, Bool, true, false, not, ◌||◌, List, [], ◌∷◌, map, filter, Option, None, Some}
 use Rattle.std.specs.List.{list_any}
 use Rattle.app_table.specs.Applications.{Application}
-use Rattle.app_table.specs.Modules.{running_with}
+use Rattle.app_table.specs.Modules.{has_module}
 use Rattle.low_instructions.specs.declared.low.Low.{Low}
 use Rattle.low_instructions.specs.declared.low.Low.TheVariants.{LoadObjectCode, PointOfNoReturn, Load, Remove, Purge, Suspend}
 use Rattle.low_instructions.specs.declared.low.Low.TheVariants.{Resume, CodeChange, Stop, Start, Apply}
@@ -23,19 +23,18 @@ suspended_by (Some (Stop modules)) = []
 suspended_by (Some (Start modules)) = []
 suspended_by (Some (Apply name function arguments)) = []
 
--- Nobody is suspended for a module where no child that runs names it in its specification: a child that runs a loop function
--- counts, though no instruction suspends it. A callback module of an application is not told so, for its supervisor is no
--- process here.
+-- Nobody is ever suspended for a module that no child names in its specification, whether its process lives or not: a child that
+-- runs a loop function counts, though no instruction suspends it. A callback module of an application doesn't count, for its
+-- supervisor is no process here.
 
-abbrev pub is_empty : {X : Type 0} → List X → Bool
-is_empty [] = true
-is_empty (x ∷ xs) = false
+abbrev pub is_known_by : List ℕ → Application → Bool
+is_known_by m a = is_start_module m a.spec.start || list_any (has_module m) a.children
 
-abbrev pub is_callback_module : List ℕ → List Application → Bool
-is_callback_module m apps = list_any (λ a. is_start_module m a.spec.start) apps
+abbrev pub is_known : List ℕ → List Application → Bool
+is_known m apps = list_any (is_known_by m) apps
 
 abbrev pub is_nobody : List Application → List ℕ → Bool
-is_nobody apps m = is_empty (running_with (m ∷ []) apps) && not (is_callback_module m apps)
+is_nobody apps m = not (is_known m apps)
 
 abbrev pub nobody_of : List Application → Option Low → List (List ℕ)
 nobody_of apps instruction = filter (is_nobody apps) (suspended_by instruction)

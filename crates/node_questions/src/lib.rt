@@ -3,9 +3,9 @@
 //!
 //! # What is proved
 //!
-//! - [`nobody_of`] has the modules that an instruction suspends and of which no child runs, in order (`nobody_of`). A callback
-//!   module of an application is none of them, for its supervisor is no process here. A child that runs a loop function
-//!   counts as one that runs, though no instruction suspends it.
+//! - [`nobody_of`] has the modules that an instruction suspends and that no child names in its specification, in order
+//!   (`nobody_of`). A callback module of an application is none of them, for its supervisor is no process here. A child that runs
+//!   a loop function counts, though no instruction suspends it, and so does one whose process has ended.
 //! - [`lingerers`] has each module that has old code with each process that lingers in it: modules in order, and the processes
 //!   of each in order of pid (`lingerers`).
 //!

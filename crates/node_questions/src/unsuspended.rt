@@ -1,39 +1,37 @@
 // The modules that an instruction suspends, and nobody for them.
 ghost use Rattle.std.specs.Prelude.{◌≡◌, ◌∷◌, ◌++◌, [], IfOk, OnOk, filter, map};
-ghost use Rattle.node_questions.specs.Unsuspended.{is_callback_module, is_nobody, nobody_of};
+ghost use Rattle.node_questions.specs.Unsuspended.{is_known, is_known_by, is_nobody, nobody_of};
 
-use app_table::AppTable;
+use app_table::{App, AppTable};
 use erl_term::Atom;
 use low_instructions::{Low, Suspension};
 use std::alloc::{AllocError, Global};
-use std::slice;
 use upgrade_review::is_start_module;
 use values::{Duplicate, Row};
 
-/// Whether a module is the callback module of an application.
-fn is_callback_module(apps: &AppTable, name: &Atom) -> bool
-    ensures { result ≡ is_callback_module name.now apps.now }
+/// Returns whether a child of an application names a module, or the module is the application's callback module.
+fn is_known_by(app: &App, name: &Atom) -> bool
+    ensures { result ≡ is_known_by name.now app.now }
+{
+    is_start_module(&app.spec().start, name) || app.children().iter().any(|child| child.has_module(name))
+}
+
+/// Returns whether a module is known so by an application.
+fn is_known(apps: &AppTable, name: &Atom) -> bool
+    ensures { result ≡ is_known name.now apps.now }
 {
     for index in 0..apps.len() {
         let Some(app) = apps.app(index) else {
             unreachable!()
         };
-        if is_start_module(&app.spec().start, name) {
+        if is_known_by(app, name) {
             return true;
         }
     }
     false
 }
 
-/// Whether nobody is suspended for a module: no child runs with it, and it is no callback module of an application.
-fn is_nobody(alloc: Global, apps: &AppTable, name: &Atom) -> Result<bool, AllocError>
-    ensures { IfOk result (λ is. is ≡ is_nobody apps.now name.now) }
-{
-    let running = apps.running_with(alloc, slice::from_ref(name))?;
-    Ok(running.is_empty() && !is_callback_module(apps, name))
-}
-
-/// Puts a module behind others where nobody is suspended for it.
+/// Appends a module if nobody is ever suspended for it.
 fn push_idle(
     alloc: Global,
     apps: &AppTable,
@@ -42,7 +40,7 @@ fn push_idle(
 ) -> Result<(), AllocError>
     ensures { OnOk result (found.new.items ≡ found.old.items ++ filter (is_nobody apps.now) (name.now ∷ [])) }
 {
-    if is_nobody(alloc, apps, name)? {
+    if !is_known(apps, name) {
         found.push(name.copy(alloc)?)?;
     }
     Ok(())
@@ -63,7 +61,7 @@ fn idle_modules(
     Ok(found)
 }
 
-/// The modules that an instruction suspends and of which no child runs, in order, but for callback modules of applications.
+/// Returns the modules that an instruction suspends and that no child names, in order, but for callback modules of applications.
 ///
 /// # Errors
 ///

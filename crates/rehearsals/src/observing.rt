@@ -46,8 +46,7 @@ impl Same for Moment {
 /// What a rehearsal has shown that is likely wrong, and where. An index is that of an instruction of the script, from 0.
 #[derive(Drop)]
 pub enum Observation {
-    /// The processes of this module are to be suspended, and no child runs whose specification names it. So its processes, if
-    /// there are any, go on while its code changes. Name the module in the specification of its child.
+    /// The processes of this module are to be suspended, and no child's specification names it. So its processes, if there are any, go on while its code changes. Name the module in the specification of its child.
     SuspendsNobody {
         /// Whether it is on the way up.
         way: Direction,
