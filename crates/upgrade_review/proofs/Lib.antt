@@ -1,4 +1,4 @@
 pub mod Adding
+pub mod Differences
 pub mod Noting
-pub mod Otp
 pub mod Whole

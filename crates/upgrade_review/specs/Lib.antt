@@ -1,5 +1,5 @@
 pub mod Codes
 pub mod Findings
 pub mod Gathering
-pub mod Otp
+pub mod OnOtp
 pub mod Scripts

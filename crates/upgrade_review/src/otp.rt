@@ -2,9 +2,9 @@
 ghost use Rattle.std.specs.Prelude.{◌≡◌, ◌↔◌, ◌<◌, Contains, IfOk, OnOk, length, false};
 ghost use Rattle.upgrade_review.specs.Findings.{AreDifferent};
 ghost use Rattle.upgrade_review.specs.Gathering.{Adds, FromEach};
-ghost use Rattle.upgrade_review.specs.Otp.{ChangesNobody, DiffersAt, DiffersOnOtp, IsNotResumed, ResumesNobody, StartsNobody};
-ghost use Rattle.upgrade_review.specs.Otp.{has_stopped, has_suspended, is_among, is_resumed, is_suspended_among};
-ghost use Rattle.upgrade_review.specs.Otp.{kept_after, resumes, stopped_after, through};
+ghost use Rattle.upgrade_review.specs.OnOtp.{ChangesNobody, DiffersAt, DiffersOnOtp, IsNotResumed, ResumesNobody, StartsNobody};
+ghost use Rattle.upgrade_review.specs.OnOtp.{has_stopped, has_suspended, is_among, is_resumed, is_suspended_among};
+ghost use Rattle.upgrade_review.specs.OnOtp.{kept_after, resumes, stopped_after, through};
 ghost use Rattle.upgrade_review.specs.declared.finding.Finding.{Finding};
 
 use crate::finding::Finding;

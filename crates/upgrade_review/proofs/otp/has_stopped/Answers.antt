@@ -1,13 +1,16 @@
 -- Each instruction has its turn.
-use Rattle.std.proofs.Common.{◌∙◌, ap, sym}
+use Rattle.std.proofs.Common.{◌∙◌, ap, false, sym}
 use Rattle.std.proofs.lemmas.List.{take_all}
-use Rattle.upgrade_review.proofs.Otp.{through-next}
-use Rattle.upgrade_review.specs.Otp.{stopped_after, through}
+use Rattle.upgrade_review.proofs.Differences.{through-next, through-none}
+use Rattle.upgrade_review.specs.OnOtp.{stopped_after, through}
 use Rattle.upgrade_review.proofs.otp.has_stopped.Goals as goal
+
+pub loop-low-init : goal.loop-low-init
+loop-low-init c = sym (through-none (stopped_after c.args.name.now) false)
 
 pub loop-low-preserved : goal.loop-low-preserved
 loop-low-preserved c =
-    c.stopped_after.ensures ∙ through-next (stopped_after c.args.name.now) c.args.script.now _ _ _ c.loop-low-test.true c.low-item.is c.loop-low.invariant
+    c.stopped_after-kept.ensures ∙ through-next (stopped_after c.args.name.now) c.args.script.now _ _ _ c.loop-low-test.true c.low-item.is c.loop-low.invariant
 
 pub returns : goal.returns
 returns c = c.loop-low.invariant ∙ ap (through (stopped_after c.args.name.now) _) (take_all _ c.args.script.now c.loop-low-test.false)

@@ -1,6 +1,6 @@
 -- What is kept so far.
 use Rattle.std.proofs.Common.{◌≡◌, false, take}
-use Rattle.upgrade_review.specs.Otp.{stopped_after, through}
+use Rattle.upgrade_review.specs.OnOtp.{stopped_after, through}
 use Rattle.upgrade_review.proofs.otp.has_stopped.Given as goal
 
 abbrev pub invariant-loop-low : goal.invariant-loop-low

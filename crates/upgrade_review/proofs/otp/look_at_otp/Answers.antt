@@ -1,7 +1,7 @@
 -- What has come of the instructions.
 use Rattle.std.proofs.Common.{sym, subst}
 use Rattle.upgrade_review.proofs.Adding.{none_twice}
-use Rattle.upgrade_review.proofs.Otp.{differs_of_parts}
+use Rattle.upgrade_review.proofs.Differences.{differs_of_parts}
 use Rattle.upgrade_review.specs.Findings.{AreDifferent}
 use Rattle.upgrade_review.proofs.otp.look_at_otp.Goals as goal
 

@@ -1,7 +1,7 @@
 -- It is the one finding of its kind.
 use Rattle.std.proofs.Common.{◌≡◌, ◌∙◌, false, sym, ap, take}
 use Rattle.upgrade_review.proofs.Noting.{noted}
-use Rattle.upgrade_review.specs.Otp.{ChangesNobody, has_suspended}
+use Rattle.upgrade_review.specs.OnOtp.{ChangesNobody, has_suspended}
 use Rattle.upgrade_review.specs.declared.finding.Finding.TheVariants.{ChangesNobodyOnOtp}
 use Rattle.upgrade_review.proofs.otp.note_changed.Goals as goal
 

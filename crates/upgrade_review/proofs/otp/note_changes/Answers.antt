@@ -2,7 +2,7 @@
 use Rattle.std.proofs.Common.{ℕ}
 use Rattle.low_instructions.specs.declared.modules.ModuleChange.{ModuleChange}
 use Rattle.upgrade_review.proofs.Adding.{ends, goes_on}
-use Rattle.upgrade_review.specs.Otp.{ChangesNobody}
+use Rattle.upgrade_review.specs.OnOtp.{ChangesNobody}
 use Rattle.upgrade_review.specs.declared.finding.Finding.{Finding}
 use Rattle.upgrade_review.proofs.otp.note_changes.Goals as goal
 

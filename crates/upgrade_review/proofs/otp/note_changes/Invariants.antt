@@ -3,7 +3,7 @@ use Rattle.std.proofs.Common.{ℕ}
 use Rattle.low_instructions.specs.declared.modules.ModuleChange.{ModuleChange}
 use Rattle.upgrade_review.proofs.Adding.{UpTo}
 use Rattle.upgrade_review.specs.Gathering.{Adds}
-use Rattle.upgrade_review.specs.Otp.{ChangesNobody}
+use Rattle.upgrade_review.specs.OnOtp.{ChangesNobody}
 use Rattle.upgrade_review.proofs.otp.note_changes.Given as goal
 
 abbrev pub invariant-loop-change : goal.invariant-loop-change

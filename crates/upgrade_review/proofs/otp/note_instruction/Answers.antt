@@ -4,7 +4,7 @@ use Rattle.low_instructions.specs.declared.low.Low.{Low}
 use Rattle.low_instructions.specs.declared.modules.ModuleChange.{ModuleChange}
 use Rattle.low_instructions.specs.declared.modules.Suspension.{Suspension}
 use Rattle.upgrade_review.specs.Gathering.{Adds, FromEach}
-use Rattle.upgrade_review.specs.Otp.{ChangesNobody, DiffersAt, IsNotResumed, ResumesNobody, StartsNobody}
+use Rattle.upgrade_review.specs.OnOtp.{ChangesNobody, DiffersAt, IsNotResumed, ResumesNobody, StartsNobody}
 use Rattle.upgrade_review.specs.declared.finding.Finding.{Finding}
 use Rattle.upgrade_review.proofs.otp.note_instruction.Goals as goal
 

@@ -1,7 +1,7 @@
 -- The next one has its turn, and then none is left.
 use Rattle.std.proofs.Common.{ℕ, List}
 use Rattle.upgrade_review.proofs.Adding.{ends, goes_on}
-use Rattle.upgrade_review.specs.Otp.{ResumesNobody}
+use Rattle.upgrade_review.specs.OnOtp.{ResumesNobody}
 use Rattle.upgrade_review.specs.declared.finding.Finding.{Finding}
 use Rattle.upgrade_review.proofs.otp.note_resume.Goals as goal
 

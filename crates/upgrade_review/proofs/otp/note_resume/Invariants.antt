@@ -2,7 +2,7 @@
 use Rattle.std.proofs.Common.{ℕ, List}
 use Rattle.upgrade_review.proofs.Adding.{UpTo}
 use Rattle.upgrade_review.specs.Gathering.{Adds}
-use Rattle.upgrade_review.specs.Otp.{ResumesNobody}
+use Rattle.upgrade_review.specs.OnOtp.{ResumesNobody}
 use Rattle.upgrade_review.proofs.otp.note_resume.Given as goal
 
 abbrev pub invariant-loop-name : goal.invariant-loop-name

@@ -1,7 +1,7 @@
 -- It is the one finding of its kind.
 use Rattle.std.proofs.Common.{◌≡◌, ◌∙◌, false, sym, ap, take}
 use Rattle.upgrade_review.proofs.Noting.{noted}
-use Rattle.upgrade_review.specs.Otp.{ResumesNobody, has_suspended}
+use Rattle.upgrade_review.specs.OnOtp.{ResumesNobody, has_suspended}
 use Rattle.upgrade_review.specs.declared.finding.Finding.TheVariants.{ResumesNobodyOnOtp}
 use Rattle.upgrade_review.proofs.otp.note_resumed.Goals as goal
 

@@ -1,6 +1,6 @@
 -- The next one has its turn, and then none is left.
 use Rattle.upgrade_review.proofs.Adding.{ends, goes_on}
-use Rattle.upgrade_review.specs.Otp.{DiffersAt}
+use Rattle.upgrade_review.specs.OnOtp.{DiffersAt}
 use Rattle.upgrade_review.proofs.otp.note_script.Goals as goal
 
 pub loop-index-preserved : goal.loop-index-preserved

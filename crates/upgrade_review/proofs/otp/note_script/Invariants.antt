@@ -1,7 +1,7 @@
 -- What is noted so far.
 use Rattle.upgrade_review.proofs.Adding.{UpTo}
 use Rattle.upgrade_review.specs.Gathering.{Adds}
-use Rattle.upgrade_review.specs.Otp.{DiffersAt}
+use Rattle.upgrade_review.specs.OnOtp.{DiffersAt}
 use Rattle.upgrade_review.proofs.otp.note_script.Given as goal
 
 abbrev pub invariant-loop-index : goal.invariant-loop-index

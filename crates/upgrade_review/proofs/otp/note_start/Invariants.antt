@@ -2,7 +2,7 @@
 use Rattle.std.proofs.Common.{ℕ, List}
 use Rattle.upgrade_review.proofs.Adding.{UpTo}
 use Rattle.upgrade_review.specs.Gathering.{Adds}
-use Rattle.upgrade_review.specs.Otp.{StartsNobody}
+use Rattle.upgrade_review.specs.OnOtp.{StartsNobody}
 use Rattle.upgrade_review.proofs.otp.note_start.Given as goal
 
 abbrev pub invariant-loop-name : goal.invariant-loop-name

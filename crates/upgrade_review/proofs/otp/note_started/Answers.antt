@@ -1,7 +1,7 @@
 -- It is the one finding of its kind.
 use Rattle.std.proofs.Common.{◌≡◌, ◌∙◌, false, sym, ap, take}
 use Rattle.upgrade_review.proofs.Noting.{noted}
-use Rattle.upgrade_review.specs.Otp.{StartsNobody, has_stopped}
+use Rattle.upgrade_review.specs.OnOtp.{StartsNobody, has_stopped}
 use Rattle.upgrade_review.specs.declared.finding.Finding.TheVariants.{StartsNobodyOnOtp}
 use Rattle.upgrade_review.proofs.otp.note_started.Goals as goal
 

@@ -2,7 +2,7 @@
 use Rattle.std.proofs.Common.{ℕ}
 use Rattle.low_instructions.specs.declared.modules.Suspension.{Suspension}
 use Rattle.upgrade_review.proofs.Adding.{ends, goes_on}
-use Rattle.upgrade_review.specs.Otp.{IsNotResumed}
+use Rattle.upgrade_review.specs.OnOtp.{IsNotResumed}
 use Rattle.upgrade_review.specs.declared.finding.Finding.{Finding}
 use Rattle.upgrade_review.proofs.otp.note_suspend.Goals as goal
 

@@ -3,7 +3,7 @@ use Rattle.std.proofs.Common.{ℕ}
 use Rattle.low_instructions.specs.declared.modules.Suspension.{Suspension}
 use Rattle.upgrade_review.proofs.Adding.{UpTo}
 use Rattle.upgrade_review.specs.Gathering.{Adds}
-use Rattle.upgrade_review.specs.Otp.{IsNotResumed}
+use Rattle.upgrade_review.specs.OnOtp.{IsNotResumed}
 use Rattle.upgrade_review.proofs.otp.note_suspend.Given as goal
 
 abbrev pub invariant-loop-suspension : goal.invariant-loop-suspension

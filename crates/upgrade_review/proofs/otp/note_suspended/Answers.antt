@@ -2,7 +2,7 @@
 use Rattle.std.proofs.Common.{◌≡◌, ◌+◌, ◌-◌, ◌∙◌, false, sym, ap}
 use Rattle.std.proofs.Common.{drop, length, length-drop, le_of_eq, take, take_all}
 use Rattle.upgrade_review.proofs.Noting.{noted}
-use Rattle.upgrade_review.specs.Otp.{IsNotResumed, is_resumed}
+use Rattle.upgrade_review.specs.OnOtp.{IsNotResumed, is_resumed}
 use Rattle.upgrade_review.specs.declared.finding.Finding.TheVariants.{NotResumedOnOtp}
 use Rattle.upgrade_review.proofs.otp.note_suspended.Goals as goal
 

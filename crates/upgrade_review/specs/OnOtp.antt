@@ -51,7 +51,7 @@ stopped_after m kept (Start modules) = kept && not (is_among m modules)
 stopped_after m kept (Apply name function arguments) = kept
 
 -- after each instruction of a script, from the first on
-pub through : (Bool → Low → Bool) → Bool → List Low → Bool
+unfoldable pub through : (Bool → Low → Bool) → Bool → List Low → Bool
 through after kept [] = kept
 through after kept (low ∷ script) = through after (after kept low) script
 

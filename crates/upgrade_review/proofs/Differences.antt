@@ -8,7 +8,7 @@ use Rattle.low_instructions.specs.declared.low.Low.TheVariants.{LoadObjectCode, 
 use Rattle.low_instructions.specs.declared.low.Low.TheVariants.{Resume, CodeChange, Stop, Start, Apply}
 use Rattle.upgrade_review.proofs.Adding.{from_nothing}
 use Rattle.upgrade_review.specs.Gathering.{Adds, FromEach}
-use Rattle.upgrade_review.specs.Otp.{DiffersAt, DiffersOnOtp, changes_nobody, not_resumed, resumes_nobody, starts_nobody, through}
+use Rattle.upgrade_review.specs.OnOtp.{DiffersAt, DiffersOnOtp, changes_nobody, not_resumed, resumes_nobody, starts_nobody, through}
 use Rattle.upgrade_review.specs.declared.finding.Finding.{Finding}
 
 -- an item of a list, and the same at its index
@@ -19,14 +19,14 @@ index_of : {X : Type 0} (xs : List X) (x : X) (there : Contains xs x) → slice_
 index_of xs x there = slice_get_read xs (length xs) there.0 x refl there.1 (sym there.2)
 
 -- one instruction more
-unfolding through
 through-more : (after : Bool → Low → Bool) (kept : Bool) (script : List Low) (low : Low) →
     through after kept (script ++ low ∷ []) ≡ after (through after kept script) low
+unfolding through
 through-more after kept [] low = refl
 through-more after kept (first ∷ script) low = through-more after (after kept first) script low
 
-unfolding through
 pub through-none : (after : Bool → Low → Bool) (kept : Bool) → through after kept [] ≡ kept
+unfolding through
 through-none after kept = refl
 
 pub through-next : (after : Bool → Low → Bool) (script : List Low) (n : ℕ) (low : Low) (kept : Bool) → n < length script →
