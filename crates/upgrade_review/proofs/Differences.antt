@@ -1,6 +1,6 @@
 -- What OTP does otherwise, by its parts.
 use Rattle.std.proofs.Common.{◌≡◌, ◌∙◌, ℕ, ◌+◌, ◌<◌, Bool, false, List, [], ◌∷◌, ◌++◌, Some, Contains, ◌↔◌, length, take, get_or, refl, sym, ap, subst}
-use Rattle.std.proofs.lemmas.List.{take_all, take_more}
+use Rattle.std.proofs.lemmas.List.{take_more}
 use Rattle.std.proofs.lemmas.Option.{get_or_from_slice_get, slice_get_read, slice_get_within}
 use Rattle.std.specs.List.{slice_get}
 use Rattle.low_instructions.specs.declared.low.Low.{Low}

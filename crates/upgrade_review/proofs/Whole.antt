@@ -1,5 +1,5 @@
 -- What is found of the parts of an upgrade is what is found of it.
-use Rattle.std.proofs.Common.{◌≡◌, ℕ, List, [], None, Some, Option, Contains, ◌⊎◌, ◌↔◌, inl, inr, length, refl, sym, subst, arith}
+use Rattle.std.proofs.Common.{◌≡◌, ℕ, List, [], None, Some, Option, Contains, ◌⊎◌, ◌↔◌, inl, inr, length, refl, sym, subst}
 use Rattle.std.proofs.lemmas.Option.{get_or_from_slice_get, none-some, slice_get_read, slice_get_within}
 use Rattle.std.specs.List.{slice_get}
 use Rattle.low_instructions.specs.declared.low.Low.{Low}

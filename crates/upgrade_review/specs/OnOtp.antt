@@ -1,6 +1,6 @@
 -- What OTP's release handler carries out otherwise than this node, seen from a script alone (release_handler(3); appup(4)): it
 -- keeps the processes that it has suspended, and the children that it has stopped, by the names of modules in the instruction.
-use Rattle.std.specs.Prelude.{◌≡◌, ◌⊎◌, ℕ, ◌+◌, Bool, true, false, ◌&&◌, ◌||◌, not, List, [], ◌∷◌, Contains, Some, slice_get, take, drop}
+use Rattle.std.specs.Prelude.{◌≡◌, ℕ, ◌+◌, Bool, false, ◌&&◌, ◌||◌, not, List, [], ◌∷◌, Contains, Some, slice_get, take, drop}
 use Rattle.std.specs.List.{list_any}
 use Rattle.std.specs.Str.{bytes_eq}
 use Rattle.low_instructions.specs.declared.low.Low.{Low}

@@ -19,7 +19,7 @@ returns c =
     let old = c.args.found.now.items in
     let between = c.note_instruction.new.found.items in
     let new = c.note_served.new.found.items in
-    let instruction = subst (λ (v : NodeView). Adds (IsOfInstruction way i v s) old between) c.before.ensures
+    let instruction = subst (λ (v : NodeView). Adds (IsOfInstruction way i v s) old between) c.before-2.ensures
     c.in_ok-note_instruction.ensures in
     on_ok c.note_served.result (Adds (IsServedBadly (At way i) first c.as_slice.result.now) between new)
     (Adds (IsAtStation way first w i s) old new)

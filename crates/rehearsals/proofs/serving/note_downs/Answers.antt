@@ -12,7 +12,7 @@ returns-then-has_call_down c =
     noted_if c.note.result (IsCallDown c.args.when c.args.happened.now) _ (CallsDown c.args.when) _ _
     (c.has_call_down.ensures.0 c.if-has_call_down.true) (λ o w. w.1) (λ o same down. (down, same)) c.note.ensures
 
-pub returns-else-has_call_down : goal.returns-else-has_call_down
-returns-else-has_call_down c =
+pub returns : goal.returns
+returns c =
     adds_nothing (IsCallDown c.args.when c.args.happened.now) _
     (λ o w. false≢true (sym c.if-has_call_down.false ∙ c.has_call_down.ensures.1 w.0))

@@ -6,4 +6,4 @@ use Rattle.rehearsals.proofs.serving.note_exits.Given as goal
 
 abbrev pub invariant-loop-happening : goal.invariant-loop-happening
 invariant-loop-happening l =
-    Adds (UpTo (λ i h o. IsExitOf l.when h o) l.happening-items l.happening-index) l.fn.found.items l.found.items
+    Adds (UpTo (λ i h o. IsExitOf l.when h o) l.happened l.happening-index) l.fn.found.items l.found.items

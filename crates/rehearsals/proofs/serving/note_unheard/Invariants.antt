@@ -6,4 +6,4 @@ use Rattle.rehearsals.proofs.serving.note_unheard.Given as goal
 
 abbrev pub invariant-loop-happening : goal.invariant-loop-happening
 invariant-loop-happening l =
-    Adds (UpTo (λ i h o. IsUnheardOf l.when l.first h o) l.happening-items l.happening-index) l.fn.found.items l.found.items
+    Adds (UpTo (λ i h o. IsUnheardOf l.when l.first h o) l.happened l.happening-index) l.fn.found.items l.found.items

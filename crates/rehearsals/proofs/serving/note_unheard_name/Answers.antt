@@ -16,6 +16,6 @@ returns-then-is_unheard c =
 pub returns : goal.returns
 returns c =
     let is = c.in_ok-name.ensures in
-    noted_if c.note.result (IsNewName c.args.when c.args.first.now c.args.name.now) _ (Unheard c.args.when c.in_ok-name.field-0) _ _
+    noted_if c.note.result (IsNewName c.args.when c.args.first.now c.args.name.now) _ (Unheard c.args.when c.in_ok-name.name) _ _
     (λ unheard. false≢true (sym c.if-is_unheard.false ∙ c.is_unheard.ensures.1 unheard))
     (λ o w. w.1 ∙ sym (λ i. Unheard c.args.when (is i))) (λ o same new. (new, same ∙ (λ i. Unheard c.args.when (is i)))) c.note.ensures

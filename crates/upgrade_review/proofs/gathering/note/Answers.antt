@@ -1,7 +1,7 @@
 -- It is there already, or it is put behind.
-use Rattle.std.proofs.Common.{◌≡◌, ◌∙◌, Contains, ap, sym, subst, true, false}
+use Rattle.std.proofs.Common.{◌≡◌, ◌∙◌, Contains, sym, subst}
 use Rattle.std.proofs.lemmas.Bool.{false≢true}
-use Rattle.upgrade_review.proofs.Adding.{adds_known, adds_new}
+use Rattle.upgrade_review.proofs.Adding.{adds_new}
 use Rattle.upgrade_review.specs.Gathering.{Adds}
 use Rattle.upgrade_review.proofs.gathering.note.Goals as goal
 
