@@ -199,9 +199,10 @@ fn report(
         findings: findings.as_slice(),
         amiss: amiss.as_slice(),
         observations: observations.as_slice(),
+        allowed: &[],
         rehearsal,
     };
-    write_report(alloc, &report, out)?;
+    write_report(alloc, &report, false, out)?;
     page_of(alloc, &report, has_page)
 }
 
