@@ -43,11 +43,7 @@ pub fn find_all(
 }
 
 /// Returns the report of a rehearsal.
-pub fn report_of<'a>(
-    asked: &'a Asked,
-    rehearsal: &'a Rehearsal,
-    found: &'a Found,
-) -> Report<'a>
+pub fn report_of<'a>(asked: &'a Asked, rehearsal: &'a Rehearsal, found: &'a Found) -> Report<'a>
     ensures { IsReport asked.now rehearsal.now found.now result }
 {
     let chosen = &asked.chosen;

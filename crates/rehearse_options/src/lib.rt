@@ -16,7 +16,8 @@ const NAME: &str = "rehearse";
 
 const VERSION: &str = "0.1.0, proved";
 
-const ABOUT: &str = "Rehearses the upgrade of an Erlang/OTP release before it is made, and tells what is likely wrong with it";
+const ABOUT: &str =
+    "Rehearses the upgrade of an Erlang/OTP release before it is made, and tells what is likely wrong with it";
 
 const ROOT_HELP: &str = "The folder with `releases` and `lib`; all files below it are read";
 
@@ -38,8 +39,7 @@ const HTML_HELP: &str =
 const RELUP_HELP: &str =
     "Print the relup by which TO is reached, as a file, and end; it is made of the appups if TO has none for FROM";
 
-const AFTER_HELP: &str =
-    "What it does:
+const AFTER_HELP: &str = "What it does:
   It boots FROM on a node of its own, and carries out the upgrade an instruction at a
   time: up to TO, and down again. The traffic, if there is any, is played before it and
   after each instruction. Each instruction is also made to fail on purpose, and undone.
