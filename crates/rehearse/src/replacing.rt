@@ -32,7 +32,7 @@ pub fn replace<R: Runtime + RandomSource + AllocGlobal>(
 ) -> io::Result<()> {
     let part = part_of(rt, target)?;
     let file = File::create_new(rt, part.as_str())?;
-    let replaced = match fill::<R>(file, target.mode, bytes) {
+    let replaced = match fill(file, target.mode, bytes) {
         Ok(()) => fs::rename(rt, part.as_str(), target.path.as_str()),
         Err(error) => Err(error),
     };
@@ -58,7 +58,7 @@ pub fn try_replacing<R: Runtime + RandomSource + AllocGlobal>(
 
 /// Returns the path of a part beside a file, which no other run has.
 fn part_of<R: RandomSource + AllocGlobal>(rt: &R, target: &Target) -> io::Result<String> {
-    let mut bytes = [0; 8];
+    let mut bytes = [0u8; 8];
     rt.fill_bytes(&mut bytes)?;
     let number = u64::from_le_bytes(bytes);
     let path = target.path.as_str();
@@ -66,7 +66,11 @@ fn part_of<R: RandomSource + AllocGlobal>(rt: &R, target: &Target) -> io::Result
 }
 
 /// Writes all of a file that was just made. Nobody but those who may read the file that it replaces can read it meanwhile.
-fn fill<R: Runtime>(mut file: R::File, mode: Option<u32>, bytes: &[u8]) -> io::Result<()> {
+fn fill<F: Write + OpenFile + Drop>(
+    mut file: F,
+    mode: Option<u32>,
+    bytes: &[u8],
+) -> io::Result<()> {
     if let Some(mode) = mode {
         file.set_permissions(Permissions::from_mode(mode))?;
     }

@@ -56,15 +56,15 @@ Status:
   4  it goes up and down, and something is found that isn't allowed
 
 A KIND of --allow is the word that is printed after a finding, one of these:
-  ends_before            a process ends by a message, before the upgrade begins
-  calls_down_before      a call ends its process, before the upgrade begins
+  ends_before            a process ends by its job, before the upgrade begins
+  calls_down_before      a call gets an exit reason, before the upgrade begins
   unheard_before         a message goes to a name that nobody has, before the upgrade
   fails_without_traffic  it goes up and down with the traffic, and not without
   not_restored           up and down again, a process has another state than before
   vanishes               up and down again, a process is gone
   kills                  a process still uses code that is purged, and is killed
-  ends                   a process ends by a message
-  calls_down             a call ends its process
+  ends                   a process ends by its job
+  calls_down             a call gets an exit reason
   unheard                a message goes to a name that nobody has
   lingers                a process uses old code when the script has ended
   suspends_nobody        a module is suspended, and no process has it in its spec
@@ -168,7 +168,7 @@ fn all_owned(alloc: Global, words: Option<&[&str]>) -> Result<Vec<String>, Alloc
     words
         .unwrap_or(&[])
         .iter()
-        .map(|word| String::from_str(alloc, word))
+        .map(|word| String::from_str(alloc, *word))
         .try_collect(alloc)
 }
 
