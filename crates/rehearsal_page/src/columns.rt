@@ -18,9 +18,14 @@ pub(crate) struct Column<'a> {
 }
 
 impl Column<'_> {
-    /// Whether a failure behind it restarts the node.
+    /// Whether it is the first instruction a failure of which restarts the node.
     pub(crate) fn is_point_of_no_return(&self) -> bool {
         matches!(self.station.instruction, Some(Low::PointOfNoReturn))
+    }
+
+    /// Whether its instruction fails.
+    pub(crate) fn fails(&self) -> bool {
+        !self.station.outcome.is_carried_out() && !self.station.outcome.is_end()
     }
 
     /// Whether it is the first one of the way down.

@@ -8,9 +8,11 @@ use crate::parts::Part::{Markup, Number, Text};
 use crate::parts::put_parts;
 use crate::script::BEGIN_SCRIPT;
 use crate::style::STYLE;
-use low_instructions::Direction;
-use rehearsal_report::{NOT_AS_BEFORE, Report, put_head, put_install_refusal, verdict, way_word};
-use rehearsals::{Rehearsal, Way};
+use rehearsal_report::{
+    Extent, NOT_AS_BEFORE, Report, Verdict, finding_count, put_failure, put_head, put_verdict,
+    verdict_of,
+};
+use rehearsals::Rehearsal;
 use std::alloc::{AllocError, Global};
 
 /// What stands before the title. The policy has a browser load nothing from elsewhere, whatever the page says.
@@ -24,7 +26,7 @@ const BEGIN: &[u8] = b"<!doctype html>
  style-src 'unsafe-inline'; script-src 'unsafe-inline'\">
 <title>";
 
-/// Writes what stands before the timeline: what is rehearsed, the verdict, and how many findings there are.
+/// Writes what stands first: what is rehearsed, the verdict, what fails if something does, and how many findings there are.
 pub(crate) fn put_page_head(
     report: &Report<'_>,
     alloc: Global,
@@ -35,8 +37,9 @@ pub(crate) fn put_page_head(
     let mut title = Vec::new(alloc);
     put_head(report, &mut title)?;
     put_title(title.as_slice(), alloc, out)?;
-    put_verdict(report.rehearsal, alloc, out)?;
-    put_refusals(report.rehearsal, alloc, out)?;
+    put_sentence(report, alloc, out)?;
+    put_what_fails(report.rehearsal, alloc, out)?;
+    put_undone(report.rehearsal, alloc, out)?;
     put_count(report, alloc, out)
 }
 
@@ -65,27 +68,17 @@ fn put_title(title: &[u8], alloc: Global, out: &mut Vec<u8>) -> Result<(), Alloc
 }
 
 /// Writes the verdict.
-fn put_verdict(rehearsal: &Rehearsal, alloc: Global, out: &mut Vec<u8>) -> Result<(), AllocError>
+fn put_sentence(report: &Report<'_>, alloc: Global, out: &mut Vec<u8>) -> Result<(), AllocError>
     ensures { OnOk result (StandsBefore out.old.items out.new.items) }
 {
+    let mut text = Vec::new(alloc);
+    put_verdict(report, alloc, &mut text)?;
     put_parts(
         &[
             Markup(b"<p class=\"verdict "),
-            Markup(verdict_class(rehearsal)),
+            Markup(verdict_class(report)),
             Markup(b"\">"),
-            Text(verdict(rehearsal)),
-            Markup(b"</p>\n"),
-        ],
-        alloc,
-        out,
-    )?;
-    if rehearsal.is_as_before {
-        return Ok(());
-    }
-    put_parts(
-        &[
-            Markup(b"<p class=\"bad\">"),
-            Text(NOT_AS_BEFORE),
+            Text(text.as_slice()),
             Markup(b"</p>\n"),
         ],
         alloc,
@@ -94,49 +87,42 @@ fn put_verdict(rehearsal: &Rehearsal, alloc: Global, out: &mut Vec<u8>) -> Resul
 }
 
 /// The class of the verdict in the style.
-fn verdict_class(rehearsal: &Rehearsal) -> &'static [u8] {
-    if rehearsal.would_go() {
-        b"good"
-    } else if rehearsal.up.is_finished() {
-        b"half"
-    } else {
-        b"bad"
+fn verdict_class(report: &Report<'_>) -> &'static [u8] {
+    match verdict_of(report) {
+        Verdict::Goes => b"good",
+        Verdict::HasFindings => b"half",
+        Verdict::Fails => b"bad",
     }
 }
 
-/// Writes why the installs are refused that are.
-fn put_refusals(rehearsal: &Rehearsal, alloc: Global, out: &mut Vec<u8>) -> Result<(), AllocError>
+/// Writes what fails and why, if something does.
+fn put_what_fails(rehearsal: &Rehearsal, alloc: Global, out: &mut Vec<u8>) -> Result<(), AllocError>
     ensures { OnOk result (StandsBefore out.old.items out.new.items) }
 {
-    put_way_refusal(Direction::Up, &rehearsal.up, alloc, out)?;
-    match &rehearsal.down {
-        Some(down) => put_way_refusal(Direction::Down, down, alloc, out),
-        None => Ok(()),
-    }
-}
-
-/// Writes why the install of a way is refused, if it is.
-fn put_way_refusal(
-    direction: Direction,
-    way: &Way,
-    alloc: Global,
-    out: &mut Vec<u8>,
-) -> Result<(), AllocError>
-    ensures { OnOk result (StandsBefore out.old.items out.new.items) }
-{
-    let Some(why) = &way.refusal else {
-        return Ok(());
-    };
     let mut text = Vec::new(alloc);
-    put_install_refusal(why, alloc, &mut text)?;
+    put_failure(rehearsal, Extent::Whole, alloc, &mut text)?;
+    if text.is_empty() {
+        return Ok(());
+    }
+    put_bad(text.as_slice(), alloc, out)
+}
+
+/// Writes that the node was not as before once all was undone, if it was not.
+fn put_undone(rehearsal: &Rehearsal, alloc: Global, out: &mut Vec<u8>) -> Result<(), AllocError>
+    ensures { OnOk result (StandsBefore out.old.items out.new.items) }
+{
+    if rehearsal.is_as_before {
+        return Ok(());
+    }
+    put_bad(NOT_AS_BEFORE, alloc, out)
+}
+
+/// Writes a paragraph about something bad.
+fn put_bad(text: &[u8], alloc: Global, out: &mut Vec<u8>) -> Result<(), AllocError>
+    ensures { OnOk result (StandsBefore out.old.items out.new.items) }
+{
     put_parts(
-        &[
-            Markup(b"<p class=\"bad\">"),
-            Markup(way_word(direction)),
-            Markup(b": "),
-            Text(text.as_slice()),
-            Markup(b"</p>\n"),
-        ],
+        &[Markup(b"<p class=\"bad\">"), Text(text), Markup(b"</p>\n")],
         alloc,
         out,
     )
@@ -146,13 +132,10 @@ fn put_way_refusal(
 fn put_count(report: &Report<'_>, alloc: Global, out: &mut Vec<u8>) -> Result<(), AllocError>
     ensures { OnOk result (StandsBefore out.old.items out.new.items) }
 {
-    let count = (report.findings.len() as u64)
-        .saturating_add(report.amiss.len() as u64)
-        .saturating_add(report.observations.len() as u64);
     put_parts(
         &[
             Markup(b"<p><a href=\"#wrong\">Findings: "),
-            Number(count),
+            Number(finding_count(report)),
             Markup(b"</a></p>\n</header>\n"),
         ],
         alloc,

@@ -13,7 +13,7 @@ use crate::script::SCRIPT;
 use crate::steps::put_steps;
 use crate::timeline::put_timeline;
 use crate::wrong::put_wrong;
-use rehearsal_report::Report;
+use rehearsal_report::{Report, finding_count};
 use std::alloc::{AllocError, Global};
 
 /// Writes a report as a page: one HTML file without any part from elsewhere.
@@ -49,8 +49,18 @@ fn put_main(
 ) -> Result<(), AllocError>
     ensures { OnOk result (StandsBefore out.old.items out.new.items) }
 {
-    put_parts(&[Markup(b"<main>\n")], alloc, out)?;
-    put_timeline(columns, rows, alloc, out)?;
+    put_main_begin(report, alloc, out)?;
     put_wrong(report, rows, alloc, out)?;
+    put_timeline(columns, rows, alloc, out)?;
     put_steps(report.rehearsal, columns, rows, alloc, out)
+}
+
+/// Begins what stands between the head and the script; a wide screen has a column for findings if there are any.
+fn put_main_begin(report: &Report<'_>, alloc: Global, out: &mut Vec<u8>) -> Result<(), AllocError>
+    ensures { OnOk result (StandsBefore out.old.items out.new.items) }
+{
+    if finding_count(report) == 0 {
+        return put_parts(&[Markup(b"<main>\n")], alloc, out);
+    }
+    put_parts(&[Markup(b"<main class=\"two\">\n")], alloc, out)
 }

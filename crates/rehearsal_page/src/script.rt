@@ -5,7 +5,7 @@ pub(crate) const BEGIN_SCRIPT: &[u8] = b"document.documentElement.className = 'j
 
 /// What is run behind the page. A click on a cell or a head, and a link to a head, show the step, and of a cell the
 /// whole states of its process before and after: where the step has not changed it, those of the last step before
-/// that has. Arrows go from cell to cell.
+/// that has. The first step that fails or that a finding is about is shown at first. Arrows go from cell to cell.
 pub(crate) const SCRIPT: &[u8] = b"\
 (function () {
   var find = function (id) { return document.getElementById(id); };
@@ -69,6 +69,9 @@ pub(crate) const SCRIPT: &[u8] = b"\
     var button = next && next.querySelector('button');
     if (button) { event.preventDefault(); button.focus(); }
   });
-  if (heads.length) { show(0, null); follow(); }
+  var first = heads.findIndex(function (head) {
+    return head.classList.contains('f') || find('wrong').querySelector('a[href=\"#' + head.id + '\"]');
+  });
+  if (heads.length) { show(Math.max(first, 0), null); follow(); }
 })();
 ";

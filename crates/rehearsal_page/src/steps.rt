@@ -374,8 +374,8 @@ fn put_replies(station: &Station, alloc: Global, out: &mut Vec<u8>) -> Result<()
         return Ok(());
     }
     put_parts(&[Markup(b"<h4>Replies</h4>\n<ul>\n")], alloc, out)?;
-    for row in station.replies.as_slice() {
-        put_reply_items(row.as_slice(), alloc, out)?;
+    for happening in station.happened.as_slice() {
+        put_reply_items(happening.replies.as_slice(), alloc, out)?;
     }
     put_parts(&[Markup(b"</ul>\n")], alloc, out)
 }
@@ -383,10 +383,10 @@ fn put_replies(station: &Station, alloc: Global, out: &mut Vec<u8>) -> Result<()
 /// Whether any replies were sent.
 fn has_replies(station: &Station) -> bool {
     station
-        .replies
+        .happened
         .as_slice()
         .iter()
-        .any(|row| !row.as_slice().is_empty())
+        .any(|happening| !happening.replies.as_slice().is_empty())
 }
 
 /// Writes replies.

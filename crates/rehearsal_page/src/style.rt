@@ -21,13 +21,14 @@ code { font: .85rem/1.4 ui-monospace, monospace; white-space: pre-wrap; overflow
 .half { color: var(--half); }
 .bad { color: var(--bad); }
 main { display: grid; gap: 1.2rem; grid-template: 'wrong' 'time' 'steps' / minmax(0, 1fr); }
-.js main { grid-template-areas: 'time' 'steps' 'wrong'; }
 #time { grid-area: time; min-width: 0; }
 #wrong { grid-area: wrong; overflow-wrap: anywhere; }
 #steps { grid-area: steps; min-width: 0; }
 #wrong ol { margin: 0; padding-left: 1.4rem; }
 #wrong li { margin-bottom: .7rem; }
 #wrong li p { margin: 0; color: var(--dim); }
+.kind { color: var(--dim); font-size: .85rem; white-space: nowrap; }
+thead .f { background: var(--mark); color: var(--bad); }
 .box { overflow: auto; max-height: 75vh; border: 1px solid var(--line); scroll-padding: 1rem 1rem 1rem 15rem; }
 table { border-collapse: separate; border-spacing: 0; font-size: .85rem; table-layout: fixed; width: 1px; }
 col { width: 32px; }
@@ -56,8 +57,8 @@ td button, .key { display: inline-block; width: 26px; height: 26px; line-height:
 .x button, .key.x { color: var(--dim); }
 .c button, .key.c { box-shadow: 0 0 0 2px var(--ink); }
 .t button, .key.t { text-decoration: underline; text-decoration-thickness: 2px; }
-.p { border-right: 5px solid var(--bad); }
 .d { border-left: 5px double var(--dim); }
+.p { border-left: 5px solid var(--bad); }
 thead .on, thead th:target, tbody tr:target > th { background: var(--mark); }
 col.on { background: var(--mark); }
 td .on { outline: 3px solid var(--link); }
@@ -84,12 +85,12 @@ dd { margin: 0; }
   .box { scroll-padding-left: 9rem; }
 }
 @media (min-width: 64rem) {
-  main, .js main { grid-template: 'time wrong' auto 'steps wrong' 1fr / minmax(0, 1fr) 21rem; }
+  .two { grid-template: 'wrong time' auto 'wrong steps' 1fr / 21rem minmax(0, 1fr); }
 }
 @media print {
   :root { --ink: #000; --paper: #fff; --dim: #444; --line: #999; --soft: #eee; --mark: #eee; --link: #000; }
   body { font-size: 9pt; }
-  main, .js main { display: block; }
+  main, .two { display: block; }
   .box { overflow: visible; max-height: none; }
   thead, tr > th:first-child { position: static; }
   .js .step { display: block; }

@@ -184,11 +184,17 @@ fn put_heading_begin(
             Number(column.number()),
             Markup(b"\" class=\""),
             Markup(line_classes(column)),
+            Markup(failure_class(column)),
             Markup(b"\">"),
         ],
         alloc,
         out,
     )
+}
+
+/// The class of a column whose instruction fails.
+fn failure_class(column: &Column<'_>) -> &'static [u8] {
+    if column.fails() { b" f" } else { b"" }
 }
 
 /// Writes the button in the heading of a column, whose instruction this is, and ends the heading.

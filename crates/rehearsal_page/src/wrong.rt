@@ -1,4 +1,4 @@
-// What is likely wrong, beside the timeline.
+// What is likely wrong, the weightiest first.
 #![tactic(auto, using(crate::proofs::Standing::standing))]
 
 ghost use Rattle.std.specs.Prelude.{OnOk};
@@ -10,9 +10,10 @@ use crate::parts::put_parts;
 use crate::rows::Rows;
 use low_instructions::Direction;
 use rehearsal_report::{
-    Report, finding_advice, observation_advice, put_finding_fact, put_observation_fact, way_word,
+    KINDS, Kind, Report, finding_advice, finding_count, is_allowed, kind_of_finding,
+    kind_of_observation, observation_advice, put_finding_fact, put_observation_fact, way_word,
 };
-use rehearsals::{Observation, Rehearsal, Way};
+use rehearsals::{Moment, Observation, Rehearsal, Way};
 use std::alloc::{AllocError, Global};
 use upgrade_review::Finding;
 
@@ -37,35 +38,85 @@ pub(crate) fn put_wrong(
     ensures { OnOk result (StandsBefore out.old.items out.new.items) }
 {
     put_parts(
-        &[Markup(b"<section id=\"wrong\">\n<h2>Findings</h2>\n<ol>\n")],
+        &[Markup(b"<section id=\"wrong\">\n<h2>Likely wrong</h2>\n")],
         alloc,
         out,
     )?;
-    put_findings(report.findings, report.rehearsal, alloc, out)?;
-    put_findings(report.amiss, report.rehearsal, alloc, out)?;
-    put_observations(report, rows, alloc, out)?;
+    if finding_count(report) == 0 {
+        return put_parts(&[Markup(b"<p>nothing</p>\n</section>\n")], alloc, out);
+    }
+    put_parts(&[Markup(b"<ol>\n")], alloc, out)?;
+    put_all(report, rows, alloc, out)?;
     put_parts(&[Markup(b"</ol>\n</section>\n")], alloc, out)
 }
 
-/// Writes findings.
+/// Writes all that was found, one kind after the other.
+fn put_all(
+    report: &Report<'_>,
+    rows: &Rows<'_>,
+    alloc: Global,
+    out: &mut Vec<u8>,
+) -> Result<(), AllocError>
+    ensures { OnOk result (StandsBefore out.old.items out.new.items) }
+{
+    for kind in KINDS {
+        put_of_kind(*kind, report, rows, alloc, out)?;
+    }
+    Ok(())
+}
+
+/// Writes what was found of a kind.
+fn put_of_kind(
+    kind: Kind,
+    report: &Report<'_>,
+    rows: &Rows<'_>,
+    alloc: Global,
+    out: &mut Vec<u8>,
+) -> Result<(), AllocError>
+    ensures { OnOk result (StandsBefore out.old.items out.new.items) }
+{
+    put_findings(kind, report.findings, report, alloc, out)?;
+    put_findings(kind, report.amiss, report, alloc, out)?;
+    put_observations(kind, report, rows, alloc, out)
+}
+
+/// Writes those of the findings that are of a kind.
 fn put_findings(
+    kind: Kind,
     findings: &[Finding],
-    rehearsal: &Rehearsal,
+    report: &Report<'_>,
     alloc: Global,
     out: &mut Vec<u8>,
 ) -> Result<(), AllocError>
     ensures { OnOk result (StandsBefore out.old.items out.new.items) }
 {
     for finding in findings {
-        put_finding(finding, rehearsal, alloc, out)?;
+        put_if_of_kind(kind, finding, report, alloc, out)?;
     }
     Ok(())
+}
+
+/// Writes a finding, if it is of a kind.
+fn put_if_of_kind(
+    kind: Kind,
+    finding: &Finding,
+    report: &Report<'_>,
+    alloc: Global,
+    out: &mut Vec<u8>,
+) -> Result<(), AllocError>
+    ensures { OnOk result (StandsBefore out.old.items out.new.items) }
+{
+    if kind_of_finding(finding) == kind {
+        put_finding(finding, report, alloc, out)
+    } else {
+        Ok(())
+    }
 }
 
 /// Writes a finding.
 fn put_finding(
     finding: &Finding,
-    rehearsal: &Rehearsal,
+    report: &Report<'_>,
     alloc: Global,
     out: &mut Vec<u8>,
 ) -> Result<(), AllocError>
@@ -73,17 +124,15 @@ fn put_finding(
 {
     let mut fact = Vec::new(alloc);
     put_finding_fact(finding, alloc, &mut fact)?;
-    put_fact(
-        about_finding(finding, rehearsal),
-        fact.as_slice(),
-        alloc,
-        out,
-    )?;
+    let about = about_finding(finding, report.rehearsal);
+    put_fact(about, fact.as_slice(), alloc, out)?;
+    put_kind(kind_of_finding(finding), report.allowed, alloc, out)?;
     put_advice(finding_advice(finding), alloc, out)
 }
 
-/// Writes what the rehearsal has shown.
+/// Writes those things that were seen and are of a kind.
 fn put_observations(
+    kind: Kind,
     report: &Report<'_>,
     rows: &Rows<'_>,
     alloc: Global,
@@ -92,15 +141,33 @@ fn put_observations(
     ensures { OnOk result (StandsBefore out.old.items out.new.items) }
 {
     for observation in report.observations {
-        put_observation(observation, report.rehearsal, rows, alloc, out)?;
+        put_if_seen_of_kind(kind, observation, report, rows, alloc, out)?;
     }
     Ok(())
 }
 
-/// Writes an observation.
+/// Writes what was seen, if it is of a kind.
+fn put_if_seen_of_kind(
+    kind: Kind,
+    observation: &Observation,
+    report: &Report<'_>,
+    rows: &Rows<'_>,
+    alloc: Global,
+    out: &mut Vec<u8>,
+) -> Result<(), AllocError>
+    ensures { OnOk result (StandsBefore out.old.items out.new.items) }
+{
+    if kind_of_observation(observation) == kind {
+        put_observation(observation, report, rows, alloc, out)
+    } else {
+        Ok(())
+    }
+}
+
+/// Writes what was seen.
 fn put_observation(
     observation: &Observation,
-    rehearsal: &Rehearsal,
+    report: &Report<'_>,
     rows: &Rows<'_>,
     alloc: Global,
     out: &mut Vec<u8>,
@@ -108,10 +175,41 @@ fn put_observation(
     ensures { OnOk result (StandsBefore out.old.items out.new.items) }
 {
     let mut fact = Vec::new(alloc);
-    put_observation_fact(observation, &rehearsal.before, alloc, &mut fact)?;
-    let about = about_observation(observation, rehearsal, rows);
+    put_observation_fact(observation, report.rehearsal, alloc, &mut fact)?;
+    let about = about_observation(observation, report.rehearsal, rows);
     put_fact(about, fact.as_slice(), alloc, out)?;
+    put_kind(kind_of_observation(observation), report.allowed, alloc, out)?;
     put_advice(observation_advice(observation), alloc, out)
+}
+
+/// Writes the word of a kind, and whether it is allowed.
+fn put_kind(
+    kind: Kind,
+    allowed: &[Kind],
+    alloc: Global,
+    out: &mut Vec<u8>,
+) -> Result<(), AllocError>
+    ensures { OnOk result (StandsBefore out.old.items out.new.items) }
+{
+    put_parts(
+        &[
+            Markup(b" <span class=\"kind\">["),
+            Markup(kind.word().as_bytes()),
+            Markup(allowed_words(kind, allowed)),
+            Markup(b"]</span>"),
+        ],
+        alloc,
+        out,
+    )
+}
+
+/// What is said of a kind that is allowed.
+fn allowed_words(kind: Kind, allowed: &[Kind]) -> &'static [u8] {
+    if is_allowed(allowed, kind) {
+        b", allowed"
+    } else {
+        b""
+    }
 }
 
 /// Writes what is likely wrong, as a link to what it is about.
@@ -222,16 +320,28 @@ fn about_finding(finding: &Finding, rehearsal: &Rehearsal) -> About {
     }
 }
 
+/// What something is about that was seen at a moment, if the timeline has it: what is before the way up isn't shown there.
+fn about_moment(when: Moment, rehearsal: &Rehearsal) -> About {
+    match when {
+        Moment::Before => About::Other,
+        Moment::At { way, index } => about_step_of(way, index, rehearsal),
+    }
+}
+
 /// What an observation is about: one that is made at the end of a way its last step, and one of the whole upgrade or of
 /// a process that isn't shown neither.
 fn about_observation(observation: &Observation, rehearsal: &Rehearsal, rows: &Rows<'_>) -> About {
     match observation {
         Observation::SuspendsNobody { way, index, .. } | Observation::Kills { way, index, .. } =>
             about_step_of(*way, *index, rehearsal),
+        Observation::Ends { when, .. }
+        | Observation::CallsDown { when }
+        | Observation::Unheard { when, .. } => about_moment(*when, rehearsal),
         Observation::Lingers { way, .. } => {
             about_step_of(*way, last_of(*way, rehearsal), rehearsal)
         }
-        Observation::NotRestored { pid } if rows.shows(*pid) => About::Process(*pid),
+        Observation::NotRestored { pid } | Observation::Vanishes { pid } if rows.shows(*pid) =>
+            About::Process(*pid),
         _ => About::Other,
     }
 }

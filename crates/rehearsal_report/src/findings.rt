@@ -11,19 +11,6 @@ fn put_index(index: usize, alloc: Global, out: &mut Vec<u8>) -> Result<(), Alloc
     put(b": ", out)
 }
 
-/// Writes a finding: a line that says what it is, and one that says what to do.
-pub(crate) fn put_finding(
-    finding: &Finding,
-    alloc: Global,
-    out: &mut Vec<u8>,
-) -> Result<(), AllocError> {
-    put(b"  ", out)?;
-    put_finding_fact(finding, alloc, out)?;
-    put(b"\n        ", out)?;
-    put(finding_advice(finding), out)?;
-    put(b"\n", out)
-}
-
 /// Appends what a finding is.
 ///
 /// # Errors

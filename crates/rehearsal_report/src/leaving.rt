@@ -25,15 +25,15 @@ fn waiting(view: &NodeView) -> u64 {
     count
 }
 
-/// Writes what OTP's release handler leaves where an instruction fails (release_handler(3)). Before the point of
-/// no return it gives the script up; behind it, it restarts the node, and what processes hold is lost.
+/// Appends what OTP's release handler leaves if an instruction fails (release_handler(3)). Before the point of no return it gives
+/// the script up; at it and after it, it restarts the node, and what processes hold is lost.
 pub(crate) fn put_left(
-    is_behind_point: bool,
+    restarts: bool,
     before: &NodeView,
     alloc: Global,
     out: &mut Vec<u8>,
 ) -> Result<(), AllocError> {
-    if !is_behind_point {
+    if !restarts {
         return put(b"a failure here: OTP gives the script up", out);
     }
     put(b"a failure here: OTP restarts the node; lost are ", out)?;

@@ -1,28 +1,44 @@
 //! A rehearsal of an upgrade, told as a page of text.
 //!
-//! [`write_report`] writes the script, what is likely wrong, what was seen of each instruction, and last the verdict in a line.
+//! [`write_report`] writes the verdict in a line, what is likely wrong, the weightiest first, the scripts, and what was seen of
+//! each instruction. Each thing that is likely wrong is of a [`Kind`], and the caller allows some kinds: by what was found of
+//! the others [`verdict_of`] judges the upgrade.
 //! Terms are written as Erlang writes them, and characters that are hidden on a terminal are escaped, so that nothing in a
 //! file can begin a line of its own or turn the direction of one.
 //! What is told of a step, a process or a finding is public, so that another page of the same rehearsal tells it in the same
 //! words.
+//!
+//! # What is proved
+//!
+//! [`verdict_of`] says that an upgrade fails just if it would not go up and down, with the traffic and without; and of one that
+//! would go, that it has findings just if something was found of a kind that isn't allowed (`IsVerdict`). Of which kind each
+//! thing is, is said by [`kind_of_finding`] and [`kind_of_observation`]. Which texts are written is not told.
 #![tactic(auto)]
 
 mod findings;
+mod kinds;
 mod leaving;
 mod observations;
 mod outcomes;
+mod reasons;
 mod report;
 mod scripts;
+mod sentences;
 mod steps;
+mod verdicts;
 mod writing;
+mod wrong;
 
 pub use findings::{finding_advice, put_finding_fact};
+pub use kinds::{KINDS, Kind, kind_of_finding, kind_of_observation};
 pub use observations::{observation_advice, put_observation_fact, way_word};
 pub use outcomes::{put_install_refusal, put_outcome};
-pub use report::{NOT_AS_BEFORE, Report, put_head, verdict, write_report};
+pub use report::{Report, put_head, write_report};
 pub use scripts::put_instruction;
+pub use sentences::{NOT_AS_BEFORE, finding_count, put_failure, put_verdict};
 pub use steps::{
     doing_word, put_begin, put_jobs_run, put_module_change, put_process_change, put_reply,
     put_standing, undone_words,
 };
+pub use verdicts::{Verdict, is_allowed, verdict_of};
 pub use writing::{Extent, put_process};

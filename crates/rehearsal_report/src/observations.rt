@@ -1,8 +1,10 @@
 // What is told of what a rehearsal has shown.
-use crate::writing::{put, put_atom, put_number, put_process};
+use crate::reasons::{Cause, cause_of};
+use crate::writing::{Extent, put, put_atom, put_number, put_process, put_shown};
+use erl_term::{Atom, Term};
 use low_instructions::Direction;
 use node_views::NodeView;
-use rehearsals::{Observation, Rehearsal};
+use rehearsals::{Exit, Moment, Observation, Rehearsal, Way};
 use std::alloc::{AllocError, Global};
 
 /// The word of a way.
@@ -26,58 +28,173 @@ fn put_index(
     put(b": ", out)
 }
 
-/// Writes what a rehearsal has shown: a line that says what it is, and one that says what to do.
-pub(crate) fn put_observation(
-    observation: &Observation,
-    rehearsal: &Rehearsal,
-    alloc: Global,
-    out: &mut Vec<u8>,
-) -> Result<(), AllocError> {
-    put(b"  ", out)?;
-    put_observation_fact(observation, &rehearsal.before, alloc, out)?;
-    put(b"\n        ", out)?;
-    put(observation_advice(observation), out)?;
-    put(b"\n", out)
+/// Appends when something was seen.
+fn put_when(when: Moment, alloc: Global, out: &mut Vec<u8>) -> Result<(), AllocError> {
+    match when {
+        Moment::Before => put(b"before the upgrade: ", out),
+        Moment::At { way, index } => put_index(way, index, alloc, out),
+    }
 }
 
-/// Appends what was seen. A process that was there before is named as it was then.
+/// Returns a way of a rehearsal, if it was gone.
+fn way_of<'a>(direction: Direction, rehearsal: &'a Rehearsal) -> Option<&'a Way> {
+    match (direction, &rehearsal.down) {
+        (Direction::Up, _) => Some(&rehearsal.up),
+        (Direction::Down, Some(down)) => Some(down),
+        (Direction::Down, None) => None,
+    }
+}
+
+/// Returns the node by which a process is named that something was seen of: the one before the way up if it lived then, else the
+/// one before the instruction, or that right after it.
+fn home_of<'a>(pid: u64, when: Moment, rehearsal: &'a Rehearsal) -> &'a NodeView {
+    let before = &rehearsal.before;
+    match when {
+        Moment::At { way, index } if before.process(pid).is_none() => {
+            match way_of(way, rehearsal) {
+                Some(way) => home_at(pid, index, way),
+                None => before,
+            }
+        }
+        _ => before,
+    }
+}
+
+/// Returns the node before an instruction if a process lived then, else that right after it.
+fn home_at<'a>(pid: u64, index: usize, way: &'a Way) -> &'a NodeView {
+    let before = way.before(index);
+    match way.stations.get(index) {
+        Some(station) if before.process(pid).is_none() => &station.behind,
+        _ => before,
+    }
+}
+
+/// Returns the end of a way.
+fn end_of(way: Direction, rehearsal: &Rehearsal) -> Moment {
+    let index = way_of(way, rehearsal).map_or(0, |way| way.stations.len());
+    Moment::At { way, index }
+}
+
+/// Appends what was seen. A process is named as it was before, if it was there.
 ///
 /// # Errors
 ///
-/// `AllocError` where memory is refused.
+/// `AllocError` if memory is refused.
 pub fn put_observation_fact(
     observation: &Observation,
-    before: &NodeView,
+    rehearsal: &Rehearsal,
     alloc: Global,
     out: &mut Vec<u8>,
 ) -> Result<(), AllocError> {
     match observation {
         Observation::SuspendsNobody { way, index, module } => {
             put_index(*way, *index, alloc, out)?;
-            put(b"nobody is suspended for ", out)?;
-            put_atom(module, alloc, out)?;
-            put(
-                b", for no child that runs names it in its specification",
-                out,
-            )
+            put_suspends_nobody(module, alloc, out)
         }
         Observation::Kills { way, index, pid } => {
+            let when = Moment::At {
+                way: *way,
+                index: *index,
+            };
             put_index(*way, *index, alloc, out)?;
-            put_process(*pid, before, alloc, out)?;
+            put_process(*pid, home_of(*pid, when, rehearsal), alloc, out)?;
             put(b" still uses the code that is purged, and is killed", out)
         }
         Observation::Lingers { way, module, pid } => {
             put(way_word(*way), out)?;
             put(b": ", out)?;
-            put_process(*pid, before, alloc, out)?;
-            put(b" still uses the old code of ", out)?;
-            put_atom(module, alloc, out)?;
-            put(b" when the script has ended", out)
+            let home = home_of(*pid, end_of(*way, rehearsal), rehearsal);
+            put_process(*pid, home, alloc, out)?;
+            put_lingers(module, alloc, out)
         }
+        Observation::Ends { .. } | Observation::CallsDown { .. } | Observation::Unheard { .. } => {
+            put_served(observation, rehearsal, alloc, out)
+        }
+        Observation::NotRestored { .. }
+        | Observation::Vanishes { .. }
+        | Observation::FailsWithoutTraffic => put_returned(observation, rehearsal, alloc, out),
+    }
+}
+
+/// Appends that nobody is suspended for a module.
+fn put_suspends_nobody(module: &Atom, alloc: Global, out: &mut Vec<u8>) -> Result<(), AllocError> {
+    put(b"nobody is suspended for ", out)?;
+    put_atom(module, alloc, out)?;
+    put(
+        b", for no child that runs names it in its specification",
+        out,
+    )
+}
+
+/// Appends that a process uses the old code of a module.
+fn put_lingers(module: &Atom, alloc: Global, out: &mut Vec<u8>) -> Result<(), AllocError> {
+    put(b" still uses the old code of ", out)?;
+    put_atom(module, alloc, out)?;
+    put(b" when the script has ended", out)
+}
+
+/// Appends what came of a message.
+fn put_served(
+    observation: &Observation,
+    rehearsal: &Rehearsal,
+    alloc: Global,
+    out: &mut Vec<u8>,
+) -> Result<(), AllocError> {
+    match observation {
+        Observation::Ends { when, exit } => {
+            put_when(*when, alloc, out)?;
+            put_exit(exit, home_of(exit.pid, *when, rehearsal), alloc, out)
+        }
+        Observation::CallsDown { when } => {
+            put_when(*when, alloc, out)?;
+            put(
+                b"a call gets the exit reason of its process, and no reply",
+                out,
+            )
+        }
+        Observation::Unheard { when, name } => {
+            put_when(*when, alloc, out)?;
+            put(b"nobody has the name ", out)?;
+            put_atom(name, alloc, out)?;
+            put(b", which a message was sent to", out)
+        }
+        _ => Ok(()),
+    }
+}
+
+/// Appends that a process ends, with which reason, and at which message.
+fn put_exit(
+    exit: &Exit,
+    home: &NodeView,
+    alloc: Global,
+    out: &mut Vec<u8>,
+) -> Result<(), AllocError> {
+    put_process(exit.pid, home, alloc, out)?;
+    put(b" ends with ", out)?;
+    put_shown(&exit.reason, Extent::Short, alloc, out)?;
+    put(b", at ", out)?;
+    put_shown(&exit.message, Extent::Short, alloc, out)
+}
+
+/// Appends what was seen after both ways.
+fn put_returned(
+    observation: &Observation,
+    rehearsal: &Rehearsal,
+    alloc: Global,
+    out: &mut Vec<u8>,
+) -> Result<(), AllocError> {
+    match observation {
         Observation::NotRestored { pid } => {
-            put_process(*pid, before, alloc, out)?;
+            put_process(*pid, &rehearsal.before, alloc, out)?;
             put(
                 b" has not the state that it had, once it went up and came down again",
+                out,
+            )
+        }
+        Observation::Vanishes { pid } => {
+            put_process(*pid, &rehearsal.before, alloc, out)?;
+            put(
+                b" lives no more, once it went up and came down again; its state is lost",
                 out,
             )
         }
@@ -85,6 +202,7 @@ pub fn put_observation_fact(
             b"without the traffic it doesn't go up and down",
             out,
         ),
+        _ => Ok(()),
     }
 }
 
@@ -97,12 +215,64 @@ pub fn observation_advice(observation: &Observation) -> &'static [u8] {
         Observation::Kills { .. } => {
             b"have it leave the old code before, or see that it may be killed"
         }
+        Observation::Ends { when, exit } => end_advice(*when, &exit.reason),
+        Observation::CallsDown { when } => call_down_advice(*when),
+        Observation::Unheard { when, .. } => unheard_advice(*when),
         Observation::Lingers { .. } => {
             b"have it leave the old code, by a call with the module's name, before the next upgrade"
         }
         Observation::NotRestored { .. } => b"let code_change/3 down undo what it does up",
+        Observation::Vanishes { .. } => {
+            b"change its state by code_change/3 instead of a stop and a start, or see that it may be lost"
+        }
         Observation::FailsWithoutTraffic => {
             b"rehearse it without traffic, and see which instruction fails"
+        }
+    }
+}
+
+/// What to do about a process that ends for a reason.
+fn end_advice(when: Moment, reason: &Term) -> &'static [u8] {
+    match (when, cause_of(reason)) {
+        (Moment::At { .. }, Cause::NotThere) => {
+            b"a function was called that isn't there: have its module loaded and the function exported by then"
+        }
+        (Moment::At { .. }, Cause::NotInProfile) => {
+            b"this can't be rehearsed here: the code does what a rehearsal has no rule for"
+        }
+        (Moment::At { .. }, Cause::Other) => {
+            b"have its code take this message in the state that it has then"
+        }
+        (Moment::Before, Cause::NotThere) => {
+            b"a function was called that isn't there: the traffic or the release that is left is wrong, and what follows \
+is rehearsed without the process"
+        }
+        (Moment::Before, Cause::NotInProfile) => {
+            b"this can't be rehearsed here: the code does what a rehearsal has no rule for, and what follows is rehearsed \
+without the process"
+        }
+        (Moment::Before, Cause::Other) => {
+            b"the traffic or the release that is left is wrong, and what follows is rehearsed without the process"
+        }
+    }
+}
+
+/// What to do about a call that gets an exit reason.
+fn call_down_advice(when: Moment) -> &'static [u8] {
+    match when {
+        Moment::Before => b"correct the traffic or the release that is left",
+        Moment::At { .. } => {
+            b"keep its process alive meanwhile, or see that clients bear the exit"
+        }
+    }
+}
+
+/// What to do about a name that nobody has.
+fn unheard_advice(when: Moment) -> &'static [u8] {
+    match when {
+        Moment::Before => b"correct the name in the traffic",
+        Moment::At { .. } => {
+            b"keep the process of this name alive meanwhile, or see that clients can do without it"
         }
     }
 }

@@ -48,31 +48,57 @@ pub fn put_install_refusal(
     put_refusal(why, alloc, out)
 }
 
-/// Appends why the node refuses something.
+/// Appends why the last instruction of a way that fails does so, or what it came to if it doesn't fail.
+pub(crate) fn put_failure_reason(
+    outcome: &Outcome,
+    extent: Extent,
+    alloc: Global,
+    out: &mut Vec<u8>,
+) -> Result<(), AllocError> {
+    match outcome {
+        Outcome::Recovered(reason) | Outcome::Restarted(reason) => {
+            put_shown(reason, extent, alloc, out)
+        }
+        outcome => put_outcome(outcome, extent, alloc, out),
+    }
+}
+
+/// Appends that the node refuses something, and why.
 fn put_refusal(why: &Refusal, alloc: Global, out: &mut Vec<u8>) -> Result<(), AllocError> {
+    match why {
+        Refusal::Busy(_) => put_refusal_reason(why, alloc, out),
+        why => {
+            put(b"refused: ", out)?;
+            put_refusal_reason(why, alloc, out)
+        }
+    }
+}
+
+/// Appends why the node refuses something.
+pub(crate) fn put_refusal_reason(
+    why: &Refusal,
+    alloc: Global,
+    out: &mut Vec<u8>,
+) -> Result<(), AllocError> {
     match why {
         Refusal::Busy(pid) => {
             put(b"waits for ", out)?;
             put_pid(*pid, alloc, out)
         }
-        Refusal::OfInstall(InstallError::NoMatchingRelup) => {
-            put(b"refused: no script leads there", out)
-        }
-        Refusal::OfInstall(InstallError::OldProcesses(_)) => {
-            put(
-                b"refused: a process lingers in old code that is to be purged softly",
-                out,
-            )
-        }
+        Refusal::OfInstall(InstallError::NoMatchingRelup) => put(b"no script leads there", out),
+        Refusal::OfInstall(InstallError::OldProcesses(_)) => put(
+            b"a process lingers in old code that is to be purged softly",
+            out,
+        ),
         Refusal::OfInstall(InstallError::OfReleases(why)) => {
-            let text = format!(in alloc; "refused: {why}")?;
+            let text = format!(in alloc; "{why}")?;
             put(text.as_bytes(), out)
         }
         Refusal::OfInstall(InstallError::BadScript(_)) => {
-            put(b"refused: the script can't be installed", out)
+            put(b"the script can't be installed", out)
         }
         why => {
-            let text = format!(in alloc; "refused: {why}")?;
+            let text = format!(in alloc; "{why}")?;
             put(text.as_bytes(), out)
         }
     }

@@ -1,11 +1,12 @@
 // The whole report.
-use crate::findings::put_finding;
-use crate::observations::put_observation;
+use crate::kinds::Kind;
 use crate::scripts::put_script;
+use crate::sentences::write_verdict;
 use crate::steps::put_way;
 use crate::writing::put;
+use crate::wrong::put_wrong;
 use low_instructions::Low;
-use rehearsals::{Observation, Rehearsal, is_down};
+use rehearsals::{Observation, Rehearsal};
 use std::alloc::{AllocError, Global};
 use upgrade_review::Finding;
 
@@ -28,58 +29,40 @@ pub struct Report<'a> {
     pub amiss: &'a [Finding],
     /// What the rehearsal has shown that is likely wrong.
     pub observations: &'a [Observation],
+    /// The kinds of what is likely wrong that are allowed: they are told, and don't count.
+    pub allowed: &'a [Kind],
     /// The rehearsal.
     pub rehearsal: &'a Rehearsal,
 }
 
-/// What is told where all was undone, and the node was not as before.
-pub const NOT_AS_BEFORE: &[u8] = b"All undone, the node is NOT as before.";
-
-/// What is told of a whole rehearsal, in a sentence.
-pub fn verdict(rehearsal: &Rehearsal) -> &'static [u8] {
-    if rehearsal.would_go() {
-        b"It would go up and down without a failure."
-    } else if is_down(&rehearsal.down) {
-        b"It would go up and down with the traffic, and NOT without."
-    } else if rehearsal.up.is_finished() {
-        b"It would go up, and NOT down."
-    } else {
-        b"It would NOT go up."
-    }
-}
-
-/// Writes a report.
+/// Writes a report: what is rehearsed, the verdict and what is likely wrong; and unless `is_quiet` the scripts, and what was seen
+/// of each instruction.
 ///
 /// # Errors
 ///
-/// `AllocError` where memory is refused.
+/// `AllocError` if memory is refused.
 pub fn write_report(
     alloc: Global,
     report: &Report<'_>,
+    is_quiet: bool,
     out: &mut Vec<u8>,
 ) -> Result<(), AllocError> {
     put_head(report, out)?;
-    put(b"\n", out)?;
-    put(b"\nThe script up:\n", out)?;
-    put_script(report.up, alloc, out)?;
-    put_down(report, alloc, out)?;
-    put(b"\nLikely wrong:\n", out)?;
+    put(b"\n\n", out)?;
+    write_verdict(report, alloc, out)?;
     put_wrong(report, alloc, out)?;
-    put(b"\nUp, step by step:\n", out)?;
-    put_way(&report.rehearsal.up, alloc, out)?;
-    if let Some(down) = &report.rehearsal.down {
-        put(b"\nDown, step by step:\n", out)?;
-        put_way(down, alloc, out)?;
+    if is_quiet {
+        return Ok(());
     }
-    put(b"\n", out)?;
-    put_verdict(report.rehearsal, out)
+    put_scripts(report, alloc, out)?;
+    put_ways(report.rehearsal, alloc, out)
 }
 
 /// Appends what is rehearsed.
 ///
 /// # Errors
 ///
-/// `AllocError` where memory is refused.
+/// `AllocError` if memory is refused.
 pub fn put_head(report: &Report<'_>, out: &mut Vec<u8>) -> Result<(), AllocError> {
     put(b"From ", out)?;
     put(report.from.as_bytes(), out)?;
@@ -92,8 +75,10 @@ pub fn put_head(report: &Report<'_>, out: &mut Vec<u8>) -> Result<(), AllocError
     }
 }
 
-/// Writes the script that leads down, if there is one.
-fn put_down(report: &Report<'_>, alloc: Global, out: &mut Vec<u8>) -> Result<(), AllocError> {
+/// Writes both scripts.
+fn put_scripts(report: &Report<'_>, alloc: Global, out: &mut Vec<u8>) -> Result<(), AllocError> {
+    put(b"\nThe script up:\n", out)?;
+    put_script(report.up, alloc, out)?;
     match report.down {
         Some(script) => {
             put(b"\nThe script down:\n", out)?;
@@ -103,33 +88,15 @@ fn put_down(report: &Report<'_>, alloc: Global, out: &mut Vec<u8>) -> Result<(),
     }
 }
 
-/// Writes what is likely wrong.
-fn put_wrong(report: &Report<'_>, alloc: Global, out: &mut Vec<u8>) -> Result<(), AllocError> {
-    if report.findings.is_empty() && report.amiss.is_empty() && report.observations.is_empty() {
-        put(b"  nothing\n", out)?;
+/// Writes what was seen of each instruction on both ways.
+fn put_ways(rehearsal: &Rehearsal, alloc: Global, out: &mut Vec<u8>) -> Result<(), AllocError> {
+    put(b"\nUp, step by step:\n", out)?;
+    put_way(&rehearsal.up, alloc, out)?;
+    match &rehearsal.down {
+        Some(down) => {
+            put(b"\nDown, step by step:\n", out)?;
+            put_way(down, alloc, out)
+        }
+        None => Ok(()),
     }
-    put_findings(report.findings, alloc, out)?;
-    put_findings(report.amiss, alloc, out)?;
-    for observation in report.observations {
-        put_observation(observation, report.rehearsal, alloc, out)?;
-    }
-    Ok(())
-}
-
-/// Writes findings.
-fn put_findings(findings: &[Finding], alloc: Global, out: &mut Vec<u8>) -> Result<(), AllocError> {
-    for finding in findings {
-        put_finding(finding, alloc, out)?;
-    }
-    Ok(())
-}
-
-/// Writes the verdict.
-fn put_verdict(rehearsal: &Rehearsal, out: &mut Vec<u8>) -> Result<(), AllocError> {
-    if !rehearsal.is_as_before {
-        put(NOT_AS_BEFORE, out)?;
-        put(b"\n", out)?;
-    }
-    put(verdict(rehearsal), out)?;
-    put(b"\n", out)
 }

@@ -17,19 +17,28 @@ pub(crate) fn put_script(
     Ok(())
 }
 
-/// Appends an instruction.
+/// Appends an instruction, and of the point of no return what it means.
 ///
 /// # Errors
 ///
-/// `AllocError` where memory is refused.
+/// `AllocError` if memory is refused.
 pub fn put_instruction(
     instruction: &Low,
     alloc: Global,
     out: &mut Vec<u8>,
 ) -> Result<(), AllocError> {
-    put_term(&low_term(alloc, instruction)?, alloc, out)?;
+    put_bare_instruction(instruction, alloc, out)?;
     match instruction {
-        Low::PointOfNoReturn => put(b"  (a failure behind it restarts the node)", out),
+        Low::PointOfNoReturn => put(b"  (a failure from here on restarts the node)", out),
         _ => Ok(()),
     }
+}
+
+/// Appends an instruction alone.
+pub(crate) fn put_bare_instruction(
+    instruction: &Low,
+    alloc: Global,
+    out: &mut Vec<u8>,
+) -> Result<(), AllocError> {
+    put_term(&low_term(alloc, instruction)?, alloc, out)
 }

@@ -23,10 +23,10 @@ pub(crate) fn put_way(way: &Way, alloc: Global, out: &mut Vec<u8>) -> Result<(),
         put_install_refusal(why, alloc, out)?;
         put(b"\n", out)?;
     }
-    let mut is_behind_point = false;
+    let mut restarts = false;
     for (place, station) in way.stations.iter().enumerate() {
-        put_station(place, way, station, is_behind_point, alloc, out)?;
-        is_behind_point = is_behind_point || is_point(station);
+        restarts = restarts || is_point(station);
+        put_station(place, way, station, restarts, alloc, out)?;
     }
     Ok(())
 }
@@ -36,12 +36,12 @@ fn is_point(station: &Station) -> bool {
     matches!(station.instruction, Some(Low::PointOfNoReturn))
 }
 
-/// Writes what was seen of an instruction.
+/// Writes what was seen of an instruction, and whether a failure of it restarts the node.
 fn put_station(
     place: usize,
     way: &Way,
     station: &Station,
-    is_behind_point: bool,
+    restarts: bool,
     alloc: Global,
     out: &mut Vec<u8>,
 ) -> Result<(), AllocError> {
@@ -54,21 +54,21 @@ fn put_station(
     put_changes(&station.behind, &station.view, b"traffic: ", alloc, out)?;
     put_traffic(station, alloc, out)?;
     put_jobs(station, alloc, out)?;
-    put_trial(station, is_behind_point, before, alloc, out)
+    put_trial(station, restarts, before, alloc, out)
 }
 
 /// Writes what a failure of the instruction would leave, unless it is the end, and whether the node was as before once it was
 /// undone.
 fn put_trial(
     station: &Station,
-    is_behind_point: bool,
+    restarts: bool,
     before: &NodeView,
     alloc: Global,
     out: &mut Vec<u8>,
 ) -> Result<(), AllocError> {
     put(INDENT, out)?;
     if station.instruction.is_some() {
-        put_left(is_behind_point, before, alloc, out)?;
+        put_left(restarts, before, alloc, out)?;
         put(b"; ", out)?;
     }
     put(undone_words(station), out)?;
@@ -324,8 +324,8 @@ fn served_between(before: &NodeView, after: &NodeView) -> u64 {
 /// How many replies were sent.
 fn reply_count(station: &Station) -> u64 {
     let mut count: u64 = 0;
-    for row in station.replies.as_slice() {
-        count = count.saturating_add(row.as_slice().len() as u64);
+    for happening in station.happened.as_slice() {
+        count = count.saturating_add(happening.replies.as_slice().len() as u64);
     }
     count
 }

@@ -2,5 +2,5 @@
 use Rattle.rehearsal_page.specs.Page.{StandsBefore}
 use Rattle.rehearsal_page.proofs.steps.put_replies.Given as goal
 
-abbrev pub invariant-loop-row : goal.invariant-loop-row
-invariant-loop-row l = StandsBefore l.fn.out.items l.out.items
+abbrev pub invariant-loop-happening : goal.invariant-loop-happening
+invariant-loop-happening l = StandsBefore l.fn.out.items l.out.items

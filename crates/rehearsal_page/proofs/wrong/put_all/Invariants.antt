@@ -1,0 +1,6 @@
+-- What stood there still stands.
+use Rattle.rehearsal_page.specs.Page.{StandsBefore}
+use Rattle.rehearsal_page.proofs.wrong.put_all.Given as goal
+
+abbrev pub invariant-loop-kind : goal.invariant-loop-kind
+invariant-loop-kind l = StandsBefore l.fn.out.items l.out.items
