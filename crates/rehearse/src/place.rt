@@ -76,11 +76,11 @@ fn write_stream<R: Runtime>(rt: &R, path: &str, bytes: &[u8]) -> io::Result<()> 
 fn place_at<R: Runtime + AllocGlobal>(rt: &R, path: &str) -> io::Result<Place> {
     match fs::metadata(rt, path) {
         Ok(found) => place_of(rt, path, &found),
-        Err(error) if error.kind() == ErrorKind::NotFound => Ok(Place::File(Target {
+        Err(error) if path.is_empty() || error.kind() != ErrorKind::NotFound => Err(error),
+        Err(_) => Ok(Place::File(Target {
             path: end_of_links(rt, path)?,
             mode: None,
         })),
-        Err(error) => Err(error),
     }
 }
 
