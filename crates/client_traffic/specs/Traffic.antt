@@ -1,5 +1,6 @@
 -- What lines have clients send, as the shell reads them.
-use Rattle.std.specs.Prelude.{◌≡◌, ◌⊎◌, ℕ, ◌+◌, ◌==◌, List, [], ◌∷◌, ◌++◌, Some, slice_get, take}
+use Rattle.std.specs.Prelude.{◌≡◌, ◌⊎◌, ℕ, ◌+◌, ◌-◌, ◌==◌, if◌then◌else◌, List, [], ◌∷◌, ◌++◌, Some}
+use Rattle.std.specs.Prelude.{length, slice_get, slice_index, take}
 use Rattle.std.specs.List.{slice_split}
 use Rattle.erl_term.specs.Term.{tree}
 use Rattle.erl_term.specs.declared.term.Term.{Term}
@@ -17,6 +18,14 @@ use Rattle.upgrade_rehearsal.specs.declared.arrival.Arrival.{Arrival}
 -- The lines of a text: what stands between its newlines (10).
 abbrev pub lines_of : List ℕ → List (List ℕ)
 lines_of text = slice_split (λ b. b == 10) text
+
+-- A line without the carriage return (13) that it ends with, if it ends with one; and what the shell reads in it.
+
+abbrev pub bare : List ℕ → List ℕ
+bare line = if slice_index line (length line - 1) == 13 then take (length line - 1) line else line
+
+abbrev pub said_in : List ℕ → Spoken
+said_in line = spoken (Some (bare line))
 
 -- A request has something sent where it is a `call`, a `cast` or a `send`, and its text is one term; and else it is told why not.
 
@@ -74,17 +83,17 @@ IsAmiss (asks request) e = IsAmissBy request e
 
 -- a line is read, and what it sends comes behind what others have sent
 abbrev pub Adds : List ℕ → List Arrival → List Arrival → Type 0
-Adds line old new = (sent : List Arrival) × Sends (spoken (Some line)) sent × (new ≡ old ++ sent)
+Adds line old new = (sent : List Arrival) × Sends (said_in line) sent × (new ≡ old ++ sent)
 
 -- A line is amiss so. Where memory was refused nothing is said of it.
 abbrev pub IsAmissIn : List ℕ → TrafficError → Type 0
-IsAmissIn line e = (e ≡ Memory) ⊎ IsAmiss (spoken (Some line)) e
+IsAmissIn line e = (e ≡ Memory) ⊎ IsAmiss (said_in line) e
 
 -- what lines send, one after the other
 abbrev pub AllSend : List (List ℕ) → List Arrival → Type 0
 AllSend [] sent = sent ≡ []
 AllSend (line ∷ lines) sent = (first : List Arrival) × (behind : List Arrival)
-    × Sends (spoken (Some line)) first × AllSend lines behind × (sent ≡ first ++ behind)
+    × Sends (said_in line) first × AllSend lines behind × (sent ≡ first ++ behind)
 
 -- The first line that is no traffic, counted from 1: those before it are read, and this one is amiss.
 pub record IsFirstAmiss (lines : List (List ℕ)) (fault : TrafficFault) : Type 0 where

@@ -1,4 +1,5 @@
 //! The traffic of a rehearsal, read from lines as the shell reads them: `call NAME TERM`, `cast NAME TERM`, `send NAME TERM`.
+//! A line may end with a carriage return, as editors on Windows write them: it is no part of the line.
 //!
 //! # What is proved
 //!
@@ -8,7 +9,7 @@
 
 ghost use Rattle.std.specs.Prelude.{◌≡◌, ◌⊎◌, ◌∷◌, [], MatchResult};
 ghost use Rattle.std.specs.Str.{chars};
-ghost use Rattle.client_traffic.specs.Traffic.{Adds, AllSend, IsAmissBy, IsAmissIn, IsFirstAmiss, SentBy, lines_of};
+ghost use Rattle.client_traffic.specs.Traffic.{Adds, AllSend, IsAmissBy, IsAmissIn, IsFirstAmiss, SentBy, lines_of, bare};
 ghost use Rattle.shell_requests.specs.Request.{arrive};
 
 use erl_scan::ReadError;
@@ -74,7 +75,7 @@ pub fn read_traffic(alloc: Global, text: &str) -> Result<Vec<Arrival>, TrafficFa
 fn push_line(alloc: Global, line: &str, found: &mut Vec<Arrival>) -> Result<(), TrafficError>
     ensures { MatchResult result (λ _. Adds line.now found.old.items found.new.items) (IsAmissIn line.now) }
 {
-    match read_line(line.as_bytes()) {
+    match read_line(bare(line.as_bytes())) {
         Line::Silent => Ok(()),
         Line::Asks(Request::Arrive(kind, name, text)) => {
             let arrival = arrival_of(alloc, kind, name, text)?;
@@ -84,6 +85,16 @@ fn push_line(alloc: Global, line: &str, found: &mut Vec<Arrival>) -> Result<(), 
             }
         }
         Line::Unknown | Line::Asks(_) => Err(TrafficError::NoArrival),
+    }
+}
+
+/// Returns a line without the carriage return that it ends with, if it ends with one.
+fn bare(line: &[u8]) -> &[u8]
+    ensures { result.now ≡ bare line.now }
+{
+    match line {
+        [text @ .., b'\r'] => text,
+        _ => line,
     }
 }
 

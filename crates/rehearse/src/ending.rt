@@ -1,25 +1,30 @@
 // How the program ends.
 ghost use Rattle.std.specs.Prelude.{◌≡◌};
 ghost use Rattle.std.specs.Process.{exit_status};
-ghost use Rattle.rehearse.specs.Ending.{status_of};
+ghost use Rattle.std.specs.IoError.{error_kind};
+ghost use Rattle.rehearse.specs.Ending.{status_of, status_of_fault, status_of_making, status_of_rehearsing, status_of_traffic};
+ghost use Rattle.rehearse.specs.Ending.{status_of_tree, status_of_unread};
 
-use client_traffic::TrafficFault;
+use client_traffic::{TrafficError, TrafficFault};
 use file_tree::TreeError;
 use rehearse_options::WordsError;
+use release_boot::BootError;
 use relup_make::MakeError;
 use std::alloc::AllocError;
 use std::process::ExitCode;
 use std::{fmt, io};
 use thiserror::Error;
 use upgrade_files::{Unread, UnreadFaults};
-use upgrade_rehearsal::Fault as RehearsalFault;
+use upgrade_rehearsal::{Fault as RehearsalFault, Halt};
 
 /// How a rehearsal ends.
 #[derive(Clone, Copy, Debug, PartialEq, Eq)]
 pub enum End {
-    /// It would go up and down without a failure, or nothing was to be rehearsed.
+    /// It would go up and down, and nothing was found that isn't allowed; or nothing was to be rehearsed.
     Goes,
-    /// It would not.
+    /// It would go up and down, and something was found that isn't allowed.
+    HasFindings,
+    /// It would not go up, or not down, or not without the traffic.
     Fails,
 }
 
@@ -32,6 +37,9 @@ pub enum Fault {
     /// FROM and TO are one version.
     #[error("FROM and TO are one version")]
     SameVersion,
+    /// This word is no kind of findings.
+    #[error("{0} is no kind of findings")]
+    UnknownKind(String),
     /// The system gives no random bytes.
     #[error("cannot get random bytes: {0}")]
     NoRandomBytes(io::Error),
@@ -56,9 +64,9 @@ pub enum Fault {
     /// The report cannot be written.
     #[error("cannot write the output: {0}")]
     Output(#[from] io::Error),
-    /// The page cannot be written.
-    #[error("cannot write the page: {0}")]
-    Page(io::Error),
+    /// The page cannot be written into this file.
+    #[error("cannot write the page {0}: {1}")]
+    Page(String, io::Error),
     /// Memory was refused.
     #[error("out of memory")]
     Memory(#[from(alloc)] AllocError),
@@ -89,36 +97,96 @@ impl fmt::Debug for Fault {
     }
 }
 
-/// The exit code of the program.
+/// Returns the exit code of the program.
 pub fn exit_code(end: &Result<End, Fault>) -> ExitCode
     ensures { exit_status result ≡ status_of end.now }
 {
     ExitCode::from(status(end))
 }
 
-/// The status that the program ends with: 0 where the upgrade goes up and down, 1 where it doesn't, 2 after a bad command line,
-/// and 3 where the files are no releases between which a relup leads.
+/// Returns the status that the program ends with: 0 if the upgrade goes up and down and nothing is found that isn't allowed, 4 if
+/// something is, and 1 if it fails; after a fault that of the fault.
 fn status(end: &Result<End, Fault>) -> u8
     ensures { result ≡ status_of end.now }
 {
     match end {
         Ok(End::Goes) => 0,
+        Ok(End::HasFindings) => 4,
         Ok(End::Fails) => 1,
-        Err(Fault::CommandLine(fault)) => fault.status(),
-        Err(Fault::SameVersion) => 2,
-        Err(
-            Fault::Files(_)
-            | Fault::TrafficUnread(_)
-            | Fault::Traffic(_)
-            | Fault::Releases(_)
-            | Fault::NoRelup(_),
-        ) => 3,
-        Err(
-            Fault::NoRandomBytes(_)
-            | Fault::Rehearsal(_)
-            | Fault::Output(_)
-            | Fault::Page(_)
-            | Fault::Memory(_),
-        ) => 1,
+        Err(fault) => fault_status(fault),
+    }
+}
+
+/// Returns the status after a fault: 2 after a bad command line, 3 if the files are at fault, and 1 if the system is, or memory
+/// is refused.
+fn fault_status(fault: &Fault) -> u8
+    ensures { result ≡ status_of_fault fault.now }
+{
+    match fault {
+        Fault::CommandLine(words) => words.status(),
+        Fault::SameVersion | Fault::UnknownKind(_) => 2,
+        Fault::Files(error) => tree_status(error),
+        Fault::TrafficUnread(error) => unread_status(error),
+        Fault::Traffic(fault) => traffic_status(fault.error),
+        Fault::Releases(_) => 3,
+        Fault::NoRelup(error) => making_status(error),
+        Fault::Rehearsal(fault) => rehearsing_status(fault),
+        Fault::NoRandomBytes(_) | Fault::Output(_) | Fault::Page(_, _) | Fault::Memory(_) => 1,
+    }
+}
+
+/// Returns the status if files can't be read.
+fn tree_status(error: &TreeError) -> u8
+    ensures { result ≡ status_of_tree error.now }
+{
+    match error {
+        TreeError::Folder(_, error) | TreeError::File(_, error) => unread_status(error),
+        TreeError::Name(_) | TreeError::TooMany(_) => 3,
+        TreeError::Memory(_) => 1,
+    }
+}
+
+/// Returns the status if the system doesn't give a file.
+fn unread_status(error: &io::Error) -> u8
+    ensures { result ≡ status_of_unread (error_kind error.now) }
+{
+    match error.kind() {
+        io::ErrorKind::OutOfMemory => 1,
+        _ => 3,
+    }
+}
+
+/// Returns the status if a line is no traffic.
+fn traffic_status(error: TrafficError) -> u8
+    ensures { result ≡ status_of_traffic error }
+{
+    match error {
+        TrafficError::NoArrival | TrafficError::NotOneTerm | TrafficError::Term(_) => 3,
+        TrafficError::Memory => 1,
+    }
+}
+
+/// Returns the status if no relup is made.
+fn making_status(error: &MakeError) -> u8
+    ensures { result ≡ status_of_making error.now }
+{
+    match error {
+        MakeError::Memory => 1,
+        MakeError::ErtsChanged
+        | MakeError::BaseChanged(_)
+        | MakeError::NoAppup(_)
+        | MakeError::NoEntry(_, _)
+        | MakeError::UnknownModule(_) => 3,
+    }
+}
+
+/// Returns the status if a rehearsal has no end.
+fn rehearsing_status(fault: &RehearsalFault) -> u8
+    ensures { result ≡ status_of_rehearsing fault.now }
+{
+    match fault {
+        RehearsalFault::Boot(BootError::NotStarted { .. }) => 3,
+        RehearsalFault::Boot(BootError::Memory) => 1,
+        RehearsalFault::Halted(Halt::Endless(_) | Halt::Full | Halt::Memory(_)) => 1,
     }
 }

@@ -3,37 +3,42 @@
 //! `rehearse ROOT FROM TO` reads two releases below ROOT, and tells on its standard output what the upgrade from the one to
 //! the other does, step by step, and what is likely wrong with it. docs/REHEARSAL.md shows one.
 //!
-//! What is proved of it is the status of each end ([`ending::exit_code`]), and that what is told of a fault of the files is one
-//! line. What is found and compared stands in the crates below, with their contracts.
+//! What is proved of it is the status of each end ([`ending::exit_code`]), that a rehearsal ends as the verdict on its report says
+//! ([`reporting::end_of`]), that the report has all that was found and what the command line allows ([`reporting::report_of`]),
+//! and that what is told of a fault of the files is one line. What is found and compared, and the verdict, are in the crates
+//! below, with their contracts.
 #![tactic(auto)]
 
+ghost use Rattle.std.specs.Prelude.{IfOk};
+ghost use Rattle.rehearse.specs.Reporting.{IsEnd};
+
+mod asking;
 mod bar;
 mod ending;
+mod place;
 mod replacing;
+mod reporting;
 mod telling;
 
+use asking::{Asked, read_asked};
 use bar::Bar;
-use client_traffic::read_traffic;
 use ending::{End, Fault, exit_code};
-use file_tree::read_tree;
 use otp_files::print_relup;
-use rehearsal_page::write_page;
-use rehearsal_report::{Report, write_report};
-use rehearsals::{Rehearsal, observe};
+use place::{try_place, write_at, write_output};
+use rehearsal_report::Report;
+use rehearsals::Rehearsal;
 use rehearse_options::{Invocation, Options, read_invocation};
-use release_files::Files;
-use replacing::replace;
-use std::alloc::{AllocError, Global};
+use reporting::{end_of, find_all, page_of, report_of, text_of};
+use std::alloc::Global;
 use std::hash::RandomState;
-use std::io::{IsTerminal, Write};
+use std::io;
+use std::io::IsTerminal;
 use std::process::ExitCode;
 use std::random::RandomSource;
 use std::rt::Runtime;
-use std::{fs, io};
 use telling::tell;
-use upgrade_files::{Chosen, choose, read_both};
-use upgrade_rehearsal::{Arrival, rehearse};
-use upgrade_review::{Finding, look_back, look_through};
+use upgrade_files::Chosen;
+use upgrade_rehearsal::rehearse;
 use values::Duplicate;
 
 /// Does what the command line asks for.
@@ -47,101 +52,29 @@ fn start<R: Runtime + RandomSource + AllocGlobal>(rt: &R, has_bar: bool) -> Resu
     }
 }
 
-/// What is asked for: how the one release is reached from the other, and what clients send meanwhile.
-#[derive(Drop)]
-struct Asked {
-    /// The releases, and the scripts.
-    chosen: Chosen,
-    /// What clients send.
-    traffic: Vec<Arrival>,
-}
-
-/// Does what is asked for, and writes what is told of it.
+/// Prints the relup, if that alone is asked for, or else rehearses, and writes what is told.
 fn execute<R: Runtime + RandomSource + AllocGlobal>(
     rt: &R,
     has_bar: bool,
     options: &Options,
 ) -> Result<End, Fault> {
     let hashing = RandomState::new(rt).map_err(Fault::NoRandomBytes)?;
-    let asked = read_all(rt, hashing, options)?;
-    answer(rt, has_bar, hashing, options, &asked)
-}
-
-/// Tells what is asked for, and writes it.
-fn answer<R: Runtime + AllocGlobal>(
-    rt: &R,
-    has_bar: bool,
-    hashing: RandomState,
-    options: &Options,
-    asked: &Asked,
-) -> Result<End, Fault> {
-    let mut out = Vec::new(rt.alloc());
-    let end = tell_all(rt, has_bar, hashing, options, asked, &mut out)?;
-    write_all(rt, out.as_slice())?;
-    Ok(end)
-}
-
-/// Reads the releases and the traffic.
-fn read_all<R: Runtime + AllocGlobal>(
-    rt: &R,
-    hashing: RandomState,
-    options: &Options,
-) -> Result<Asked, Fault> {
-    if options.from == options.to {
-        return Err(Fault::SameVersion);
-    }
-    let files = read_tree(rt, hashing, options.root.as_str())?;
-    let traffic = traffic_of(rt, options)?;
-    let chosen = chosen_of(rt.alloc(), files, options)?;
-    Ok(Asked { chosen, traffic })
-}
-
-/// The releases of the versions that are named, and how the second is reached.
-fn chosen_of(alloc: Global, files: Files, options: &Options) -> Result<Chosen, Fault> {
-    let both = read_both(alloc, files, options.from.as_str(), options.to.as_str())?;
-    Ok(choose(alloc, both.from, both.to)?)
-}
-
-/// The traffic of a file, if one is named.
-fn traffic_of<R: Runtime + AllocGlobal>(rt: &R, options: &Options) -> Result<Vec<Arrival>, Fault> {
-    match &options.traffic {
-        Some(path) => {
-            let text = fs::read_to_string(rt, path.as_str()).map_err(Fault::TrafficUnread)?;
-            Ok(read_traffic(rt.alloc(), text.as_str())?)
-        }
-        None => Ok(Vec::new(rt.alloc())),
-    }
-}
-
-/// Tells the relup, where that alone is asked for, or else the rehearsal.
-fn tell_all<R: Runtime + AllocGlobal>(
-    rt: &R,
-    has_bar: bool,
-    hashing: RandomState,
-    options: &Options,
-    asked: &Asked,
-    out: &mut Vec<u8>,
-) -> Result<End, Fault> {
+    let asked = read_asked(rt, hashing, options)?;
     if options.relup {
-        print_relup(&asked.chosen.to.relup, out)?;
-        return Ok(End::Goes);
+        return show_relup(rt, &asked.chosen);
     }
-    let rehearsal = carry_out(rt, has_bar, hashing, asked)?;
-    let page = report(
-        rt.alloc(),
-        &asked.chosen,
-        &rehearsal,
-        options.html.is_some(),
-        out,
-    )?;
-    if let Some(path) = &options.html {
-        replace(rt, path.as_str(), page.as_slice()).map_err(Fault::Page)?;
-    }
-    Ok(if rehearsal.would_go() {
-        End::Goes
-    } else {
-        End::Fails
-    })
+    try_page(rt, options)?;
+    let rehearsal = carry_out(rt, has_bar && !options.quiet, hashing, &asked)?;
+    let found = find_all(rt.alloc(), &asked.chosen, &rehearsal)?;
+    write_told(rt, options, &report_of(&asked, &rehearsal, &found))
+}
+
+/// Prints the relup.
+fn show_relup<R: Runtime + AllocGlobal>(rt: &R, chosen: &Chosen) -> Result<End, Fault> {
+    let mut text = Vec::new(rt.alloc());
+    print_relup(&chosen.to.relup, &mut text)?;
+    write_output(rt, text.as_slice())?;
+    Ok(End::Goes)
 }
 
 /// Rehearses the upgrade; on a terminal a bar shows how far it has come.
@@ -166,60 +99,66 @@ fn carry_out<R: Runtime + AllocGlobal>(
     Ok(rehearsed?)
 }
 
-/// How many instructions a rehearsal goes through where none fails: both ways twice, each with the step that ends it.
+/// Returns how many instructions a rehearsal goes through if none fails: both ways twice, each with the step that ends it.
 fn instructions_of(chosen: &Chosen) -> u64 {
     let up = chosen.up().len() as u64;
     let down = chosen.down().map_or(0, |script| script.len() as u64);
     up.saturating_add(down).saturating_add(2).saturating_mul(2)
 }
 
-/// What is found before the upgrade is rehearsed: of the releases and the script up, and of both scripts.
-fn review(alloc: Global, chosen: &Chosen) -> Result<(Vec<Finding>, Vec<Finding>), AllocError> {
-    let findings = look_through(alloc, &chosen.from, &chosen.to, chosen.up())?;
-    let amiss = look_back(alloc, chosen.up(), chosen.down())?;
-    Ok((findings, amiss))
+/// Writes what is told of a rehearsal: the text, and then the page, if one is asked for. The page is written even if the text
+/// can't be, and the other way round.
+fn write_told<R: Runtime + RandomSource + AllocGlobal>(
+    rt: &R,
+    options: &Options,
+    report: &Report<'_>,
+) -> Result<End, Fault>
+    ensures { IfOk result (IsEnd report.now) }
+{
+    let text = text_of(rt.alloc(), report, options.quiet)?;
+    let told = write_output(rt, text.as_slice());
+    let paged = put_page(rt, options, report);
+    told?;
+    paged?;
+    Ok(end_of(report))
 }
 
-/// Writes the report, and gives its page, which is empty where none is asked for.
-fn report(
-    alloc: Global,
-    chosen: &Chosen,
-    rehearsal: &Rehearsal,
-    has_page: bool,
-    out: &mut Vec<u8>,
-) -> Result<Vec<u8>, AllocError> {
-    let (findings, amiss) = review(alloc, chosen)?;
-    let observations = observe(alloc, rehearsal)?;
-    let report = Report {
-        from: chosen.from.rel.vsn.as_str(),
-        to: chosen.to.rel.vsn.as_str(),
-        is_made: chosen.is_made,
-        up: chosen.up(),
-        down: chosen.down(),
-        findings: findings.as_slice(),
-        amiss: amiss.as_slice(),
-        observations: observations.as_slice(),
-        allowed: &[],
-        rehearsal,
-    };
-    write_report(alloc, &report, false, out)?;
-    page_of(alloc, &report, has_page)
-}
-
-/// The page of a report, if one is asked for.
-fn page_of(alloc: Global, report: &Report<'_>, has_page: bool) -> Result<Vec<u8>, AllocError> {
-    let mut page = Vec::new(alloc);
-    if has_page {
-        write_page(alloc, report, &mut page)?;
+/// Writes the page, if one is asked for.
+fn put_page<R: Runtime + RandomSource + AllocGlobal>(
+    rt: &R,
+    options: &Options,
+    report: &Report<'_>,
+) -> Result<(), Fault> {
+    match &options.html {
+        Some(path) => {
+            let page = page_of(rt.alloc(), report)?;
+            let written = write_at(rt, path.as_str(), page.as_slice());
+            page_fault(rt.alloc(), path.as_str(), written)
+        }
+        None => Ok(()),
     }
-    Ok(page)
 }
 
-/// Writes on the standard output.
-fn write_all<R: Runtime>(rt: &R, bytes: &[u8]) -> io::Result<()> {
-    let mut writer = io::writer(rt);
-    writer.write_all(bytes)?;
-    writer.flush()
+/// Tries whether the page can be written, if one is asked for.
+fn try_page<R: Runtime + RandomSource + AllocGlobal>(
+    rt: &R,
+    options: &Options,
+) -> Result<(), Fault> {
+    match &options.html {
+        Some(path) => {
+            let tried = try_place(rt, path.as_str());
+            page_fault(rt.alloc(), path.as_str(), tried)
+        }
+        None => Ok(()),
+    }
+}
+
+/// Returns why the page can't be written at a path, if it can't.
+fn page_fault(alloc: Global, path: &str, written: io::Result<()>) -> Result<(), Fault> {
+    match written {
+        Ok(()) => Ok(()),
+        Err(error) => Err(Fault::Page(String::from_str(alloc, path)?, error)),
+    }
 }
 
 /// Runs the program.

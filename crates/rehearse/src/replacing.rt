@@ -1,47 +1,79 @@
 // Files that are replaced whole or not at all.
-use std::fs::{File, OpenFile};
+use std::fs::{File, OpenFile, Permissions};
 use std::io::Write;
+use std::os::unix::fs::PermissionsExt;
+use std::path::PathBuf;
+use std::random::RandomSource;
 use std::rt::Runtime;
 use std::{fs, io};
 
-/// What the name of a file ends with while it is written.
-const BESIDE: &str = ".rehearse-part";
+/// What the name of a file ends with while it is written, before the number that makes it one of its own.
+const BESIDE: &str = ".rehearse-part-";
 
-/// Writes a file beside under a name of its own, and gives it its name once all of it is written: so what stood there
-/// is replaced whole, or stays.
+/// A file that is to be replaced, or that isn't there yet.
+#[derive(Drop)]
+pub struct Target {
+    /// Its path. It is no link.
+    pub path: PathBuf,
+    /// Who may do what with it, as the system numbers that, if it is there.
+    pub mode: Option<u32>,
+}
+
+/// Writes a part beside a file, under a name of its own, and gives it the file's name once all of it is written: so the file is
+/// replaced whole, or stays. Its mode is kept.
 ///
 /// # Errors
 ///
-/// `InvalidInput` where something stands there that is no file, as a terminal or a pipe, and else what the system tells.
-/// What was begun is taken away then, if the system lets it.
-pub fn replace<R: Runtime + AllocGlobal>(rt: &R, path: &str, bytes: &[u8]) -> io::Result<()> {
-    if is_no_file(rt, path) {
-        return Err(io::Error::from(io::ErrorKind::InvalidInput));
-    }
-    let beside = format!(in rt.alloc(); "{path}{BESIDE}")?;
-    // What a run left there that was broken off; the file is made anew, and no link is followed.
-    let _ = fs::remove_file(rt, beside.as_str());
-    let replaced = match write_new(rt, beside.as_str(), bytes) {
-        Ok(()) => fs::rename(rt, beside.as_str(), path),
+/// As the system tells. The part is removed then, if the system lets it.
+pub fn replace<R: Runtime + RandomSource + AllocGlobal>(
+    rt: &R,
+    target: &Target,
+    bytes: &[u8],
+) -> io::Result<()> {
+    let part = part_of(rt, target)?;
+    let file = File::create_new(rt, part.as_str())?;
+    let replaced = match fill(file, target.mode, bytes) {
+        Ok(()) => fs::rename(rt, part.as_str(), target.path.as_str()),
         Err(error) => Err(error),
     };
     if replaced.is_err() {
-        let _ = fs::remove_file(rt, beside.as_str());
+        let _ = fs::remove_file(rt, part.as_str());
     }
     replaced
 }
 
-/// Whether something stands at a path, and is no file.
-fn is_no_file<R: Runtime>(rt: &R, path: &str) -> bool {
-    match fs::metadata(rt, path) {
-        Ok(found) => !found.is_file(),
-        Err(_) => false,
-    }
+/// Tries whether a file can be replaced: makes a part beside it, and removes the part.
+///
+/// # Errors
+///
+/// As the system tells.
+pub fn try_replacing<R: Runtime + RandomSource + AllocGlobal>(
+    rt: &R,
+    target: &Target,
+) -> io::Result<()> {
+    let part = part_of(rt, target)?;
+    let _file = File::create_new(rt, part.as_str())?;
+    fs::remove_file(rt, part.as_str())
 }
 
-/// Writes a file that is not there yet.
-fn write_new<R: Runtime>(rt: &R, path: &str, bytes: &[u8]) -> io::Result<()> {
-    let mut file = File::create_new(rt, path)?;
+/// Returns the path of a part beside a file, which no other run has.
+fn part_of<R: RandomSource + AllocGlobal>(rt: &R, target: &Target) -> io::Result<String> {
+    let mut bytes = [0u8; 8];
+    rt.fill_bytes(&mut bytes)?;
+    let number = u64::from_le_bytes(bytes);
+    let path = target.path.as_str();
+    Ok(format!(in rt.alloc(); "{path}{BESIDE}{number:016x}")?)
+}
+
+/// Writes all of a file that was just made. Nobody but those who may read the file that it replaces can read it meanwhile.
+fn fill<F: Write + OpenFile + Drop>(
+    mut file: F,
+    mode: Option<u32>,
+    bytes: &[u8],
+) -> io::Result<()> {
+    if let Some(mode) = mode {
+        file.set_permissions(Permissions::from_mode(mode))?;
+    }
     file.write_all(bytes)?;
     file.sync_all()
 }

@@ -1,6 +1,7 @@
 // What is told of a fault, for the one who is to mend it.
 use crate::ending::Fault;
 use diagnostics::{diagnose, not_started, push_shown};
+use rehearsal_report::KINDS;
 use release_boot::BootError;
 use release_files::{Files, ReleaseFault};
 use relup_make::MakeError;
@@ -35,9 +36,10 @@ fn describe(alloc: Global, fault: &Fault) -> Result<String, AllocError> {
     Ok(told)
 }
 
-/// Appends what to write so that a relup can be made, if that is known.
+/// Appends what to write so that the fault is mended, if that is known.
 fn push_help(fault: &Fault, text: &mut String) -> Result<(), AllocError> {
     let help = match fault {
+        Fault::UnknownKind(_) => return push_kinds(text),
         Fault::NoRelup(MakeError::NoAppup(_)) => {
             "; write one for its version V in TO, lib/APP-V/ebin/APP.appup, or write releases/TO/relup"
         }
@@ -47,6 +49,16 @@ fn push_help(fault: &Fault, text: &mut String) -> Result<(), AllocError> {
         _ => "",
     };
     text.push_str(help)
+}
+
+/// Appends all kinds of findings.
+fn push_kinds(text: &mut String) -> Result<(), AllocError> {
+    text.push_str("; the kinds are")?;
+    for (index, kind) in KINDS.iter().enumerate() {
+        text.push_str(if index == 0 { " " } else { ", " })?;
+        text.push_str(kind.word())?;
+    }
+    Ok(())
 }
 
 /// Appends a line of the program's.

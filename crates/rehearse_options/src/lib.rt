@@ -1,8 +1,9 @@
-//! The command line of the program `rehearse`: `rehearse [--traffic FILE] [--html FILE] [--relup] ROOT FROM TO`, `--help` and
-//! `--version`.
+//! The command line of the program `rehearse`:
+//! `rehearse [--traffic FILE] [--allow KIND] [--quiet] [--html FILE] [--relup] ROOT FROM TO`, `--help` and `--version`.
 //!
 //! [`read_invocation`] reads the words that the program was started with. No contract says which words are good: that is
-//! [`clap`]'s, and is tried by hand. What is told of words that are no text is [`program_words`]'.
+//! [`clap`]'s, and is tried by hand. What is told of words that are no text is [`program_words`]'. Which words are kinds of
+//! findings is known to the program.
 #![tactic(auto)]
 
 use clap::{Arg, ArgAction, Command};
@@ -16,25 +17,68 @@ const NAME: &str = "rehearse";
 const VERSION: &str = "0.1.0, proved";
 
 const ABOUT: &str =
-    "Rehearses the upgrade of an Erlang/OTP release before it is made: looks at its script, carries it out step by step, fails behind each step on purpose, and comes down again";
+    "Rehearses the upgrade of an Erlang/OTP release before it is made, and tells what is likely wrong with it";
 
-const ROOT_HELP: &str = "The folder of the releases' files; all files below it are read";
+const ROOT_HELP: &str = "The folder with `releases` and `lib`; all files below it are read";
 
 const FROM_HELP: &str = "The version of the release that is left";
 
 const TO_HELP: &str = "The version of the release that is installed";
 
 const TRAFFIC_HELP: &str =
-    "Play the messages of FILE before the upgrade and behind each step: a line `call NAME TERM`, `cast NAME TERM` or `send NAME TERM` each";
+    "Play what clients send before it and after each step: each line of FILE is `call NAME TERM`, `cast NAME TERM` or `send NAME TERM`";
+
+const ALLOW_HELP: &str =
+    "Accept findings of KIND: they are told, and the status is as if they weren't; may be given several times";
+
+const QUIET_HELP: &str = "Print the verdict and the findings only";
 
 const HTML_HELP: &str =
-    "Write the report into FILE too, as a page for a browser; what stands there is replaced";
+    "Write the whole report into FILE too, as a page for a browser; what is there is replaced";
 
-const RELUP_HELP: &str = "Print the relup that is made of the appups, as a file, and end";
+const RELUP_HELP: &str =
+    "Print the relup by which TO is reached, as a file, and end; it is made of the appups if TO has none for FROM";
 
-const AFTER_HELP: &str =
-    "The status is 0 where the upgrade goes up and down without a failure, 1 where it does not,
-2 after a bad command line, and 3 where the files are no releases.";
+const AFTER_HELP: &str = "What it does:
+  It boots FROM on a node of its own, and carries out the upgrade an instruction at a
+  time: up to TO, and down again. The traffic, if there is any, is played before it and
+  after each instruction. Each instruction is also made to fail on purpose, and undone.
+  Told are the verdict, what was found and what to do about it, the scripts, and what
+  each instruction changes. It writes no file but the one of --html.
+
+Status:
+  0  it goes up and down, and nothing is found but what is allowed
+  1  it fails: it doesn't go up, or not down again, or not without the traffic; or the
+     rehearsal could not be made to its end, or its report not be written
+  2  a bad command line
+  3  the files are no releases, no relup leads from FROM to TO, the traffic can't be
+     read, or FROM doesn't boot
+  4  it goes up and down, and something is found that isn't allowed
+
+A KIND of --allow is the word that is printed after a finding, one of these:
+  ends_before            a process ends by its job, before the upgrade begins
+  calls_down_before      a call gets an exit reason, before the upgrade begins
+  unheard_before         a message goes to a name that nobody has, before the upgrade
+  fails_without_traffic  it goes up and down with the traffic, and not without
+  not_restored           up and down again, a process has another state than before
+  vanishes               up and down again, a process is gone
+  kills                  a process still uses code that is purged, and is killed
+  ends                   a process ends by its job
+  calls_down             a call gets an exit reason
+  unheard                a message goes to a name that nobody has
+  lingers                a process uses old code when the script has ended
+  suspends_nobody        a module is suspended, and no process has it in its spec
+  no_code_change         states are to change, and code_change/3 isn't exported
+  not_loaded             a module differs, and no instruction loads it
+  not_undone             a module is loaded up, and neither loaded nor removed down
+  no_way_down            there is no script down
+  restarts               an application is started again
+  stops                  an application is stopped
+  starts                 an application is started
+  loaded_again           a module is loaded that both releases have alike
+
+Example: go on if nothing is found but that a new application is started:
+  rehearse --traffic calls.txt --allow starts --html report.html ROOT 1.0 1.1";
 
 /// What a run of the program is asked to work on.
 #[derive(Debug, Drop)]
@@ -47,6 +91,10 @@ pub struct Options {
     pub to: String,
     /// The file of the traffic, if one is named.
     pub traffic: Option<String>,
+    /// The kinds of findings that are allowed, as the words are, in order.
+    pub allow: Vec<String>,
+    /// Whether the verdict and the findings alone are to be printed.
+    pub quiet: bool,
     /// The file of the page, if one is named.
     pub html: Option<String>,
     /// Whether the relup alone is to be printed.
@@ -81,6 +129,8 @@ fn invocation_of(alloc: Global, words: &[String]) -> Result<Invocation, WordsErr
             from: owned(alloc, matches.get_str("FROM"))?,
             to: owned(alloc, matches.get_str("TO"))?,
             traffic: owned_if(alloc, matches.get_str("traffic"))?,
+            allow: all_owned(alloc, matches.get_strs("allow"))?,
+            quiet: matches.get_flag("quiet"),
             html: owned_if(alloc, matches.get_str("html"))?,
             relup: matches.get_flag("relup"),
         })),
@@ -113,6 +163,15 @@ fn owned_if(alloc: Global, word: Option<&str>) -> Result<Option<String>, AllocEr
     }
 }
 
+/// Copies of words, if they are there.
+fn all_owned(alloc: Global, words: Option<&[&str]>) -> Result<Vec<String>, AllocError> {
+    words
+        .unwrap_or(&[])
+        .iter()
+        .map(|word| String::from_str(alloc, *word))
+        .try_collect(alloc)
+}
+
 /// A word that has to be there.
 fn required<'a>(alloc: Global, id: &'a str, help: &'a str) -> Arg<'a> {
     Arg::new(alloc, id)
@@ -121,31 +180,38 @@ fn required<'a>(alloc: Global, id: &'a str, help: &'a str) -> Arg<'a> {
         .help(help)
 }
 
+/// An option with a value.
+fn valued<'a>(alloc: Global, id: &'a str, name: &'a str, help: &'a str) -> Arg<'a> {
+    Arg::new(alloc, id)
+        .long(id)
+        .value_name(name)
+        .action(ArgAction::Set)
+        .help(help)
+}
+
+/// An option without a value.
+fn flag<'a>(alloc: Global, id: &'a str, help: &'a str) -> Arg<'a> {
+    Arg::new(alloc, id)
+        .long(id)
+        .action(ArgAction::SetTrue)
+        .help(help)
+}
+
 /// The command line as clap reads it.
 fn command<'a>(alloc: Global) -> Result<Command<'a>, AllocError> {
-    let traffic = Arg::new(alloc, "traffic")
-        .long("traffic")
-        .value_name("FILE")
-        .action(ArgAction::Set)
-        .help(TRAFFIC_HELP);
-    let html = Arg::new(alloc, "html")
-        .long("html")
-        .value_name("FILE")
-        .action(ArgAction::Set)
-        .help(HTML_HELP)
-        .conflicts_with("relup")?;
-    let relup = Arg::new(alloc, "relup")
-        .long("relup")
-        .action(ArgAction::SetTrue)
-        .help(RELUP_HELP);
+    let allow = valued(alloc, "allow", "KIND", ALLOW_HELP).action(ArgAction::Append);
+    let quiet = flag(alloc, "quiet", QUIET_HELP);
+    let html = valued(alloc, "html", "FILE", HTML_HELP);
     Command::new(alloc, NAME)
         .bin_name(NAME)?
         .version(VERSION)
         .about(ABOUT)
         .after_help(AFTER_HELP)
-        .arg(traffic)?
-        .arg(html)?
-        .arg(relup)?
+        .arg(valued(alloc, "traffic", "FILE", TRAFFIC_HELP))?
+        .arg(allow.conflicts_with("relup")?)?
+        .arg(quiet.conflicts_with("relup")?)?
+        .arg(html.conflicts_with("relup")?)?
+        .arg(flag(alloc, "relup", RELUP_HELP))?
         .arg(required(alloc, "ROOT", ROOT_HELP))?
         .arg(required(alloc, "FROM", FROM_HELP))?
         .arg(required(alloc, "TO", TO_HELP))
