@@ -4,6 +4,8 @@
 #   make transcripts NAME=name plays one file of them. Its last line is 'N passed, M failed'.
 # make rehearsals: plays the runs of rehearsals/ on `rehearse`, which it builds first (tools/rehearsals);
 #   make rehearsals NAME=name plays one file of them. Its last line is 'N passed, M failed'.
+# make mistakes: plays the mistakes of upgrades and the recipes of rehearsals/switch on `rehearse`, which it builds first
+#   (tools/mistakes); make mistakes NAME=name plays one of them. Its last line is 'N passed, M failed, K not found yet'.
 # make check: proves the crates alone, over what earlier checks kept, and tries no edit and no test: for the working day.
 # make edits: sees that the prover refuses each wrong body, those of edits/ too, many in one check (tools/edits), over the libraries of
 #   a gate that has run in this checkout; make edits CRATE=name tries one crate's. Its last line is 'N passed, M failed'.
@@ -19,7 +21,7 @@
 # RT=rt is the kit's alone.
 RT ?= $(CURDIR)/tools/rt
 
-.PHONY: test transcripts rehearsals check edits trials quick demo rehearse-demo try-expand relnode rehearse
+.PHONY: test transcripts rehearsals mistakes check edits trials quick demo rehearse-demo try-expand relnode rehearse
 
 test:
 	@tools/quotes
@@ -33,6 +35,9 @@ transcripts: relnode
 
 rehearsals: rehearse
 	@tools/rehearsals $(NAME)
+
+mistakes: rehearse
+	@tools/mistakes $(NAME)
 
 check:
 	@$(RT) all check
