@@ -329,6 +329,10 @@ fn about_finding(finding: &Finding, rehearsal: &Rehearsal) -> About {
         | Finding::Starts { index, .. }
         | Finding::Restarts { index, .. }
         | Finding::Stops { index, .. } => about_step_of(Direction::Up, *index, rehearsal),
+        Finding::NotResumedOnOtp { way, index, .. }
+        | Finding::ResumesNobodyOnOtp { way, index, .. }
+        | Finding::ChangesNobodyOnOtp { way, index, .. }
+        | Finding::StartsNobodyOnOtp { way, index, .. } => about_step_of(*way, *index, rehearsal),
         Finding::NotLoaded { .. } | Finding::NoWayDown => About::Other,
     }
 }

@@ -11,6 +11,10 @@ use Rattle.rehearsal_report.specs.declared.kinds.Kind.TheVariants.{NoCodeChange 
 use Rattle.rehearsal_report.specs.declared.kinds.Kind.TheVariants.{NotUndone as NotUndoneKind, NoWayDown as NoWayDownKind}
 use Rattle.rehearsal_report.specs.declared.kinds.Kind.TheVariants.{Restarts as RestartsKind, Stops as StopsKind}
 use Rattle.rehearsal_report.specs.declared.kinds.Kind.TheVariants.{Starts as StartsKind, LoadedAgain as LoadedAgainKind}
+use Rattle.rehearsal_report.specs.declared.kinds.Kind.TheVariants.{NotResumedOnOtp as NotResumedOnOtpKind}
+use Rattle.rehearsal_report.specs.declared.kinds.Kind.TheVariants.{ResumesNobodyOnOtp as ResumesNobodyOnOtpKind}
+use Rattle.rehearsal_report.specs.declared.kinds.Kind.TheVariants.{ChangesNobodyOnOtp as ChangesNobodyOnOtpKind}
+use Rattle.rehearsal_report.specs.declared.kinds.Kind.TheVariants.{StartsNobodyOnOtp as StartsNobodyOnOtpKind}
 use Rattle.rehearsal_report.specs.declared.report.Report.{Report}
 use Rattle.rehearsal_report.specs.declared.verdicts.Verdict.{Verdict}
 use Rattle.rehearsal_report.specs.declared.verdicts.Verdict.TheVariants.{Goes, HasFindings, Fails}
@@ -23,6 +27,8 @@ use Rattle.rehearsals.specs.declared.observing.Observation.TheVariants.{NotResto
 use Rattle.upgrade_review.specs.declared.finding.Finding.{Finding}
 use Rattle.upgrade_review.specs.declared.finding.Finding.TheVariants.{LoadedAgain, NoCodeChange, NotLoaded, NotUndone}
 use Rattle.upgrade_review.specs.declared.finding.Finding.TheVariants.{NoWayDown, Restarts, Starts, Stops}
+use Rattle.upgrade_review.specs.declared.finding.Finding.TheVariants.{NotResumedOnOtp, ResumesNobodyOnOtp}
+use Rattle.upgrade_review.specs.declared.finding.Finding.TheVariants.{ChangesNobodyOnOtp, StartsNobodyOnOtp}
 
 -- The kind of a finding about the releases and the scripts.
 abbrev pub kind_of_finding : Finding → Kind
@@ -34,6 +40,10 @@ kind_of_finding (Restarts i application) = RestartsKind
 kind_of_finding (Stops i application) = StopsKind
 kind_of_finding NoWayDown = NoWayDownKind
 kind_of_finding (NotUndone i m) = NotUndoneKind
+kind_of_finding (NotResumedOnOtp way i m) = NotResumedOnOtpKind
+kind_of_finding (ResumesNobodyOnOtp way i m) = ResumesNobodyOnOtpKind
+kind_of_finding (ChangesNobodyOnOtp way i m) = ChangesNobodyOnOtpKind
+kind_of_finding (StartsNobodyOnOtp way i m) = StartsNobodyOnOtpKind
 
 -- The kind of what came of a message: another one before the way up, where the upgrade has no part in it.
 

@@ -1,6 +1,8 @@
 // What is told of findings.
+use crate::observations::way_word;
 use crate::writing::{put, put_atom, put_number};
 use erl_term::Atom;
+use low_instructions::Direction;
 use std::alloc::{AllocError, Global};
 use upgrade_review::Finding;
 
@@ -54,7 +56,37 @@ pub fn put_finding_fact(
         Finding::Starts { .. } | Finding::Restarts { .. } | Finding::Stops { .. } => {
             put_of_app(finding, alloc, out)
         }
+        Finding::NotResumedOnOtp { way, index, module } => {
+            put_on_otp(*way, *index, b"stay suspended for ever", module, alloc, out)
+        }
+        Finding::ResumesNobodyOnOtp { way, index, module } => {
+            put_on_otp(*way, *index, b"are not resumed", module, alloc, out)
+        }
+        Finding::ChangesNobodyOnOtp { way, index, module } => {
+            put_on_otp(*way, *index, b"keep their state unchanged", module, alloc, out)
+        }
+        Finding::StartsNobodyOnOtp { way, index, module } => {
+            put_on_otp(*way, *index, b"are not started", module, alloc, out)
+        }
     }
+}
+
+/// Appends what becomes of the processes of a module on OTP.
+fn put_on_otp(
+    way: Direction,
+    index: usize,
+    what: &[u8],
+    module: &Atom,
+    alloc: Global,
+    out: &mut Vec<u8>,
+) -> Result<(), AllocError> {
+    put(way_word(way), out)?;
+    put(b" ", out)?;
+    put_number((index as u64).saturating_add(1), alloc, out)?;
+    put(b": on OTP the processes of ", out)?;
+    put_atom(module, alloc, out)?;
+    put(b" ", out)?;
+    put(what, out)
 }
 
 /// Appends that a module is not loaded.
@@ -117,5 +149,9 @@ pub fn finding_advice(finding: &Finding) -> &'static [u8] {
         Finding::Stops { .. } => b"right for an application that the upgrade takes away",
         Finding::NoWayDown => b"write the instructions for the way down",
         Finding::NotUndone { .. } => b"load its old code on the way down, or remove it",
+        Finding::NotResumedOnOtp { .. } => b"resume the module in the script",
+        Finding::ResumesNobodyOnOtp { .. } => b"resume them by the name that they are suspended by",
+        Finding::ChangesNobodyOnOtp { .. } => b"suspend them by the name that changes them",
+        Finding::StartsNobodyOnOtp { .. } => b"start them by the name that they are stopped by",
     }
 }

@@ -16,6 +16,14 @@ pub enum Kind {
     UnheardBefore,
     /// Both ways come to their ends with the traffic, and not without.
     FailsWithoutTraffic,
+    /// Processes are suspended that OTP never resumes.
+    NotResumedOnOtp,
+    /// Processes are resumed that OTP leaves suspended.
+    ResumesNobodyOnOtp,
+    /// Processes change a state that OTP leaves unchanged.
+    ChangesNobodyOnOtp,
+    /// Children are started that OTP leaves stopped.
+    StartsNobodyOnOtp,
     /// A process has another state after both ways.
     NotRestored,
     /// A process lives no more after both ways.
@@ -56,6 +64,10 @@ pub const KINDS: &[Kind] = &[
     Kind::CallsDownBefore,
     Kind::UnheardBefore,
     Kind::FailsWithoutTraffic,
+    Kind::NotResumedOnOtp,
+    Kind::ResumesNobodyOnOtp,
+    Kind::ChangesNobodyOnOtp,
+    Kind::StartsNobodyOnOtp,
     Kind::NotRestored,
     Kind::Vanishes,
     Kind::Kills,
@@ -82,6 +94,10 @@ impl Kind {
             Kind::CallsDownBefore => "calls_down_before",
             Kind::UnheardBefore => "unheard_before",
             Kind::FailsWithoutTraffic => "fails_without_traffic",
+            Kind::NotResumedOnOtp => "not_resumed_on_otp",
+            Kind::ResumesNobodyOnOtp => "resumes_nobody_on_otp",
+            Kind::ChangesNobodyOnOtp => "changes_nobody_on_otp",
+            Kind::StartsNobodyOnOtp => "starts_nobody_on_otp",
             Kind::NotRestored => "not_restored",
             Kind::Vanishes => "vanishes",
             Kind::Kills => "kills",
@@ -120,6 +136,10 @@ pub fn kind_of_finding(finding: &Finding) -> Kind
         Finding::Stops { .. } => Kind::Stops,
         Finding::NoWayDown => Kind::NoWayDown,
         Finding::NotUndone { .. } => Kind::NotUndone,
+        Finding::NotResumedOnOtp { .. } => Kind::NotResumedOnOtp,
+        Finding::ResumesNobodyOnOtp { .. } => Kind::ResumesNobodyOnOtp,
+        Finding::ChangesNobodyOnOtp { .. } => Kind::ChangesNobodyOnOtp,
+        Finding::StartsNobodyOnOtp { .. } => Kind::StartsNobodyOnOtp,
     }
 }
 

@@ -121,7 +121,7 @@ fn put_suspends_nobody(module: &Atom, alloc: Global, out: &mut Vec<u8>) -> Resul
     put(b"nobody is suspended for ", out)?;
     put_atom(module, alloc, out)?;
     put(
-        b", for no child that runs names it in its specification",
+        b", for no child names it in its specification",
         out,
     )
 }

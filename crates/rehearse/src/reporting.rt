@@ -4,17 +4,18 @@ ghost use Rattle.rehearse.specs.Reporting.{IsEnd, IsReport, end_by};
 
 use crate::asking::Asked;
 use crate::ending::End;
+use low_instructions::Direction;
 use rehearsal_page::write_page;
 use rehearsal_report::{Report, Verdict, verdict_of, write_report};
 use rehearsals::{Observation, Rehearsal, observe};
 use std::alloc::{AllocError, Global};
 use upgrade_files::Chosen;
-use upgrade_review::{Finding, look_back, look_through};
+use upgrade_review::{Finding, look_at_otp, look_back, look_through};
 
 /// What was found.
 #[derive(Drop)]
 pub struct Found {
-    /// What was found of the releases and the script up.
+    /// What was found of the releases and the script up, and what OTP does otherwise with both scripts.
     pub findings: Vec<Finding>,
     /// What was found of both scripts.
     pub amiss: Vec<Finding>,
@@ -32,7 +33,9 @@ pub fn find_all(
     chosen: &Chosen,
     rehearsal: &Rehearsal,
 ) -> Result<Found, AllocError> {
-    let findings = look_through(alloc, &chosen.from, &chosen.to, chosen.up())?;
+    let mut findings = look_through(alloc, &chosen.from, &chosen.to, chosen.up())?;
+    push_all(look_at_otp(alloc, Direction::Up, chosen.up())?, &mut findings)?;
+    push_all(look_at_otp(alloc, Direction::Down, chosen.down().unwrap_or(&[]))?, &mut findings)?;
     let amiss = look_back(alloc, chosen.up(), chosen.down())?;
     let observations = observe(alloc, rehearsal)?;
     Ok(Found {
@@ -40,6 +43,14 @@ pub fn find_all(
         amiss,
         observations,
     })
+}
+
+/// Appends findings to others.
+fn push_all(more: Vec<Finding>, found: &mut Vec<Finding>) -> Result<(), AllocError> {
+    for finding in more {
+        found.push(finding)?;
+    }
+    Ok(())
 }
 
 /// Returns the report of a rehearsal.

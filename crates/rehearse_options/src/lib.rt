@@ -60,6 +60,10 @@ A KIND of --allow is the word that is printed after a finding, one of these:
   calls_down_before      a call gets an exit reason, before the upgrade begins
   unheard_before         a message goes to a name that nobody has, before the upgrade
   fails_without_traffic  it goes up and down with the traffic, and not without
+  not_resumed_on_otp     a module is suspended, and OTP never resumes it
+  resumes_nobody_on_otp  a module is resumed by another name than it was suspended by
+  changes_nobody_on_otp  states change by another name than they were suspended by
+  starts_nobody_on_otp   a module is started by another name than it was stopped by
   not_restored           up and down again, a process has another state than before
   vanishes               up and down again, a process is gone
   kills                  a process still uses code that is purged, and is killed
@@ -67,7 +71,7 @@ A KIND of --allow is the word that is printed after a finding, one of these:
   calls_down             a call gets an exit reason
   unheard                a message goes to a name that nobody has
   lingers                a process uses old code when the script has ended
-  suspends_nobody        a module is suspended, and no process has it in its spec
+  suspends_nobody        a module is suspended, and no child has it in its spec
   no_code_change         states are to change, and code_change/3 isn't exported
   not_loaded             a module differs, and no instruction loads it
   not_undone             a module is loaded up, and neither loaded nor removed down

@@ -81,45 +81,45 @@ resumes m (Apply name function arguments) = false
 abbrev pub is_resumed : List ℕ → List Low → Bool
 is_resumed m script = list_any (resumes m) script
 
--- What OTP does otherwise at an instruction of a script.
-pub data DiffersOnOtp (script : List Low) (f : Finding) : Type 0 where
+-- What OTP does otherwise at an instruction of a script that leads this way.
+pub data DiffersOnOtp (way : Direction) (script : List Low) (f : Finding) : Type 0 where
   -- Processes are suspended, and no instruction after it resumes them: they stay suspended for ever.
   not_resumed : (i : ℕ) (modules : List Suspension) (s : Suspension) → slice_get script i ≡ Some (Suspend modules) →
-      Contains modules s → is_resumed s.name (drop (i + 1) script) ≡ false → f ≡ NotResumedOnOtp i s.name → DiffersOnOtp script f
+      Contains modules s → is_resumed s.name (drop (i + 1) script) ≡ false → f ≡ NotResumedOnOtp way i s.name → DiffersOnOtp way script f
   -- Processes are resumed by another name than they were suspended by: nobody is resumed.
   resumes_nobody : (i : ℕ) (modules : List (List ℕ)) (m : List ℕ) → slice_get script i ≡ Some (Resume modules) →
-      Contains modules m → has_suspended m (take i script) ≡ false → f ≡ ResumesNobodyOnOtp i m → DiffersOnOtp script f
+      Contains modules m → has_suspended m (take i script) ≡ false → f ≡ ResumesNobodyOnOtp way i m → DiffersOnOtp way script f
   -- Processes are to change their state by another name than they were suspended by: nobody's state is changed.
-  changes_nobody : (i : ℕ) (way : Direction) (changes : List ModuleChange) (change : ModuleChange) →
-      slice_get script i ≡ Some (CodeChange way changes) → Contains changes change →
-      has_suspended change.name (take i script) ≡ false → f ≡ ChangesNobodyOnOtp i change.name → DiffersOnOtp script f
+  changes_nobody : (i : ℕ) (direction : Direction) (changes : List ModuleChange) (change : ModuleChange) →
+      slice_get script i ≡ Some (CodeChange direction changes) → Contains changes change →
+      has_suspended change.name (take i script) ≡ false → f ≡ ChangesNobodyOnOtp way i change.name → DiffersOnOtp way script f
   -- Children are started by another name than they were stopped by: nobody is started.
   starts_nobody : (i : ℕ) (modules : List (List ℕ)) (m : List ℕ) → slice_get script i ≡ Some (Start modules) →
-      Contains modules m → has_stopped m (take i script) ≡ false → f ≡ StartsNobodyOnOtp i m → DiffersOnOtp script f
+      Contains modules m → has_stopped m (take i script) ≡ false → f ≡ StartsNobodyOnOtp way i m → DiffersOnOtp way script f
 
 -- The same of the instruction at an index, and of a module of it.
 
-abbrev pub IsNotResumed : List Low → ℕ → List ℕ → Finding → Type 0
-IsNotResumed script i m f = (is_resumed m (drop (i + 1) script) ≡ false) × (f ≡ NotResumedOnOtp i m)
+abbrev pub IsNotResumed : Direction → List Low → ℕ → List ℕ → Finding → Type 0
+IsNotResumed way script i m f = (is_resumed m (drop (i + 1) script) ≡ false) × (f ≡ NotResumedOnOtp way i m)
 
-abbrev pub ResumesNobody : List Low → ℕ → List ℕ → Finding → Type 0
-ResumesNobody script i m f = (has_suspended m (take i script) ≡ false) × (f ≡ ResumesNobodyOnOtp i m)
+abbrev pub ResumesNobody : Direction → List Low → ℕ → List ℕ → Finding → Type 0
+ResumesNobody way script i m f = (has_suspended m (take i script) ≡ false) × (f ≡ ResumesNobodyOnOtp way i m)
 
-abbrev pub ChangesNobody : List Low → ℕ → List ℕ → Finding → Type 0
-ChangesNobody script i m f = (has_suspended m (take i script) ≡ false) × (f ≡ ChangesNobodyOnOtp i m)
+abbrev pub ChangesNobody : Direction → List Low → ℕ → List ℕ → Finding → Type 0
+ChangesNobody way script i m f = (has_suspended m (take i script) ≡ false) × (f ≡ ChangesNobodyOnOtp way i m)
 
-abbrev pub StartsNobody : List Low → ℕ → List ℕ → Finding → Type 0
-StartsNobody script i m f = (has_stopped m (take i script) ≡ false) × (f ≡ StartsNobodyOnOtp i m)
+abbrev pub StartsNobody : Direction → List Low → ℕ → List ℕ → Finding → Type 0
+StartsNobody way script i m f = (has_stopped m (take i script) ≡ false) × (f ≡ StartsNobodyOnOtp way i m)
 
-abbrev pub DiffersAt : List Low → ℕ → Low → Finding → Type 0
-DiffersAt script i (LoadObjectCode application version modules) f = ⊥
-DiffersAt script i PointOfNoReturn f = ⊥
-DiffersAt script i (Load name pre post) f = ⊥
-DiffersAt script i (Remove name pre post) f = ⊥
-DiffersAt script i (Purge modules) f = ⊥
-DiffersAt script i (Suspend modules) f = FromEach (λ j s. IsNotResumed script i s.name) modules f
-DiffersAt script i (Resume modules) f = FromEach (λ j m. ResumesNobody script i m) modules f
-DiffersAt script i (CodeChange direction changes) f = FromEach (λ j change. ChangesNobody script i change.name) changes f
-DiffersAt script i (Stop modules) f = ⊥
-DiffersAt script i (Start modules) f = FromEach (λ j m. StartsNobody script i m) modules f
-DiffersAt script i (Apply name function arguments) f = ⊥
+abbrev pub DiffersAt : Direction → List Low → ℕ → Low → Finding → Type 0
+DiffersAt way script i (LoadObjectCode application version modules) f = ⊥
+DiffersAt way script i PointOfNoReturn f = ⊥
+DiffersAt way script i (Load name pre post) f = ⊥
+DiffersAt way script i (Remove name pre post) f = ⊥
+DiffersAt way script i (Purge modules) f = ⊥
+DiffersAt way script i (Suspend modules) f = FromEach (λ j s. IsNotResumed way script i s.name) modules f
+DiffersAt way script i (Resume modules) f = FromEach (λ j m. ResumesNobody way script i m) modules f
+DiffersAt way script i (CodeChange direction changes) f = FromEach (λ j change. ChangesNobody way script i change.name) changes f
+DiffersAt way script i (Stop modules) f = ⊥
+DiffersAt way script i (Start modules) f = FromEach (λ j m. StartsNobody way script i m) modules f
+DiffersAt way script i (Apply name function arguments) f = ⊥

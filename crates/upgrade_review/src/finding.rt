@@ -1,5 +1,6 @@
 // Findings.
 use erl_term::Atom;
+use low_instructions::Direction;
 use release_words::{copied_variants, same_variants};
 use std::alloc::{AllocError, Global};
 use values::{Duplicate, Same};
@@ -70,6 +71,8 @@ pub enum Finding {
     /// The processes of this module are suspended, and no instruction after it resumes them: this node resumes them at the end
     /// of the script, and OTP leaves them suspended for ever, though the install succeeds. Resume the module.
     NotResumedOnOtp {
+        /// Whether it is on the way up.
+        way: Direction,
         /// Where they are suspended.
         index: usize,
         /// The module.
@@ -78,6 +81,8 @@ pub enum Finding {
     /// The processes of this module are resumed, and were not suspended by its name: this node resumes the processes whose
     /// children name it, and OTP nobody. Resume them by the names that they are suspended by.
     ResumesNobodyOnOtp {
+        /// Whether it is on the way up.
+        way: Direction,
         /// Where they are resumed.
         index: usize,
         /// The module.
@@ -86,6 +91,8 @@ pub enum Finding {
     /// The processes of this module are to change their state, and were not suspended by its name: this node changes the state
     /// of those that are suspended and whose children name it, and OTP nobody's. Suspend them by the name that changes them.
     ChangesNobodyOnOtp {
+        /// Whether it is on the way up.
+        way: Direction,
         /// Where their state is changed.
         index: usize,
         /// The module.
@@ -94,6 +101,8 @@ pub enum Finding {
     /// The children of this module are started, and were not stopped by its name, or are started already: this node starts
     /// those that were stopped and name it, and OTP nobody. Start them by the names that they are stopped by.
     StartsNobodyOnOtp {
+        /// Whether it is on the way up.
+        way: Direction,
         /// Where they are started.
         index: usize,
         /// The module.
@@ -113,10 +122,10 @@ impl Same for Finding {
             Stops { index: i, application: a }
             NoWayDown {}
             NotUndone { index: i, module: m }
-            NotResumedOnOtp { index: i, module: m }
-            ResumesNobodyOnOtp { index: i, module: m }
-            ChangesNobodyOnOtp { index: i, module: m }
-            StartsNobodyOnOtp { index: i, module: m }
+            NotResumedOnOtp { way: w, index: i, module: m }
+            ResumesNobodyOnOtp { way: w, index: i, module: m }
+            ChangesNobodyOnOtp { way: w, index: i, module: m }
+            StartsNobodyOnOtp { way: w, index: i, module: m }
         )
     }
 }
@@ -133,10 +142,10 @@ impl Duplicate for Finding {
             Stops { index, application }
             NoWayDown {}
             NotUndone { index, module }
-            NotResumedOnOtp { index, module }
-            ResumesNobodyOnOtp { index, module }
-            ChangesNobodyOnOtp { index, module }
-            StartsNobodyOnOtp { index, module }
+            NotResumedOnOtp { way, index, module }
+            ResumesNobodyOnOtp { way, index, module }
+            ChangesNobodyOnOtp { way, index, module }
+            StartsNobodyOnOtp { way, index, module }
         )
     }
 }

@@ -10,35 +10,40 @@ ghost use Rattle.upgrade_review.specs.declared.finding.Finding.{Finding};
 use crate::finding::Finding;
 use crate::gathering::note;
 use erl_term::Atom;
-use low_instructions::{Low, ModuleChange, Suspension};
+use low_instructions::{Direction, Low, ModuleChange, Suspension};
 use std::alloc::{AllocError, Global};
 use values::Duplicate;
 
-/// Returns what OTP's release handler carries out otherwise of a script than this node, each once, in the order of the
+/// Returns what OTP's release handler carries out otherwise than this node of a script that leads this way, each once, in the order of the
 /// instructions.
 ///
 /// # Errors
 ///
 /// `AllocError` if an allocation fails.
-pub fn look_at_otp(alloc: Global, script: &[Low]) -> Result<Vec<Finding>, AllocError>
-    ensures found { IfOk result (λ found. (f : Finding) → Contains found.items f ↔ DiffersOnOtp script.now f) }
+pub fn look_at_otp(
+    alloc: Global,
+    way: Direction,
+    script: &[Low],
+) -> Result<Vec<Finding>, AllocError>
+    ensures found { IfOk result (λ found. (f : Finding) → Contains found.items f ↔ DiffersOnOtp way script.now f) }
     ensures once { IfOk result (λ found. AreDifferent found.items) }
 {
     let mut found = Vec::new(alloc);
-    note_script(alloc, script, &mut found)?;
+    note_script(alloc, way, script, &mut found)?;
     Ok(found)
 }
 
 /// Notes what is carried out otherwise of the instructions of a script.
 fn note_script(
     alloc: Global,
+    way: Direction,
     script: &[Low],
     found: &mut Vec<Finding>,
 ) -> Result<(), AllocError>
-    ensures { OnOk result (Adds (FromEach (DiffersAt script.now) script.now) found.old.items found.new.items) }
+    ensures { OnOk result (Adds (FromEach (DiffersAt way script.now) script.now) found.old.items found.new.items) }
 {
     for (index, low) in script.iter().enumerate() {
-        note_instruction(alloc, script, index, low, found)?;
+        note_instruction(alloc, way, script, index, low, found)?;
     }
     Ok(())
 }
@@ -46,21 +51,22 @@ fn note_script(
 /// Notes what is carried out otherwise of the instruction at an index.
 fn note_instruction(
     alloc: Global,
+    way: Direction,
     script: &[Low],
     index: usize,
     low: &Low,
     found: &mut Vec<Finding>,
 ) -> Result<(), AllocError>
     requires { index < length script.now }
-    ensures { OnOk result (Adds (DiffersAt script.now index low.now) found.old.items found.new.items) }
+    ensures { OnOk result (Adds (DiffersAt way script.now index low.now) found.old.items found.new.items) }
 {
     match low {
-        Low::Suspend { modules } => note_suspend(alloc, script, index, modules.as_slice(), found),
-        Low::Resume { modules } => note_resume(alloc, script, index, modules.as_slice(), found),
+        Low::Suspend { modules } => note_suspend(alloc, way, script, index, modules.as_slice(), found),
+        Low::Resume { modules } => note_resume(alloc, way, script, index, modules.as_slice(), found),
         Low::CodeChange { changes, .. } => {
-            note_changes(alloc, script, index, changes.as_slice(), found)
+            note_changes(alloc, way, script, index, changes.as_slice(), found)
         }
-        Low::Start { modules } => note_start(alloc, script, index, modules.as_slice(), found),
+        Low::Start { modules } => note_start(alloc, way, script, index, modules.as_slice(), found),
         Low::LoadObjectCode { .. } | Low::PointOfNoReturn | Low::Load { .. } => Ok(()),
         Low::Remove { .. } | Low::Purge { .. } | Low::Stop { .. } | Low::Apply { .. } => Ok(()),
     }
@@ -69,17 +75,18 @@ fn note_instruction(
 /// Notes the modules whose processes are suspended at an index and not resumed after it.
 fn note_suspend(
     alloc: Global,
+    way: Direction,
     script: &[Low],
     index: usize,
     modules: &[Suspension],
     found: &mut Vec<Finding>,
 ) -> Result<(), AllocError>
     requires { index < length script.now }
-    ensures { OnOk result (Adds (FromEach (λ j s. IsNotResumed script.now index s.name) modules.now) found.old.items
+    ensures { OnOk result (Adds (FromEach (λ j s. IsNotResumed way script.now index s.name) modules.now) found.old.items
         found.new.items) }
 {
     for suspension in modules {
-        note_suspended(alloc, script, index, &suspension.name, found)?;
+        note_suspended(alloc, way, script, index, &suspension.name, found)?;
     }
     Ok(())
 }
@@ -87,35 +94,37 @@ fn note_suspend(
 /// Notes that the processes of a module are suspended at an index, unless they are resumed after it.
 fn note_suspended(
     alloc: Global,
+    way: Direction,
     script: &[Low],
     index: usize,
     name: &Atom,
     found: &mut Vec<Finding>,
 ) -> Result<(), AllocError>
     requires { index < length script.now }
-    ensures { OnOk result (Adds (IsNotResumed script.now index name.now) found.old.items found.new.items) }
+    ensures { OnOk result (Adds (IsNotResumed way script.now index name.now) found.old.items found.new.items) }
 {
     if is_resumed(&script[index + 1..], name) {
         return Ok(());
     }
     let module = name.copy(alloc)?;
-    note(found, Finding::NotResumedOnOtp { index, module })
+    note(found, Finding::NotResumedOnOtp { way, index, module })
 }
 
 /// Notes the modules whose processes are resumed at an index and were not suspended by that name.
 fn note_resume(
     alloc: Global,
+    way: Direction,
     script: &[Low],
     index: usize,
     modules: &[Atom],
     found: &mut Vec<Finding>,
 ) -> Result<(), AllocError>
     requires { index < length script.now }
-    ensures { OnOk result (Adds (FromEach (λ j m. ResumesNobody script.now index m) modules.now) found.old.items
+    ensures { OnOk result (Adds (FromEach (λ j m. ResumesNobody way script.now index m) modules.now) found.old.items
         found.new.items) }
 {
     for name in modules {
-        note_resumed(alloc, script, index, name, found)?;
+        note_resumed(alloc, way, script, index, name, found)?;
     }
     Ok(())
 }
@@ -123,35 +132,37 @@ fn note_resume(
 /// Notes that the processes of a module are resumed at an index, unless they were suspended by that name.
 fn note_resumed(
     alloc: Global,
+    way: Direction,
     script: &[Low],
     index: usize,
     name: &Atom,
     found: &mut Vec<Finding>,
 ) -> Result<(), AllocError>
     requires { index < length script.now }
-    ensures { OnOk result (Adds (ResumesNobody script.now index name.now) found.old.items found.new.items) }
+    ensures { OnOk result (Adds (ResumesNobody way script.now index name.now) found.old.items found.new.items) }
 {
     if has_suspended(&script[..index], name) {
         return Ok(());
     }
     let module = name.copy(alloc)?;
-    note(found, Finding::ResumesNobodyOnOtp { index, module })
+    note(found, Finding::ResumesNobodyOnOtp { way, index, module })
 }
 
 /// Notes the modules whose processes are to change their state at an index and were not suspended by that name.
 fn note_changes(
     alloc: Global,
+    way: Direction,
     script: &[Low],
     index: usize,
     changes: &[ModuleChange],
     found: &mut Vec<Finding>,
 ) -> Result<(), AllocError>
     requires { index < length script.now }
-    ensures { OnOk result (Adds (FromEach (λ j change. ChangesNobody script.now index change.name) changes.now) found.old.items
+    ensures { OnOk result (Adds (FromEach (λ j change. ChangesNobody way script.now index change.name) changes.now) found.old.items
         found.new.items) }
 {
     for change in changes {
-        note_changed(alloc, script, index, &change.name, found)?;
+        note_changed(alloc, way, script, index, &change.name, found)?;
     }
     Ok(())
 }
@@ -159,35 +170,37 @@ fn note_changes(
 /// Notes that the processes of a module are to change their state at an index, unless they were suspended by that name.
 fn note_changed(
     alloc: Global,
+    way: Direction,
     script: &[Low],
     index: usize,
     name: &Atom,
     found: &mut Vec<Finding>,
 ) -> Result<(), AllocError>
     requires { index < length script.now }
-    ensures { OnOk result (Adds (ChangesNobody script.now index name.now) found.old.items found.new.items) }
+    ensures { OnOk result (Adds (ChangesNobody way script.now index name.now) found.old.items found.new.items) }
 {
     if has_suspended(&script[..index], name) {
         return Ok(());
     }
     let module = name.copy(alloc)?;
-    note(found, Finding::ChangesNobodyOnOtp { index, module })
+    note(found, Finding::ChangesNobodyOnOtp { way, index, module })
 }
 
 /// Notes the modules whose children are started at an index and were not stopped by that name.
 fn note_start(
     alloc: Global,
+    way: Direction,
     script: &[Low],
     index: usize,
     modules: &[Atom],
     found: &mut Vec<Finding>,
 ) -> Result<(), AllocError>
     requires { index < length script.now }
-    ensures { OnOk result (Adds (FromEach (λ j m. StartsNobody script.now index m) modules.now) found.old.items
+    ensures { OnOk result (Adds (FromEach (λ j m. StartsNobody way script.now index m) modules.now) found.old.items
         found.new.items) }
 {
     for name in modules {
-        note_started(alloc, script, index, name, found)?;
+        note_started(alloc, way, script, index, name, found)?;
     }
     Ok(())
 }
@@ -195,19 +208,20 @@ fn note_start(
 /// Notes that the children of a module are started at an index, unless they were stopped by that name.
 fn note_started(
     alloc: Global,
+    way: Direction,
     script: &[Low],
     index: usize,
     name: &Atom,
     found: &mut Vec<Finding>,
 ) -> Result<(), AllocError>
     requires { index < length script.now }
-    ensures { OnOk result (Adds (StartsNobody script.now index name.now) found.old.items found.new.items) }
+    ensures { OnOk result (Adds (StartsNobody way script.now index name.now) found.old.items found.new.items) }
 {
     if has_stopped(&script[..index], name) {
         return Ok(());
     }
     let module = name.copy(alloc)?;
-    note(found, Finding::StartsNobodyOnOtp { index, module })
+    note(found, Finding::StartsNobodyOnOtp { way, index, module })
 }
 
 /// Returns whether a name is among those of an instruction.

@@ -8,5 +8,5 @@ use Rattle.upgrade_review.proofs.otp.note_changes.Given as goal
 
 abbrev pub invariant-loop-change : goal.invariant-loop-change
 invariant-loop-change l =
-    let R = λ (j : ℕ) (it : ModuleChange). ChangesNobody l.script l.index it.name in
+    let R = λ (j : ℕ) (it : ModuleChange). ChangesNobody l.way l.script l.index it.name in
     Adds (UpTo R l.changes l.change-index) l.fn.found.items l.found.items

@@ -7,5 +7,5 @@ use Rattle.upgrade_review.proofs.otp.note_resume.Given as goal
 
 abbrev pub invariant-loop-name : goal.invariant-loop-name
 invariant-loop-name l =
-    let R = λ (j : ℕ) (it : List ℕ). ResumesNobody l.script l.index it in
+    let R = λ (j : ℕ) (it : List ℕ). ResumesNobody l.way l.script l.index it in
     Adds (UpTo R l.modules l.name-index) l.fn.found.items l.found.items

@@ -7,10 +7,11 @@ use Rattle.upgrade_review.proofs.otp.note_resumed.Goals as goal
 
 pub returns : goal.returns
 returns c =
+    let way = c.args.way in
     let script = c.args.script.now in
     let index = c.args.index in
     let name = c.args.name.now in
-    let told = ResumesNobodyOnOtp index c.in_ok-module.«module» in
+    let told = ResumesNobodyOnOtp way index c.in_ok-module.«module» in
     let none : has_suspended name (take index script) ≡ false = sym c.has_suspended.ensures ∙ c.if-has_suspended.false in
-    let same : told ≡ ResumesNobodyOnOtp index name = ap (ResumesNobodyOnOtp index) c.in_ok-module.ensures in
-    noted _ (ResumesNobody script index name) told _ _ (none, same) (λ f w. w.1 ∙ sym same) c.note.ensures
+    let same : told ≡ ResumesNobodyOnOtp way index name = ap (ResumesNobodyOnOtp way index) c.in_ok-module.ensures in
+    noted _ (ResumesNobody way script index name) told _ _ (none, same) (λ f w. w.1 ∙ sym same) c.note.ensures

@@ -5,4 +5,4 @@ use Rattle.upgrade_review.specs.OnOtp.{DiffersAt}
 use Rattle.upgrade_review.proofs.otp.note_script.Given as goal
 
 abbrev pub invariant-loop-index : goal.invariant-loop-index
-invariant-loop-index l = Adds (UpTo (DiffersAt l.script) l.script l.index) l.fn.found.items l.found.items
+invariant-loop-index l = Adds (UpTo (DiffersAt l.way l.script) l.script l.index) l.fn.found.items l.found.items

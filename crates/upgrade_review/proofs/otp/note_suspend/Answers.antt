@@ -8,11 +8,11 @@ use Rattle.upgrade_review.proofs.otp.note_suspend.Goals as goal
 
 pub loop-suspension-preserved : goal.loop-suspension-preserved
 loop-suspension-preserved c =
-    let R : ℕ → Suspension → Finding → Type 0 = λ j it. IsNotResumed c.args.script.now c.args.index it.name in
+    let R : ℕ → Suspension → Finding → Type 0 = λ j it. IsNotResumed c.args.way c.args.script.now c.args.index it.name in
     goes_on R c.args.modules.now _ _ _ _ _ c.loop-suspension-test.true c.suspension-item.is c.loop-suspension.invariant
     c.in_ok-note_suspended.ensures
 
 pub returns : goal.returns
 returns c =
-    let R : ℕ → Suspension → Finding → Type 0 = λ j it. IsNotResumed c.args.script.now c.args.index it.name in
+    let R : ℕ → Suspension → Finding → Type 0 = λ j it. IsNotResumed c.args.way c.args.script.now c.args.index it.name in
     ends R c.args.modules.now _ _ _ c.loop-suspension-test.false c.loop-suspension.invariant

@@ -8,5 +8,5 @@ use Rattle.upgrade_review.proofs.otp.note_suspend.Given as goal
 
 abbrev pub invariant-loop-suspension : goal.invariant-loop-suspension
 invariant-loop-suspension l =
-    let R = λ (j : ℕ) (it : Suspension). IsNotResumed l.script l.index it.name in
+    let R = λ (j : ℕ) (it : Suspension). IsNotResumed l.way l.script l.index it.name in
     Adds (UpTo R l.modules l.suspension-index) l.fn.found.items l.found.items

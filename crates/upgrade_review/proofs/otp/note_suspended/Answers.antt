@@ -8,13 +8,14 @@ use Rattle.upgrade_review.proofs.otp.note_suspended.Goals as goal
 
 pub returns : goal.returns
 returns c =
+    let way = c.args.way in
     let script = c.args.script.now in
     let index = c.args.index in
     let name = c.args.name.now in
-    let told = NotResumedOnOtp index c.in_ok-module.«module» in
+    let told = NotResumedOnOtp way index c.in_ok-module.«module» in
     let rest = drop (index + 1) script in
     let left = length script - (index + 1) in
     let all : take left rest ≡ rest = take_all left rest (le_of_eq (length-drop (index + 1) script)) in
     let gone : is_resumed name rest ≡ false = ap (is_resumed name) (sym all) ∙ sym c.is_resumed.ensures ∙ c.if-is_resumed.false in
-    let same : told ≡ NotResumedOnOtp index name = ap (NotResumedOnOtp index) c.in_ok-module.ensures in
-    noted _ (IsNotResumed script index name) told _ _ (gone, same) (λ f w. w.1 ∙ sym same) c.note.ensures
+    let same : told ≡ NotResumedOnOtp way index name = ap (NotResumedOnOtp way index) c.in_ok-module.ensures in
+    noted _ (IsNotResumed way script index name) told _ _ (gone, same) (λ f w. w.1 ∙ sym same) c.note.ensures
