@@ -162,7 +162,7 @@ fn put_served(
     }
 }
 
-/// Appends that a process ends, with which reason, and at which message.
+/// Appends that a process ends, with which reason, and at which message. One that isn't seen in the view is told by its module.
 fn put_exit(
     exit: &Exit,
     home: &NodeView,
@@ -170,6 +170,10 @@ fn put_exit(
     out: &mut Vec<u8>,
 ) -> Result<(), AllocError> {
     put_process(exit.pid, home, alloc, out)?;
+    if home.process(exit.pid).is_none() {
+        put(b" of ", out)?;
+        put_atom(&exit.module, alloc, out)?;
+    }
     put(b" ends with ", out)?;
     put_shown(&exit.reason, Extent::Short, alloc, out)?;
     put(b", at ", out)?;

@@ -1,5 +1,5 @@
 -- What a rehearsal shows that is likely wrong with an upgrade (appup(4); release_handler(3)).
-use Rattle.std.specs.Prelude.{◌≡◌, ◌⊎◌, ℕ, zero, suc, Bool, true, false, IsSome, List, [], Contains, Option, None, Some, slice_get}
+use Rattle.std.specs.Prelude.{◌≡◌, ◌⊎◌, ℕ, zero, suc, Bool, true, false, IsSome, List, [], Contains, Option, None, Some, length, slice_get}
 use Rattle.erl_semantics.specs.declared.acts.Place.{Place}
 use Rattle.erl_semantics.specs.declared.acts.Place.TheVariants.{Server, Loop}
 use Rattle.low_instructions.specs.declared.low.Low.{Low}
@@ -37,6 +37,20 @@ abbrev pub before_of : Way → ℕ → NodeView
 before_of w zero = w.begun
 before_of w (suc i) = view_of (slice_get w.stations.items i) w.begun
 
+-- What happened last before the instruction at an index, and last on a way: with the instruction before it, or this if there is
+-- none.
+
+abbrev pub happened_at : Option Station → List Happening → List Happening
+happened_at None first = first
+happened_at (Some s) first = s.happened
+
+abbrev pub happened_before : List Happening → Way → ℕ → List Happening
+happened_before first w zero = first
+happened_before first w (suc i) = happened_at (slice_get w.stations.items i) first
+
+abbrev pub happened_last : List Happening → Way → List Happening
+happened_last first w = happened_before first w (length w.stations.items)
+
 -- whether an instruction purges code: a `load` does where there is old code
 abbrev pub purges : Low → Bool
 purges (LoadObjectCode application version modules) = false
@@ -69,7 +83,7 @@ HasOtherState (Some before) None = ⊥
 HasOtherState (Some before) (Some after) = IsOneState before.place after.place → ⊥
 
 -- What came of the messages that were served: a process has ended by its job; a call got the exit reason of a process, and no
--- reply; or nobody had the name that a message was sent to, though that was not so at first (gen_server(3), call/2).
+-- reply; or nobody had the name that a message was sent to, and that was not so with what happened before (gen_server(3), call/2).
 
 abbrev pub IsExitOf : Moment → Happening → Observation → Type 0
 IsExitOf when h o = (e : Exit) × (h.exit ≡ Some e) × (o ≡ Ends when e)
@@ -118,9 +132,10 @@ IsKill way i before s o = (pid : ℕ) × Purges s.instruction × IsSome (process
 abbrev pub IsOfInstruction : Direction → ℕ → NodeView → Station → Observation → Type 0
 IsOfInstruction way i before s o = IsNobody way i s o ⊎ IsKill way i before s o
 
--- The same, or what came of the messages that were served with it, after this had happened before the way up.
+-- The same, or what came of the messages that were served with it, after this had happened before the way.
 abbrev pub IsAtStation : Direction → List Happening → Way → ℕ → Station → Observation → Type 0
-IsAtStation way first w i s o = IsOfInstruction way i (before_of w i) s o ⊎ IsServedBadly (At way i) first s.happened o
+IsAtStation way first w i s o =
+    IsOfInstruction way i (before_of w i) s o ⊎ IsServedBadly (At way i) (happened_before first w i) s.happened o
 
 -- What is seen on a way: of one of its instructions; or a process that still uses old code at its end.
 
@@ -149,7 +164,7 @@ abbrev pub IsOnWayDown : List Happening → Option Way → Observation → Type 
 IsOnWayDown first down o = (w : Way) × (down ≡ Some w) × IsOnWay Down first w o
 
 abbrev pub IsOnWays : List Happening → Rehearsal → Observation → Type 0
-IsOnWays first r o = IsOnWay Up first r.up o ⊎ IsOnWayDown first r.down o
+IsOnWays first r o = IsOnWay Up first r.up o ⊎ IsOnWayDown (happened_last first r.up) r.down o
 
 -- What is seen where both ways were gone without traffic: that one of them fails, or which process has not the state that it had.
 

@@ -9,6 +9,8 @@ use values::{Duplicate, Row, Same};
 pub struct Exit {
     /// The process.
     pub pid: u64,
+    /// The module whose code it entered: its callback module, or that of its loop function.
+    pub module: Atom,
     /// The message that it took.
     pub message: Term,
     /// The exit reason.
@@ -18,6 +20,7 @@ pub struct Exit {
 impl Same for Exit {
     fn same(&self, other: &Exit) -> bool {
         self.pid == other.pid
+            && self.module.same(&other.module)
             && self.message.same(&other.message)
             && self.reason.same(&other.reason)
     }
@@ -25,9 +28,11 @@ impl Same for Exit {
 
 impl Duplicate for Exit {
     fn copy(&self, alloc: Global) -> Result<Exit, AllocError> {
+        let module = self.module.copy(alloc)?;
         let message = self.message.copy(alloc)?;
         Ok(Exit {
             pid: self.pid,
+            module,
             message,
             reason: self.reason.copy(alloc)?,
         })

@@ -77,7 +77,7 @@ pub enum Observation {
         /// When.
         when: Moment,
     },
-    /// A message was sent to this name, and no process had it; before the way up one had, unless it was seen then.
+    /// A message was sent to this name, and no process had it; with the instruction before, or before the way up, one had.
     Unheard {
         /// When.
         when: Moment,
@@ -164,7 +164,7 @@ fn note_ways(
     ensures { OnOk result (Adds (IsOnWays first.now rehearsal.now) found.old.items found.new.items) }
 {
     note_way(alloc, Direction::Up, first, &rehearsal.up, found)?;
-    note_way_down(alloc, first, &rehearsal.down, found)
+    note_way_down(alloc, rehearsal.up.happened_last(first), &rehearsal.down, found)
 }
 
 /// Notes what is seen on the way down, if it was gone.
@@ -245,8 +245,9 @@ fn note_station(
         way: direction,
         index,
     };
+    let before = way.happened_before(index, first);
     note_instruction(alloc, direction, index, way.before(index), station, found)?;
-    note_served(alloc, when, first, station.happened.as_slice(), found)
+    note_served(alloc, when, before, station.happened.as_slice(), found)
 }
 
 /// Notes what is seen of an instruction itself.

@@ -14,7 +14,7 @@ use upgrade_review::note;
 use values::Duplicate;
 
 /// Notes what came of the messages that were served: who has ended, whether a call got no reply, and which names nobody had,
-/// but for those that nobody had `first`.
+/// but for those that nobody had with what happened `first`.
 pub(crate) fn note_served(
     alloc: Global,
     when: Moment,

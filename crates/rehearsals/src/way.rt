@@ -1,6 +1,6 @@
 // What was seen on a way, and of a whole upgrade.
 ghost use Rattle.std.specs.Prelude.{◌≡◌};
-ghost use Rattle.rehearsals.specs.Observing.{before_of};
+ghost use Rattle.rehearsals.specs.Observing.{before_of, happened_before, happened_last};
 ghost use Rattle.rehearsals.specs.Ways.{has_failed, is_down, is_finished, would_go};
 
 use crate::happening::Happening;
@@ -47,6 +47,26 @@ impl Way {
             },
             None => &self.begun,
         }
+    }
+
+    /// Returns what happened last before the instruction at an index: with the one before it, or this if there is none.
+    pub fn happened_before<'a>(&'a self, index: usize, first: &'a [Happening]) -> &'a [Happening]
+        ensures { result.now ≡ happened_before first.now self.now index }
+    {
+        match index.checked_sub(1) {
+            Some(last) => match self.stations.get(last) {
+                Some(station) => station.happened.as_slice(),
+                None => first,
+            },
+            None => first,
+        }
+    }
+
+    /// Returns what happened last on the way: with its last instruction, or this if there is none.
+    pub fn happened_last<'a>(&'a self, first: &'a [Happening]) -> &'a [Happening]
+        ensures { result.now ≡ happened_last first.now self.now }
+    {
+        self.happened_before(self.stations.len(), first)
     }
 
     /// Whether the script has come to its end.

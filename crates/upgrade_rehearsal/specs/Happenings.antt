@@ -2,6 +2,8 @@
 -- job is committed, if it ends by it; and, if the node refuses a message, the name that it was sent to
 -- (Erlang Reference Manual, Processes; gen_server(3)).
 use Rattle.std.specs.Prelude.{ℕ, List, [], Option, None, Some}
+use Rattle.erl_semantics.specs.declared.acts.Place.{Place}
+use Rattle.erl_semantics.specs.declared.acts.Place.TheVariants.{Server, Loop}
 use Rattle.erl_semantics.specs.declared.jobs.Job.{Job}
 use Rattle.erl_semantics.specs.declared.outcome.End.{End}
 use Rattle.erl_semantics.specs.declared.outcome.End.TheVariants as ends
@@ -11,10 +13,14 @@ use Rattle.process_effects.specs.declared.told.Reply.{Reply}
 use Rattle.rehearsals.specs.declared.happening.Exit.{Exit}
 use Rattle.rehearsals.specs.declared.happening.Happening.{Happening}
 
+abbrev pub module_at : Place → List ℕ
+module_at (Server m state) = m
+module_at (Loop m serial function args) = m
+
 abbrev pub exit_by : Job → End → Option Exit
 exit_by job (ends.Rest place) = None
 exit_by job (ends.Value term) = None
-exit_by job (ends.Exit reason) = Some (record { pid = job.pid; message = job.message; reason = reason })
+exit_by job (ends.Exit reason) = Some (record { pid = job.pid; «module» = module_at job.place; message = job.message; reason = reason })
 
 abbrev pub exit_of : Event → Option Exit
 exit_of (event.Arrive client name body) = None

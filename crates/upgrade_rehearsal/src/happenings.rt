@@ -1,9 +1,10 @@
 // What events bring about, as clients and supervisors see it.
-ghost use Rattle.std.specs.Prelude.{◌≡◌, [], IfOk, None};
-ghost use Rattle.upgrade_rehearsal.specs.Happenings.{exit_by, exit_of, receiver_of};
+ghost use Rattle.std.specs.Prelude.{◌≡◌, [], IfOk, None, Some};
+ghost use Rattle.upgrade_rehearsal.specs.Happenings.{exit_by, exit_of, module_at, receiver_of};
+ghost use Rattle.erl_semantics.specs.declared.outcome.End.TheVariants.{Exit};
 
-use erl_semantics::{Done, End};
-use erl_term::Atom;
+use erl_semantics::{Done, End, Job, Place};
+use erl_term::{Atom, Term};
 use node_types::{Event, Note};
 use rehearsals::{Exit, Happening};
 use std::alloc::{AllocError, Global};
@@ -45,17 +46,33 @@ fn exit_by(alloc: Global, done: &Done) -> Result<Option<Exit>, AllocError>
     ensures { IfOk result (λ exit. exit ≡ exit_by done.now.job done.now.outcome.end) }
 {
     match &done.outcome().end {
-        End::Exit(reason) => {
-            let message = done.job().message.copy(alloc)?;
-            let reason = reason.copy(alloc)?;
-            let pid = done.job().pid;
-            Ok(Some(Exit {
-                pid,
-                message,
-                reason,
-            }))
-        }
+        End::Exit(reason) => Ok(Some(exit_with(alloc, done.job(), reason)?)),
         _ => Ok(None),
+    }
+}
+
+/// Returns the exit of the process of a job, for this reason.
+fn exit_with(alloc: Global, job: &Job, reason: &Term) -> Result<Exit, AllocError>
+    ensures { IfOk result (λ exit. Some exit ≡ exit_by job.now (Exit reason.now)) }
+{
+    let module = module_at(&job.place).copy(alloc)?;
+    let message = job.message.copy(alloc)?;
+    let reason = reason.copy(alloc)?;
+    Ok(Exit {
+        pid: job.pid,
+        module,
+        message,
+        reason,
+    })
+}
+
+/// Returns the module whose code a process enters at a place. Takes no memory.
+fn module_at(place: &Place) -> &Atom
+    ensures { result.now ≡ module_at place.now }
+{
+    match place {
+        Place::Server { module, .. } => module,
+        Place::Loop { module, .. } => module,
     }
 }
 

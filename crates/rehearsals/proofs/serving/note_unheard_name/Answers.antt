@@ -1,10 +1,9 @@
 -- Nobody had it first, or nobody has it now.
-use Rattle.std.proofs.Common.{◌≡◌, ◌∙◌, List, ℕ, sym, subst}
+use Rattle.std.proofs.Common.{◌∙◌, sym}
 use Rattle.std.proofs.lemmas.Bool.{false≢true}
 use Rattle.upgrade_review.proofs.Adding.{adds_nothing}
 use Rattle.rehearsals.proofs.Pids.{noted_if}
 use Rattle.rehearsals.specs.Observing.{IsNewName}
-use Rattle.rehearsals.specs.declared.observing.Observation.{Observation}
 use Rattle.rehearsals.specs.declared.observing.Observation.TheVariants.{Unheard}
 use Rattle.rehearsals.proofs.serving.note_unheard_name.Goals as goal
 
