@@ -1,19 +1,28 @@
 // The modules that an instruction suspends, and nobody for them.
 ghost use Rattle.std.specs.Prelude.{◌≡◌, ◌∷◌, ◌++◌, [], IfOk, OnOk, filter, map};
+ghost use Rattle.std.specs.List.{list_any};
+ghost use Rattle.app_table.specs.Modules.{has_module};
 ghost use Rattle.node_questions.specs.Unsuspended.{is_known, is_known_by, is_nobody, nobody_of};
 
-use app_table::{App, AppTable};
+use app_table::{App, AppTable, Child};
 use erl_term::Atom;
 use low_instructions::{Low, Suspension};
 use std::alloc::{AllocError, Global};
 use upgrade_review::is_start_module;
 use values::{Duplicate, Row};
 
+/// Returns whether one of these children names a module in its specification.
+fn is_named(children: &[Child], name: &Atom) -> bool
+    ensures { result ≡ list_any (has_module name.now) children.now }
+{
+    children.iter().any(|child| child.has_module(name))
+}
+
 /// Returns whether a child of an application names a module, or the module is the application's callback module.
 fn is_known_by(app: &App, name: &Atom) -> bool
     ensures { result ≡ is_known_by name.now app.now }
 {
-    is_start_module(&app.spec().start, name) || app.children().iter().any(|child| child.has_module(name))
+    is_start_module(&app.spec().start, name) || is_named(app.children(), name)
 }
 
 /// Returns whether a module is known so by an application.
