@@ -18,12 +18,12 @@ pub(crate) struct Column<'a> {
 }
 
 impl Column<'_> {
-    /// Whether it is the first instruction a failure of which restarts the node.
+    /// Returns whether a failure of it and of those after it restarts the node.
     pub(crate) fn is_point_of_no_return(&self) -> bool {
         matches!(self.station.instruction, Some(Low::PointOfNoReturn))
     }
 
-    /// Whether its instruction fails.
+    /// Returns whether its instruction fails.
     pub(crate) fn fails(&self) -> bool {
         !self.station.outcome.is_carried_out() && !self.station.outcome.is_end()
     }

@@ -26,7 +26,7 @@ const BEGIN: &[u8] = b"<!doctype html>
  style-src 'unsafe-inline'; script-src 'unsafe-inline'\">
 <title>";
 
-/// Writes what stands first: what is rehearsed, the verdict, what fails if something does, and how many findings there are.
+/// Writes the head of the page: what is rehearsed, the verdict, what fails if something does, and how many findings there are.
 pub(crate) fn put_page_head(
     report: &Report<'_>,
     alloc: Global,
@@ -86,7 +86,7 @@ fn put_sentence(report: &Report<'_>, alloc: Global, out: &mut Vec<u8>) -> Result
     )
 }
 
-/// The class of the verdict in the style.
+/// Returns the class of the verdict in the style.
 fn verdict_class(report: &Report<'_>) -> &'static [u8] {
     match verdict_of(report) {
         Verdict::Goes => b"good",

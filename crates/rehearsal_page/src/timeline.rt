@@ -192,7 +192,7 @@ fn put_heading_begin(
     )
 }
 
-/// The class of a column whose instruction fails.
+/// Returns the class of a column if its instruction fails.
 fn failure_class(column: &Column<'_>) -> &'static [u8] {
     if column.fails() { b" f" } else { b"" }
 }

@@ -10,8 +10,9 @@ use crate::parts::put_parts;
 use crate::rows::Rows;
 use low_instructions::Direction;
 use rehearsal_report::{
-    KINDS, Kind, Report, finding_advice, finding_count, is_allowed, kind_of_finding,
-    kind_of_observation, observation_advice, put_finding_fact, put_observation_fact, way_word,
+    KINDS, Kind, Report, Verdict, finding_advice, finding_count, is_allowed, kind_of_finding,
+    kind_of_observation, observation_advice, put_finding_fact, put_observation_fact, verdict_of,
+    way_word,
 };
 use rehearsals::{Moment, Observation, Rehearsal, Way};
 use std::alloc::{AllocError, Global};
@@ -37,17 +38,29 @@ pub(crate) fn put_wrong(
 ) -> Result<(), AllocError>
     ensures { OnOk result (StandsBefore out.old.items out.new.items) }
 {
+    if finding_count(report) == 0 {
+        return put_parts(&[Markup(none_found(report))], alloc, out);
+    }
     put_parts(
-        &[Markup(b"<section id=\"wrong\">\n<h2>Likely wrong</h2>\n")],
+        &[
+            Markup(b"<section id=\"wrong\">\n"),
+            Markup(b"<h2>Likely wrong</h2>\n<ol>\n"),
+        ],
         alloc,
         out,
     )?;
-    if finding_count(report) == 0 {
-        return put_parts(&[Markup(b"<p>nothing</p>\n</section>\n")], alloc, out);
-    }
-    put_parts(&[Markup(b"<ol>\n")], alloc, out)?;
     put_all(report, rows, alloc, out)?;
     put_parts(&[Markup(b"</ol>\n</section>\n")], alloc, out)
+}
+
+/// Returns the section if nothing was found: one that isn't shown if the upgrade fails all the same.
+fn none_found(report: &Report<'_>) -> &'static [u8] {
+    match verdict_of(report) {
+        Verdict::Fails => b"<section id=\"wrong\" hidden></section>\n",
+        Verdict::Goes | Verdict::HasFindings => {
+            b"<section id=\"wrong\">\n<h2>Likely wrong</h2>\n<p>nothing</p>\n</section>\n"
+        }
+    }
 }
 
 /// Writes all that was found, one kind after the other.
@@ -203,7 +216,7 @@ fn put_kind(
     )
 }
 
-/// What is said of a kind that is allowed.
+/// Returns what is said of a kind if it is allowed.
 fn allowed_words(kind: Kind, allowed: &[Kind]) -> &'static [u8] {
     if is_allowed(allowed, kind) {
         b", allowed"
@@ -320,7 +333,7 @@ fn about_finding(finding: &Finding, rehearsal: &Rehearsal) -> About {
     }
 }
 
-/// What something is about that was seen at a moment, if the timeline has it: what is before the way up isn't shown there.
+/// Returns what something is about that was seen at a moment: nothing before the way up is in the timeline.
 fn about_moment(when: Moment, rehearsal: &Rehearsal) -> About {
     match when {
         Moment::Before => About::Other,
@@ -328,7 +341,7 @@ fn about_moment(when: Moment, rehearsal: &Rehearsal) -> About {
     }
 }
 
-/// What an observation is about: one that is made at the end of a way its last step, and one of the whole upgrade or of
+/// Returns what an observation is about: one that is made at the end of a way its last step, and one of the whole upgrade or of
 /// a process that isn't shown neither.
 fn about_observation(observation: &Observation, rehearsal: &Rehearsal, rows: &Rows<'_>) -> About {
     match observation {

@@ -1,6 +1,5 @@
 -- Of which kind each thing is that is likely wrong, and how an upgrade is judged by what was found.
 use Rattle.std.specs.Prelude.{◌≡◌, ◌⊎◌, true, false, List, Contains}
-use Rattle.low_instructions.specs.declared.modules.Direction.{Direction}
 use Rattle.rehearsal_report.specs.declared.kinds.Kind.{Kind}
 use Rattle.rehearsal_report.specs.declared.kinds.Kind.TheVariants.{EndsBefore, CallsDownBefore, UnheardBefore}
 use Rattle.rehearsal_report.specs.declared.kinds.Kind.TheVariants.{FailsWithoutTraffic as FailsWithoutTrafficKind}

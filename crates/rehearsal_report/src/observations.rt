@@ -7,7 +7,7 @@ use node_views::NodeView;
 use rehearsals::{Exit, Moment, Observation, Rehearsal, Way};
 use std::alloc::{AllocError, Global};
 
-/// The word of a way.
+/// Returns the word of a way.
 pub fn way_word(way: Direction) -> &'static [u8] {
     match way {
         Direction::Up => b"up",
@@ -206,7 +206,7 @@ fn put_returned(
     }
 }
 
-/// What to do about what was seen.
+/// Returns what to do about what was seen.
 pub fn observation_advice(observation: &Observation) -> &'static [u8] {
     match observation {
         Observation::SuspendsNobody { .. } => {
@@ -231,7 +231,7 @@ pub fn observation_advice(observation: &Observation) -> &'static [u8] {
     }
 }
 
-/// What to do about a process that ends for a reason.
+/// Returns what to do about a process that ends for a reason.
 fn end_advice(when: Moment, reason: &Term) -> &'static [u8] {
     match (when, cause_of(reason)) {
         (Moment::At { .. }, Cause::NotThere) => {
@@ -257,7 +257,7 @@ without the process"
     }
 }
 
-/// What to do about a call that gets an exit reason.
+/// Returns what to do about a call that gets an exit reason.
 fn call_down_advice(when: Moment) -> &'static [u8] {
     match when {
         Moment::Before => b"correct the traffic or the release that is left",
@@ -267,7 +267,7 @@ fn call_down_advice(when: Moment) -> &'static [u8] {
     }
 }
 
-/// What to do about a name that nobody has.
+/// Returns what to do about a name that nobody has.
 fn unheard_advice(when: Moment) -> &'static [u8] {
     match when {
         Moment::Before => b"correct the name in the traffic",
