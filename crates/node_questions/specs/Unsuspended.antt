@@ -1,5 +1,5 @@
 -- The modules that an instruction suspends, and nobody for them (appup(4), suspend).
-use Rattle.std.specs.Prelude.{ℕ, Bool, true, false, not, ◌||◌, List, [], ◌∷◌, map, filter, Option, None, Some}
+use Rattle.std.specs.Prelude.{ℕ, Bool, not, ◌||◌, List, [], map, filter, Option, None, Some}
 use Rattle.std.specs.List.{list_any}
 use Rattle.app_table.specs.Applications.{Application}
 use Rattle.app_table.specs.Modules.{has_module}

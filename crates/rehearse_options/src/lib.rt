@@ -56,9 +56,9 @@ Status:
   4  it goes up and down, and something is found that isn't allowed
 
 A KIND of --allow is the word that is printed after a finding, one of these:
-  ends_before            a process ends by its job, before the upgrade begins
-  calls_down_before      a call gets an exit reason, before the upgrade begins
-  unheard_before         a message goes to a name that nobody has, before the upgrade
+  ends_before            a process ends by a message, before the upgrade
+  calls_down_before      a call gets an exit reason and no reply, before the upgrade
+  unheard_before         a message is sent to a name that nobody has, before the upgrade
   fails_without_traffic  it goes up and down with the traffic, and not without
   not_resumed_on_otp     a module is suspended, and OTP never resumes it
   resumes_nobody_on_otp  a module is resumed by another name than it was suspended by
@@ -67,11 +67,11 @@ A KIND of --allow is the word that is printed after a finding, one of these:
   not_restored           up and down again, a process has another state than before
   vanishes               up and down again, a process is gone
   kills                  a process still uses code that is purged, and is killed
-  ends                   a process ends by its job
-  calls_down             a call gets an exit reason
-  unheard                a message goes to a name that nobody has
+  ends                   a process ends by a message, during the upgrade
+  calls_down             a call gets an exit reason and no reply, during the upgrade
+  unheard                a message is sent to a name that nobody has any more
   lingers                a process uses old code when the script has ended
-  suspends_nobody        a module is suspended, and no child has it in its spec
+  suspends_nobody        a module is suspended, and no child has it in its specification
   no_code_change         states are to change, and code_change/3 isn't exported
   not_loaded             a module differs, and no instruction loads it
   not_undone             a module is loaded up, and neither loaded nor removed down

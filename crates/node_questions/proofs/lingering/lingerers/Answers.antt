@@ -1,6 +1,6 @@
 -- Those of one module more in each turn.
-use Rattle.std.proofs.Common.{◌≡◌, ◌∙◌, ap, sym, ◌++◌, List, ℕ, Some, take}
-use Rattle.std.specs.List.{flat_map, slice_get}
+use Rattle.std.proofs.Common.{◌≡◌, ◌∙◌, ap, sym, ◌++◌, List, ℕ, Some}
+use Rattle.std.specs.List.{slice_get}
 use Rattle.code_server.specs.declared.modules.Slots.{Slots}
 use Rattle.erl_ir.specs.Module.{Forms}
 use Rattle.std.specs.Map.Iter.{deref_pair}
