@@ -1,7 +1,7 @@
 // What events bring about, as clients and supervisors see it.
 ghost use Rattle.std.specs.Prelude.{◌≡◌, [], IfOk, None, Some};
 ghost use Rattle.upgrade_rehearsal.specs.Happenings.{exit_by, exit_of, module_at, receiver_of};
-ghost use Rattle.erl_semantics.specs.declared.outcome.End.TheVariants.{Exit};
+ghost use Rattle.erl_semantics.specs.declared.outcome.End.TheVariants as ends;
 
 use erl_semantics::{Done, End, Job, Place};
 use erl_term::{Atom, Term};
@@ -53,7 +53,7 @@ fn exit_by(alloc: Global, done: &Done) -> Result<Option<Exit>, AllocError>
 
 /// Returns the exit of the process of a job, for this reason.
 fn exit_with(alloc: Global, job: &Job, reason: &Term) -> Result<Exit, AllocError>
-    ensures { IfOk result (λ exit. Some exit ≡ exit_by job.now (Exit reason.now)) }
+    ensures { IfOk result (λ exit. Some exit ≡ exit_by job.now (ends.Exit reason.now)) }
 {
     let module = module_at(&job.place).copy(alloc)?;
     let message = job.message.copy(alloc)?;
