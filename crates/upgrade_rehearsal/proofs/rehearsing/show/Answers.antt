@@ -13,7 +13,7 @@ returns g c =
     back_at _ c.play_before.new.player c.go_both.new.player c.undo.new.self c.bookmark-begin.ensures c.in_ok-up.ensures.journal
     c.in_ok-undo.ensures.journal c.in_ok-undo.ensures.arrivals in
     let stands = stage_again c.play_before.new.player c.undo.new.self back in
-    shown_by _ _ _ _ _ _ _ _ _ _ _ _ (c.as_str.ensures.chars ∙ c.in_ok-up_to.ensures) (c.as_str-2.ensures.chars ∙ c.in_ok-up_to.ensures)
+    shown_by _ _ _ _ _ _ _ c.know.new.self c.play_before.new.player _ _ _ (c.as_str.ensures.chars ∙ c.in_ok-up_to.ensures) (c.as_str-2.ensures.chars ∙ c.in_ok-up_to.ensures)
     c.in_ok-know.ensures c.in_ok-happened.ensures c.in_ok-up.ensures.ways
     (c.same-is_as_before.ensures.1 (c.in_ok-view.ensures ∙ ap (λ (s : Stage). node_view s.node) stands ∙ sym c.in_ok-happened.ensures.1)) stands
     c.is_down-was_down.ensures c.in_ok-returned.ensures
