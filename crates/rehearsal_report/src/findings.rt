@@ -63,7 +63,14 @@ pub fn put_finding_fact(
             put_on_otp(*way, *index, b"are not resumed", module, alloc, out)
         }
         Finding::ChangesNobodyOnOtp { way, index, module } => {
-            put_on_otp(*way, *index, b"keep their state unchanged", module, alloc, out)
+            put_on_otp(
+                *way,
+                *index,
+                b"keep their state unchanged",
+                module,
+                alloc,
+                out,
+            )
         }
         Finding::StartsNobodyOnOtp { way, index, module } => {
             put_on_otp(*way, *index, b"are not started", module, alloc, out)

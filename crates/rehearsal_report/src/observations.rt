@@ -120,10 +120,7 @@ pub fn put_observation_fact(
 fn put_suspends_nobody(module: &Atom, alloc: Global, out: &mut Vec<u8>) -> Result<(), AllocError> {
     put(b"nobody is suspended for ", out)?;
     put_atom(module, alloc, out)?;
-    put(
-        b", for no child names it in its specification",
-        out,
-    )
+    put(b", for no child names it in its specification", out)
 }
 
 /// Appends that a process uses the old code of a module.

@@ -164,7 +164,12 @@ fn note_ways(
     ensures { OnOk result (Adds (IsOnWays first.now rehearsal.now) found.old.items found.new.items) }
 {
     note_way(alloc, Direction::Up, first, &rehearsal.up, found)?;
-    note_way_down(alloc, rehearsal.up.happened_last(first), &rehearsal.down, found)
+    note_way_down(
+        alloc,
+        rehearsal.up.happened_last(first),
+        &rehearsal.down,
+        found,
+    )
 }
 
 /// Notes what is seen on the way down, if it was gone.

@@ -83,7 +83,11 @@ fn is_down(reply: &Reply) -> bool
 fn has_down(happening: &Happening) -> bool
     ensures { IsTrue result ↔ HasDown happening.now }
 {
-    happening.replies.as_slice().iter().any(|reply| is_down(reply))
+    happening
+        .replies
+        .as_slice()
+        .iter()
+        .any(|reply| is_down(reply))
 }
 
 /// Returns whether a call got an exit reason, with any of these events.
@@ -121,7 +125,9 @@ fn is_unheard_by(happening: &Happening, name: &Atom) -> bool
 fn is_unheard(happened: &[Happening], name: &Atom) -> bool
     ensures { IsTrue result ↔ IsUnheardIn happened.now name.now }
 {
-    happened.iter().any(|happening| is_unheard_by(happening, name))
+    happened
+        .iter()
+        .any(|happening| is_unheard_by(happening, name))
 }
 
 /// Notes the names that nobody had, but for those that nobody had `first`.

@@ -34,8 +34,14 @@ pub fn find_all(
     rehearsal: &Rehearsal,
 ) -> Result<Found, AllocError> {
     let mut findings = look_through(alloc, &chosen.from, &chosen.to, chosen.up())?;
-    push_all(look_at_otp(alloc, Direction::Up, chosen.up())?, &mut findings)?;
-    push_all(look_at_otp(alloc, Direction::Down, chosen.down().unwrap_or(&[]))?, &mut findings)?;
+    push_all(
+        look_at_otp(alloc, Direction::Up, chosen.up())?,
+        &mut findings,
+    )?;
+    push_all(
+        look_at_otp(alloc, Direction::Down, chosen.down().unwrap_or(&[]))?,
+        &mut findings,
+    )?;
     let amiss = look_back(alloc, chosen.up(), chosen.down())?;
     let observations = observe(alloc, rehearsal)?;
     Ok(Found {

@@ -87,10 +87,7 @@ fn show<W: Watch>(
 }
 
 /// Plays the traffic before the way up. Returns what it has brought about, and what is seen of the node then.
-fn play_before(
-    player: &mut Player,
-    traffic: &[Arrival],
-) -> Result<(Row<Happening>, NodeView), Halt>
+fn play_before(player: &mut Player, traffic: &[Arrival]) -> Result<(Row<Happening>, NodeView), Halt>
     ensures { IfOk result (λ it. IsPlayed traffic.now (stage_of player.old) it.0 it.1 (stage_of player.new)) }
 {
     let _ = player.happened();

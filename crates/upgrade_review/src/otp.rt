@@ -61,8 +61,22 @@ fn note_instruction(
     ensures { OnOk result (Adds (DiffersAt way script.now index low.now) found.old.items found.new.items) }
 {
     match low {
-        Low::Suspend { modules } => note_suspend(alloc, way, script, index, modules.as_slice(), found),
-        Low::Resume { modules } => note_resume(alloc, way, script, index, modules.as_slice(), found),
+        Low::Suspend { modules } => note_suspend(
+            alloc,
+            way,
+            script,
+            index,
+            modules.as_slice(),
+            found,
+        ),
+        Low::Resume { modules } => note_resume(
+            alloc,
+            way,
+            script,
+            index,
+            modules.as_slice(),
+            found,
+        ),
         Low::CodeChange { changes, .. } => {
             note_changes(alloc, way, script, index, changes.as_slice(), found)
         }
