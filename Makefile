@@ -1,5 +1,5 @@
 # make test: the names in the documents are looked up (tools/quotes), then the merge gate, then the wrong bodies of must-fail/ over the
-#   libraries that it has built, and then the transcripts, the rehearsals and the mistakes on its programs. Its last line is 'N passed, M failed'.
+#   libraries that it has built, and then the transcripts, the mistakes of upgrades and the rehearsals on its programs. Its last line is 'N passed, M failed'.
 # make transcripts: plays the sessions of transcripts/ on the program, which it builds first (tools/transcripts);
 #   make transcripts NAME=name plays one file of them. Its last line is 'N passed, M failed'.
 # make rehearsals: plays the runs of rehearsals/ on `rehearse`, which it builds first (tools/rehearsals);
@@ -28,8 +28,8 @@ test:
 	@$(RT) ci
 	@tools/edits --gate
 	@tools/transcripts
-	@tools/rehearsals
 	@tools/mistakes
+	@tools/rehearsals
 
 transcripts: relnode
 	@tools/transcripts $(NAME)
