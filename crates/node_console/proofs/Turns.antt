@@ -27,7 +27,7 @@ abbrev pub IsStep : ConsoleState → Answered ConsoleState Fate → Type 0
 IsStep c a = (a.exchange.after.shell ≡ c.shell) ⊎ ((o : Executed) × IsTurn a o × ExecutesLine o.fate c.shell o.said o.effect)
 
 module _ (c : ConsoleState) (line : List ℕ) where
-  answered_by : Option Fate → Exchange ConsoleState → Answered ConsoleState Fate
+  abbrev answered_by : Option Fate → Exchange ConsoleState → Answered ConsoleState Fate
   answered_by fate t = record { line = line; fate = fate; exchange = t }
 
   obeyed : (heard : List ℕ) (said : Spoken) (fate : Option Fate) (t : Exchange ConsoleState) → Obeys c heard said fate t → IsStep c (answered_by fate t)

@@ -11,11 +11,11 @@ use Rattle.node_console.proofs.obeying.give_name.Goals as goal
 
 pub returns-in_ok-write_mark-in-Ok : goal.returns-in_ok-write_mark-in-Ok
 returns-in_ok-write_mark-in-Ok c =
-    let mark = c.mark.ensures.serial ∙ ap (λ (t : NodeTimeline). (here t).serial) c.journal.ensures in (
+    let mark = c.mark-mark.ensures.serial ∙ ap (λ (t : NodeTimeline). (here t).serial) c.journal.ensures in (
       _,
       has_name,
       (λ i. record { shell = c.args.held.now; steps = c.args.books.now.steps.items; marks = (c.in-Ok.ensures.named ∙ ap (λ m. named_mark c.args.name m c.args.books.now.marks.items) mark) i }),
-      c.in_ok-write_mark.ensures ∙ ap (λ m. c.args.out.now.items ++ line_of (mark_at m)) mark,
+      c.in_ok-write_mark-in-Ok.ensures ∙ ap (λ m. c.args.out.now.items ++ line_of (mark_at m)) mark,
     )
 
 pub returns-in-Err : goal.returns-in-Err

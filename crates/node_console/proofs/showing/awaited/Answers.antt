@@ -7,5 +7,5 @@ pub returns-in-Some : goal.returns-in-Some
 returns-in-Some c =
     subst (λ (o : Option ℕ). Awaits c.args.node.now o) (sym c.busy_in.ensures) (is_refused c.in-Some.refusal c.in-Some.ensures)
 
-pub returns-in-None : goal.returns-in-None
-returns-in-None c = goes c.in-None.ensures
+pub returns : goal.returns
+returns c = goes c.in-None.ensures

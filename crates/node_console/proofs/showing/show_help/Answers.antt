@@ -1,5 +1,5 @@
 -- A word that is no command, or the comment on one.
-use Rattle.std.proofs.Common.{Bool, IfOk, refl, subst, sym, ◌∙◌}
+use Rattle.std.proofs.Common.{Bool, IfOk, None, refl, subst, sym, ◌∙◌}
 use Rattle.node_console.proofs.Answering.{IfOk-then, comments_said, word_said}
 use Rattle.node_console.specs.Console.{SaysHelp}
 use Rattle.node_console.specs.Held.{IsShown}
@@ -13,5 +13,5 @@ returns-then-not-is_command c =
 
 pub returns : goal.returns
 returns c =
-    subst (λ (b : Bool). IsShown (SaysHelp b _) c.args.out.now.items c.put_comment.new.out.items) (sym c.if-not-is_command.false ∙ c.is_command.ensures)
-    (comments_said _ c.args.out.now.items c.put_comment.new.out.items refl c.in_ok-put_comment.ensures)
+    subst (λ (b : Bool). IsShown (SaysHelp b None) c.args.out.now.items c.put_comment.new.out.items) (sym c.if-not-is_command.false ∙ c.is_command.ensures)
+    (comments_said None c.args.out.now.items c.put_comment.new.out.items refl c.in_ok-put_comment.ensures)
