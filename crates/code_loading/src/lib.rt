@@ -3,9 +3,8 @@
 //!
 //! A [`load`] makes a module current and its current code old; where there is old code it is purged first. A [`purge`]
 //! kills the processes that linger in old code, in order of pid, and a [`soft_purge`] is refused where somebody does. A
-//! [`remove`] purges, and then makes current code old (appup(4)). A load and a removal are told how the code is purged later that
-//! they make old. [`revert`] takes such a change back, modules and
-//! processes, or nothing of it.
+//! [`remove`] purges, and then makes current code old (appup(4)). The caller of a load or a removal says how the code that
+//! becomes old is purged later. [`revert`] takes such a change back, modules and processes, or nothing of it.
 //!
 //! A [`purge_all`] purges several modules in one change, which [`revert_purges`] takes back whole or not at all: so a release
 //! handler purges what an upgrade has replaced. It ends all who linger in any of the modules together, and then purges

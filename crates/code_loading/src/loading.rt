@@ -132,8 +132,8 @@ pub fn purge(
     })
 }
 
-/// Loads a module: it becomes current under the next serial, and its current code becomes old, and is purged later so. If it has
-/// old code, that is purged first. What clients are told is asked of [`downs_of_purge`] before.
+/// Loads a module: it becomes current under the next serial. Its current code becomes old, and is purged later as the caller
+/// says. Old code is purged first; [`downs_of_purge`] returns, before that, what clients get of it.
 ///
 /// # Errors
 ///

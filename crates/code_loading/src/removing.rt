@@ -14,8 +14,8 @@ use release_words::Purge;
 use std::alloc::AllocError;
 
 /// Removes a module (appup(4), remove): those who linger in it are killed, in order of pid, its old code is gone, if it has any,
-/// and its current code becomes old, if it has any, and is purged later so. What clients are told is asked of
-/// [`downs_of_purge`](crate::downs_of_purge) before.
+/// and its current code becomes old, if it has any, and is purged later as the caller says.
+/// [`downs_of_purge`](crate::downs_of_purge) returns, before that, what clients get of it.
 ///
 /// # Errors
 ///

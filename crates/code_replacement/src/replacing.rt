@@ -17,9 +17,9 @@ use release_words::Purge;
 use std::alloc::{AllocError, Global};
 use values::Failure;
 
-/// Loads a module: it becomes current under the next serial, and its current code becomes old, and is purged later so. If it has
-/// old code, that is purged first: those who linger in it are killed, and their children are due, or not. What clients are told
-/// is asked of [`code_loading::downs_of_purge`] before.
+/// Loads a module: it becomes current under the next serial. Its current code becomes old, and is purged later as the caller
+/// says. Old code is purged first: who lingers in it is killed, and its child is due, or not. [`code_loading::downs_of_purge`]
+/// returns, before that, what clients get of it.
 ///
 /// # Errors
 ///
@@ -89,7 +89,7 @@ pub fn purge(
 }
 
 /// Removes a module (appup(4), remove): it is purged, as by [`purge`], and its current code becomes old, if it has any, and is
-/// purged later so. What clients are told is asked of [`code_loading::downs_of_purge`] before.
+/// purged later as the caller says. [`code_loading::downs_of_purge`] returns, before that, what clients get of it.
 ///
 /// # Errors
 ///

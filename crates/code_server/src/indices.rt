@@ -160,7 +160,7 @@ pub(crate) fn move_last<C: Drop>(
     (gone.former, gone.post)
 }
 
-/// Takes the module at an index out of the table, with its old code, where it has no other, and how that was purged later.
+/// Takes the module at an index, which has old code alone, out of the table. Returns it, and how that code is purged later.
 pub(crate) fn take_out<C: Drop>(
     table: &mut ByName<C>,
     index: usize,
@@ -175,7 +175,7 @@ pub(crate) fn take_out<C: Drop>(
     Some((name, former, post))
 }
 
-/// Puts a module back at an index, with this old code alone. Gives name and code back where memory is refused.
+/// Puts a module back at an index, with this old code alone. Returns name and code if an allocation fails.
 pub(crate) fn put_back<C: Drop>(
     table: &mut ByName<C>,
     index: usize,

@@ -2,7 +2,7 @@
 //!
 //! As in Erlang/OTP, a module may have two instances of its code: a load makes the new one current and
 //! the former current one old; a third load asks that old code be purged first (Erlang Reference Manual,
-//! Compilation and Code Loading). Each load has a serial, from 1 on. Beside old code stands how it is purged later, if a script
+//! Compilation and Code Loading). Each load has a serial, from 1 on. Old code has a note of how it is purged later, if a script
 //! has left it (appup(4), PostPurge).
 //!
 //! [`Modules`] is the table, first loaded first. Each change hands out a [`ModulesUndo`], by which

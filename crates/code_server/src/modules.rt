@@ -246,8 +246,8 @@ impl<C: Drop> Modules<C> {
     }
 
     /// Purges what is old, and loads: as [`Modules::purge`] and then [`Modules::load`], in one change, but that the code which
-    /// becomes old is purged later so. A module that has old code alone leaves its index and goes last. Memory is asked for
-    /// only where the module is not in the table. Who uses the old code is the caller's to see to.
+    /// becomes old is purged later as the caller says. A module that has old code alone leaves its index and goes last. Memory is
+    /// taken only if the module is not in the table. The caller sees to the users of the old code.
     ///
     /// # Errors
     ///

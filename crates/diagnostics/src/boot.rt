@@ -1,4 +1,4 @@
-// What is told of an application that doesn't start, and what to write in its place.
+// What is printed of an application that doesn't start, and what to write in its place.
 use child_specs::ChildSpec;
 use erl_term::{Atom, FromTerm, Term, print, three, two};
 use std::alloc::{AllocError, Global};
@@ -11,11 +11,11 @@ const SUPERVISION: &str = "{ok,{{one_for_one,Intensity,Period},[Child]}}";
 const CHILD: &str =
     "{Id,{Mod,Fun,Args},Restart,Shutdown,worker,Modules}, Restart permanent, transient or temporary, Modules a list or dynamic";
 
-/// Returns that an application doesn't start, why, and, if the reason tells it, what to write.
+/// Returns that an application doesn't start, why, and, if the reason shows it, what to write.
 ///
 /// # Errors
 ///
-/// `AllocError` where memory is refused.
+/// `AllocError` if an allocation fails.
 pub fn not_started(alloc: Global, app: &Atom, reason: &Term) -> Result<String, AllocError> {
     let mut out = format!(in alloc; "{} doesn't start: ", app.as_str())?;
     push_term(alloc, reason, &mut out)?;

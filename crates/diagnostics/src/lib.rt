@@ -1,5 +1,5 @@
-//! What is told of a fault of a file, or of an application that doesn't start, for the one who is to mend it: where the fault
-//! stands, what is wrong in words, and what to write.
+//! What is printed of a fault of a file, or of an application that doesn't start, for the one who is to mend it: where the fault
+//! is, what is wrong in words, and what to write.
 //!
 //! The readers of files tell a fault by a kind and a byte, an element or an instruction. [`diagnose`] looks at the bytes
 //! again and makes a [`Diagnostic`] of it: the offset as a line and a column, which element must be what and what it is, and

@@ -9,7 +9,7 @@
 //! - [`run_console`], `ran`: a run that has started is the one of the console's rules (`RunsConsole`). The lines that the shell
 //!   executed are a run of the shell from the node that has booted, and its headline holds of them; each other line left the shell
 //!   unchanged; and an answer of the shell has comments alone after it.
-//! - What is listed is of the node and the journal where they are (`Shows`): the processes, children, jobs, releases, the script that
+//! - What is listed is of the present node and journal (`Shows`): the processes, children, jobs, releases, the script that
 //!   runs, what an undo would report.
 //! - [`run_console`], `failed`: why nothing has started. Nothing was read and nothing written then.
 //!

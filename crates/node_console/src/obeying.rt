@@ -1,4 +1,4 @@
-// What the shell is told to do.
+// What the shell is to do.
 ghost use Rattle.std.specs.Prelude.{◌≡◌, ◌<◌, IfOk, vec_capacity, vec_len};
 ghost use Rattle.line_server.specs.Session.{IsExchange};
 ghost use Rattle.node_console.specs.Console.{NamesHere, Obeys, ObeysNamed, said_of};
@@ -19,7 +19,7 @@ use std::alloc::{AllocError, Global};
 use undo_journal::Mark;
 use values::Row;
 
-/// What the shell is told to do.
+/// What the shell is to do.
 #[derive(Clone, Copy)]
 pub enum Order<'a> {
     /// What a line says.
@@ -41,7 +41,7 @@ fn bytes_of(alloc: Global, line: &[u8]) -> Result<Row<u8>, AllocError>
     Ok(Row::new(bytes))
 }
 
-/// Returns where the journal is.
+/// Returns the mark and the floor of the journal.
 fn position(held: &Shell) -> Position
     ensures mark { result.mark ≡ (here held.now.timeline).serial }
     ensures floor { result.floor ≡ held.now.timeline.first.serial }
@@ -52,7 +52,7 @@ fn position(held: &Shell) -> Position
     }
 }
 
-/// Has the shell do what it is told.
+/// Has the shell carry out an order.
 fn carry_out(held: &mut Shell, order: Order<'_>, out: &mut Vec<u8>) -> Said
     ensures { IfOk result (λ fate. IsDone (ExecutesLine fate held.old (order_said order.entry)) held.new
         out.old.items out.new.items) }
@@ -65,7 +65,7 @@ fn carry_out(held: &mut Shell, order: Order<'_>, out: &mut Vec<u8>) -> Said
     }
 }
 
-/// Has the shell do what it is told, and notes the step that it made or took back. There is room for the note.
+/// Has the shell carry out an order, and notes the step that it made or took back. There is room for the note.
 fn carry_noted(
     held: &mut Shell,
     books: &mut Books,
@@ -84,7 +84,7 @@ fn carry_noted(
     Ok(fate)
 }
 
-/// Has the shell do what it is told, if there is room for a note of the step.
+/// Has the shell carry out an order, if there is room for a note of the step.
 fn obey_noted(
     held: &mut Shell,
     books: &mut Books,
@@ -101,7 +101,7 @@ fn obey_noted(
     }
 }
 
-/// Has the shell do what a line tells it, and notes the step that it made or took back.
+/// Has the shell carry out the order of a line, and notes the step that it made or took back.
 pub(crate) fn obey(
     held: &mut Shell,
     books: &mut Books,
@@ -118,7 +118,7 @@ pub(crate) fn obey(
     }
 }
 
-/// Gives the mark where the node is a name.
+/// Names the present mark by a word.
 pub(crate) fn name_here(held: &Shell, books: &mut Books, name: Name<'_>, out: &mut Vec<u8>) -> Said
     ensures { IfOk result (λ fate. IsExchange (NamesHere (console_of held.now books.old) (chars name.entry.text.now) fate)
         (console_of held.now books.new) out.old.items out.new.items) }
@@ -129,7 +129,7 @@ pub(crate) fn name_here(held: &Shell, books: &mut Books, name: Name<'_>, out: &m
     }
 }
 
-/// Gives the mark where the node is this name.
+/// Names the present mark so.
 fn give_name(held: &Shell, books: &mut Books, name: Atom, out: &mut Vec<u8>) -> Said
     ensures { IfOk result (λ fate. IsExchange (NamesHere (console_of held.now books.old) name fate)
         (console_of held.now books.new) out.old.items out.new.items) }

@@ -94,7 +94,7 @@ fn remark_on(line: &[u8], answer: &[u8]) -> Option<&'static str> {
     remark_on_refusal(answer)
 }
 
-/// What a line may change that a comment names, as it was before the line.
+/// What a comment names of the node before a line: what the line may change.
 #[derive(Drop)]
 pub(crate) struct Before {
     /// The instruction that the script carries out next, as text; empty if there is none.
@@ -127,7 +127,7 @@ fn living(held: &Shell) -> Result<Vec<u64>, AllocError> {
     Ok(pids)
 }
 
-/// Whether processes may end by what a line asks for, and a comment says which.
+/// Returns whether processes may end by what a line asks for, and a comment says which.
 fn may_end(line: &[u8]) -> bool {
     ["load", "purge", "commit", "step", "permanent", "reboot"].contains(&first_word(line))
 }

@@ -22,7 +22,7 @@ use std::mem::forget;
 ///
 /// # Errors
 ///
-/// Why no node has started, as [`node_shell::run`] tells it. Nothing was read then, and nothing written.
+/// Why no node has started, as [`node_shell::run`] has it. Nothing was read then, and nothing written.
 pub fn run_console<R: Read, W: Write>(
     alloc: Global,
     hashing: RandomState,

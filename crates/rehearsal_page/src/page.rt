@@ -55,7 +55,7 @@ fn put_main(
     put_steps(report.rehearsal, columns, rows, alloc, out)
 }
 
-/// Begins what stands between the head and the script; a wide screen has a column for findings if there are any.
+/// Begins what is between the head and the script; a wide screen has a column for findings if there are any.
 fn put_main_begin(report: &Report<'_>, alloc: Global, out: &mut Vec<u8>) -> Result<(), AllocError>
     ensures { OnOk result (StandsBefore out.old.items out.new.items) }
 {

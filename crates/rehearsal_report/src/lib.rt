@@ -12,7 +12,7 @@
 //!
 //! [`verdict_of`] says that an upgrade fails just if it would not go up and down, with the traffic and without; and of one that
 //! would go, that it has findings just if something was found of a kind that isn't allowed (`IsVerdict`). Of which kind each
-//! thing is, is said by [`kind_of_finding`] and [`kind_of_observation`]. Which texts are written is not told.
+//! thing is, [`kind_of_finding`] and [`kind_of_observation`] return. No contract says which texts are written.
 #![tactic(auto)]
 
 mod findings;

@@ -75,7 +75,7 @@ fn end_of(way: Direction, rehearsal: &Rehearsal) -> Moment {
     Moment::At { way, index }
 }
 
-/// Appends what was seen. A process is named as it was before, if it was there.
+/// Appends what was seen. A process has the name that it had before, if it lived then.
 ///
 /// # Errors
 ///
@@ -159,7 +159,7 @@ fn put_served(
     }
 }
 
-/// Appends that a process ends, with which reason, and at which message. One that isn't seen in the view is told by its module.
+/// Appends that a process ends, with which reason, and at which message. One that isn't in the view is named by its module.
 fn put_exit(
     exit: &Exit,
     home: &NodeView,

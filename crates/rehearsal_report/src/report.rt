@@ -29,7 +29,7 @@ pub struct Report<'a> {
     pub amiss: &'a [Finding],
     /// What the rehearsal has shown that is likely wrong.
     pub observations: &'a [Observation],
-    /// The kinds of what is likely wrong that are allowed: they are told, and don't count.
+    /// The kinds of what is likely wrong that are allowed: they are printed, and don't count.
     pub allowed: &'a [Kind],
     /// The rehearsal.
     pub rehearsal: &'a Rehearsal,

@@ -11,7 +11,7 @@ use rehearsals::{Rehearsal, Station, Way, is_down};
 use std::alloc::{AllocError, Global};
 use upgrade_review::Finding;
 
-/// What is told if all was undone, and the node was not as before.
+/// What is printed if all was undone, and the node was not as before.
 pub const NOT_AS_BEFORE: &[u8] = b"All undone, the node is NOT as before.";
 
 /// How many things were found.

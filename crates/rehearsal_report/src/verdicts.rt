@@ -41,7 +41,7 @@ fn verdict_of_going(report: &Report<'_>) -> Verdict
     }
 }
 
-/// Returns whether something that is told counts.
+/// Returns whether anything in a report counts.
 fn is_counted(report: &Report<'_>) -> bool
     ensures { IsTrue result ↔ IsCounted report.now.allowed.now report.now }
 {

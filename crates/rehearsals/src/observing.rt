@@ -395,7 +395,7 @@ fn is_one_state(before: &Place, after: &Place) -> bool
     }
 }
 
-/// Whether a process lives on, and has another state.
+/// Returns whether a process lives on, and has another state.
 fn has_changed(before: Option<&ProcessView>, after: Option<&ProcessView>) -> bool
     ensures { IsTrue result ↔ HasOtherState (option_copied before.entry) (option_copied after.entry) }
 {
@@ -417,7 +417,7 @@ fn note_returned(
     note_vanished(before, after, found)
 }
 
-/// Whether the process of a pid lives on, and has another state.
+/// Returns whether the process of a pid lives on, and has another state.
 fn is_changed(before: &NodeView, after: &NodeView, pid: u64) -> bool
     ensures { IsTrue result ↔ HasOtherState (process_of pid before.now) (process_of pid after.now) }
 {

@@ -4,9 +4,9 @@
 //! the other does, step by step, and what is likely wrong with it. docs/REHEARSAL.md shows one.
 //!
 //! What is proved of it is the status of each end ([`ending::exit_code`]), that a rehearsal ends as the verdict on its report says
-//! ([`reporting::end_of`]), that the report has all that was found and what the command line allows ([`reporting::report_of`]),
-//! and that what is told of a fault of the files is one line. What is found and compared, and the verdict, are in the crates
-//! below, with their contracts.
+//! ([`reporting::end_of`]), that the report has what was found and what the command line allows ([`reporting::report_of`]),
+//! and that what is printed of a fault of the files is one line. That all is looked for ([`reporting::find_all`]) is only tested.
+//! What is found and compared, and the verdict, are in the crates below, with their contracts.
 #![tactic(auto)]
 
 ghost use Rattle.std.specs.Prelude.{IfOk};
@@ -52,7 +52,7 @@ fn start<R: Runtime + RandomSource + AllocGlobal>(rt: &R, has_bar: bool) -> Resu
     }
 }
 
-/// Prints the relup, if that alone is asked for, or else rehearses, and writes what is told.
+/// Prints the relup, if that alone is asked for, or else rehearses, and writes the report.
 fn execute<R: Runtime + RandomSource + AllocGlobal>(
     rt: &R,
     has_bar: bool,
@@ -106,7 +106,7 @@ fn instructions_of(chosen: &Chosen) -> u64 {
     up.saturating_add(down).saturating_add(2).saturating_mul(2)
 }
 
-/// Writes what is told of a rehearsal: the text, and then the page, if one is asked for. The page is written even if the text
+/// Writes the report of a rehearsal: the text, and then the page, if one is asked for. The page is written even if the text
 /// can't be, and the other way round.
 fn write_told<R: Runtime + RandomSource + AllocGlobal>(
     rt: &R,

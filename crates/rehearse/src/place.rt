@@ -29,7 +29,7 @@ enum Place {
 ///
 /// # Errors
 ///
-/// As the system tells; `IsADirectory` if a folder is there.
+/// As the system reports; `IsADirectory` if a folder is there.
 pub fn try_place<R: Runtime + RandomSource + AllocGlobal>(rt: &R, path: &str) -> io::Result<()> {
     match place_at(rt, path)? {
         Place::Output | Place::Stream => Ok(()),
@@ -42,7 +42,7 @@ pub fn try_place<R: Runtime + RandomSource + AllocGlobal>(rt: &R, path: &str) ->
 ///
 /// # Errors
 ///
-/// As the system tells; `IsADirectory` if a folder is there.
+/// As the system reports; `IsADirectory` if a folder is there.
 pub fn write_at<R: Runtime + RandomSource + AllocGlobal>(
     rt: &R,
     path: &str,
@@ -59,7 +59,7 @@ pub fn write_at<R: Runtime + RandomSource + AllocGlobal>(
 ///
 /// # Errors
 ///
-/// As the system tells.
+/// As the system reports.
 pub fn write_output<R: Runtime>(rt: &R, bytes: &[u8]) -> io::Result<()> {
     let mut writer = io::writer(rt);
     writer.write_all(bytes)?;
@@ -72,7 +72,7 @@ fn write_stream<R: Runtime>(rt: &R, path: &str, bytes: &[u8]) -> io::Result<()> 
     stream.write_all(bytes)
 }
 
-/// Returns where a page is written that is asked for at a path.
+/// Returns the place that a page asked for at a path is written to.
 fn place_at<R: Runtime + AllocGlobal>(rt: &R, path: &str) -> io::Result<Place> {
     match fs::metadata(rt, path) {
         Ok(found) => place_of(rt, path, &found),
@@ -84,7 +84,7 @@ fn place_at<R: Runtime + AllocGlobal>(rt: &R, path: &str) -> io::Result<Place> {
     }
 }
 
-/// Returns where a page is written if this is found at its path.
+/// Returns the place that a page is written to if this is found at its path.
 fn place_of<R: Runtime + AllocGlobal>(rt: &R, path: &str, found: &Metadata) -> io::Result<Place> {
     if is_output(rt, found) {
         Ok(Place::Output)

@@ -24,7 +24,7 @@ pub struct Target {
 ///
 /// # Errors
 ///
-/// As the system tells. The part is removed then, if the system lets it.
+/// As the system reports. The part is removed then, if the system lets it.
 pub fn replace<R: Runtime + RandomSource + AllocGlobal>(
     rt: &R,
     target: &Target,
@@ -46,7 +46,7 @@ pub fn replace<R: Runtime + RandomSource + AllocGlobal>(
 ///
 /// # Errors
 ///
-/// As the system tells.
+/// As the system reports.
 pub fn try_replacing<R: Runtime + RandomSource + AllocGlobal>(
     rt: &R,
     target: &Target,

@@ -2,7 +2,7 @@
 //! `rehearse [--traffic FILE] [--allow KIND] [--quiet] [--html FILE] [--relup] ROOT FROM TO`, `--help` and `--version`.
 //!
 //! [`read_invocation`] reads the words that the program was started with. No contract says which words are good: that is
-//! [`clap`]'s, and is tried by hand. What is told of words that are no text is [`program_words`]'. Which words are kinds of
+//! [`clap`]'s, and is tried by hand. What is printed of words that are no text is [`program_words`]'. Which words are kinds of
 //! findings is known to the program.
 #![tactic(auto)]
 

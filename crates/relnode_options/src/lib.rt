@@ -170,7 +170,7 @@ fn worker_count(word: &str) -> Option<u64>
     }
 }
 
-/// Whether a word begins with a plus sign.
+/// Returns whether a word begins with a plus sign.
 fn begins_with_plus(word: &str) -> bool
     ensures { result ≡ begins_with_plus word.now }
 {

@@ -27,7 +27,7 @@ use std::alloc::{AllocError, Global};
 use std::slice;
 use values::{Duplicate, Failure, Row};
 
-/// What a load or a removal has come to: what clients are told, and what takes it back.
+/// What a load or a removal has come to: what clients get, and what takes it back.
 #[derive(Drop)]
 pub(crate) struct CodeReplaced {
     pub(crate) told: Vec<Row<Reply>>,

@@ -40,7 +40,7 @@ pub enum ConsoleOperands {
     FromMark,
     /// `K` or `NAME`: the command shows what an undo to this mark would do.
     OneMark,
-    /// `NAME`: the command gives the mark where the node is this name.
+    /// `NAME`: the command names the present mark so.
     NewName,
     /// `NAME`: the command names a mark for this.
     MarkName(MarkUse),
@@ -77,7 +77,7 @@ pub enum Sight<'a> {
 pub enum ConsoleRequest<'a> {
     /// To show something.
     Show(Sight<'a>),
-    /// To give the mark where the node is a name.
+    /// To name the present mark.
     NameMark(Name<'a>),
     /// To undo or to forget to the mark of a name.
     ToNamed(MarkUse, Name<'a>),

@@ -127,7 +127,7 @@ impl<S: Reversible> Journal<S> {
     /// # Errors
     ///
     /// In this order: `Forgotten` if the mark is below the first station's, `DeadMark` if it is any other without a station,
-    /// and `Memory`, which names the mark where the journal stands, if an allocation fails.
+    /// and `Memory`, which has the present mark, if an allocation fails.
     pub fn report(&self, mark: Mark) -> Result<Report<S::Note>, JournalError<S::Refusal, S::Note>>
         ensures reported { IfOk result (IsReportOf mark self.now) }
         ensures err { IfErr result (HasNoReport mark self.now) }

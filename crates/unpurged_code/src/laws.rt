@@ -1,4 +1,4 @@
-// What holds of how old code is purged later, and of the modules that are told.
+// What holds of how old code is purged later, and of the modules that are returned.
 ghost use Rattle.unpurged_code.specs.Laws.{ChangesNote, OneList, PurgesDropNotes};
 
 /// Once a module is purged nothing of it is purged later, and each other module is purged later as before.

@@ -86,7 +86,7 @@ fn receiver_of(alloc: Global, event: &Event) -> Result<Option<Atom>, AllocError>
     }
 }
 
-/// Returns what an event of this exit has brought about, of whose replies the note tells. Takes no memory.
+/// Returns what an event has brought about, with this exit and the replies of its note. Takes no memory.
 pub(crate) fn accepted(alloc: Global, exit: Option<Exit>, note: Note) -> Happening
     ensures { result ≡ record { replies = note.replies; exit = exit; unheard = None } }
 {
