@@ -34,6 +34,7 @@ pub fn diagnose(
     let bytes = files.get(path).unwrap_or(b"");
     let looked = Looked {
         alloc,
+        path,
         kind: FileKind::of_path(path),
         text: str::from_utf8(bytes).unwrap_or(""),
     };

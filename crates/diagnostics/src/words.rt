@@ -6,7 +6,7 @@ use crate::finding::Sought;
 use crate::spans::{Span, find};
 use erl_parse::LangError;
 use erl_scan::{Fault, ReadError, Scanner};
-use otp_files::FileError;
+use otp_files::{FileError, read_app};
 use std::alloc::{AllocError, Global};
 use std::str;
 
@@ -21,6 +21,7 @@ pub(crate) struct Finding {
 #[derive(Clone, Copy)]
 pub(crate) struct Looked<'a> {
     pub(crate) alloc: Global,
+    pub(crate) path: &'a str,
     pub(crate) kind: FileKind,
     pub(crate) text: &'a str,
 }
@@ -177,6 +178,9 @@ impl<'a> Looked<'a> {
 
     /// What is wrong with an element of the outer tuple, or, for 0, with the whole term.
     fn of_shape(self, element: u8) -> Result<Finding, AllocError> {
+        if let Some(found) = self.of_version(element)? {
+            return Ok(found);
+        }
         let wanted = expected(self.kind, element);
         if element == 0 {
             let words = format!(in self.alloc; "the term must be {wanted}, and is")?;
@@ -184,6 +188,31 @@ impl<'a> Looked<'a> {
         }
         let words = format!(in self.alloc; "element {element} must be {wanted}, and is")?;
         self.of_value(Sought::Element(usize::from(element)), words.as_str())
+    }
+
+    /// Returns what is wrong with an `.app` that can be read, if that is its version.
+    fn of_version(self, element: u8) -> Result<Option<Finding>, AllocError> {
+        if self.kind != FileKind::App || element != 3 {
+            return Ok(None);
+        }
+        let Ok(app) = read_app(self.alloc, self.text.as_bytes()) else {
+            return Ok(None);
+        };
+        let Some(wanted) = version_in(self.path) else {
+            return Ok(None);
+        };
+        let found = self.of_versions(app.vsn.as_str(), wanted)?;
+        Ok(Some(found))
+    }
+
+    /// Returns that an `.app` has a version, and the `.rel` names another one.
+    fn of_versions(self, version: &str, wanted: &str) -> Result<Finding, AllocError> {
+        let mut words = String::from_str(self.alloc, "the version is \"")?;
+        words.push_str(version)?;
+        words.push_str("\", and the .rel names \"")?;
+        words.push_str(wanted)?;
+        words.push('"')?;
+        self.at_value(Sought::Element(3), words.as_str())
     }
 
     /// What the words say of the module's name, which is shown behind them.
@@ -230,4 +259,13 @@ fn module_name_offset(alloc: Global, text: &str) -> Result<Option<usize>, AllocE
             _ => Ok(None),
         },
     }
+}
+
+/// Returns the version in the path of an application's `.app`, `lib/APP-VSN/ebin/APP.app`.
+fn version_in(path: &str) -> Option<&str> {
+    let (folders, file) = path.rsplit_once('/')?;
+    let (name, _) = file.rsplit_once('.')?;
+    let folder = folders.strip_prefix("lib/")?;
+    let (folder, _) = folder.split_once('/')?;
+    folder.strip_prefix(name)?.strip_prefix('-')
 }

@@ -1,8 +1,9 @@
 // Modules.
-ghost use Rattle.std.specs.Prelude.{◌≡◌, ◌-◌, ◌^◌, min, is_some, IfOk, MatchOption};
+ghost use Rattle.std.specs.Prelude.{◌≡◌, ◌-◌, ◌^◌, min, is_some, length, slice_get, IfOk, MatchOption};
 ghost use Rattle.std.specs.List.{IsDistinct};
 ghost use Rattle.std.specs.Map.{keys_of};
-ghost use Rattle.std.specs.Option.{option_copied};
+ghost use Rattle.std.specs.Map.Iter.{deref_pair};
+ghost use Rattle.std.specs.Option.{option_copied, option_map};
 ghost use Rattle.erl_ir.specs.Module.{key_eq, function_of, exported_of, functions_depth, called_in_functions, AreNamesOf};
 
 mod building;
@@ -123,6 +124,21 @@ impl Module {
         ensures { option_copied result ≡ self.now.vsn }
     {
         self.parts.vsn.as_ref()
+    }
+
+    /// Returns how many functions the module has. Takes no memory.
+    pub fn len(&self) -> usize
+        ensures { result ≡ length self.now.functions }
+    {
+        self.parts.functions.len()
+    }
+
+    /// Returns the function at an index, in the order of the source: its name with its number of arguments, and the function.
+    /// Takes no memory.
+    pub fn entry(&self, index: usize) -> Option<(&(Atom, u32), &Function)>
+        ensures { option_map deref_pair result ≡ slice_get self.now.functions index }
+    {
+        self.parts.functions.get_index(index)
     }
 
     /// The function of a name and a number of arguments, found by key. Takes no memory.
